@@ -419,7 +419,8 @@ class Room:
     def plain_words(self):
         """The prover's own command, over the libraries as the gate left them and with nothing kept of the crate."""
         top = os.path.dirname(os.path.dirname(os.path.realpath(shutil.which("rt"))))
-        words = [f"{top}/bin/rattle", "check", "--crate-name", self.crate, "src/lib.rt", "-L", f"dependency={top}/rlibs"]
+        root = next(it for it in ("src/lib.rt", "src/main.rt") if os.path.isfile(os.path.join(self.folder, it)))
+        words = [f"{top}/bin/rattle", "check", "--crate-name", self.crate, root, "-L", f"dependency={top}/rlibs"]
         for name in ["std", *self.lines[self.crate].partition(":")[2].split()]:
             words += ["--extern", f"{name}={self.rlib(name) if name in self.lines else f'{top}/rlibs/{name}.rlib'}"]
         for name in self.below:

@@ -19,7 +19,7 @@ _ringcheck() {
       ;;
     --format)
       local formats='text json'
-      [ "$command" != report ] || formats+=' waivers'
+      [ "$command" != report ] || formats+=' html waivers'
       mapfile -t COMPREPLY < <(compgen -W "$formats" -- "$word")
       return
       ;;

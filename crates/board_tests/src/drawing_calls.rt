@@ -36,6 +36,9 @@ const HOLE: &[u8] = b"M48\nMETRIC\nT1C10.0\n%\nT1\nX0.0Y0.0\nM30\n";
 /// A hole of 0.8 mm at the origin.
 const SMALL: &[u8] = b"M48\nMETRIC\nT1C0.8\n%\nT1\nX0.0Y0.0\nM30\n";
 
+/// Two holes of 0.8 mm with a gap of 0.1 mm, and one of 0.5 mm.
+const NEAR: &[u8] = b"M48\nMETRIC\nT1C0.8\nT2C0.5\n%\nT1\nX0.0Y0.0\nX0.9Y0.0\nT2\nX10.0Y0.0\nM30\n";
+
 /// No hole.
 const NO_HOLE: &[u8] = b"M48\nMETRIC\nT1C0.8\n%\nM30\n";
 
@@ -95,7 +98,7 @@ const START: &str =
     "<?xml version=\"1.0\" encoding=\"UTF-8\"?>\n<svg xmlns=\"http://www.w3.org/2000/svg\" font-family=\"sans-serif\" font-size=\"1.25\" width=\"1034\" height=\"1200\" viewBox=\"0 0 81 94\">\n<style>text{fill:#222;font-size:1.25px}";
 
 const MIDDLE: &str =
-    "</style>\n<rect width=\"100%\" height=\"100%\" fill=\"#fff\"/>\n<text class=\"title\" transform=\"translate(3 3) scale(1)\">no rules</text>\n<g class=\"layer\" data-file=\"1\" transform=\"translate(40.5 46.5)\">\n<text class=\"name\" transform=\"translate(-37.5 -40) scale(1)\">top</text>\n<text class=\"note\" transform=\"translate(-37.5 -38.3) scale(1)\">1 pad, 0 other</text>\n<rect class=\"board\" x=\"-37.5\" y=\"-37.5\" width=\"75\" height=\"75\"/>\n<path class=\"pad\" d=\"M-37.5 -37.5h75v75h-75z\"/>\n<circle class=\"plated\" cx=\"0\" cy=\"0\" r=\"5\" stroke-width=\"0.1\"/>\n</g>\n<path class=\"scale\" d=\"M3 87h10\"/>\n<text transform=\"translate(14 87.4) scale(1)\">10 mm</text>\n<g class=\"legend\" font-size=\"1.25\" transform=\"translate(4 90) scale(1)\">\n<circle class=\"pad\" r=\".6\"/>\n<text x=\"1.2\" y=\".4\">pad</text>\n";
+    "</style>\n<rect width=\"100%\" height=\"100%\" fill=\"#fff\"/>\n<text class=\"title\" transform=\"translate(3 3) scale(1)\">no rules</text>\n<g class=\"layer\" data-file=\"1\" transform=\"translate(40.5 46.5)\">\n<text class=\"name\" transform=\"translate(-37.5 -40) scale(1)\">top</text>\n<text class=\"note\" transform=\"translate(-37.5 -38.3) scale(1)\">1 pad, 0 other</text>\n<rect class=\"board\" x=\"-37.5\" y=\"-37.5\" width=\"75\" height=\"75\"/>\n<path class=\"pad\" d=\"M-37.5 -37.5h75v75h-75z\"><title>rect 75x75</title></path>\n<g><title>plated hole, 10</title>\n<circle class=\"plated\" cx=\"0\" cy=\"0\" r=\"5\" stroke-width=\"0.1\"/>\n</g>\n</g>\n<path class=\"scale\" d=\"M3 87h10\"/>\n<text transform=\"translate(14 87.4) scale(1)\">10 mm</text>\n<g class=\"legend\" font-size=\"1.25\" transform=\"translate(4 90) scale(1)\">\n<circle class=\"pad\" r=\".6\"/>\n<text x=\"1.2\" y=\".4\">pad</text>\n";
 
 const END: &str =
     "<path class=\"gap\" stroke-width=\".3\" d=\"M28.5 2.5h1\"/>\n<text x=\"30.2\" y=\"2.9\">gap lacking</text>\n</g>\n</svg>\n";
@@ -131,7 +134,7 @@ type PageRow = (
     &'static [&'static str],
 );
 
-const PAGES: [PageRow; 9] = [
+const PAGES: [PageRow; 10] = [
     // A wide board has its panels below each other.
     (
         ("a<b>&\"c\"", WIDE),
@@ -143,8 +146,9 @@ const PAGES: [PageRow; 9] = [
             ">ring 0.2 mm, gap 0.25 mm: 2 findings</text>",
             "<g class=\"layer\" data-file=\"1\" transform=\"translate(3.5 9.5)\">\n<text class=\"name\" transform=\"translate(-0.5 -3) scale(1)\">a&lt;b&gt;&amp;\"c\"</text>\n<text class=\"note\" transform=\"translate(-0.5 -1.3) scale(1)\">2 pads, 0 other, 1 ring lacking</text>\n",
             "<g class=\"layer\" data-file=\"3\" transform=\"translate(3.5 15.5)\">\n<text class=\"name\" transform=\"translate(-0.5 -3) scale(1)\">bottom</text>\n",
-            "<text class=\"number\" transform=\"translate(0.77 -0.77) scale(1)\">1</text>\n</g>\n",
-            "<text class=\"number\" transform=\"translate(0.77 -0.77) scale(1)\">2</text>\n</g>\n",
+            "<g class=\"finding\" id=\"f1\"><title>#1 annular ring on a&lt;b&gt;&amp;\"c\" (rule 0.2): hole 0.8 at 0,0</title>\n<circle class=\"ring\"",
+            "<g><title>#2 annular ring on bottom (rule 0.2): hole 0.8 at 0,0</title>\n<circle class=\"mark\"",
+            "<text class=\"number\" transform=\"translate(0.77 -0.77) scale(1)\"><title>#2 annular ring on bottom (rule 0.2): hole 0.8 at 0,0</title>2</text>\n</g>\n",
         ],
     ),
     // A ring is lacking in its panel alone.
@@ -157,6 +161,17 @@ const PAGES: [PageRow; 9] = [
             ">ring 0.2 mm, gap 0.25 mm: 1 finding</text>",
             ">1 pad, 0 other, 0 rings lacking</text>",
             ">2 pads, 0 other, 1 ring lacking</text>",
+        ],
+    ),
+    // A gap stands in each panel, and has its id in the first. Holes alike stand in one group.
+    (
+        ("top", SQUARE),
+        ("bottom", SQUARE),
+        NEAR,
+        true,
+        &[
+            "<g><title>plated hole, 0.8</title>\n<circle class=\"plated\" cx=\"0\" cy=\"0\" r=\"0.4\" stroke-width=\"0.1\"/>\n<circle class=\"plated\" cx=\"0.9\" cy=\"0\" r=\"0.4\" stroke-width=\"0.1\"/>\n</g>\n<g><title>plated hole, 0.5</title>\n<circle class=\"plated\" cx=\"10\" cy=\"0\" r=\"0.25\" stroke-width=\"0.0625\"/>\n</g>\n<g class=\"finding\" id=\"f1\"><title>#1 gap too small: hole 0.8 at 0,0, and hole 0.8 at 0.9,0</title>\n<path class=\"gap\"",
+            "<g class=\"finding\" data-id=\"f1\"><title>#1 gap too small: hole 0.8 at 0,0, and hole 0.8 at 0.9,0</title>\n<path class=\"gap\"",
         ],
     ),
     // A board that passes says so.

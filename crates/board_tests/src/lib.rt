@@ -9,3 +9,5 @@ mod drawing_calls;
 mod flashes_calls;
 #[cfg(test)]
 mod measure_calls;
+#[cfg(test)]
+mod page_calls;

@@ -8,6 +8,7 @@ use Rattle.command_line.specs.declared.Request.{Request}
 use Rattle.command_line.specs.declared.Refusal.{Refusal}
 use Rattle.command_line.specs.declared.Refusal.TheVariants.{Help, Version, Usage, Memory}
 use Rattle.command_line.specs.ProgramArgs.{ParsesLine, ParsesAsVersion, IsRequestOf, ringcheck_app}
+use Rattle.command_line.specs.RefusalTexts.{EndsUsageWith, TellsFault, below_text}
 use Rattle.command_line.specs.Inner.RequestSteps.{IsRefusalFor}
 
 pub request_is_parsed : (a : App) (words : List Text) (rows : Option (Text × List Row)) (request : Request) → a ≡ ringcheck_app → fault_of a words ≡ [] → rows ≡ subcommand_of a words
@@ -24,6 +25,15 @@ refused a words kind Version e (inl none) is memory = let h = memory none in cc
 refused a words kind Version e (inr among) is memory = subst (λ b. IsAmong DisplayVersion (fault_of b words)) e (subst (λ k. IsAmong k (fault_of a words)) is among)
 refused a words kind (Usage text) e (inl none) is memory = let h = memory none in cc
 refused a words kind (Usage text) e (inr among) is memory = (kind, subst (λ b. IsAmong kind (fault_of b words)) e among, is.0, is.1)
+
+-- what stands below the text of the refusal
+pub fault_told : (a : App) (words : List Text) (kind : ErrorKind) (r : Refusal) → a ≡ ringcheck_app → (kind ≡ OutOfMemory) ⊎ IsAmong kind (fault_of a words)
+    → EndsUsageWith (below_text kind words) r → (kind ≡ OutOfMemory → r ≡ Memory) → TellsFault words (Err r)
+fault_told a words kind Memory e has ends memory = tt
+fault_told a words kind (Help text) e has ends memory = tt
+fault_told a words kind Version e has ends memory = tt
+fault_told a words kind (Usage text) e (inl none) ends memory = let h = memory none in cc
+fault_told a words kind (Usage text) e (inr among) ends memory = (kind, subst (λ b. IsAmong kind (fault_of b words)) e among, ends)
 
 -- the refusal of words of which asking for the version is the only fault
 pub version_told : (words : List Text) (r : Refusal) → fault_of ringcheck_app words ≡ DisplayVersion ∷ [] → ParsesLine words (Err r) → ParsesAsVersion (Err r)

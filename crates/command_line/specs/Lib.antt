@@ -1,2 +1,3 @@
 pub mod ProgramArgs
+pub mod RefusalTexts
 pub mod Inner

@@ -46,7 +46,7 @@ check_app = with_rule (with_rule (with_rule (new_app (codes "check")) (option (c
 abbrev pub measure_app : App
 measure_app = with_rule (with_rule (new_app (codes "measure")) (optional_option (codes "format"))) (positional (codes "manifest"))
 
--- `report --ring MM --gap MM [--max N] [--waive FILE] [--format text|json|waivers] MANIFEST`
+-- `report --ring MM --gap MM [--max N] [--waive FILE] [--format text|html|json|waivers] MANIFEST`
 abbrev pub report_app : App
 report_app =
     with_rule (with_rule (with_rule (with_rule (with_rule (with_rule (new_app (codes "report")) (option (codes "ring"))) (option (codes "gap"))) (optional_option (codes "max")))

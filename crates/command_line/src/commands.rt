@@ -26,8 +26,9 @@ const GAP: &str = "Gap that any two holes must keep, in mm: 0.25";
 const FORMAT: &str = "Lines for people, or one object of JSON;
 text where it is not there";
 
-const REPORT_FORMAT: &str = "text, for people; json, one object; or waivers, a
-file to write reasons into; text if not there";
+const REPORT_FORMAT: &str = "text, for people; html, a page for a browser;
+json, one object; or waivers, a file to write
+reasons into; text if not there";
 
 const CHECK: &str = "A manifest is a CSV file with the first record role,name,file and one for each
 file; a role is copper, plated or unplated. With role,name,file,first,last a
@@ -42,7 +43,7 @@ Example:  ringcheck measure board.csv";
 
 // After `Usage: ` it stands on two lines, the second below the options of the first.
 const REPORT_USAGE: &str = "ringcheck report --ring <MM> --gap <MM> [--max <N>] [--waive <FILE>]
-                        [--format <text|json|waivers>] <MANIFEST>";
+                        [--format <text|html|json|waivers>] <MANIFEST>";
 
 const REPORT: &str = "The findings are those of check, in its order, with its status where none is
 waived; files have their names, lengths are in mm. Below stand the causes that
@@ -165,7 +166,7 @@ fn measure<'a>(alloc: Global) -> Result<Command<'a>, AllocError>
     ))
 }
 
-/// `report --ring MM --gap MM [--max N] [--waive FILE] [--format text|json|waivers] MANIFEST`
+/// `report --ring MM --gap MM [--max N] [--waive FILE] [--format text|html|json|waivers] MANIFEST`
 fn report<'a>(alloc: Global) -> Result<Command<'a>, AllocError>
     ensures { IfOk result (λ c. app_of c ≡ report_app) }
 {
@@ -181,7 +182,7 @@ fn report<'a>(alloc: Global) -> Result<Command<'a>, AllocError>
     with_report_args(alloc, under_rules)
 }
 
-/// Adds `[--max N] [--waive FILE] [--format text|json|waivers] MANIFEST` to a command.
+/// Adds `[--max N] [--waive FILE] [--format text|html|json|waivers] MANIFEST` to a command.
 fn with_report_args<'a>(alloc: Global, command: Command<'a>) -> Result<Command<'a>, AllocError>
     ensures { IfOk result (λ c. app_of c ≡ report_args_of (app_of command.entry)) }
 {

@@ -2,7 +2,7 @@
 //!
 //! ```text
 //! ringcheck check --ring MM --gap MM MANIFEST
-//! ringcheck report --ring MM --gap MM [--max N] [--waive FILE] [--format text|json|waivers] MANIFEST
+//! ringcheck report --ring MM --gap MM [--max N] [--waive FILE] [--format text|html|json|waivers] MANIFEST
 //! ringcheck measure [--format text|json] MANIFEST
 //! ringcheck draw [--ring MM --gap MM] MANIFEST
 //! ringcheck manifest [--why] FILE..
@@ -12,9 +12,12 @@
 //! ```
 #![tactic(auto)]
 
-ghost use Rattle.std.specs.Prelude.{◌≡◌, ◌∷◌, [], Bool, IfSome, Some, None, List, Option, true, codes, length, map, option_map};
+ghost use Rattle.std.specs.Prelude.{◌≡◌, ◌∷◌, [], Bool, IfOk, IfSome, Some, None, List, Option, true, codes, length, map, option_map, string_bytes};
+ghost use Rattle.std.specs.List.{list_any};
 ghost use Rattle.clap.specs.Words.{Row, Text, first_of, found_of, kind_of, one_of, rows_of, subcommand_rows_of};
 ghost use Rattle.command_line.specs.ProgramArgs.{ParsesAs, ParsesAsCheck, ParsesLine, ParsesAsVersion, IsRequestOf, IsDraw, IsExplain, IsManifest, IsMeasure, IsReport, IsRewrite, IsShow, IsFlagValue, are_plain_rules, are_plain_words, check_words, draw_words, explain_words, file_words, is_plain_if_some, is_plain_word, manifest_words, measure_words, report_words};
+ghost use Rattle.command_line.specs.RefusalTexts as texts;
+ghost use Rattle.command_line.specs.RefusalTexts.{EndsUsageWith, EndsWith, TellsFault};
 ghost use Rattle.command_line.specs.Inner.RequestSteps.{HasCheckRows, IsCheckIfSome, IsRefusalFor};
 
 mod commands;
@@ -22,7 +25,7 @@ mod commands;
 use clap::error::ErrorKind;
 use clap::{ArgMatches, Error};
 pub use commands::{VERSION, VERSION_LINE};
-use std::alloc::Global;
+use std::alloc::{AllocError, Global};
 
 /// What the words ask for. The texts are words of the command line as they stand; no number in them has been read yet.
 #[derive(Debug, Drop)]
@@ -96,7 +99,7 @@ pub enum Refusal {
 /// # Errors
 ///
 /// [`Refusal::Help`] where help is asked for, [`Refusal::Version`] where the version is, and [`Refusal::Memory`] where memory
-/// runs out. [`Refusal::Usage`] where the words are no command of the program, also where there are none.
+/// runs out. [`Refusal::Usage`] where the words are no command of the program; its text is the help where there are none.
 // It is not inlined: clap's values would otherwise lie in the frame of a caller for as long as that runs.
 #[inline(never)]
 pub fn parse<'a>(alloc: Global, words: &'a [&'a str]) -> Result<Request<'a>, Refusal>
@@ -120,6 +123,7 @@ pub fn parse<'a>(alloc: Global, words: &'a [&'a str]) -> Result<Request<'a>, Ref
     ensures explain { (w : Text) → map (λ w. w.now) words.entry.now ≡ explain_words (Some w) → is_plain_word w ≡ true
         → ParsesAs (IsExplain (Some w)) result }
     ensures version { map (λ w. w.now) words.entry.now ≡ codes "--version" ∷ [] → ParsesAsVersion result }
+    ensures below { TellsFault (map (λ w. w.now) words.entry.now) result }
 {
     let count = word_count(words);
     prove!(count <= usize::MAX);
@@ -132,7 +136,7 @@ pub fn parse<'a>(alloc: Global, words: &'a [&'a str]) -> Result<Request<'a>, Ref
             // Each value is required, so that only running out of memory takes this arm.
             None => Err(Refusal::Memory),
         },
-        Err(error) => Err(refusal_for(alloc, &error)),
+        Err(error) => Err(refusal_for(alloc, words, &error)),
     }
 }
 
@@ -262,10 +266,66 @@ fn value<'a>(values: &ArgMatches<'a>, id: &str) -> Option<&'a str>
     values.get_str(id)
 }
 
-/// The refusal for an error of `clap`, with its text.
-fn refusal_for(alloc: Global, error: &Error) -> Refusal
+/// What is said below the text of `clap` to a check that is given waivers.
+const WAIVERS_IN_CHECK: &str = "
+Waivers belong to report, which prints why each finding is accepted:
+  ringcheck report --ring MM --gap MM --waive FILE MANIFEST
+";
+
+/// Whether a word is the option for a file of waivers, alone or with its value.
+fn is_waive_option(word: &str) -> bool
+    ensures { result ≡ texts.is_waive_option word.now }
+{
+    word == "--waive" || word.as_bytes().starts_with(b"--waive=")
+}
+
+/// Whether one of these words is the option for a file of waivers.
+fn has_waive_option(words: &[&str]) -> bool
+    ensures { result ≡ list_any texts.is_waive_option (map (λ w. w.now) words.now) }
+{
+    words.iter().any(|word| is_waive_option(word))
+}
+
+/// Whether the words are those of a check that is given waivers.
+fn is_check_with_waivers(words: &[&str]) -> bool
+    ensures { result ≡ texts.is_check_with_waivers (map (λ w. w.now) words.now) }
+{
+    match words {
+        [command, others @ ..] => *command == "check" && has_waive_option(others),
+        [] => false,
+    }
+}
+
+/// What stands below the text for an error of this kind in these words.
+fn below_text(kind: ErrorKind, words: &[&str]) -> &'static str
+    ensures { result.now ≡ texts.below_text kind (map (λ w. w.now) words.now) }
+{
+    if kind == ErrorKind::UnknownArgument && is_check_with_waivers(words) {
+        WAIVERS_IN_CHECK
+    } else {
+        ""
+    }
+}
+
+/// The text for an error of `clap` in these words: the help where there is no command, and else the text of `clap`, with what is
+/// said below it.
+fn text_for(alloc: Global, words: &[&str], error: &Error) -> Result<String, AllocError>
+    ensures { IfOk result (λ text. EndsWith (texts.below_text (kind_of error.now) (map (λ w. w.now) words.now)) (string_bytes text)) }
+{
+    let mut text = if error.kind() == ErrorKind::MissingSubcommand {
+        commands::ringcheck(alloc)?.render_help()?
+    } else {
+        error.to_string(alloc)?
+    };
+    text.push_str(below_text(error.kind(), words))?;
+    Ok(text)
+}
+
+/// The refusal for an error of `clap` in these words, with its text.
+fn refusal_for(alloc: Global, words: &[&str], error: &Error) -> Refusal
     ensures kind { IsRefusalFor (kind_of error.now) result }
     ensures memory { kind_of error.now ≡ ErrorKind.OutOfMemory → result ≡ Refusal.Memory }
+    ensures below { EndsUsageWith (texts.below_text (kind_of error.now) (map (λ w. w.now) words.now)) result }
 {
     let kind = error.kind();
     if kind == ErrorKind::OutOfMemory {
@@ -274,7 +334,7 @@ fn refusal_for(alloc: Global, error: &Error) -> Refusal
     if kind == ErrorKind::DisplayVersion {
         return Refusal::Version;
     }
-    match error.to_string(alloc) {
+    match text_for(alloc, words, error) {
         Ok(text) if kind == ErrorKind::DisplayHelp => Refusal::Help(text),
         Ok(text) => Refusal::Usage(text),
         Err(_) => Refusal::Memory,

@@ -1,5 +1,5 @@
 -- The drawing of a board: a panel for each copper file (docs/FORMATS.md, Pictures).
-use Rattle.std.specs.Prelude.{◌≡◌, ◌+◌, ◌-◌, ◌^◌, ◌+ℤ◌, ◌-ℤ◌, ℕ, pos, min, List, [], length, get_or, Option, None, Some, IsPermutation}
+use Rattle.std.specs.Prelude.{◌≡◌, ◌==◌, ◌+◌, ◌-◌, ◌^◌, ◌+ℤ◌, ◌-ℤ◌, ◌++◌, ℕ, pos, min, List, [], codes, length, get_or, Option, None, Some, IsPermutation}
 use Rattle.std.specs.List.{AllZip, enumerate_from}
 use Rattle.grid_units.specs.Holes.{GridRules}
 use Rattle.layer_image.specs.Flashes.{pads_of}
@@ -38,6 +38,7 @@ number_of file = min (file + 1) (2 ^ 64 - 1)
 pub record IsPanel (names : List (List ℕ)) (board : BoardView) (findings : List Finding) (l : Layout) (at : ℕ × ℕ) (panel : Panel) : Type 0 where
   pub file : panel.place.file ≡ number_of at.1
   pub name : panel.place.name.now ≡ get_or names at.1 []
+  pub first : panel.place.first ≡ (at.0 == 0)
   pub x : panel.place.x ≡ pos (box_left l at.0) -ℤ l.frame.left
   pub y : panel.place.y ≡ pos (box_top l at.0) +ℤ l.frame.top
   pub scene : IsScene at.0 (get_or board.flashes at.1 []) board.holes findings panel.scene
@@ -49,9 +50,17 @@ pub record IsPage (names : List (List ℕ)) (board : BoardView) (given_rules : O
   pub drawn : AllZip (IsPanel names board (findings_under given_rules board) drawing.layout) (enumerate_from 0 board.layer_indexes) drawing.panels.items
   pub counted : drawing.count ≡ length (findings_under given_rules board)
 
--- the text of a drawing: its page
+-- the element `svg` of a drawing, as it may stand within a page of HTML
+abbrev pub svg_text : Drawing → List ℕ
+svg_text d = page_text d.layout d.rules d.count d.panels.items
+
+-- the XML declaration
+abbrev pub declaration : List ℕ
+declaration = codes "<?xml version=\"1.0\" encoding=\"UTF-8\"?>\n"
+
+-- the text of a drawing: the XML declaration, and its page
 abbrev pub drawing_text : Drawing → List ℕ
-drawing_text d = page_text d.layout d.rules d.count d.panels.items
+drawing_text d = declaration ++ svg_text d
 
 -- a text is the page of a board, under rules if there are any; `names` are those of its files, in order
 pub record IsDrawn (names : List (List ℕ)) (board : BoardView) (given_rules : Option GridRules) (text : List ℕ) : Type 0 where

@@ -30,10 +30,10 @@ sizes_words size width height = labelled (codes " font-size=\"") size ++ (labell
 unfoldable pub view_words : ℕ → ℕ → List ℕ
 view_words width height = labelled (codes "\" viewBox=\"0 0 ") width ++ (labelled (codes " ") height ++ codes "\">\n")
 
--- the start of a page: the XML declaration, the element `svg` and the style
+-- the start of a page: that of the element `svg`, and the style
 abbrev pub page_start : Layout → List ℕ
 page_start l =
-    codes "<?xml version=\"1.0\" encoding=\"UTF-8\"?>\n<svg xmlns=\"http://www.w3.org/2000/svg\" font-family=\"sans-serif\""
+    codes "<svg xmlns=\"http://www.w3.org/2000/svg\" font-family=\"sans-serif\""
     ++ (sizes_words (5 * l.pen.unit / 4) (pixels l (page_width l)) (pixels l (page_height l)) ++ (view_words (page_width l) (page_height l) ++ style_words))
 
 -- ---- the title

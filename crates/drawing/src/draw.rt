@@ -1,7 +1,7 @@
 //! The drawing of a board.
 
 ghost use Rattle.std.specs.Prelude.{◌≡◌, Some, map, IfOk};
-ghost use Rattle.drawing.specs.Drawings.{IsDrawn, IsPage, drawing_text, findings_under};
+ghost use Rattle.drawing.specs.Drawings.{IsDrawn, IsPage, drawing_text, findings_under, svg_text};
 
 use crate::bounds::board_extent;
 use crate::layout::Layout;
@@ -85,18 +85,35 @@ impl<'a> Drawing<'a> {
     }
 }
 
+/// The element `svg` of a drawing, without the XML declaration before it: as it may stand within a page of HTML.
+#[derive(Clone, Copy)]
+pub struct Svg<'a>(pub &'a Drawing<'a>);
+
+impl Display for Svg<'_> {
+    ghost output = { λ svg. Some (svg_text svg.0.now) };
+
+    fn fmt<W: fmt::Write>(&self, f: &mut Formatter<W>) -> fmt::Result {
+        let drawing = self.0;
+        let panels = Lines {
+            page: &drawing.layout,
+            lines: &drawing.panels,
+        };
+        write_page_start(f, &drawing.layout)?;
+        write_title(f, &drawing.layout, &drawing.rules, drawing.count)?;
+        write!(f, "{panels}")?;
+        write_scale(f, &drawing.layout)?;
+        write_legend(f, &drawing.layout)
+    }
+}
+
 impl Display for Drawing<'_> {
     ghost output = { λ drawing. Some (drawing_text drawing) };
 
     fn fmt<W: fmt::Write>(&self, f: &mut Formatter<W>) -> fmt::Result {
-        let panels = Lines {
-            page: &self.layout,
-            lines: &self.panels,
-        };
-        write_page_start(f, &self.layout)?;
-        write_title(f, &self.layout, &self.rules, self.count)?;
-        write!(f, "{panels}")?;
-        write_scale(f, &self.layout)?;
-        write_legend(f, &self.layout)
+        write!(
+            f,
+            "<?xml version=\"1.0\" encoding=\"UTF-8\"?>\n{}",
+            Svg(self)
+        )
     }
 }

@@ -15,4 +15,4 @@ mod places;
 mod scale;
 mod words;
 
-pub use draw::Drawing;
+pub use draw::{Drawing, Svg};

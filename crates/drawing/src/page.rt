@@ -13,14 +13,12 @@ use grid_units::Rules;
 use std::fmt;
 use std::fmt::Formatter;
 
-/// Writes the start of a page: the XML declaration, the element `svg` and the style.
+/// Writes the start of a page: that of the element `svg`, and the style.
 pub(crate) fn write_page_start<W: fmt::Write>(f: &mut Formatter<W>, layout: &Layout) -> fmt::Result
     ensures { DisplaysOnOk W.write_str_gives f.old result (Some (page_start layout.now)) f.new }
 {
     let (width, height) = (layout.width(), layout.height());
-    f.write_str(
-        "<?xml version=\"1.0\" encoding=\"UTF-8\"?>\n<svg xmlns=\"http://www.w3.org/2000/svg\" font-family=\"sans-serif\"",
-    )?;
+    f.write_str("<svg xmlns=\"http://www.w3.org/2000/svg\" font-family=\"sans-serif\"")?;
     write_sizes(
         f,
         5 * layout.pen.unit / 4,

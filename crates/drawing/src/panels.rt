@@ -1,6 +1,6 @@
 //! The panels of a board.
 
-ghost use Rattle.std.specs.Prelude.{◌≡◌, ◌++◌, ◌∷◌, ◌-ℤ◌, ◌+ℤ◌, [], pos, get_or, map, IfOk, OnOk};
+ghost use Rattle.std.specs.Prelude.{◌≡◌, ◌==◌, ◌++◌, ◌∷◌, ◌-ℤ◌, ◌+ℤ◌, [], pos, get_or, map, IfOk, OnOk};
 ghost use Rattle.std.specs.List.{AllZip, enumerate_from};
 ghost use Rattle.drawing.specs.Drawings.{IsPanel, IsScene, number_of};
 ghost use Rattle.drawing.specs.Layouts.{box_left, box_top};
@@ -54,12 +54,14 @@ fn name_of<'a>(names: &[&'a str], file: usize) -> &'a str
 fn place_of<'a>(layout: &Layout, names: &[&'a str], layer: usize, file: usize) -> Place<'a>
     ensures file { result.file ≡ number_of file }
     ensures name { result.name.now ≡ get_or (map (λ name. name.now) names.now) file [] }
+    ensures first { result.first ≡ (layer == 0) }
     ensures x { result.x ≡ pos (box_left layout.now layer) -ℤ layout.now.frame.left }
     ensures y { result.y ≡ pos (box_top layout.now layer) +ℤ layout.now.frame.top }
 {
     Place {
         file: file.saturating_add(1),
         name: name_of(names, file),
+        first: layer == 0,
         x: layout.box_left(layer) as i64 - layout.frame.left,
         y: layout.box_top(layer) as i64 + layout.frame.top,
     }

@@ -1,1 +1,3 @@
 pub mod LookupLemmas
+pub mod FirstFound
+pub mod ListedWords

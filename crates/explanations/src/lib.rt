@@ -1,14 +1,19 @@
 //! What the reasons for refusals, the findings and their causes mean, and what to set in which tool: a page for each word.
 #![tactic(auto)]
 
+mod known_words;
 mod reason_pages;
 mod topic;
 mod topic_pages;
 mod word_list;
 
-ghost use Rattle.std.specs.Prelude.{◌↔◌, IsSome, IfSome};
+ghost use Rattle.std.specs.Prelude.{◌≡◌, ◌↔◌, IsSome, IfSome, MatchOption, None};
+ghost use Rattle.explanations.specs.KnownWords as words;
+ghost use Rattle.explanations.specs.KnownWords.{IsPageOf};
 ghost use Rattle.explanations.specs.Words.{FitsScreen, HasHeading, IsExplained};
 
+use known_words::known_word;
+pub use known_words::near_word;
 use reason_pages::reason_page;
 use topic_pages::topic_page;
 pub use word_list::words;
@@ -27,6 +32,17 @@ pub fn explanation(word: &str) -> Option<&'static str>
     }
     match topic_by_word(word) {
         Some(topic) => Some(topic_page(topic)),
+        None => None,
+    }
+}
+
+/// The page of the word with a page that this word is: itself, else the first of the list that is equal to it but for the case
+/// of its letters, as `small` for `SMALL`. `None` where it is neither.
+pub fn explanation_in_any_case(word: &str) -> Option<&'static str>
+    ensures { MatchOption result (words.known_word word.now ≡ None) (λ page. IsPageOf (words.known_word word.now) page.now) }
+{
+    match known_word(word) {
+        Some(known) => explanation(known),
         None => None,
     }
 }

@@ -219,11 +219,11 @@ const HELP: [(Words, Words); 10] = [
         &["report", "--help"],
         &[
             "ringcheck report --ring <MM> --gap <MM> [--max <N>] [--waive <FILE>]\n",
-            " [--format <text|json|waivers>] <MANIFEST>\n",
+            " [--format <text|html|json|waivers>] <MANIFEST>\n",
             "Tell of each finding by how much, and why",
             "--max <N>        Most findings to show; all if it is not given\n",
             "--waive <FILE>   File of waivers: findings that are accepted\n",
-            "--format <NAME>  text, for people; json, one object; or waivers, a\n",
+            "--format <NAME>  text, for people; html, a page for a browser;\n",
         ],
     ),
     (

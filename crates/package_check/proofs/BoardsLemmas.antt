@@ -40,7 +40,7 @@ counted (h ∷ hs) =
     either false = refl
 
 -- a file has as many holes as are listed for it
-all_listed : (one : Content) → hole_count (sum_of one) ≡ length (drilled_in one)
+pub all_listed : (one : Content) → hole_count (sum_of one) ≡ length (drilled_in one)
 all_listed (content.Layer image) = refl
 all_listed (content.Drill plated span holes) = counted holes ∙ sym (length-map holes (λ hole. let one : Drilled = record { hole = hole; plated = plated; span = span } in one))
 

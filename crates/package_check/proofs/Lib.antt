@@ -19,3 +19,7 @@ pub mod TakeSteps
 pub mod FlashReadingLemmas
 pub mod FlashesByFile
 pub mod JudgedCopper
+pub mod FileKinds
+pub mod DrillSlots
+pub mod CheckSteps
+pub mod JudgedLayers

@@ -42,7 +42,7 @@ or_together false y z = refl
 pub taken_same : (reader : PackageReader) (keep : Keep) (sources : List FileView) (p q : ℕ → Bool) → ((i : ℕ) → p i ≡ q i) → HasTaken reader keep sources p → HasTaken reader keep sources q
 taken_same reader keep sources p q same h = subst (λ (t : ℕ → Bool). HasTaken reader keep sources t) (λ j. λ i. same i j) h
 
-stopped_alike : (xs ys : List FileView) (p : ℕ → Bool) → ((i : ℕ) → p i ≡ true → slice_get ys i ≡ slice_get xs i) → (stopped : Option PackageFault) → StoppedAmong xs p stopped → StoppedAmong ys p stopped
+pub stopped_alike : (xs ys : List FileView) (p : ℕ → Bool) → ((i : ℕ) → p i ≡ true → slice_get ys i ≡ slice_get xs i) → (stopped : Option PackageFault) → StoppedAmong xs p stopped → StoppedAmong ys p stopped
 stopped_alike xs ys p same None h = tt
 stopped_alike xs ys p same (Some stop.Memory) h = h
 stopped_alike xs ys p same (Some (stop.File r f)) h = (h.0, same r h.2 ∙ h.1, h.2, h.3)
@@ -331,28 +331,32 @@ first_contents (suc n) (s ∷ ss) le each =
     let rest = first_contents n ss (omega (arith, le)) (λ i t lt at. each (suc i) t (omega (arith, lt)) at) in
     (one.0 ∷ rest.0, (content_read s one.0 one.1, rest.1))
 
+-- the file at which reading stopped is the first that is refused
+pub first_refused : {X : Type 0} (Is : ℕ → FileView → X → Type 0) → ((i : ℕ) (s : FileView) (one : X) → Is i s one → (c : Content) × Reads s (Ok c)) → (slots : List (Option X)) (stopping : Option PackageFault) (sources : List FileView)
+    → HoldsThose Is slots stopping sources (λ i. true) → (r : ℕ) (f : Fault) → stopping ≡ Some (stop.File r f) → IsFirstRefused sources r f
+first_refused Is read slots stopping sources all r f is =
+    let stopped = subst (StoppedAmong sources (λ i. true)) is all.stopped in
+    let inside = slice_get_within sources r stopped.0 stopped.1 in
+    let before = first_contents r sources (omega (arith, inside)) (λ i s lt at.
+    let one = all.kept i s refl at (subst (λ (st : Option PackageFault). is_wanted st i ≡ true) (sym is) (lt-ltb i r lt)) in read i s one.0 one.2) in
+    record {
+      contents = before.0;
+      read = before.1;
+      inside = inside;
+      refused = λ d. subst (λ (x : FileView). Reads x (Err f)) (sym (get_or_from_slice_get sources r stopped.0 d stopped.1)) stopped.3;
+    }
+
 module _ (reader : PackageReader) (keep : Keep) (sources : List FileView) (all : HasTakenAll reader keep sources) where
-  -- the file at which a reader stopped is the first that is refused
-  first_refused : (r : ℕ) (f : Fault) → reader.stopped ≡ Some (stop.File r f) → IsFirstRefused sources r f
-  first_refused r f is =
-      let stopped = subst (StoppedAmong sources (λ i. true)) is all.holds.stopped in
-      let inside = slice_get_within sources r stopped.0 stopped.1 in
-      let before = first_contents r sources (omega (arith, inside)) (λ i s lt at.
-      let one = all.holds.kept i s refl at (subst (λ (st : Option PackageFault). is_wanted st i ≡ true) (sym is) (lt-ltb i r lt)) in (one.0.content, one.2.content)) in
-      record {
-        contents = before.0;
-        read = before.1;
-        inside = inside;
-        refused = λ d. subst (λ (x : FileView). Reads x (Err f)) (sym (get_or_from_slice_get sources r stopped.0 d stopped.1)) stopped.3;
-      }
+  refused_first : (r : ℕ) (f : Fault) → reader.stopped ≡ Some (stop.File r f) → IsFirstRefused sources r f
+  refused_first = first_refused (λ i. IsKeptOf keep) (λ i s one is. (one.content, is.content)) reader.slots.items reader.stopped sources all.holds
 
   pub stop_returned : (fault : PackageFault) → reader.stopped ≡ Some fault → ReturnsBoard sources (Err fault)
   stop_returned stop.Memory is = tt
-  stop_returned (stop.File r f) is = first_refused r f is
+  stop_returned (stop.File r f) is = refused_first r f is
 
   pub flashed_stop_returned : (fault : PackageFault) → reader.stopped ≡ Some fault → ReturnsFlashedBoard sources (Err fault)
   flashed_stop_returned stop.Memory is = tt
-  flashed_stop_returned (stop.File r f) is = first_refused r f is
+  flashed_stop_returned (stop.File r f) is = refused_first r f is
 
   module _ (none : reader.stopped ≡ None) (board : BoardView) (is : board ≡ board_of (flat_map contents_in reader.slots.items) (flat_map flashes_in reader.slots.items)) where
     each_kept : (i : ℕ) (s : FileView) → slice_get sources i ≡ Some s → KeptAt keep reader.slots.items i s

@@ -1,1 +1,2 @@
 pub mod FileStarts
+pub mod Leftovers

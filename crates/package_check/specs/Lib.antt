@@ -12,3 +12,5 @@ pub mod Holding
 pub mod Judging
 pub mod HoleViews
 pub mod Inner
+pub mod CheckViews
+pub mod Checking

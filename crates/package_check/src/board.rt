@@ -122,7 +122,7 @@ fn slots(holes: &[Hole]) -> usize
     holes.iter().filter(|hole| !hole.is_round()).count()
 }
 
-fn sum_of(content: &Content) -> FileSum
+pub(crate) fn sum_of(content: &Content) -> FileSum
     ensures { result ≡ sum_of content.now }
 {
     match content {
@@ -181,6 +181,20 @@ fn push_drilled(
         })?;
     }
     Ok(())
+}
+
+/// Appends the holes of a file, where it is a drill file.
+pub(crate) fn push_holes(holes: &mut Vec<Drilled>, content: &Content) -> Result<(), AllocError>
+    ensures { OnOk result (holes.new.items ≡ holes.old.items ++ drilled_in content.now) }
+{
+    match content {
+        Content::Layer(_) => Ok(()),
+        Content::Drill {
+            plated,
+            span,
+            drill,
+        } => push_drilled(holes, *plated, span, drill.holes()),
+    }
 }
 
 /// Moves the content of a file to the list of its kind. Its own list of holes is freed once they are appended.

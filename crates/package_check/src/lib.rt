@@ -2,6 +2,7 @@
 #![tactic(auto)]
 
 mod board;
+mod checking;
 mod contents;
 mod indexed_holes;
 mod judged;
@@ -17,6 +18,7 @@ mod slots;
 mod text;
 
 pub use board::{Board, hole_count};
+pub use checking::PackageCheck;
 use grid_units::Fault;
 pub use layer_image::Keep;
 pub use lines::FileLines;

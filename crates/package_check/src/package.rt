@@ -7,11 +7,12 @@ ghost use Rattle.package_check.specs.Package.{ReturnsExactly, ReturnsReport, IsA
 ghost use Rattle.package_check.specs.Reports.{ReportView};
 ghost use Rattle.package_check.specs.Soundness.{AreStraight, IsSound};
 ghost use Rattle.package_check.specs.SoundnessAsRead.{AreLegal};
+ghost use Rattle.package_check.specs.Checking.{HasJudgedAll, JudgesThose};
 ghost use Rattle.package_check.specs.Holding.{HasTakenAll, TakesThose, copper_files, is_kind_at};
 
 use crate::contents::{is_copper, is_kind};
 use crate::laws::{files_say_once, findings_name_their_places, passing_is_sound, unique_answer};
-use crate::{Board, File, Keep, PackageFault, PackageReader, Report};
+use crate::{Board, File, Keep, PackageCheck, PackageFault, PackageReader, Report};
 use grid_units::Rules;
 use std::alloc::{AllocError, Global};
 
@@ -45,11 +46,36 @@ fn reader_of(alloc: Global, files: &[File], keep: Keep) -> Result<PackageReader,
     Ok(reader)
 }
 
+/// Has the check take the copper files.
+fn take_copper(check: &mut PackageCheck, files: &[File]) -> Result<(), AllocError>
+    ensures { check.old.layers ≡ layer_count files.now → OnOk result (JudgesThose check.old check.new (file_views files.now) (is_kind_at true (file_views files.now))) }
+{
+    let mut layer = 0;
+    for (index, file) in files.iter().enumerate() {
+        if is_copper(file.role) {
+            check.take(index, layer, file.span, &[file.bytes])?;
+            layer += 1;
+        }
+    }
+    Ok(())
+}
+
+/// A check that has taken the files: the drill files first, then the copper files.
+fn check_of(alloc: Global, files: &[File], rules: Rules) -> Result<PackageCheck, AllocError>
+    ensures { IfOk result (λ check. HasJudgedAll check (file_views files.now) rules) }
+{
+    let mut reader = PackageReader::new(alloc, layer_count(files));
+    take_kind(&mut reader, files, false)?;
+    let mut check = reader.checking(rules)?;
+    take_copper(&mut check, files)?;
+    Ok(check)
+}
+
 fn report_of(alloc: Global, files: &[File], rules: Rules) -> Result<Report, PackageFault>
     ensures { ReturnsReport (file_views files.now) rules result }
 {
-    match reader_of(alloc, files, Keep::Pads) {
-        Ok(reader) => reader.finish(rules),
+    match check_of(alloc, files, rules) {
+        Ok(check) => check.finish(),
         Err(_) => Err(PackageFault::Memory),
     }
 }

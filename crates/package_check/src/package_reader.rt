@@ -1,25 +1,19 @@
 //! A package whose files are taken in any order.
 
-ghost use Rattle.std.specs.Prelude.{◌≡◌, ℕ, List, [], true, false, Some, Err, Result, IfOk, OnOk, OnErr, alloc_error, map};
+ghost use Rattle.std.specs.Prelude.{◌≡◌, ℕ, List, true, false, Some, Err, OnOk, OnErr, alloc_error, map};
 ghost use Rattle.std.specs.List.{concat};
-ghost use Rattle.grid_units.specs.declared.fault.Fault.{Fault as TheFault};
 ghost use Rattle.layer_image.specs.KeptFlashes.{keeps_flashes};
 ghost use Rattle.layer_image.specs.declared.keep.Keep.{Keep as TheKeep};
 ghost use Rattle.layer_image.specs.declared.keep.Keep.TheVariants as keep;
 ghost use Rattle.package_check.specs.Boards.{ReturnsBoard, ReturnsFlashedBoard};
-ghost use Rattle.package_check.specs.Package.{ReturnsExactly, ReturnsReport, IsAnswer, NamesItsPlaces, FileView, unnamed_file};
-ghost use Rattle.package_check.specs.Reports.{ReportView};
-ghost use Rattle.package_check.specs.Soundness.{IsSound};
-ghost use Rattle.package_check.specs.SoundnessAsRead.{AreLegal};
+ghost use Rattle.package_check.specs.Package.{FileView, unnamed_file};
 ghost use Rattle.package_check.specs.Holding.{ReadsAt, is_wanted, next_stop};
 ghost use Rattle.package_check.specs.declared.PackageFault.TheVariants as stop;
 
 use crate::contents::read_file;
-use crate::laws::{findings_name_their_places, passing_is_sound, unique_answer};
-use crate::report::report_on;
 use crate::slots::{Kept, board_of_slots, put};
-use crate::{Board, PackageFault, Report, Role};
-use grid_units::{Fail, Rules};
+use crate::{Board, PackageFault, Role};
+use grid_units::Fail;
 use layer_image::{Keep, unique_reading};
 use ring_rules::Span;
 use std::alloc::{AllocError, Global};
@@ -28,12 +22,12 @@ use std::alloc::{AllocError, Global};
 /// of a drill file, flashes where they are asked for, and no text. After a file that is refused it reads only those before it.
 #[derive(Drop)]
 pub struct PackageReader {
-    alloc: Global,
-    layers: usize,
+    pub(crate) alloc: Global,
+    pub(crate) layers: usize,
     keep: Keep,
-    slots: Vec<Option<Kept>>,
+    pub(crate) slots: Vec<Option<Kept>>,
     /// The first file that is refused so far, or that memory ran out.
-    stopped: Option<PackageFault>,
+    pub(crate) stopped: Option<PackageFault>,
 }
 
 impl PackageReader {
@@ -62,7 +56,7 @@ impl PackageReader {
     }
 
     /// Takes the file at this index of the package, from 0, whose text comes in these pieces. A file that is refused is no error here:
-    /// [`PackageReader::finish`] returns the first of them in the order of the package.
+    /// [`PackageReader::board`] returns the first of them in the order of the package.
     ///
     /// # Errors
     ///
@@ -120,46 +114,12 @@ impl PackageReader {
         Ok(())
     }
 
-    /// The report on the files that were taken, in the order of their indexes, as that of [`crate::check_bytes`].
-    ///
-    /// # Errors
-    ///
-    /// The first file that is refused, by its index, with its fault; `Memory` where there is no memory.
-    pub fn finish(self, rules: Rules) -> Result<Report, PackageFault>
-        ensures exact { (keep : TheKeep) (sources : List FileView) → HasTakenAll self keep sources → ReturnsReport sources rules result }
-        ensures only { (keep : TheKeep) (sources : List FileView) (answer : Result ReportView (ℕ × TheFault)) → HasTakenAll self keep sources → IsAnswer sources rules answer → ReturnsExactly answer result }
-        ensures places { (keep : TheKeep) (sources : List FileView) → HasTakenAll self keep sources → IfOk result NamesItsPlaces }
-        ensures legal { (keep : TheKeep) (sources : List FileView) → HasTakenAll self keep sources → IfOk result (λ report. AreLegal sources) }
-        ensures sound { (keep : TheKeep) (sources : List FileView) → HasTakenAll self keep sources → IfOk result (λ report. report.findings ≡ [] → IsSound sources rules) }
-        ensures failed { IsOutOfMemory self → result ≡ Err stop.Memory }
-    {
-        unique_answer();
-        findings_name_their_places();
-        passing_is_sound();
-        self.answer(rules)
-    }
-
-    #[tactic(auto, using(crate::proofs::BoardsLemmas::reported_on))]
-    fn answer(self, rules: Rules) -> Result<Report, PackageFault>
-        ensures exact { (keep : TheKeep) (sources : List FileView) → HasTakenAll self keep sources → ReturnsReport sources rules result }
-        ensures failed { IsOutOfMemory self → result ≡ Err stop.Memory }
-    {
-        let alloc = self.alloc;
-        match self.board() {
-            Ok(board) => match report_on(alloc, board, rules) {
-                Ok(report) => Ok(report),
-                Err(_) => Err(PackageFault::Memory),
-            },
-            Err(fault) => Err(fault),
-        }
-    }
-
     /// The board of the files that were taken, in the order of their indexes: what all of them say together, with the flashes of copper
     /// files where they are kept. A drill file's own list of holes is freed as they are appended to the board's.
     ///
     /// # Errors
     ///
-    /// As those of [`PackageReader::finish`].
+    /// The first file that is refused, by its index, with its fault; `Memory` where there is no memory.
     pub fn board(self) -> Result<Board, PackageFault>
         ensures exact { (keep : TheKeep) (sources : List FileView) → HasTakenAll self keep sources → ReturnsBoard sources result }
         ensures flashes { (keep : TheKeep) (sources : List FileView) → HasTakenAll self keep sources → keeps_flashes keep ≡ true → ReturnsFlashedBoard sources result }

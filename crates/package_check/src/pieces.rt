@@ -1,18 +1,18 @@
 //! The check of a package whose files come in pieces.
 
-ghost use Rattle.std.specs.Prelude.{◌≡◌, ◌<◌, ℕ, [], Result, IfOk, OnOk};
+ghost use Rattle.std.specs.Prelude.{◌≡◌, ◌<◌, ℕ, [], false, true, Result, IfOk, OnOk};
 ghost use Rattle.grid_units.specs.declared.fault.Fault.{Fault as TheFault};
-ghost use Rattle.layer_image.specs.declared.keep.Keep.TheVariants as keep;
 ghost use Rattle.package_check.specs.Package.{ReturnsExactly, ReturnsReport, IsAnswer, NamesItsPlaces};
 ghost use Rattle.package_check.specs.Pieces.{pieced_layer_count, pieced_file_views};
 ghost use Rattle.package_check.specs.Reports.{ReportView};
 ghost use Rattle.package_check.specs.Soundness.{AreStraight, IsSound};
 ghost use Rattle.package_check.specs.SoundnessAsRead.{AreLegal};
-ghost use Rattle.package_check.specs.Holding.{HasTakenAll, TakesThose, copper_files, is_kind_at};
+ghost use Rattle.package_check.specs.Checking.{HasJudgedAll, JudgesThose};
+ghost use Rattle.package_check.specs.Holding.{TakesThose, copper_files, is_kind_at};
 
 use crate::contents::{is_copper, is_kind};
 use crate::laws::{files_say_once, findings_name_their_places, passing_is_sound, unique_answer};
-use crate::{PackageFault, PackageReader, PiecedFile, Report};
+use crate::{PackageCheck, PackageFault, PackageReader, PiecedFile, Report};
 use grid_units::Rules;
 use std::alloc::{AllocError, Global};
 
@@ -22,38 +22,49 @@ fn layer_count(files: &[PiecedFile]) -> usize
     files.iter().filter(|file| is_copper(file.role)).count()
 }
 
-/// Takes those of the files that are copper, or those that are not, as `copper` says.
-fn take_kind(
-    reader: &mut PackageReader,
-    files: &[PiecedFile],
-    copper: bool,
-) -> Result<(), AllocError>
-    ensures takes { copper_files reader.old ≡ pieced_layer_count files.now → OnOk result (TakesThose reader.old reader.new (pieced_file_views files.now) (is_kind_at copper (pieced_file_views files.now))) }
+/// Takes the drill files.
+fn take_drills(reader: &mut PackageReader, files: &[PiecedFile]) -> Result<(), AllocError>
+    ensures takes { copper_files reader.old ≡ pieced_layer_count files.now → OnOk result (TakesThose reader.old reader.new (pieced_file_views files.now) (is_kind_at false (pieced_file_views files.now))) }
     ensures layers { copper_files reader.new ≡ copper_files reader.old }
 {
     for (index, file) in files.iter().enumerate() {
-        if is_kind(file.role, copper) {
+        if is_kind(file.role, false) {
             reader.take(index, file.role, file.span, file.pieces)?;
         }
     }
     Ok(())
 }
 
-/// A reader that has taken the files: the drill files first, then the copper files.
-fn reader_of(alloc: Global, files: &[PiecedFile]) -> Result<PackageReader, AllocError>
-    ensures { IfOk result (λ reader. HasTakenAll reader keep.Pads (pieced_file_views files.now)) }
+/// Has the check take the copper files.
+fn take_copper(check: &mut PackageCheck, files: &[PiecedFile]) -> Result<(), AllocError>
+    ensures { check.old.layers ≡ pieced_layer_count files.now → OnOk result (JudgesThose check.old check.new (pieced_file_views files.now) (is_kind_at true (pieced_file_views files.now))) }
+{
+    let mut layer = 0;
+    for (index, file) in files.iter().enumerate() {
+        if is_copper(file.role) {
+            check.take(index, layer, file.span, file.pieces)?;
+            layer += 1;
+        }
+    }
+    Ok(())
+}
+
+/// A check that has taken the files: the drill files first, then the copper files.
+fn check_of(alloc: Global, files: &[PiecedFile], rules: Rules) -> Result<PackageCheck, AllocError>
+    ensures { IfOk result (λ check. HasJudgedAll check (pieced_file_views files.now) rules) }
 {
     let mut reader = PackageReader::new(alloc, layer_count(files));
-    take_kind(&mut reader, files, false)?;
-    take_kind(&mut reader, files, true)?;
-    Ok(reader)
+    take_drills(&mut reader, files)?;
+    let mut check = reader.checking(rules)?;
+    take_copper(&mut check, files)?;
+    Ok(check)
 }
 
 fn report_of(alloc: Global, files: &[PiecedFile], rules: Rules) -> Result<Report, PackageFault>
     ensures { ReturnsReport (pieced_file_views files.now) rules result }
 {
-    match reader_of(alloc, files) {
-        Ok(reader) => reader.finish(rules),
+    match check_of(alloc, files, rules) {
+        Ok(check) => check.finish(),
         Err(_) => Err(PackageFault::Memory),
     }
 }

@@ -1,10 +1,10 @@
 // The report on what the files of a package say.
 ghost use Rattle.std.specs.Prelude.{◌≡◌, ◌<◌, List, Some, IfOk, length, slice_get};
 ghost use Rattle.package_check.specs.declared.FileSum.{FileSum as TheFileSum};
-ghost use Rattle.package_check.specs.Boards.{CountsAddUp, numbered_from, reported};
+ghost use Rattle.package_check.specs.Boards.{CountsAddUp, numbered_from};
 ghost use Rattle.package_check.specs.Inner.FileStarts.{AreFileStarts};
 
-use crate::{Board, FileSum, Numbered, hole_count};
+use crate::{FileSum, Numbered, hole_count};
 use grid_units::Rules;
 use ring_rules::{Drilled, Finding};
 use std::alloc::{AllocError, Global};
@@ -132,18 +132,4 @@ pub(crate) fn report_of(
         starts,
         findings,
     })
-}
-
-/// The report on a board, whose pads and flashes are freed.
-pub(crate) fn report_on(alloc: Global, board: Board, rules: Rules) -> Result<Report, AllocError>
-    ensures { IfOk result (λ report. report ≡ reported rules board) }
-{
-    let findings = board.findings(alloc, rules)?;
-    let Board {
-        files,
-        layer_indexes,
-        holes,
-        ..
-    } = board;
-    report_of(alloc, rules, files, layer_indexes, holes, findings)
 }

@@ -1,6 +1,6 @@
 //! What a reader keeps of the files of a package, each in a slot at its index.
 
-ghost use Rattle.std.specs.Prelude.{◌≡◌, ◌≤◌, ◌<◌, ◌++◌, ℕ, IfOk, OnOk, length, map};
+ghost use Rattle.std.specs.Prelude.{◌≡◌, ◌≤◌, ◌<◌, ◌++◌, ℕ, IfOk, OnErr, OnOk, length, map};
 ghost use Rattle.std.specs.List.{flat_map};
 ghost use Rattle.package_check.specs.Boards.{board_of};
 ghost use Rattle.package_check.specs.Holding.{IsPutAt, contents_in, flashes_in, kept_at};
@@ -22,7 +22,7 @@ pub(crate) struct Kept {
 /// Appends empty slots until there is one at this index.
 #[tactic(auto, using(crate::proofs::SlotLemmas::empty_more))]
 fn lengthen<T: Drop>(slots: &mut Vec<Option<T>>, index: usize) -> Result<(), AllocError>
-    ensures same { OnOk result ((i : ℕ) → kept_at slots.new.items i ≡ kept_at slots.old.items i) }
+    ensures same { (i : ℕ) → kept_at slots.new.items i ≡ kept_at slots.old.items i }
     ensures long { OnOk result (index < length slots.new.items) }
     ensures size { OnOk result ((n : ℕ) → length slots.old.items ≤ n → index < n → length slots.new.items ≤ n) }
 {
@@ -32,14 +32,15 @@ fn lengthen<T: Drop>(slots: &mut Vec<Option<T>>, index: usize) -> Result<(), All
     Ok(())
 }
 
-/// Puts what is kept of a file into the slot at its index. What was there is freed.
+/// Puts what is kept of a file into the slot at its index. What was there is freed. Where there is no memory each slot stays.
 #[tactic(auto, using(crate::proofs::SlotLemmas::slot_filled))]
 pub(crate) fn put<T: Drop>(
     slots: &mut Vec<Option<T>>,
     index: usize,
     one: T,
 ) -> Result<(), AllocError>
-    ensures { OnOk result (IsPutAt index one slots.old.items slots.new.items) }
+    ensures put { OnOk result (IsPutAt index one slots.old.items slots.new.items) }
+    ensures same { OnErr result ((i : ℕ) → kept_at slots.new.items i ≡ kept_at slots.old.items i) }
 {
     lengthen(slots, index)?;
     slots[index] = Some(one);

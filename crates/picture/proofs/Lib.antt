@@ -1,4 +1,5 @@
 pub mod EscapesLemmas
 pub mod Gathered
+pub mod HoleGroupLemmas
 pub mod PadPathLemmas
 pub mod PadOrderLemmas

@@ -1,14 +1,17 @@
 -- The elements of a picture (docs/FORMATS.md, Pictures). Lengths are whole pm, printed in mm without zeros at the end; y grows downwards.
-use Rattle.std.specs.Prelude.{ℕ, ℤ, pos, neg_ℤ, ◌+◌, ◌-◌, ◌*◌, ◌/◌, ◌+ℤ◌, ◌-ℤ◌, int_div, min, max, ◌==◌, ◌&&◌, nat_le, Bool, false, List, [], ◌∷◌, ◌++◌, length, codes, decimal, Option, Some, None, if◌then◌else◌}
+use Rattle.std.specs.Prelude.{ℕ, ℤ, pos, neg_ℤ, ◌+◌, ◌-◌, ◌*◌, ◌/◌, ◌+ℤ◌, ◌-ℤ◌, int_div, min, max, ◌==◌, ◌&&◌, nat_le, not, Bool, false, List, [], ◌∷◌, ◌++◌, length, codes, decimal, Option, Some, None, if◌then◌else◌}
 use Rattle.std.specs.List.{flat_map}
 use Rattle.grid_units.specs.Holes.{GridHole, is_round}
 use Rattle.grid_units.specs.Points.{GridPoint}
 use Rattle.pad_shapes.specs.Shapes.{GridRect, GridObround}
 use Rattle.pad_shapes.specs.declared.pad.Pad.{Pad}
 use Rattle.pad_shapes.specs.declared.pad.Pad.TheVariants as pads
+use Rattle.printing.specs.Holes.{drilled_words}
 use Rattle.printing.specs.Lengths.{short_millimetres}
 use Rattle.ring_rules.specs.declared.finding.Drilled.{Drilled}
+use Rattle.picture.specs.Escapes.{escaped}
 use Rattle.picture.specs.declared.pen.Pen.{Pen}
+use Rattle.picture.specs.declared.place.Place.{Place}
 use Rattle.picture.specs.declared.scene.DrawnFinding.{DrawnFinding}
 use Rattle.picture.specs.declared.scene.DrawnFinding.TheVariants.{Ring, Gap}
 
@@ -78,9 +81,19 @@ path_start (pads.Disc d) = lines_start (pos (2 * d.radius))
 path_start (pads.Rect r) = codes "<path class=\"pad\" d=\""
 path_start (pads.Obround o) = lines_start (pos (2 * half_width o))
 
--- the end of a path
-abbrev pub path_end : List ℕ
-path_end = codes "\"/>\n"
+-- the kind of some pads and their sides along x and y: `disc 0.6x0.6`
+unfoldable pub sized_words : List ℕ → ℤ → ℤ → List ℕ
+sized_words kind width height = kind ++ (short_millimetres width ++ (codes "x" ++ short_millimetres height))
+
+-- a pad in words: `disc 0.6x0.6`
+abbrev pub pad_words : Pad → List ℕ
+pad_words (pads.Disc d) = sized_words (codes "disc ") (pos (2 * d.radius)) (pos (2 * d.radius))
+pad_words (pads.Rect r) = sized_words (codes "rect ") (pos (2 * r.half_x)) (pos (2 * r.half_y))
+pad_words (pads.Obround o) = sized_words (codes "obround ") (pos (2 * o.half_x)) (pos (2 * o.half_y))
+
+-- the end of a path of pads like this one, with a title: `"><title>disc 0.6x0.6</title></path>`
+abbrev pub path_end : Pad → List ℕ
+path_end pad = codes "\"><title>" ++ (pad_words pad ++ codes "</title></path>\n")
 
 -- two pads of one kind and size
 abbrev pub are_alike : Pad → Pad → Bool
@@ -92,12 +105,12 @@ are_alike _ _ = false
 -- between the pad before, if there is one, and a pad: nothing between pads alike, else the start of a new path
 abbrev pub path_change : Option Pad → Pad → List ℕ
 path_change None pad = path_start pad
-path_change (Some before) pad = if are_alike before pad then [] else path_end ++ path_start pad
+path_change (Some before) pad = if are_alike before pad then [] else path_end before ++ path_start pad
 
 -- the end of the last path, if there is one
 abbrev pub last_end : Option Pad → List ℕ
 last_end None = []
-last_end (Some before) = path_end
+last_end (Some before) = path_end before
 
 -- the paths of some pads that follow a pad, if there is one before: a path for each run of pads alike
 unfoldable pub paths_after : Option Pad → List Pad → List ℕ
@@ -126,9 +139,13 @@ cross pen p = cross_bar pen p ++ cross_post pen p
 unfoldable pub crosses_start : Pen → List ℕ
 crosses_start pen = after (codes "<path class=\"other\" stroke-width=\"") (pos (pen.unit / 5)) ++ codes "\" d=\""
 
+-- the end of the path of crosses, with its title
+abbrev pub crosses_end : List ℕ
+crosses_end = codes "\"><title>flash that is no pad</title></path>\n"
+
 -- the path of all crosses; nothing where there are none
 abbrev pub crosses : Pen → List GridPoint → List ℕ
-crosses pen points = if length points == 0 then [] else (crosses_start pen ++ flat_map (cross pen) points) ++ path_end
+crosses pen points = if length points == 0 then [] else (crosses_start pen ++ flat_map (cross pen) points) ++ crosses_end
 
 -- ---- holes
 
@@ -153,6 +170,37 @@ unfoldable pub hole : Pen → Drilled → List ℕ
 hole pen d =
     if is_round d.hole then circle (hole_class d.plated) d.hole.from.x (neg_ℤ d.hole.from.y) (pos d.hole.radius) (pos (rim pen d.hole.radius))
     else slot (codes "rim") d.hole d.hole.radius ++ slot (codes "slot") d.hole (d.hole.radius - rim pen d.hole.radius)
+
+-- two holes of one diameter, both plated or both not
+abbrev pub are_alike_holes : Drilled → Drilled → Bool
+are_alike_holes a b = (a.hole.radius == b.hole.radius) && (if a.plated then b.plated else not b.plated)
+
+-- the start of a group of holes, with a title that has their diameter: `<g><title>plated hole, 0.75</title>`
+unfoldable pub holes_start : List ℕ → ℤ → List ℕ
+holes_start class diameter = codes "<g><title>" ++ (class ++ (codes " hole, " ++ (short_millimetres diameter ++ codes "</title>\n")))
+
+-- the start of the group for holes like this one
+abbrev pub holes_like : Drilled → List ℕ
+holes_like d = holes_start (hole_class d.plated) (pos (2 * d.hole.radius))
+
+-- the end of a group
+abbrev pub group_end : List ℕ
+group_end = codes "</g>\n"
+
+-- between the hole before, if there is one, and a hole: nothing between holes alike, else the start of a new group
+abbrev pub holes_change : Option Drilled → Drilled → List ℕ
+holes_change None d = holes_like d
+holes_change (Some before) d = if are_alike_holes before d then [] else group_end ++ holes_like d
+
+-- the end of the last group, if there is one
+abbrev pub holes_end : Option Drilled → List ℕ
+holes_end None = []
+holes_end (Some before) = group_end
+
+-- some holes that follow a hole, if there is one before: a group for each run of holes alike
+unfoldable pub holes_after : Pen → Option Drilled → List Drilled → List ℕ
+holes_after pen before [] = holes_end before
+holes_after pen before (d ∷ ds) = (holes_change before d ++ hole pen d) ++ holes_after pen (Some d) ds
 
 -- ---- findings
 
@@ -183,6 +231,46 @@ unfoldable pub lack : Pen → DrawnFinding → List ℕ
 lack pen (Ring n h) = ring pen h
 lack pen (Gap n a b) = gap pen a b
 
+-- ---- titles of findings
+
+-- the number of a finding among all, from 1
+abbrev pub number_of : DrawnFinding → ℕ
+number_of (Ring n h) = n
+number_of (Gap n a b) = n
+
+-- a ring that is lacking, by the name of the layer's file, the rule and the hole: `annular ring on top (rule 0.15): hole 0.75 at 142.24,-97.79`
+unfoldable pub ring_words : List ℕ → ℤ → GridHole → List ℕ
+ring_words name rule h = codes "annular ring on " ++ (name ++ (codes " (rule " ++ (short_millimetres rule ++ (codes "): hole " ++ drilled_words h))))
+
+-- a gap that is lacking, by its two holes: `gap too small: hole 0.4 at 0,0, and hole 0.4 at 0.6,0`
+unfoldable pub gap_words : GridHole → GridHole → List ℕ
+gap_words a b = codes "gap too small: hole " ++ (drilled_words a ++ (codes ", and hole " ++ drilled_words b))
+
+-- what is lacking
+abbrev pub lack_words : Pen → Place → DrawnFinding → List ℕ
+lack_words pen place (Ring n h) = ring_words (escaped place.name.now) (pos pen.ring) h
+lack_words pen place (Gap n a b) = gap_words a b
+
+-- a finding in words: its number and what is lacking: `#27 annular ring on top (rule 0.15): hole 0.75 at 142.24,-97.79`
+unfoldable pub finding_words : Pen → Place → DrawnFinding → List ℕ
+finding_words pen place found = codes "#" ++ (decimal (number_of found) ++ (codes " " ++ lack_words pen place found))
+
+-- the attribute by which a finding is named: `id`, which no two elements of a page share. A ring stands in one panel. A gap stands in each,
+-- and its `id` is in the first one
+abbrev pub naming : Place → DrawnFinding → List ℕ
+naming place (Ring n h) = codes "id"
+naming place (Gap n a b) = if place.first then codes "id" else codes "data-id"
+
+-- the start of the group of a finding: `<g class="finding" id="f27"><title>#27 gap too small: hole 0.4 at 0,0, and hole 0.4 at 0.6,0</title>`
+unfoldable pub finding_start : List ℕ → ℕ → List ℕ → List ℕ
+finding_start attribute n words =
+    codes "<g class=\"finding\" " ++ (attribute ++ (codes "=\"f" ++ (decimal n ++ (codes "\"><title>" ++ (words ++ codes "</title>\n")))))
+
+-- the group of a finding: its name, its title, and its ring or gap
+abbrev pub finding_text : Pen → Place → DrawnFinding → List ℕ
+finding_text pen place found =
+    finding_start (naming place found) (number_of found) (finding_words pen place found) ++ (lack pen found ++ group_end)
+
 -- ---- marks and numbers
 
 -- the x of a finding's place: the middle of its hole, or halfway between the two holes
@@ -204,28 +292,28 @@ reach pen (Gap n a b) = 0
 abbrev pub mark_radius : Pen → DrawnFinding → ℕ
 mark_radius pen found = max (reach pen found + pen.unit / 2) pen.unit
 
--- the mark round a finding: `<circle class="mark" cx="20" cy="-78" r="2.3" stroke-width="0.4"/>`
-unfoldable pub mark : Pen → DrawnFinding → List ℕ
-mark pen found = circle (codes "mark") (place_x found) (neg_ℤ (place_y found)) (pos (mark_radius pen found)) (pos (pen.unit / 5))
+-- the circle round a finding: `<circle class="mark" cx="20" cy="-78" r="2.3" stroke-width="0.4"/>`
+abbrev pub mark_circle : Pen → DrawnFinding → List ℕ
+mark_circle pen found = circle (codes "mark") (place_x found) (neg_ℤ (place_y found)) (pos (mark_radius pen found)) (pos (pen.unit / 5))
 
--- the number of a finding among all, from 1
-abbrev pub number_of : DrawnFinding → ℕ
-number_of (Ring n h) = n
-number_of (Gap n a b) = n
+-- the mark of a finding: a group with its title and its circle
+unfoldable pub mark : Pen → Place → DrawnFinding → List ℕ
+mark pen place found = codes "<g><title>" ++ (finding_words pen place found ++ (codes "</title>\n" ++ (mark_circle pen found ++ group_end)))
 
 -- the start of a text after its first words: its place, and the unit that scales its letters: `1.4 -94.4) scale(2.3)">`
 unfoldable pub text_start : Pen → List ℕ → ℤ → ℤ → List ℕ
 text_start pen words x y = after words x ++ (after (codes " ") y ++ (after (codes ") scale(") (pos pen.unit) ++ codes ")\">"))
 
--- a number at a place: `<text class="number" transform="translate(16.6 -14.6) scale(2.3)">3</text>`
-unfoldable pub number_at : Pen → ℤ → ℤ → ℕ → List ℕ
-number_at pen x y n = text_start pen (codes "<text class=\"number\" transform=\"translate(") x y ++ (decimal n ++ codes "</text>\n")
+-- a number at a place, with a title: `<text class="number" transform="translate(16.6 -14.6) scale(2.3)"><title>..</title>3</text>`
+unfoldable pub number_at : Pen → ℤ → ℤ → ℕ → List ℕ → List ℕ
+number_at pen x y n words =
+    text_start pen (codes "<text class=\"number\" transform=\"translate(") x y ++ (codes "<title>" ++ (words ++ (codes "</title>" ++ (decimal n ++ codes "</text>\n"))))
 
 -- the distance of a finding's number from its place, to the right and upwards: seven tenths of the mark's radius
 abbrev pub number_offset : Pen → DrawnFinding → ℕ
 number_offset pen found = mark_radius pen found * 7 / 10
 
--- the number of a finding, at the upper right of its mark
-unfoldable pub number : Pen → DrawnFinding → List ℕ
-number pen found =
-    number_at pen (place_x found +ℤ pos (number_offset pen found)) (neg_ℤ (place_y found +ℤ pos (number_offset pen found))) (number_of found)
+-- the number of a finding, at the upper right of its mark, with its title
+unfoldable pub number : Pen → Place → DrawnFinding → List ℕ
+number pen place found =
+    number_at pen (place_x found +ℤ pos (number_offset pen found)) (neg_ℤ (place_y found +ℤ pos (number_offset pen found))) (number_of found) (finding_words pen place found)

@@ -5,13 +5,13 @@ use Rattle.grid_units.specs.Points.{GridPoint}
 use Rattle.pad_shapes.specs.declared.pad.Pad.{Pad}
 use Rattle.ring_rules.specs.declared.finding.Drilled.{Drilled}
 use Rattle.picture.specs.declared.frame.Frame.{Frame}
-use Rattle.picture.specs.declared.panel.Place.{Place}
 use Rattle.picture.specs.declared.pen.Pen.{Pen}
+use Rattle.picture.specs.declared.place.Place.{Place}
 use Rattle.picture.specs.declared.scene.DrawnFinding.{DrawnFinding}
 use Rattle.picture.specs.declared.scene.DrawnFinding.TheVariants.{Ring, Gap}
 use Rattle.picture.specs.declared.scene.Scene.{Scene}
 use Rattle.picture.specs.Escapes.{escaped}
-use Rattle.picture.specs.Elements.{after, crosses, hole, lack, mark, number, paths_after, text_start}
+use Rattle.picture.specs.Elements.{after, crosses, finding_text, holes_after, mark, number, paths_after, text_start}
 
 -- the place of a panel on the page: `" transform="translate(5.5 109.5)">`
 unfoldable pub translated : ℤ → ℤ → List ℕ
@@ -78,16 +78,17 @@ abbrev pub marked : List DrawnFinding → List DrawnFinding
 marked lacks = take 100 lacks
 
 -- the marks of some findings, then their numbers
-abbrev pub marks_text : Pen → List DrawnFinding → List ℕ
-marks_text pen lacks = flat_map (mark pen) lacks ++ flat_map (number pen) lacks
+abbrev pub marks_text : Pen → Place → List DrawnFinding → List ℕ
+marks_text pen place lacks = flat_map (mark pen place) lacks ++ flat_map (number pen place) lacks
 
--- the findings of a panel: a ring or gap for each, then the marks, then the numbers
-abbrev pub lacks_text : Pen → List DrawnFinding → List ℕ
-lacks_text pen lacks = flat_map (lack pen) lacks ++ marks_text pen (marked lacks)
+-- the findings of a panel: a group with the ring or gap for each, then the marks, then the numbers
+abbrev pub lacks_text : Pen → Place → List DrawnFinding → List ℕ
+lacks_text pen place lacks = flat_map (finding_text pen place) lacks ++ marks_text pen place (marked lacks)
 
 -- the contents of a panel: pads, crosses, holes and findings
-abbrev pub scene_text : Pen → List Pad → List GridPoint → List Drilled → List DrawnFinding → List ℕ
-scene_text pen pads points holes lacks = ((paths_after None pads ++ crosses pen points) ++ flat_map (hole pen) holes) ++ lacks_text pen lacks
+abbrev pub scene_text : Pen → Place → List Pad → List GridPoint → List Drilled → List DrawnFinding → List ℕ
+scene_text pen place pads points holes lacks =
+    ((paths_after None pads ++ crosses pen points) ++ holes_after pen None holes) ++ lacks_text pen place lacks
 
 -- the end of a panel
 abbrev pub panel_end : List ℕ
@@ -97,5 +98,5 @@ panel_end = codes "</g>\n"
 abbrev pub panel_text : Place → Frame → Pen → Scene → List ℕ
 panel_text place frame pen scene =
     ((((panel_start place ++ name_start pen frame) ++ escaped place.name.now) ++ after_name pen frame scene)
-    ++ scene_text pen scene.pads.items scene.crosses.items scene.holes.now scene.lacks.items)
+    ++ scene_text pen place scene.pads.items scene.crosses.items scene.holes.now scene.lacks.items)
     ++ panel_end

@@ -3,13 +3,14 @@
 ghost use Rattle.std.specs.Prelude.{◌≡◌, ◌*◌, ◌≤◌, ◌^◌, ◌+ℤ◌, neg_ℤ, pos, Some, unsigned_abs};
 ghost use Rattle.std.specs.Fmt.{DisplaysOnOk};
 ghost use Rattle.grid_units.specs.Points.{IsCoordinate};
-ghost use Rattle.picture.specs.Elements.{number_offset, gap, halfway, lack, line, mark, mark_radius, middle_x, middle_y, number, number_of, place_x, place_y, reach, ring};
+ghost use Rattle.picture.specs.Elements.{circle, finding_text, gap, halfway, lack, line, mark, mark_circle, mark_radius, middle_x, middle_y, number, number_offset, place_x, place_y, reach, ring};
 ghost use Rattle.picture.specs.Panels.{lacks_text, marked};
 
 use crate::elements::{Circle, StraightLine, TextStart, down};
 use crate::holes::slot_line;
 use crate::pen::Pen;
 use crate::scene::DrawnFinding;
+use crate::titles::{FindingPage, FindingWords, number_of, write_finding_start};
 use crate::widths::{gap_width, mark_line_width, ring_rim};
 use grid_units::Hole;
 use printing::{Line, Lines};
@@ -76,20 +77,25 @@ fn gap_line(pen: &Pen, first: &Hole, second: &Hole) -> StraightLine<'static>
     }
 }
 
-/// The ring or the gap of a finding.
-impl Line<Pen> for DrawnFinding {
-    ghost text = { lack };
+/// Writes the ring or the gap of a finding.
+#[tactic(auto, unfolding(crate::specs::Elements::lack))]
+fn write_lack<W: fmt::Write>(f: &mut Formatter<W>, pen: &Pen, found: &DrawnFinding) -> fmt::Result
+    ensures { DisplaysOnOk W.write_str_gives f.old result (Some (lack pen.now found.now)) f.new }
+{
+    match found {
+        DrawnFinding::Ring { hole, .. } => write_ring(f, pen, hole),
+        DrawnFinding::Gap { first, second, .. } => { write!(f, "{}", gap_line(pen, first, second)) }
+    }
+}
 
-    #[tactic(auto, unfolding(crate::specs::Elements::lack))]
-    fn fmt_on<W: fmt::Write>(&self, pen: &Pen, f: &mut Formatter<W>) -> fmt::Result {
-        match self {
-            DrawnFinding::Ring { hole, .. } => write_ring(f, pen, hole),
-            DrawnFinding::Gap { first, second, .. } => write!(
-                f,
-                "{}",
-                gap_line(pen, first, second)
-            ),
-        }
+/// The group of a finding: its name on the page, its title, and its ring or gap.
+impl Line<FindingPage<'_>> for DrawnFinding {
+    ghost text = { λ page found. finding_text page.pen.now page.place.now found };
+
+    fn fmt_on<W: fmt::Write>(&self, page: &FindingPage<'_>, f: &mut Formatter<W>) -> fmt::Result {
+        write_finding_start(f, page, self)?;
+        write_lack(f, page.pen, self)?;
+        f.write_str("</g>\n")
     }
 }
 
@@ -134,35 +140,33 @@ fn mark_radius(pen: &Pen, found: &DrawnFinding) -> u64
     (reach(pen, found) + pen.unit / 2).max(pen.unit)
 }
 
-/// The marks of findings, by the pen that draws them.
-#[derive(Clone, Copy)]
-struct Marks(Pen);
-
-/// The mark round a finding.
-impl Line<Marks> for DrawnFinding {
-    ghost text = { λ marks found. mark marks.0 found };
-
-    #[tactic(auto, unfolding(crate::specs::Elements::mark))]
-    fn fmt_on<W: fmt::Write>(&self, marks: &Marks, f: &mut Formatter<W>) -> fmt::Result {
-        let pen = &marks.0;
-        let circle = Circle {
-            class: "mark",
-            x: place_x(self),
-            y: down(place_y(self)),
-            radius: mark_radius(pen, self) as i64,
-            width: mark_line_width(pen),
-        };
-        write!(f, "{circle}")
+/// The circle round a finding.
+fn mark_circle(pen: &Pen, found: &DrawnFinding) -> Circle<'static>
+    ensures { circle result.class.now result.x result.y result.radius result.width ≡ mark_circle pen.now found.now }
+{
+    Circle {
+        class: "mark",
+        x: place_x(found),
+        y: down(place_y(found)),
+        radius: mark_radius(pen, found) as i64,
+        width: mark_line_width(pen),
     }
 }
 
-/// The number of a finding among all, from 1.
-fn number_of(found: &DrawnFinding) -> usize
-    ensures { result ≡ number_of found.now }
-{
-    match found {
-        DrawnFinding::Ring { number, .. } => *number,
-        DrawnFinding::Gap { number, .. } => *number,
+/// The marks of findings.
+#[derive(Clone, Copy)]
+struct Marks<'a>(FindingPage<'a>);
+
+/// The mark of a finding: a group with its title and its circle.
+impl Line<Marks<'_>> for DrawnFinding {
+    ghost text = { λ marks found. mark marks.0.pen.now marks.0.place.now found };
+
+    #[tactic(auto, unfolding(crate::specs::Elements::mark))]
+    fn fmt_on<W: fmt::Write>(&self, marks: &Marks<'_>, f: &mut Formatter<W>) -> fmt::Result {
+        let page = &marks.0;
+        let words = FindingWords { page, found: self };
+        let circle = mark_circle(page.pen, self);
+        write!(f, "<g><title>{words}</title>\n{circle}</g>\n")
     }
 }
 
@@ -186,21 +190,30 @@ fn number_place(pen: &Pen, found: &DrawnFinding) -> (i64, i64)
     )
 }
 
-/// The numbers of findings, by the pen that draws them.
+/// The numbers of findings.
 #[derive(Clone, Copy)]
-struct Numbers(Pen);
+struct Numbers<'a>(FindingPage<'a>);
 
-/// The number of a finding, at the upper right of its mark.
-impl Line<Numbers> for DrawnFinding {
-    ghost text = { λ numbers found. number numbers.0 found };
+/// The number of a finding, at the upper right of its mark, with its title.
+impl Line<Numbers<'_>> for DrawnFinding {
+    ghost text = { λ numbers found. number numbers.0.pen.now numbers.0.place.now found };
 
     #[tactic(auto, unfolding(crate::specs::Elements::number, crate::specs::Elements::number_at))]
-    fn fmt_on<W: fmt::Write>(&self, numbers: &Numbers, f: &mut Formatter<W>) -> fmt::Result {
-        let pen = &numbers.0;
-        let (x, y) = number_place(pen, self);
-        let words = "<text class=\"number\" transform=\"translate(";
-        let start = TextStart { pen, words, x, y };
-        write!(f, "{start}{}</text>\n", number_of(self))
+    fn fmt_on<W: fmt::Write>(&self, numbers: &Numbers<'_>, f: &mut Formatter<W>) -> fmt::Result {
+        let page = &numbers.0;
+        let (x, y) = number_place(page.pen, self);
+        let start = TextStart {
+            pen: page.pen,
+            words: "<text class=\"number\" transform=\"translate(",
+            x,
+            y,
+        };
+        let title = FindingWords { page, found: self };
+        write!(
+            f,
+            "{start}<title>{title}</title>{}</text>\n",
+            number_of(self)
+        )
     }
 }
 
@@ -214,22 +227,22 @@ fn marked(lacks: &[DrawnFinding]) -> &[DrawnFinding]
     &lacks[..MOST_MARKED]
 }
 
-/// The findings of a panel: a ring or gap for each, then the marks, then the numbers.
+/// The findings of a panel: a group with the ring or gap for each, then the marks, then the numbers.
 #[derive(Clone, Copy)]
 pub(crate) struct Findings<'a> {
-    pub(crate) pen: &'a Pen,
+    pub(crate) page: FindingPage<'a>,
     pub(crate) lacks: &'a [DrawnFinding],
 }
 
 impl Display for Findings<'_> {
-    ghost output = { λ all. Some (lacks_text all.pen.now all.lacks.now) };
+    ghost output = { λ all. Some (lacks_text all.page.pen.now all.page.place.now all.lacks.now) };
 
     fn fmt<W: fmt::Write>(&self, f: &mut Formatter<W>) -> fmt::Result {
-        let (pen, lacks) = (self.pen, self.lacks);
-        let (marks, numbers) = (Marks(*pen), Numbers(*pen));
+        let (page, lacks) = (self.page, self.lacks);
+        let (marks, numbers) = (Marks(page), Numbers(page));
         let first = marked(lacks);
         let found = Lines {
-            page: pen,
+            page: &page,
             lines: lacks,
         };
         let marks = Lines {

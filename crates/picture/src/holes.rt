@@ -1,7 +1,8 @@
 //! Holes and crosses in a picture. Lengths and coordinates are in pm.
 
-ghost use Rattle.std.specs.Prelude.{◌≡◌, ◌*◌, ◌≤◌, ◌^◌, ◌+ℤ◌, ◌-ℤ◌, neg_ℤ, pos, Some};
-ghost use Rattle.picture.specs.Elements.{arm, cross, crosses, hole, hole_class, line, slot};
+ghost use Rattle.std.specs.Prelude.{◌≡◌, ◌*◌, ◌≤◌, ◌^◌, ◌+ℤ◌, ◌-ℤ◌, neg_ℤ, pos, None, Some};
+ghost use Rattle.std.specs.Fmt.{DisplaysOnOk};
+ghost use Rattle.picture.specs.Elements.{are_alike_holes, arm, cross, crosses, hole, hole_class, holes_after, holes_change, holes_end, holes_like, line, slot};
 
 use crate::elements::{Across, Along, Circle, StraightLine, down};
 use crate::pen::Pen;
@@ -66,7 +67,7 @@ impl Display for Crosses<'_> {
         };
         write!(
             f,
-            "<path class=\"other\" stroke-width=\"{width}\" d=\"{lines}\"/>\n"
+            "<path class=\"other\" stroke-width=\"{width}\" d=\"{lines}\"><title>flash that is no pad</title></path>\n"
         )
     }
 }
@@ -119,5 +120,89 @@ impl Line<Pen> for Drilled {
             width: rim as i64,
         };
         write!(f, "{circle}")
+    }
+}
+
+/// Whether two holes have one diameter, and both are plated or both are not.
+fn are_alike_holes(one: &Drilled, other: &Drilled) -> bool
+    ensures { result ≡ are_alike_holes one.now other.now }
+{
+    one.hole.radius() == other.hole.radius()
+        && if one.plated {
+            other.plated
+        } else {
+            !other.plated
+        }
+}
+
+/// The diameter of a hole in pm.
+fn diameter(hole: &Hole) -> i64
+    ensures { result ≡ pos (2 * hole.now.radius) }
+{
+    2 * hole.radius()
+}
+
+/// The start of the group for holes like this one: `<g><title>plated hole, 0.75</title>`.
+#[derive(Clone, Copy)]
+struct HolesLike<'a>(&'a Drilled);
+
+impl Display for HolesLike<'_> {
+    ghost output = { λ like. Some (holes_like like.0.now) };
+
+    #[tactic(auto, unfolding(crate::specs::Elements::holes_start))]
+    fn fmt<W: fmt::Write>(&self, f: &mut Formatter<W>) -> fmt::Result {
+        let class = hole_class(self.0.plated);
+        let diameter = ShortMillimetres(diameter(&self.0.hole));
+        write!(f, "<g><title>{class} hole, {diameter}</title>\n")
+    }
+}
+
+/// Writes what stands between the hole before, if there is one, and a hole: nothing, or the start of a new group.
+fn write_change<W: fmt::Write>(
+    f: &mut Formatter<W>,
+    before: Option<Drilled>,
+    drilled: &Drilled,
+) -> fmt::Result
+    ensures { DisplaysOnOk W.write_str_gives f.old result (Some (holes_change before drilled.now)) f.new }
+{
+    match before {
+        None => write!(f, "{}", HolesLike(drilled)),
+        Some(before) => {
+            if are_alike_holes(&before, drilled) {
+                return Ok(());
+            }
+            write!(f, "</g>\n{}", HolesLike(drilled))
+        }
+    }
+}
+
+/// Writes the end of the last group, if there is one.
+fn write_holes_end<W: fmt::Write>(f: &mut Formatter<W>, before: Option<Drilled>) -> fmt::Result
+    ensures { DisplaysOnOk W.write_str_gives f.old result (Some (holes_end before)) f.new }
+{
+    match before {
+        Some(_) => f.write_str("</g>\n"),
+        None => Ok(()),
+    }
+}
+
+/// The holes in groups: one for each run of holes alike.
+#[derive(Clone, Copy)]
+pub(crate) struct HoleGroups<'a> {
+    pub(crate) pen: &'a Pen,
+    pub(crate) holes: &'a [Drilled],
+}
+
+impl Display for HoleGroups<'_> {
+    ghost output = { λ all. Some (holes_after all.pen.now None all.holes.now) };
+
+    fn fmt<W: fmt::Write>(&self, f: &mut Formatter<W>) -> fmt::Result {
+        let mut before = None;
+        for drilled in self.holes {
+            write_change(f, before, drilled)?;
+            drilled.fmt_on(self.pen, f)?;
+            before = Some(*drilled);
+        }
+        write_holes_end(f, before)
     }
 }

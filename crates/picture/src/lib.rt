@@ -12,12 +12,15 @@ mod names;
 mod pads;
 mod panel;
 mod pen;
+mod place;
 mod scene;
+mod titles;
 mod widths;
 
 pub use frame::Frame;
 pub use laws::{escaped_names, one_path_per_size};
 pub use names::Escaped;
-pub use panel::{Panel, Place};
+pub use panel::Panel;
 pub use pen::Pen;
+pub use place::Place;
 pub use scene::{DrawnFinding, Scene, scene_of};

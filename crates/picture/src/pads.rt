@@ -2,7 +2,7 @@
 
 ghost use Rattle.std.specs.Prelude.{◌≡◌, ◌*◌, ◌-◌, ◌≤◌, ◌^◌, ◌+ℤ◌, ◌-ℤ◌, neg_ℤ, pos, nat_le, None, Some, unsigned_abs};
 ghost use Rattle.std.specs.Fmt.{DisplaysOnOk};
-ghost use Rattle.picture.specs.Elements.{are_alike, box, last_end, lines_start, obround_line, outline, paths_after, path_start, rect_box, path_change};
+ghost use Rattle.picture.specs.Elements.{are_alike, box, last_end, lines_start, obround_line, outline, pad_words, paths_after, path_end, path_start, rect_box, path_change, sized_words};
 
 use crate::elements::{Across, Along, Rectangle, down};
 use pad_shapes::{Obround, Pad, Rect};
@@ -150,6 +150,50 @@ impl Display for PathStart<'_> {
     }
 }
 
+/// Writes the kind of some pads and their sides: `disc 0.6x0.6`.
+#[tactic(auto, unfolding(crate::specs::Elements::sized_words))]
+fn write_sized<W: fmt::Write>(
+    f: &mut Formatter<W>,
+    kind: &str,
+    width: i64,
+    height: i64,
+) -> fmt::Result
+    ensures { DisplaysOnOk W.write_str_gives f.old result (Some (sized_words kind.now width height)) f.new }
+{
+    let (width, height) = (ShortMillimetres(width), ShortMillimetres(height));
+    write!(f, "{kind}{width}x{height}")
+}
+
+/// A pad in words.
+#[derive(Clone, Copy)]
+struct PadWords<'a>(&'a Pad);
+
+impl Display for PadWords<'_> {
+    ghost output = { λ pad. Some (pad_words pad.0.now) };
+
+    fn fmt<W: fmt::Write>(&self, f: &mut Formatter<W>) -> fmt::Result {
+        match self.0 {
+            Pad::Disc(disc) => write_sized(f, "disc ", 2 * disc.radius(), 2 * disc.radius()),
+            Pad::Rect(rect) => write_sized(f, "rect ", 2 * rect.half_x(), 2 * rect.half_y()),
+            Pad::Obround(obround) => {
+                write_sized(f, "obround ", 2 * obround.half_x(), 2 * obround.half_y())
+            }
+        }
+    }
+}
+
+/// The end of the path for pads like this one, with a title.
+#[derive(Clone, Copy)]
+struct PathEnd<'a>(&'a Pad);
+
+impl Display for PathEnd<'_> {
+    ghost output = { λ pad. Some (path_end pad.0.now) };
+
+    fn fmt<W: fmt::Write>(&self, f: &mut Formatter<W>) -> fmt::Result {
+        write!(f, "\"><title>{}</title></path>\n", PadWords(self.0))
+    }
+}
+
 /// Writes what stands between the pad before, if there is one, and a pad: nothing, or the start of a new path.
 fn write_turn<W: fmt::Write>(f: &mut Formatter<W>, before: Option<Pad>, pad: &Pad) -> fmt::Result
     ensures { DisplaysOnOk W.write_str_gives f.old result (Some (path_change before pad.now)) f.new }
@@ -160,7 +204,7 @@ fn write_turn<W: fmt::Write>(f: &mut Formatter<W>, before: Option<Pad>, pad: &Pa
             if are_alike(&before, pad) {
                 return Ok(());
             }
-            write!(f, "\"/>\n{}", PathStart(pad))
+            write!(f, "{}{}", PathEnd(&before), PathStart(pad))
         }
     }
 }
@@ -170,7 +214,7 @@ fn write_last_end<W: fmt::Write>(f: &mut Formatter<W>, before: Option<Pad>) -> f
     ensures { DisplaysOnOk W.write_str_gives f.old result (Some (last_end before)) f.new }
 {
     match before {
-        Some(_) => f.write_str("\"/>\n"),
+        Some(before) => write!(f, "{}", PathEnd(&before)),
         None => Ok(()),
     }
 }

@@ -8,27 +8,16 @@ ghost use Rattle.picture.specs.Panels.{after_name, board_box, drawn_words, lacki
 use crate::elements::{TextStart, down};
 use crate::findings::Findings;
 use crate::frame::Frame;
-use crate::holes::Crosses;
+use crate::holes::{Crosses, HoleGroups};
 use crate::names::Escaped;
 use crate::pads::Paths;
 use crate::pen::Pen;
+use crate::place::Place;
 use crate::scene::{DrawnFinding, Scene};
-use printing::{Lines, ShortMillimetres};
+use crate::titles::FindingPage;
+use printing::ShortMillimetres;
 use std::fmt;
 use std::fmt::{Display, Formatter};
-
-/// The file of a panel, and the place of the panel's origin on the page.
-#[derive(Clone, Copy)]
-pub struct Place<'a> {
-    /// The number of the file in the package, from 1.
-    pub file: usize,
-    /// The name of the file, not escaped.
-    pub name: &'a str,
-    /// The distance of the origin from the left of the page, in pm.
-    pub x: i64,
-    /// The distance of the origin from the top of the page, in pm.
-    pub y: i64,
-}
 
 /// The start of a panel.
 #[derive(Clone, Copy)]
@@ -142,11 +131,12 @@ impl Display for Note<'_> {
 #[derive(Clone, Copy)]
 struct Contents<'a> {
     pen: &'a Pen,
+    place: &'a Place<'a>,
     scene: &'a Scene<'a>,
 }
 
 impl Display for Contents<'_> {
-    ghost output = { λ all. Some (scene_text all.pen.now all.scene.now.pads.items all.scene.now.crosses.items all.scene.now.holes.now all.scene.now.lacks.items) };
+    ghost output = { λ all. Some (scene_text all.pen.now all.place.now all.scene.now.pads.items all.scene.now.crosses.items all.scene.now.holes.now all.scene.now.lacks.items) };
 
     fn fmt<W: fmt::Write>(&self, f: &mut Formatter<W>) -> fmt::Result {
         let (pen, scene) = (self.pen, self.scene);
@@ -155,12 +145,15 @@ impl Display for Contents<'_> {
             pen,
             points: &scene.crosses,
         };
-        let holes = Lines {
-            page: pen,
-            lines: scene.holes,
+        let holes = HoleGroups {
+            pen,
+            holes: scene.holes,
         };
         let findings = Findings {
-            pen,
+            page: FindingPage {
+                pen,
+                place: self.place,
+            },
             lacks: &scene.lacks,
         };
         write!(f, "{pads}{crosses}{holes}{findings}")
@@ -235,7 +228,7 @@ impl Display for Panel<'_> {
         let (place, frame, pen, scene) = (self.place, self.frame, self.pen, self.scene);
         let head = PanelHead { place, frame, pen };
         let rest = AfterName { frame, pen, scene };
-        let contents = Contents { pen, scene };
+        let contents = Contents { pen, place, scene };
         write!(f, "{head}{rest}{contents}</g>\n")
     }
 }

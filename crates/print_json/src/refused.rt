@@ -1,11 +1,12 @@
 //! The JSON of a refusal, and of a file that cannot be read.
 
 ghost use Rattle.std.specs.Prelude.{◌≡◌, Some};
+ghost use Rattle.std.specs.Fmt.{DisplaysOnOk};
 ghost use Rattle.json.specs.Json.{document};
 ghost use Rattle.json.specs.Print.{print};
 ghost use Rattle.json.specs.Tree.{json_tokens, HasNumbers};
 ghost use Rattle.print_json.specs.Inner.Texts.{value_text};
-ghost use Rattle.print_json.specs.Packages.{input_error_value};
+ghost use Rattle.print_json.specs.Packages.{device_value, input_error_value, manifest_device_value, refused_manifest_value, refused_value, refused_waivers_value, waivers_device_value};
 ghost use Rattle.print_json.specs.Values.{json_text};
 
 use crate::VERSION;
@@ -54,6 +55,91 @@ pub enum InputError<'a> {
     WaiversDevice,
 }
 
+/// Writes the object of a refused manifest: `{..,"result":"refused","place":2,"reason":"BadRole"}`.
+#[tactic(auto, unfolding(json::specs::Print::escape_byte))]
+fn write_refused_manifest<W: fmt::Write>(
+    f: &mut Formatter<W>,
+    place: u64,
+    reason: Reason,
+) -> fmt::Result
+    ensures { DisplaysOnOk W.write_str_gives f.old result (Some (value_text (refused_manifest_value place reason))) f.new }
+{
+    write!(
+        f,
+        r#"{{"format":"ringcheck","version":{VERSION},"result":"refused","place":{place},"reason":"{}"}}"#,
+        Escaped(reason.name())
+    )
+}
+
+/// Writes the object of a refused file: `{..,"result":"refused","file":1,"name":"top","place":11,"byte":100,"reason":"BadWord"}`.
+#[tactic(auto, unfolding(json::specs::Print::escape_byte))]
+fn write_refused_file<W: fmt::Write>(
+    f: &mut Formatter<W>,
+    index: usize,
+    name: &str,
+    fault: Fault,
+) -> fmt::Result
+    ensures { DisplaysOnOk W.write_str_gives f.old result (Some (value_text (refused_value index name.now fault))) f.new }
+{
+    let (number, name) = (index as u128 + 1, Escaped(name));
+    let (place, byte) = (fault.place, fault.byte);
+    write!(
+        f,
+        r#"{{"format":"ringcheck","version":{VERSION},"result":"refused","file":{number},"name":"{name}","place":{place},"byte":{byte},"reason":"{}"}}"#,
+        Escaped(fault.reason.name())
+    )
+}
+
+/// Writes the object of a file that cannot be read: `{..,"result":"device","file":2,"name":"pth"}`.
+#[tactic(auto, unfolding(json::specs::Print::escape_byte))]
+fn write_unread_file<W: fmt::Write>(f: &mut Formatter<W>, index: usize, name: &str) -> fmt::Result
+    ensures { DisplaysOnOk W.write_str_gives f.old result (Some (value_text (device_value index name.now))) f.new }
+{
+    let (number, name) = (index as u128 + 1, Escaped(name));
+    write!(
+        f,
+        r#"{{"format":"ringcheck","version":{VERSION},"result":"device","file":{number},"name":"{name}"}}"#
+    )
+}
+
+/// Writes the object of a refused file of waivers: `{..,"result":"refused","waivers":true,"place":2,"reason":"EmptyName"}`.
+#[tactic(auto, unfolding(json::specs::Print::escape_byte))]
+fn write_refused_waivers<W: fmt::Write>(
+    f: &mut Formatter<W>,
+    place: u64,
+    reason: Reason,
+) -> fmt::Result
+    ensures { DisplaysOnOk W.write_str_gives f.old result (Some (value_text (refused_waivers_value place reason))) f.new }
+{
+    write!(
+        f,
+        r#"{{"format":"ringcheck","version":{VERSION},"result":"refused","waivers":true,"place":{place},"reason":"{}"}}"#,
+        Escaped(reason.name())
+    )
+}
+
+/// Writes the object of a manifest that cannot be read.
+#[tactic(auto, unfolding(json::specs::Print::escape_byte))]
+fn write_unread_manifest<W: fmt::Write>(f: &mut Formatter<W>) -> fmt::Result
+    ensures { DisplaysOnOk W.write_str_gives f.old result (Some (value_text manifest_device_value)) f.new }
+{
+    write!(
+        f,
+        r#"{{"format":"ringcheck","version":{VERSION},"result":"device"}}"#
+    )
+}
+
+/// Writes the object of a file of waivers that cannot be read.
+#[tactic(auto, unfolding(json::specs::Print::escape_byte))]
+fn write_unread_waivers<W: fmt::Write>(f: &mut Formatter<W>) -> fmt::Result
+    ensures { DisplaysOnOk W.write_str_gives f.old result (Some (value_text waivers_device_value)) f.new }
+{
+    write!(
+        f,
+        r#"{{"format":"ringcheck","version":{VERSION},"result":"device","waivers":true}}"#
+    )
+}
+
 /// The object of a refusal, or of a file that cannot be read.
 #[derive(Clone, Copy)]
 struct StopJson<'a>(&'a InputError<'a>);
@@ -61,42 +147,20 @@ struct StopJson<'a>(&'a InputError<'a>);
 impl Display for StopJson<'_> {
     ghost output = { λ json. Some (value_text (input_error_value json.0.now)) };
 
-    #[tactic(auto, unfolding(json::specs::Print::escape_byte))]
     fn fmt<W: fmt::Write>(&self, f: &mut Formatter<W>) -> fmt::Result {
         match self.0 {
-            InputError::RefusedManifest { place, reason } => write!(
-                f,
-                r#"{{"format":"ringcheck","version":{VERSION},"result":"refused","place":{place},"reason":"{}"}}"#,
-                Escaped(reason.name())
-            ),
-            InputError::Refused { index, name, fault } => write!(
-                f,
-                r#"{{"format":"ringcheck","version":{VERSION},"result":"refused","file":{},"name":"{}","place":{},"byte":{},"reason":"{}"}}"#,
-                *index as u128 + 1,
-                Escaped(name),
-                fault.place,
-                fault.byte,
-                Escaped(fault.reason.name())
-            ),
-            InputError::ManifestDevice => write!(
-                f,
-                r#"{{"format":"ringcheck","version":{VERSION},"result":"device"}}"#
-            ),
-            InputError::Device { index, name } => write!(
-                f,
-                r#"{{"format":"ringcheck","version":{VERSION},"result":"device","file":{},"name":"{}"}}"#,
-                *index as u128 + 1,
-                Escaped(name)
-            ),
-            InputError::RefusedWaivers { place, reason } => write!(
-                f,
-                r#"{{"format":"ringcheck","version":{VERSION},"result":"refused","waivers":true,"place":{place},"reason":"{}"}}"#,
-                Escaped(reason.name())
-            ),
-            InputError::WaiversDevice => write!(
-                f,
-                r#"{{"format":"ringcheck","version":{VERSION},"result":"device","waivers":true}}"#
-            ),
+            InputError::RefusedManifest { place, reason } => {
+                write_refused_manifest(f, *place, *reason)
+            }
+            InputError::Refused { index, name, fault } => {
+                write_refused_file(f, *index, name, *fault)
+            }
+            InputError::ManifestDevice => write_unread_manifest(f),
+            InputError::Device { index, name } => write_unread_file(f, *index, name),
+            InputError::RefusedWaivers { place, reason } => {
+                write_refused_waivers(f, *place, *reason)
+            }
+            InputError::WaiversDevice => write_unread_waivers(f),
         }
     }
 }

@@ -2,5 +2,6 @@ pub mod LoadSteps
 pub mod LoadedFiles
 pub mod Outcomes
 pub mod ParseCountLemmas
+pub mod RequestLemmas
 pub mod RewrittenPackages
 pub mod ThreeFiles

@@ -1,20 +1,27 @@
 -- Files of a package that were loaded, whatever their order.
-use Rattle.std.proofs.Common.{◌≡◌, ◌≢◌, ◌<◌, ◌≤◌, ◌↔◌, ◌+◌, ◌||◌, ◌&&◌, eqb, ltb, ℕ, zero, suc, Bool, true, false, not, List, [], ◌∷◌, length, map, take, set, get_or, slice_get, Option, Some, None, inl, inr, arith, refl, sym, ap, subst, ◌∙◌}
+use Rattle.std.proofs.Common.{◌≡◌, cond, ◌≢◌, ◌<◌, ◌≤◌, ◌↔◌, ◌+◌, ◌||◌, ◌&&◌, eqb, ltb, ℕ, zero, suc, Bool, true, false, not, List, [], ◌∷◌, length, map, take, set, get_or, slice_get, Option, Some, None, inl, inr, arith, refl, sym, ap, subst, ◌∙◌}
 use Rattle.std.proofs.lemmas.Bool.{and_left, and_right, both_ways, cases_lt, eqb-true, le-ltb, lt-ltb, or_cases, or_from}
-use Rattle.std.specs.Option.{option_or}
+use Rattle.std.specs.Option.{option_or, unwrap_or}
 use Rattle.std.proofs.lemmas.List.{get_or-set_other, get_or-set_same, length-set, length-take-le, take_all}
+use Rattle.std.specs.List.{count_by}
+use Rattle.std.proofs.lemmas.List.Sums.{sum_by-cons}
 use Rattle.std.proofs.lemmas.Option.{none-some, same_Some, slice_get_within}
 use Rattle.layer_image.specs.declared.keep.Keep.{Keep}
 use Rattle.manifest.specs.declared.Entry.{Entry}
+use Rattle.grid_units.specs.Holes.{GridRules}
+use Rattle.package_check.specs.CheckViews.{CheckView}
+use Rattle.package_check.specs.Checking.{HasJudged, drill_files, layer_number}
+use Rattle.package_check.specs.Holding as taking
 use Rattle.package_check.specs.Holding.{HasTaken, HasTakenAll, copper_files, is_kind}
 use Rattle.package_check.specs.Package.{FileView, is_copper}
 use Rattle.package_check.specs.declared.package_reader.PackageReader.{PackageReader}
-use Rattle.package_check.proofs.TakeSteps.{all_taken, none_below, none_more, one_more, or_none, or_together, taken_alike}
+use Rattle.package_check.proofs.CheckSteps.{judged_alike}
+use Rattle.package_check.proofs.TakeSteps.{all_below, none_below, none_more, one_more, or_none, or_together, taken_alike}
 use Rattle.ringcheck_files.specs.LoaderRelation.{file_limit, within}
 use Rattle.ringcheck_files.specs.Outcomes.{HasRisen}
 use Rattle.ringcheck.specs.CheckStatus.{HasFiles, RefusedFile, file_views_among, long_file, sources}
 use Rattle.ringcheck.specs.Inner.Halting.{Halts, refusal}
-use Rattle.ringcheck.specs.Inner.Loading.{AreFirstOf, EndsAt, HasLoaded, LoadsFile, LoadsKind, RefusesLong, copper_entries, is_kind_at, is_kind_of, source}
+use Rattle.ringcheck.specs.Inner.Loading.{AreFirstOf, EndsAt, HasLoaded, LoadsCopper, LoadsCopperTo, LoadsFile, LoadsKind, RefusesLong, copper_entries, is_kind_at, is_kind_of, source}
 use Rattle.ringcheck.specs.Refusals.{Refusal}
 use Rattle.ringcheck.proofs.Outcomes.{risen_since}
 use Rattle.ringcheck.specs.declared.refusals.Halt.{Halt}
@@ -44,12 +51,32 @@ views_other n (e ∷ es) (f ∷ fs) zero bytes (suc i) other = refl
 views_other n (e ∷ es) (f ∷ fs) (suc k) bytes zero other = refl
 views_other n (e ∷ es) (f ∷ fs) (suc k) bytes (suc i) other = views_other n es fs k bytes i (λ same. other (ap suc same))
 
+-- the number of a layer by its entries
+pub views_number : (n : ℕ) (es : List Entry) (fs : List (List ℕ)) → length fs ≡ length es → (i : ℕ) → layer_number (file_views_among n es fs) i ≡ count_by (λ (e : Entry). is_copper e.role) (take i es)
+views_number n es fs same zero = refl
+views_number n [] fs same (suc i) = refl
+views_number n (e ∷ es) [] same (suc i) = absurd (omega (arith, same))
+views_number n (e ∷ es) (f ∷ fs) same (suc i) =
+    sum_by-cons (λ (s : FileView). cond (is_copper s.role) 1 0) (source n e f) (take i (file_views_among n es fs))
+    ∙ (ap (λ (m : ℕ). cond (is_copper e.role) 1 0 + m) (views_number n es fs (omega (arith, same)) i) ∙ sym (sum_by-cons (λ (x : Entry). cond (is_copper x.role) 1 0) e (take i es)))
+
+-- other bytes of a copper file leave the drill files as they are
+pub views_drills : (n : ℕ) (es : List Entry) (fs : List (List ℕ)) (k : ℕ) (bytes : List ℕ) (e : Entry) → slice_get es k ≡ Some e → is_copper e.role ≡ true → drill_files (file_views_among n es (set fs k bytes)) ≡ drill_files (file_views_among n es fs)
+views_drills n [] fs k bytes e at copper = refl
+views_drills n (x ∷ es) [] k bytes e at copper = refl
+views_drills n (x ∷ es) (f ∷ fs) zero bytes e at copper =
+    let is : is_copper x.role ≡ true = ap (λ (y : Entry). is_copper y.role) (same_Some x e at) ∙ copper in
+    (λ j. cond (not (is j)) (source n x bytes ∷ drill_files (file_views_among n es fs)) (drill_files (file_views_among n es fs)))
+    ∙ sym (λ j. cond (not (is j)) (source n x f ∷ drill_files (file_views_among n es fs)) (drill_files (file_views_among n es fs)))
+views_drills n (x ∷ es) (f ∷ fs) (suc k) bytes e at copper =
+    ap (λ (ds : List FileView). cond (not (is_copper x.role)) (source n x f ∷ ds) ds) (views_drills n es fs k bytes e at copper)
+
 -- ---- files that were loaded
 
-module _ (has : List ℕ → List ℕ → Type 0) (all : List Entry) (keep : Keep) where
+module _ (has : List ℕ → List ℕ → Type 0) (all : List Entry) where
   -- none of them yet
-  pub none_loaded : (reader : PackageReader) → ((sources : List FileView) → HasTaken reader keep sources (λ i. false)) → HasLoaded has all reader keep (λ i. false)
-  none_loaded reader stands = record {
+  pub none_loaded : (Taken : List FileView → (ℕ → Bool) → Type 0) → ((sources : List FileView) → Taken sources (λ i. false)) → HasLoaded has all Taken (λ i. false)
+  none_loaded Taken stands = record {
     files = map (λ (e : Entry). []) all;
     size = same all;
     loaded = λ i entry none at. absurd cc;
@@ -61,24 +88,21 @@ module _ (has : List ℕ → List ℕ → Type 0) (all : List Entry) (keep : Kee
       same (e ∷ es) = ap suc (same es)
 
   -- the same files, by another test
-  pub loaded_same : (reader : PackageReader) (p q : ℕ → Bool) → ((i : ℕ) → p i ≡ q i) → HasLoaded has all reader keep p → HasLoaded has all reader keep q
-  loaded_same reader p q same h = subst (λ (t : ℕ → Bool). HasLoaded has all reader keep t) (λ j. λ i. same i j) h
+  pub loaded_same : (Taken : List FileView → (ℕ → Bool) → Type 0) (p q : ℕ → Bool) → ((i : ℕ) → p i ≡ q i) → HasLoaded has all Taken p → HasLoaded has all Taken q
+  loaded_same Taken p q same h = subst (λ (t : ℕ → Bool). HasLoaded has all Taken t) (λ j. λ i. same i j) h
 
   -- and one more
-  pub loaded_more : (before after : PackageReader) (done : ℕ → Bool) (k : ℕ) (entry : Entry) → slice_get all k ≡ Some entry → done k ≡ false → copper_files before ≡ copper_entries all
-      → LoadsFile has before after k entry → HasLoaded has all before keep done → HasLoaded has all after keep (λ i. done i || eqb i k)
-  loaded_more before after done k entry at new layers (bytes, held, takes) h =
+  loaded_more : (Before After : List FileView → (ℕ → Bool) → Type 0) (done : ℕ → Bool) (k : ℕ) (entry : Entry) (bytes : List ℕ) → slice_get all k ≡ Some entry → done k ≡ false → within file_limit has entry.file bytes
+      → ((files : List (List ℕ)) → length files ≡ length all → Before (sources all files) done → Before (sources all (set files k bytes)) done)
+      → ((files : List (List ℕ)) → length files ≡ length all → slice_get (sources all files) k ≡ Some (source (copper_entries all) entry bytes) → Before (sources all files) done → After (sources all files) (λ i. done i || eqb i k))
+      → HasLoaded has all Before done → HasLoaded has all After (λ i. done i || eqb i k)
+  loaded_more Before After done k entry bytes at new held alike takes h =
       let n = copper_entries all in
       let files : List (List ℕ) = set h.files k bytes in
       let inside : k < length all = slice_get_within all k entry at in
       let size : length files ≡ length all = length-set h.files k bytes ∙ h.size in
       let here : get_or files k [] ≡ bytes = get_or-set_same h.files k bytes [] (omega (arith, inside, h.size)) in
       let not_k = λ (i : ℕ) (d : done i ≡ true). (λ (same : i ≡ k). both_ways (done k) new (subst (λ (j : ℕ). done j ≡ true) same d)) in
-      let alike : HasTaken before keep (sources all files) done =
-      taken_alike before keep (sources all h.files) (sources all files) done (views_length n all h.files h.size ∙ sym (views_length n all files size))
-      (λ i d. views_other n all h.files k bytes i (not_k i d)) h.taken in
-      let file : slice_get (sources all files) k ≡ Some (source (copper_files before) entry bytes) =
-      view_at n all files k entry size at ∙ (λ j. Some (source (sym layers j) entry (here j))) in
       record {
         files = files;
         size = size;
@@ -90,12 +114,12 @@ module _ (has : List ℕ → List ℕ → Type 0) (all : List Entry) (keep : Kee
               subst (λ (x : Entry). within file_limit has x.file (get_or files i [])) is
               (subst (within file_limit has entry.file) (sym (ap (λ (j : ℕ). get_or files j []) same ∙ here)) held)
         ];
-        taken = takes (sources all files) file keep done alike;
+        taken = takes files size (view_at n all files k entry size at ∙ ap (λ (b : List ℕ). Some (source n entry b)) here) (alike h.files h.size h.taken);
       }
 
   -- a loader that has as much
-  pub loaded_along : (later : List ℕ → List ℕ → Type 0) → ((n b : List ℕ) → has n b → later n b) → (reader : PackageReader) (done : ℕ → Bool) → HasLoaded has all reader keep done → HasLoaded later all reader keep done
-  loaded_along later to reader done h = record {
+  pub loaded_along : (later : List ℕ → List ℕ → Type 0) → ((n b : List ℕ) → has n b → later n b) → (Taken : List FileView → (ℕ → Bool) → Type 0) (done : ℕ → Bool) → HasLoaded has all Taken done → HasLoaded later all Taken done
+  loaded_along later to Taken done h = record {
     files = h.files;
     size = h.size;
     loaded = λ i e d at. let w = h.loaded i e d at in (to e.file (get_or h.files i []) w.0, w.1);
@@ -103,26 +127,56 @@ module _ (has : List ℕ → List ℕ → Type 0) (all : List Entry) (keep : Kee
   }
 
   -- none of a kind yet
-  pub none_yet : (copper : Bool) (reader : PackageReader) (done : ℕ → Bool) → HasLoaded has all reader keep done → HasLoaded has all reader keep (λ i. done i || (ltb i 0 && is_kind_at copper all i))
-  none_yet copper reader done h =
-      loaded_same reader done (λ i. done i || (ltb i 0 && is_kind_at copper all i)) (λ i. sym (or_none (done i)) ∙ ap (λ (t : Bool). done i || t) (none_below (is_kind_at copper all) i)) h
+  pub none_yet : (copper : Bool) (Taken : List FileView → (ℕ → Bool) → Type 0) (done : ℕ → Bool) → HasLoaded has all Taken done → HasLoaded has all Taken (λ i. done i || (ltb i 0 && is_kind_at copper all i))
+  none_yet copper Taken done h =
+      loaded_same Taken done (λ i. done i || (ltb i 0 && is_kind_at copper all i)) (λ i. sym (or_none (done i)) ∙ ap (λ (t : Bool). done i || t) (none_below (is_kind_at copper all) i)) h
 
   -- the next file, which is of the kind that is loaded
-  pub kind_loaded : (copper : Bool) (before after : PackageReader) (done : ℕ → Bool) (k : ℕ) (entry : Entry) → slice_get all k ≡ Some entry → is_kind copper entry.role ≡ true → copper_files before ≡ copper_entries all
-      → done k ≡ false → LoadsFile has before after k entry → HasLoaded has all before keep (λ i. done i || (ltb i k && is_kind_at copper all i))
-      → HasLoaded has all after keep (λ i. done i || (ltb i (k + 1) && is_kind_at copper all i))
-  kind_loaded copper before after done k entry at kind layers new loads h =
-      loaded_same after (λ i. (done i || (ltb i k && is_kind_at copper all i)) || eqb i k) (λ i. done i || (ltb i (k + 1) && is_kind_at copper all i))
+  kind_loaded : (copper : Bool) (Before After : List FileView → (ℕ → Bool) → Type 0) (done : ℕ → Bool) (k : ℕ) (entry : Entry) (bytes : List ℕ) → slice_get all k ≡ Some entry → is_kind copper entry.role ≡ true → done k ≡ false
+      → within file_limit has entry.file bytes
+      → ((files : List (List ℕ)) (p : ℕ → Bool) → p k ≡ false → length files ≡ length all → Before (sources all files) p → Before (sources all (set files k bytes)) p)
+      → ((files : List (List ℕ)) (p : ℕ → Bool) → length files ≡ length all → slice_get (sources all files) k ≡ Some (source (copper_entries all) entry bytes) → Before (sources all files) p → After (sources all files) (λ i. p i || eqb i k))
+      → HasLoaded has all Before (λ i. done i || (ltb i k && is_kind_at copper all i)) → HasLoaded has all After (λ i. done i || (ltb i (k + 1) && is_kind_at copper all i))
+  kind_loaded copper Before After done k entry bytes at kind new held alike takes h =
+      let before = λ (i : ℕ). done i || (ltb i k && is_kind_at copper all i) in
+      let not_yet : before k ≡ false = or_from (done k) (ltb k k && is_kind_at copper all k) new (and_left (ltb k k) (is_kind_at copper all k) (le-ltb k k (omega arith))) in
+      loaded_same After (λ i. (done i || (ltb i k && is_kind_at copper all i)) || eqb i k) (λ i. done i || (ltb i (k + 1) && is_kind_at copper all i))
       (λ i. or_together (done i) (ltb i k && is_kind_at copper all i) (eqb i k) ∙ ap (λ (t : Bool). done i || t) (one_more (is_kind_at copper all) k (ap (is_kind_of copper) at ∙ kind) i))
-      (loaded_more before after (λ i. done i || (ltb i k && is_kind_at copper all i)) k entry at
-      (or_from (done k) (ltb k k && is_kind_at copper all k) new (and_left (ltb k k) (is_kind_at copper all k) (le-ltb k k (omega arith)))) layers loads h)
+      (loaded_more Before After before k entry bytes at not_yet held (λ files size was. alike files before not_yet size was) (λ files size there was. takes files before size there was) h)
 
   -- or is not of the kind
-  pub kind_passed : (copper : Bool) (reader : PackageReader) (done : ℕ → Bool) (k : ℕ) (entry : Entry) → slice_get all k ≡ Some entry → is_kind copper entry.role ≡ false
-      → HasLoaded has all reader keep (λ i. done i || (ltb i k && is_kind_at copper all i)) → HasLoaded has all reader keep (λ i. done i || (ltb i (k + 1) && is_kind_at copper all i))
-  kind_passed copper reader done k entry at kind h =
-      loaded_same reader (λ i. done i || (ltb i k && is_kind_at copper all i)) (λ i. done i || (ltb i (k + 1) && is_kind_at copper all i))
+  pub kind_passed : (copper : Bool) (Taken : List FileView → (ℕ → Bool) → Type 0) (done : ℕ → Bool) (k : ℕ) (entry : Entry) → slice_get all k ≡ Some entry → is_kind copper entry.role ≡ false
+      → HasLoaded has all Taken (λ i. done i || (ltb i k && is_kind_at copper all i)) → HasLoaded has all Taken (λ i. done i || (ltb i (k + 1) && is_kind_at copper all i))
+  kind_passed copper Taken done k entry at kind h =
+      loaded_same Taken (λ i. done i || (ltb i k && is_kind_at copper all i)) (λ i. done i || (ltb i (k + 1) && is_kind_at copper all i))
       (λ i. ap (λ (t : Bool). done i || t) (none_more (is_kind_at copper all) k (ap (is_kind_of copper) at ∙ kind) i)) h
+
+  -- a reader has taken the next file
+  pub reader_loaded : (keep : Keep) (copper : Bool) (before after : PackageReader) (done : ℕ → Bool) (k : ℕ) (entry : Entry) → slice_get all k ≡ Some entry → is_kind copper entry.role ≡ true → copper_files before ≡ copper_entries all
+      → done k ≡ false → LoadsFile has before after k entry → HasLoaded has all (HasTaken before keep) (λ i. done i || (ltb i k && is_kind_at copper all i))
+      → HasLoaded has all (HasTaken after keep) (λ i. done i || (ltb i (k + 1) && is_kind_at copper all i))
+  reader_loaded keep copper before after done k entry at kind layers new (bytes, held, takes) h =
+      let n = copper_entries all in
+      kind_loaded copper (HasTaken before keep) (HasTaken after keep) done k entry bytes at kind new held
+      (λ files p none size was.
+      taken_alike before keep (sources all files) (sources all (set files k bytes)) p (views_length n all files size ∙ sym (views_length n all (set files k bytes) (length-set files k bytes ∙ size)))
+      (λ i d. views_other n all files k bytes i (λ same. both_ways (p k) none (subst (λ (j : ℕ). p j ≡ true) same d))) was)
+      (λ files p size there was. takes (sources all files) (there ∙ ap (λ (m : ℕ). Some (source m entry bytes)) (sym layers)) keep p was) h
+
+  -- a check has taken the next file, which is copper
+  pub copper_loaded : (rules : GridRules) (before after : CheckView) (done : ℕ → Bool) (k layer : ℕ) (entry : Entry) → slice_get all k ≡ Some entry → is_copper entry.role ≡ true → before.layers ≡ copper_entries all
+      → done k ≡ false → layer ≡ count_by (λ (e : Entry). is_copper e.role) (take k all) → LoadsCopper has before after k layer entry
+      → HasLoaded has all (λ files. HasJudged before files rules) (λ i. done i || (ltb i k && is_kind_at true all i))
+      → HasLoaded has all (λ files. HasJudged after files rules) (λ i. done i || (ltb i (k + 1) && is_kind_at true all i))
+  copper_loaded rules before after done k layer entry at copper layers new number (bytes, held, takes) h =
+      let n = copper_entries all in
+      kind_loaded true (λ files. HasJudged before files rules) (λ files. HasJudged after files rules) done k entry bytes at copper new held
+      (λ files p none size was.
+      judged_alike before rules (sources all files) (sources all (set files k bytes)) p (views_length n all files size ∙ sym (views_length n all (set files k bytes) (length-set files k bytes ∙ size)))
+      (λ i d. views_other n all files k bytes i (λ same. both_ways (p k) none (subst (λ (j : ℕ). p j ≡ true) same d)))
+      (λ i. views_number n all (set files k bytes) (length-set files k bytes ∙ size) i ∙ sym (views_number n all files size i)) (views_drills n all files k bytes entry at copper) was)
+      (λ files p size there was.
+      takes (sources all files) (there ∙ ap (λ (m : ℕ). Some (source m entry bytes)) (sym layers)) (number ∙ sym (views_number n all files size k)) rules p was) h
 
 -- ---- kinds
 
@@ -149,6 +203,36 @@ done_to all drills copper i = (false || (ltb i drills && is_kind_at false all i)
 pub done_below : (all : List Entry) (drills copper i : ℕ) → copper ≤ drills → i < copper → i < length all → done_to all drills copper i ≡ true
 done_below all drills copper i le lt inside =
     rw (lt-ltb i drills (omega (arith, le, lt)), lt-ltb i copper lt) (either_entry_kind all i inside)
+
+-- ---- a check
+
+-- past the end no entry is of a kind
+no_entry_past : (copper : Bool) (es : List Entry) (i : ℕ) → length es ≤ i → is_kind_at copper es i ≡ false
+no_entry_past copper [] i le = refl
+no_entry_past copper (e ∷ es) zero le = absurd (omega (arith, le))
+no_entry_past copper (e ∷ es) (suc i) le = no_entry_past copper es i (omega (arith, le))
+
+-- a file is of the kind of its entry
+views_kind : (copper : Bool) (n : ℕ) (es : List Entry) (fs : List (List ℕ)) → length fs ≡ length es → (i : ℕ) → taking.is_kind_at copper (file_views_among n es fs) i ≡ is_kind_at copper es i
+views_kind copper n [] fs same i = refl
+views_kind copper n (e ∷ es) [] same i = absurd (omega (arith, same))
+views_kind copper n (e ∷ es) (f ∷ fs) same zero = refl
+views_kind copper n (e ∷ es) (f ∷ fs) same (suc i) = views_kind copper n es fs (omega (arith, same)) i
+
+-- a check goes on from a reader that has taken all drill files
+pub checking_loaded : (has : List ℕ → List ℕ → Type 0) (all : List Entry) (keep : Keep) (rules : GridRules) (reader : PackageReader) (check : CheckView) (drills : ℕ) → drills ≡ length all
+    → ((files : List FileView) → HasTaken reader keep files (taking.is_kind_at false files) → HasJudged check files rules (taking.is_kind_at false files))
+    → HasLoaded has all (HasTaken reader keep) (λ i. false || (ltb i drills && is_kind_at false all i)) → HasLoaded has all (λ files. HasJudged check files rules) (λ i. false || (ltb i drills && is_kind_at false all i))
+checking_loaded has all keep rules reader check drills ends stands h =
+    let files = sources all h.files in
+    let same = λ (i : ℕ). views_kind false (copper_entries all) all h.files h.size i ∙ sym (all_below (is_kind_at false all) drills (λ i past. no_entry_past false all i (omega (arith, past, ends))) i) in
+    let tests : taking.is_kind_at false files ≡ (λ i. ltb i drills && is_kind_at false all i) = λ j. λ i. same i j in
+    record {
+      files = h.files;
+      size = h.size;
+      loaded = h.loaded;
+      taken = subst (λ (t : ℕ → Bool). HasJudged check files rules t) tests (stands files (subst (λ (t : ℕ → Bool). HasTaken reader keep files t) (sym tests) h.taken));
+    }
 
 -- ---- what came of all files
 
@@ -177,7 +261,7 @@ pub halts_weaker : (Is Is' : Refusal → Type 0) (Risen Risen' : Type 0) → ((w
 halts_weaker Is Is' Risen Risen' to rise (halt.Refused what why) is = to (refusal what why) is
 halts_weaker Is Is' Risen Risen' to rise (halt.Unread what) risen = rise risen
 
-module _ (has : List ℕ → List ℕ → Type 0) (all : List Entry) (keep : Keep) (reader : PackageReader) (drills copper : ℕ) (le : copper ≤ drills) (h : HasLoaded has all reader keep (done_to all drills copper)) where
+module _ (has : List ℕ → List ℕ → Type 0) (all : List Entry) (Taken : List FileView → (ℕ → Bool) → Type 0) (drills copper : ℕ) (le : copper ≤ drills) (h : HasLoaded has all Taken (done_to all drills copper)) where
   files_before : HasFiles (within file_limit has) (take copper all) (take copper h.files)
   files_before = has_first (within file_limit has) copper all h.files h.size (λ i e lt at. h.loaded i e (done_below all drills copper i le lt (slice_get_within all i e at)) at)
 
@@ -188,12 +272,13 @@ module _ (has : List ℕ → List ℕ → Type 0) (all : List Entry) (keep : Kee
       long_file copper entry (record { files = take copper h.files; before = files_before; at = at; bytes = long.bytes; loaded = to entry.file long.bytes long.loaded; long = long.long }) long.is
 
   -- all files
-  pub all_loaded : length all ≤ copper → (files : List (List ℕ)) × HasFiles (within file_limit has) all files × HasTakenAll reader keep (sources all files)
-  all_loaded past =
+  pub all_loaded : (All : List FileView → Type 0) → ((files : List FileView) (p : ℕ → Bool) → ((i : ℕ) → i < length files → p i ≡ true) → Taken files p → All files) → length all ≤ copper
+      → (files : List (List ℕ)) × HasFiles (within file_limit has) all files × All (sources all files)
+  all_loaded All to past =
       let n = copper_entries all in (
         h.files,
         has_all,
-        all_taken reader keep (sources all h.files) (done_to all drills copper) (λ i lt. let inside : i < length all = omega (arith, lt, views_length n all h.files h.size) in done_below all drills copper i le (omega (arith, inside, past)) inside) h.taken,
+        to (sources all h.files) (done_to all drills copper) (λ i lt. let inside : i < length all = omega (arith, lt, views_length n all h.files h.size) in done_below all drills copper i le (omega (arith, inside, past)) inside) h.taken,
       )
     where
       has_all : HasFiles (within file_limit has) all h.files
@@ -205,15 +290,15 @@ module _ (has : List ℕ → List ℕ → Type 0) (all : List Entry) (keep : Kee
 -- the drill files were loaded, and then the copper files
 pub both_passes : (has later : List ℕ → List ℕ → Type 0) → ((n b : List ℕ) → later n b ↔ has n b) → (all first : List Entry) (keep : Keep) (start middle last : PackageReader) (drills copper : ℕ) → AreFirstOf first all
     → copper_files start ≡ copper_entries all → copper_files middle ≡ copper_files start → ((sources : List FileView) → HasTaken start keep sources (λ i. false))
-    → LoadsKind has all start middle false drills → LoadsKind later first middle last true copper → HasLoaded has all last keep (done_to all drills copper)
+    → LoadsKind has all start middle false drills → LoadsKind later first middle last true copper → HasLoaded has all (HasTaken last keep) (done_to all drills copper)
 both_passes has later same all first keep start middle last drills copper among layers stays stands one two =
     let done = λ (i : ℕ). false || (ltb i drills && is_kind_at false all i) in
-    let drilled : HasLoaded has all middle keep done = one all keep (λ i. false) (λ i e at. at) layers (λ i kind. refl) (none_loaded has all keep start stands) in
-    loaded_along later all keep has (λ n b. (same n b).0) last (done_to all drills copper)
-    (two all keep done among (stays ∙ layers) (λ i kind. and_right (ltb i drills) (is_kind_at false all i) (one_entry_kind all i kind)) (loaded_along has all keep later (λ n b. (same n b).1) middle done drilled))
+    let drilled : HasLoaded has all (HasTaken middle keep) done = one all keep (λ i. false) (λ i e at. at) layers (λ i kind. refl) (none_loaded has all (HasTaken start keep) stands) in
+    loaded_along later all has (λ n b. (same n b).0) (HasTaken last keep) (done_to all drills copper)
+    (two all keep done among (stays ∙ layers) (λ i kind. and_right (ltb i drills) (is_kind_at false all i) (one_entry_kind all i kind)) (loaded_along has all later (λ n b. (same n b).1) (HasTaken middle keep) done drilled))
 
-module _ (has later : List ℕ → List ℕ → Type 0) (to : (n b : List ℕ) → later n b → has n b) (all : List Entry) (keep : Keep) (reader : PackageReader) (drills copper old middle new : ℕ)
-    (rises : old ≤ middle) (rises_on : middle ≤ new) (inside : drills ≤ length all) (within_first : copper ≤ length (take drills all)) (h : HasLoaded has all reader keep (done_to all drills copper)) where
+module _ (has later : List ℕ → List ℕ → Type 0) (to : (n b : List ℕ) → later n b → has n b) (all : List Entry) (Taken : List FileView → (ℕ → Bool) → Type 0) (drills copper old middle new : ℕ)
+    (rises : old ≤ middle) (rises_on : middle ≤ new) (inside : drills ≤ length all) (within_first : copper ≤ length (take drills all)) (h : HasLoaded has all Taken (done_to all drills copper)) where
   size : length (take drills all) ≡ drills
   size = length-take-le drills all inside
 
@@ -225,17 +310,46 @@ module _ (has later : List ℕ → List ℕ → Type 0) (to : (n b : List ℕ) �
   passes_halt first (Some s) stop before (entry, at, halts) is =
       subst (Halts (RefusedFile has all) (HasRisen old new)) (same_Some s stop is)
       (halts_weaker (RefusesLong later copper entry) (RefusedFile has all) (HasRisen middle new) (HasRisen old new)
-      (λ why long. long_refused has all keep reader drills copper below h later to entry why (first_of drills all copper entry at) long) (risen_since old middle new rises) s halts)
+      (λ why long. long_refused has all Taken drills copper below h later to entry why (first_of drills all copper entry at) long) (risen_since old middle new rises) s halts)
   passes_halt (Some s) None stop (entry, at, halts) ends is =
       let same : drills ≡ copper = sym (ends ∙ size) in
       subst (Halts (RefusedFile has all) (HasRisen old new)) (same_Some s stop is)
       (halts_weaker (RefusesLong has drills entry) (RefusedFile has all) (HasRisen old middle) (HasRisen old new)
-      (λ why long. long_refused has all keep reader drills copper below h has (λ n b held. held) entry why (subst (λ (k : ℕ). slice_get all k ≡ Some entry) same at)
+      (λ why long. long_refused has all Taken drills copper below h has (λ n b held. held) entry why (subst (λ (k : ℕ). slice_get all k ≡ Some entry) same at)
       (subst (λ (k : ℕ). RefusesLong has k entry why) same long)) (risen_by old middle new rises rises_on) s halts)
   passes_halt None None stop before ends is = absurd (none-some stop is)
 
-  pub passes_all : (first second : Option Halt) → EndsAt has all (HasRisen old middle) drills first → EndsAt later (take drills all) (HasRisen middle new) copper second → option_or second first ≡ None
-      → (files : List (List ℕ)) × HasFiles (within file_limit has) all files × HasTakenAll reader keep (sources all files)
-  passes_all first (Some s) before ends is = absurd cc
-  passes_all (Some s) None before ends is = absurd cc
-  passes_all None None before ends is = all_loaded has all keep reader drills copper below h (omega (arith, before, ends, size))
+  pub passes_all : (All : List FileView → Type 0) → ((files : List FileView) (p : ℕ → Bool) → ((i : ℕ) → i < length files → p i ≡ true) → Taken files p → All files) → (first second : Option Halt) → EndsAt has all (HasRisen old middle) drills first → EndsAt later (take drills all) (HasRisen middle new) copper second → option_or second first ≡ None
+      → (files : List (List ℕ)) × HasFiles (within file_limit has) all files × All (sources all files)
+  passes_all All to first (Some s) before ends is = absurd cc
+  passes_all All to (Some s) None before ends is = absurd cc
+  passes_all All to None None before ends is = all_loaded has all Taken drills copper below h All to (omega (arith, before, ends, size))
+
+-- the first of two halts, where there is the second
+pub or_default : (o : Option Halt) (h : Halt) → option_or o (Some h) ≡ Some (unwrap_or o h)
+or_default None h = refl
+or_default (Some x) h = refl
+
+-- all drill files were loaded, and then the copper files, which a check has taken
+pub check_passes : (has later : List ℕ → List ℕ → Type 0) → ((n b : List ℕ) → later n b ↔ has n b) → (all : List Entry) (keep : Keep) (rules : GridRules) (start middle : PackageReader) (check last : CheckView) (drills copper : ℕ)
+    → drills ≡ length all → copper_files start ≡ copper_entries all → copper_files middle ≡ copper_files start → check.layers ≡ copper_files middle → ((sources : List FileView) → HasTaken start keep sources (λ i. false))
+    → LoadsKind has all start middle false drills → ((files : List FileView) → HasTaken middle keep files (taking.is_kind_at false files) → HasJudged check files rules (taking.is_kind_at false files))
+    → LoadsCopperTo later all check last copper → HasLoaded has all (λ files. HasJudged last files rules) (done_to all drills copper)
+check_passes has later same all keep rules start middle check last drills copper ends layers stays counted stands one goes two =
+    let done = λ (i : ℕ). false || (ltb i drills && is_kind_at false all i) in
+    let drilled : HasLoaded has all (HasTaken middle keep) done = one all keep (λ i. false) (λ i e at. at) layers (λ i kind. refl) (none_loaded has all (HasTaken start keep) stands) in
+    let checked : HasLoaded has all (λ files. HasJudged check files rules) done = checking_loaded has all keep rules middle check drills ends goes drilled in
+    loaded_along later all has (λ n b. (same n b).0) (λ files. HasJudged last files rules) (done_to all drills copper)
+    (two rules done (counted ∙ (stays ∙ layers)) (λ i kind. and_right (ltb i drills) (is_kind_at false all i) (one_entry_kind all i kind))
+    (loaded_along has all later (λ n b. (same n b).1) (λ files. HasJudged check files rules) done checked))
+
+-- all entries are the first of them, where there are no more
+module _ (all : List Entry) (drills : ℕ) (ends : drills ≡ length all) where
+  all_first : take drills all ≡ all
+  all_first = take_all drills all (omega (arith, ends))
+
+  pub within_all : (copper : ℕ) → copper ≤ length all → copper ≤ length (take drills all)
+  within_all copper le = let size = ap length all_first in omega (arith, le, size)
+
+  pub ends_among_all : (later : List ℕ → List ℕ → Type 0) (Risen : Type 0) (copper : ℕ) (second : Option Halt) → EndsAt later all Risen copper second → EndsAt later (take drills all) Risen copper second
+  ends_among_all later Risen copper second h = subst (λ (es : List Entry). EndsAt later es Risen copper second) (sym all_first) h

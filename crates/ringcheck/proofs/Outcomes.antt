@@ -74,12 +74,12 @@ module _ (has : List ℕ → List ℕ → Type 0) (entries : List Entry) (Risen 
       taken has entries Risen Holds files held r (answered (sources entries files) (named (within file_limit has) entries files names held same) stood)
 
 -- a halt was printed
-module _ (Is : Refusal → Type 0) (Risen : Type 0) (refusal_style : RefusalStyle) (before after : Option (List ℕ)) (P : Status → Type 0) where
+module _ (Is : Refusal → Type 0) (Risen : Type 0) (refusal_style : RefusalStyle) (path : List ℕ) (before after : Option (List ℕ)) (P : Status → Type 0) where
   pub halted : (Risen → P status.Device) → ((why : Refusal) → Is why → PrintsRefusal refusal_style why before after → P status.Refused) → (h : Halt) → Halts Is Risen h
-      → (r : Result Status Failure) → IfOk r (AfterHalt refusal_style h before after) → IfOk r P
+      → (r : Result Status Failure) → IfOk r (AfterHalt refusal_style h path before after) → IfOk r P
   halted device refused (halt.Refused what why) is r printed =
-      IfOk-weaker r (AfterHalt refusal_style (halt.Refused what why) before after) P (λ s p. subst P (sym p.0) (refused (refusal what why) is p.1)) printed
-  halted device refused (halt.Unread what) risen r printed = IfOk-weaker r (AfterHalt refusal_style (halt.Unread what) before after) P (λ s p. subst P (sym p) (device risen)) printed
+      IfOk-weaker r (AfterHalt refusal_style (halt.Refused what why) path before after) P (λ s p. subst P (sym p.0) (refused (refusal what why) is p.1)) printed
+  halted device refused (halt.Unread what) risen r printed = IfOk-weaker r (AfterHalt refusal_style (halt.Unread what) path before after) P (λ s p. subst P (sym p.0) (device risen)) printed
 
 -- ---- what a loader has
 

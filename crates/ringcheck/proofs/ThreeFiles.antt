@@ -12,9 +12,10 @@ use Rattle.package_check.specs.Soundness.{IsSound}
 use Rattle.ringcheck_files.specs.declared.Status.{Status}
 use Rattle.ringcheck_files.specs.declared.Status.TheVariants as status
 use Rattle.ringcheck.specs.declared.parsed_words.MeasureFormat.{MeasureFormat}
+use Rattle.ringcheck.specs.declared.parsed_words.ReportFormat.{ReportFormat}
 use Rattle.ringcheck.specs.MeasureStatus.{IsParsedMeasureStatus}
 use Rattle.ringcheck_files.specs.LoaderRelation.{file_limit, within}
-use Rattle.ringcheck_files.specs.Words.{IsUsageStatus}
+use Rattle.ringcheck_files.specs.Words.{IsExplainedUsage, IsUsageStatus}
 use Rattle.ringcheck.specs.ReportStatus.{IsParsedReportStatus}
 use Rattle.ringcheck.specs.CheckStatus.{HasFiles, HoldsForPackage, IsParsedCheckStatus, sources}
 use Rattle.ringcheck.proofs.LoadSteps.{has_files_along}
@@ -39,6 +40,10 @@ usage_never_passes : (why : Reason) (before after : Option (List ℕ)) (s : Stat
 usage_never_passes why before after s (inl u) p = let e = u.0 in cc
 usage_never_passes why before after s (inr d) p = cc
 
+explained_never_passes : (why : Reason) (below : List ℕ) (before after : Option (List ℕ)) (s : Status) → IsExplainedUsage why below before after s → s ≡ status.Pass → ⊥
+explained_never_passes why below before after s (inl u) p = let e = u.0 in cc
+explained_never_passes why below before after s (inr d) p = cc
+
 -- a package whose manifest is the first file
 held : (m l d : List ℕ) (Holds : List FileView → Type 0) → HoldsForPackage (has_three_files m l d) (codes "m.csv") Holds
     → (entries : List Entry) × (manifest m ≡ Ok entries) × (files : List (List ℕ)) × HasFiles (has_three_files m l d) entries files × Holds (sources entries files)
@@ -62,22 +67,22 @@ sound_of_three m l d (Ok rules) before after status.Usage says is = cc
 sound_of_three m l d (Ok rules) before after status.Device says is = cc
 
 -- the files that the manifest names pass under just the rules that are met
-pub met_of_three : (m l d : List ℕ) (r : Result MeasureFormat Reason) (before after : Option (List ℕ)) (s : Status) → IsParsedMeasureStatus (has_three_files m l d) (codes "m.csv") r before after s → s ≡ status.Pass
+pub met_of_three : (below : List ℕ) (m l d : List ℕ) (r : Result MeasureFormat Reason) (before after : Option (List ℕ)) (s : Status) → IsParsedMeasureStatus (has_three_files m l d) (codes "m.csv") r below before after s → s ≡ status.Pass
     → (entries : List Entry) × (manifest m ≡ Ok entries) × (files : List (List ℕ)) × HasFiles (has_three_files m l d) entries files
     × (measure : Measure) × PackagePasses (sources entries files) measure.meets.ring measure.meets.gap
-met_of_three m l d (Err why) before after s says is = absurd (usage_never_passes why before after s says is)
-met_of_three m l d (Ok form) before after status.Pass says is = let (entries, listed, files, loaded, holds) = held m l d _ says in (entries, listed, files, loaded, holds.measure, holds.met)
-met_of_three m l d (Ok form) before after status.Findings says is = cc
-met_of_three m l d (Ok form) before after status.Refused says is = cc
-met_of_three m l d (Ok form) before after status.Usage says is = cc
-met_of_three m l d (Ok form) before after status.Device says is = cc
+met_of_three below m l d (Err why) before after s says is = absurd (explained_never_passes why below before after s says is)
+met_of_three below m l d (Ok form) before after status.Pass says is = let (entries, listed, files, loaded, holds) = held m l d _ says in (entries, listed, files, loaded, holds.measure, holds.met)
+met_of_three below m l d (Ok form) before after status.Findings says is = cc
+met_of_three below m l d (Ok form) before after status.Refused says is = cc
+met_of_three below m l d (Ok form) before after status.Usage says is = cc
+met_of_three below m l d (Ok form) before after status.Device says is = cc
 
 -- the files that the manifest names are sound, where a report has no finding
-pub report_of_three : (m l d : List ℕ) (r : Result (GridRules × Option ℕ × MeasureFormat) Reason) (before after : Option (List ℕ)) (s : Status) → IsParsedReportStatus (has_three_files m l d) (codes "m.csv") r None before after s → s ≡ status.Pass
-    → (unparsed : GridRules × Option ℕ × MeasureFormat) × (r ≡ Ok unparsed) × (entries : List Entry) × (manifest m ≡ Ok entries) × (files : List (List ℕ)) × HasFiles (has_three_files m l d) entries files × IsSound (sources entries files) unparsed.0
-report_of_three m l d (Err why) before after s says is = absurd (usage_never_passes why before after s says is)
-report_of_three m l d (Ok (rules, limit, form)) before after status.Pass says is = let (entries, listed, files, loaded, holds) = held m l d _ says in ((rules, limit, form), refl, entries, listed, files, loaded, holds.sound (sym holds.judged.0))
-report_of_three m l d (Ok (rules, limit, form)) before after status.Findings says is = cc
-report_of_three m l d (Ok (rules, limit, form)) before after status.Refused says is = cc
-report_of_three m l d (Ok (rules, limit, form)) before after status.Usage says is = cc
-report_of_three m l d (Ok (rules, limit, form)) before after status.Device says is = cc
+pub report_of_three : (below : List ℕ) (m l d : List ℕ) (r : Result (GridRules × Option ℕ × ReportFormat) Reason) (before after : Option (List ℕ)) (s : Status) → IsParsedReportStatus (has_three_files m l d) (codes "m.csv") r below None before after s → s ≡ status.Pass
+    → (unparsed : GridRules × Option ℕ × ReportFormat) × (r ≡ Ok unparsed) × (entries : List Entry) × (manifest m ≡ Ok entries) × (files : List (List ℕ)) × HasFiles (has_three_files m l d) entries files × IsSound (sources entries files) unparsed.0
+report_of_three below m l d (Err why) before after s says is = absurd (explained_never_passes why below before after s says is)
+report_of_three below m l d (Ok (rules, limit, form)) before after status.Pass says is = let (entries, listed, files, loaded, holds) = held m l d _ says in ((rules, limit, form), refl, entries, listed, files, loaded, holds.sound (sym holds.judged.0))
+report_of_three below m l d (Ok (rules, limit, form)) before after status.Findings says is = cc
+report_of_three below m l d (Ok (rules, limit, form)) before after status.Refused says is = cc
+report_of_three below m l d (Ok (rules, limit, form)) before after status.Usage says is = cc
+report_of_three below m l d (Ok (rules, limit, form)) before after status.Device says is = cc

@@ -7,4 +7,5 @@ pub mod Refusals
 pub mod ReportStatus
 pub mod RequestStatus
 pub mod RewrittenPackages
+pub mod Sentences
 pub mod Waiving

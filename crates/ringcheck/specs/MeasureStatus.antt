@@ -17,7 +17,7 @@ use Rattle.ringcheck.specs.declared.refusals.RefusalStyle.{RefusalStyle}
 use Rattle.ringcheck.specs.declared.refusals.RefusalStyle.TheVariants as style
 use Rattle.ringcheck.specs.CheckStatus.{SaysPackage}
 use Rattle.ringcheck_files.specs.LoaderRelation.{Relation}
-use Rattle.ringcheck_files.specs.Words.{IsUsageStatus}
+use Rattle.ringcheck_files.specs.Words.{IsExplainedUsage}
 
 -- the lines of a measure below those of the files: `ring`, `scale`, `gap` and, last, `meets`
 abbrev pub lines_of : Measure → List ℕ
@@ -27,11 +27,10 @@ lines_of measure = measure_text measure.rings.items measure.scales.items measure
 abbrev pub board_text : List (List ℕ) → BoardView → Measure → List ℕ
 board_text names board measure = file_lines 1 names board.files ++ lines_of measure
 
--- what is printed of a measure: its text, or its JSON; no word names a file of waivers for it
+-- what is printed of a measure: its text, or its JSON
 abbrev pub measure_page : MeasureFormat → List (List ℕ) → BoardView → Measure → List ℕ
 measure_page format.Text names board measure = board_text names board measure
 measure_page format.Json names board measure = json_text (measure_value names board measure)
-measure_page format.Waivers names board measure = board_text names board measure
 
 -- the writer got just the measure of the files' board, in a format; a check of them finds nothing under exactly the rules that are met
 pub record PrintsMeasure (form : MeasureFormat) (before after : Option (List ℕ)) (passes : Bool) (all : List FileView) : Type 0 where
@@ -43,17 +42,16 @@ pub record PrintsMeasure (form : MeasureFormat) (before after : Option (List ℕ
   pub met : PackagePasses all measure.meets.ring measure.meets.gap
   pub passed : passes ≡ true
 
--- how a refusal is printed in place of a measure: by a line, or as JSON
-abbrev pub style_of : MeasureFormat → RefusalStyle
-style_of format.Text = style.Line
-style_of format.Json = style.Json
-style_of format.Waivers = style.Line
+-- how a refusal is printed in place of a measure: by a line with its page, or as JSON
+abbrev pub measure_style : MeasureFormat → RefusalStyle
+measure_style format.Text = style.Page
+measure_style format.Json = style.Json
 
--- what a status says of the measure of a package; it is never Findings
+-- what a status says of the measure of a package, of which a refusal is printed as in place of a report; it is never Findings
 abbrev pub IsMeasureStatus : Relation → List ℕ → MeasureFormat → Option (List ℕ) → Option (List ℕ) → Status → Type 0
-IsMeasureStatus has name form before after s = SaysPackage has name (PrintsMeasure form before after) (style_of form) before after s
+IsMeasureStatus has name form before after s = SaysPackage has name (PrintsMeasure form before after) (measure_style form) before after s
 
--- what a status says of a measure in the format that a word names, or where the word is refused
-abbrev pub IsParsedMeasureStatus : Relation → List ℕ → Result MeasureFormat Reason → Option (List ℕ) → Option (List ℕ) → Status → Type 0
-IsParsedMeasureStatus has name (Ok form) before after s = IsMeasureStatus has name form before after s
-IsParsedMeasureStatus has name (Err why) before after s = IsUsageStatus why before after s
+-- what a status says of a measure in the format that a word names, or where the word is refused and `below` stands below its line
+abbrev pub IsParsedMeasureStatus : Relation → List ℕ → Result MeasureFormat Reason → List ℕ → Option (List ℕ) → Option (List ℕ) → Status → Type 0
+IsParsedMeasureStatus has name (Ok form) below before after s = IsMeasureStatus has name form before after s
+IsParsedMeasureStatus has name (Err why) below before after s = IsExplainedUsage why below before after s

@@ -1,5 +1,5 @@
 -- The rules, the limit of findings and the format that words of the command line name (docs/FORMATS.md, The program).
-use Rattle.std.specs.Prelude.{ℕ, ℤ, pos, Bool, true, ◌&&◌, not, is_some, List, Option, Some, None, Result, Ok, Err, length, codes, nat_le, unsigned_abs, int_le, if◌then◌else◌}
+use Rattle.std.specs.Prelude.{ℕ, ℤ, pos, Bool, ◌&&◌, not, is_some, List, Option, Some, None, Result, Ok, Err, length, codes, nat_le, unsigned_abs, int_le, if◌then◌else◌}
 use Rattle.std.specs.Str.{bytes_eq}
 use Rattle.grid_units.specs.declared.fault.Reason.{Reason}
 use Rattle.grid_units.specs.declared.fault.Reason.TheVariants.{BadNumber, BadRole, BadRule}
@@ -9,7 +9,9 @@ use Rattle.grid_units.specs.Holes.{GridRules}
 use Rattle.grid_units.specs.Numbers.{parse_decimal, is_digits, picometres, value, within_limit}
 use Rattle.grid_units.specs.Results.{◌>>=◌}
 use Rattle.ringcheck.specs.declared.parsed_words.MeasureFormat.{MeasureFormat}
-use Rattle.ringcheck.specs.declared.parsed_words.MeasureFormat.TheVariants as format
+use Rattle.ringcheck.specs.declared.parsed_words.MeasureFormat.TheVariants as measures
+use Rattle.ringcheck.specs.declared.parsed_words.ReportFormat.{ReportFormat}
+use Rattle.ringcheck.specs.declared.parsed_words.ReportFormat.TheVariants as format
 
 -- the length in pm of a word in millimetres, such as `0.125`, or why it has none: BadNumber, TooFine or TooFar
 unfoldable pub parse_length : List ℕ → Result ℤ Reason
@@ -36,20 +38,23 @@ unfoldable pub parse_limit : Option (List ℕ) → Result (Option ℕ) Reason
 parse_limit None = Ok None
 parse_limit (Some word) = parse_count word >>= λ n. Ok (Some n)
 
--- the format of a report: `text`, also without a word, `json`, or `waivers`, which is BadRole where a file of waivers is given too
-unfoldable pub parse_report_format : Bool → Option (List ℕ) → Result MeasureFormat Reason
+-- the format of a report: `text`, also without a word, `html`, `json`, or `waivers`, which is BadRole where a file of waivers is given too
+unfoldable pub parse_report_format : Bool → Option (List ℕ) → Result ReportFormat Reason
 parse_report_format waives None = Ok format.Text
 parse_report_format waives (Some word) =
     if bytes_eq word (codes "text") then Ok format.Text
+    else if bytes_eq word (codes "html") then Ok format.Html
     else if bytes_eq word (codes "json") then Ok format.Json
     else if bytes_eq word (codes "waivers") && not waives then Ok format.Waivers else Err BadRole
 
 -- the format of a measure: `text`, also without a word, or `json`; BadRole for any other
-abbrev pub parse_format : Option (List ℕ) → Result MeasureFormat Reason
-parse_format word = parse_report_format true word
+unfoldable pub parse_format : Option (List ℕ) → Result MeasureFormat Reason
+parse_format None = Ok measures.Text
+parse_format (Some word) =
+    if bytes_eq word (codes "text") then Ok measures.Text else if bytes_eq word (codes "json") then Ok measures.Json else Err BadRole
 
 -- the rules, the limit of findings and the format of a report, or the first refusal in this order; `waive` is the file of waivers, if there is one
-unfoldable pub parse_report : List ℕ → List ℕ → Option (List ℕ) → Option (List ℕ) → Option (List ℕ) → Result (GridRules × Option ℕ × MeasureFormat) Reason
+unfoldable pub parse_report : List ℕ → List ℕ → Option (List ℕ) → Option (List ℕ) → Option (List ℕ) → Result (GridRules × Option ℕ × ReportFormat) Reason
 parse_report ring gap limit waive form = parse_rules ring gap >>= λ rules. (parse_limit limit >>= λ n. (parse_report_format (is_some waive) form >>= λ f. Ok (rules, n, f)))
 
 -- the rules of a picture: those of a ring and a gap, or none; one of these alone is BadRule

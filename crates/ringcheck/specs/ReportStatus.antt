@@ -6,7 +6,7 @@ use Rattle.grid_units.specs.declared.fault.Fault.{Fault}
 use Rattle.grid_units.specs.declared.fault.Reason.{Reason}
 use Rattle.package_check.specs.Package.{FileView}
 use Rattle.package_check.specs.Soundness.{IsSound}
-use Rattle.package_check.specs.declared.FileSum.{FileSum}
+use Rattle.package_check.specs.Boards.{BoardView}
 use Rattle.print_json.specs.Packages.{waived_report_value}
 use Rattle.print_json.specs.Values.{json_text}
 use Rattle.print_text.specs.Texts.{waived_report_text}
@@ -15,13 +15,14 @@ use Rattle.report.specs.declared.Acceptances.{Acceptances}
 use Rattle.board_report.specs.BoardReport.{AgreesWithCheck, IsBoardReportOf}
 use Rattle.ringcheck_files.specs.declared.Status.{Status}
 use Rattle.ringcheck_files.specs.declared.Status.TheVariants as status
-use Rattle.ringcheck.specs.declared.parsed_words.MeasureFormat.{MeasureFormat}
-use Rattle.ringcheck.specs.declared.parsed_words.MeasureFormat.TheVariants as format
+use Rattle.report_page.specs.Pages.{IsHtmlPage}
+use Rattle.ringcheck.specs.declared.parsed_words.ReportFormat.{ReportFormat}
+use Rattle.ringcheck.specs.declared.parsed_words.ReportFormat.TheVariants as format
 use Rattle.ringcheck.specs.declared.refusals.RefusalStyle.{RefusalStyle}
 use Rattle.ringcheck.specs.declared.refusals.RefusalStyle.TheVariants as style
 use Rattle.ringcheck.specs.Refusals.{PrintsRefusal, of_waivers}
 use Rattle.ringcheck_files.specs.LoaderRelation.{Relation}
-use Rattle.ringcheck_files.specs.Words.{IsUsageStatus}
+use Rattle.ringcheck_files.specs.Words.{IsExplainedUsage}
 use Rattle.ringcheck.specs.CheckStatus.{SaysPackage}
 use Rattle.ringcheck.specs.Waiving.{HasWaivers, RefusedWaivers}
 use Rattle.waivers.specs.Findings.{findings_text}
@@ -29,12 +30,17 @@ use Rattle.waivers.specs.Waiving.{AreReasons, IsWaived, are_all_waived}
 use Rattle.waivers.specs.declared.Waiver.{Waiver}
 use Rattle.waivers.specs.declared.waiving.Waived.{Waived}
 
--- what is printed of a report with the reasons why findings are waived: its text with at most `limit` findings, or its JSON or its file of
--- waivers with all of them
-abbrev pub report_page : MeasureFormat → List (List ℕ) → List FileSum → BoardReport → Option ℕ → Acceptances → List ℕ
-report_page format.Text names files report limit accepted = waived_report_text names report limit accepted
-report_page format.Json names files report limit accepted = json_text (waived_report_value names files report accepted)
-report_page format.Waivers names files report limit accepted = findings_text names report
+-- the writer got just the page of the report on a board
+abbrev pub PrintsPage : List (List ℕ) → BoardView → BoardReport → Acceptances → Option (List ℕ) → Option (List ℕ) → Type 0
+PrintsPage names board report accepted before after = (page : List ℕ) × IsHtmlPage names board report accepted page × Appends before after page
+
+-- the writer got just a report on a board with the reasons why findings are waived: its text with at most `limit` findings, or its page, its
+-- JSON or its file of waivers with all of them
+abbrev pub PrintsReport : ReportFormat → List (List ℕ) → BoardView → BoardReport → Option ℕ → Acceptances → Option (List ℕ) → Option (List ℕ) → Type 0
+PrintsReport format.Text names board report limit accepted before after = Appends before after (waived_report_text names report limit accepted)
+PrintsReport format.Html names board report limit accepted before after = PrintsPage names board report accepted before after
+PrintsReport format.Json names board report limit accepted before after = Appends before after (json_text (waived_report_value names board.files report accepted))
+PrintsReport format.Waivers names board report limit accepted before after = Appends before after (findings_text names report)
 
 -- whether a report has no finding
 abbrev pub has_none : BoardReport → Bool
@@ -48,19 +54,20 @@ Judges (Some waivers) names report passes accepted = (waived : Waived) × (passe
 
 -- the writer got just the report of the files under the rules, in a format, judged with the waivers of a file, if there is one; its findings
 -- are those of the check of them, one for one, and without a finding they are sound
-pub record Reports (rules : GridRules) (limit : Option ℕ) (form : MeasureFormat) (waivers : Option (List Waiver)) (before after : Option (List ℕ)) (passes : Bool) (all : List FileView) : Type 0 where
+pub record Reports (rules : GridRules) (limit : Option ℕ) (form : ReportFormat) (waivers : Option (List Waiver)) (before after : Option (List ℕ)) (passes : Bool) (all : List FileView) : Type 0 where
   pub report : BoardReport
   pub is : IsBoardReportOf all rules report
   pub as_check : AgreesWithCheck all rules report
   pub sound : has_none report ≡ true → IsSound all rules
   pub accepted : Acceptances
   pub judged : Judges waivers (map (λ source. source.name) all) report passes accepted
-  pub written : Appends before after (report_page form (map (λ source. source.name) all) is.board.files report limit accepted)
+  pub written : PrintsReport form (map (λ source. source.name) all) is.board report limit accepted before after
 
--- how a refusal is printed in place of a report: by a line with its page, as JSON, or by a line alone
-abbrev pub report_style : MeasureFormat → RefusalStyle
+-- how a refusal is printed in place of a report or a measure: by a line with its page, as JSON, or by a line alone
+abbrev pub report_style : ReportFormat → RefusalStyle
 report_style format.Text = style.Page
 report_style format.Json = style.Json
+report_style format.Html = style.Line
 report_style format.Waivers = style.Line
 
 -- a file of waivers is refused, and the writer got just the text of the refusal
@@ -68,17 +75,18 @@ abbrev pub PrintsWaiversRefusal : Relation → List ℕ → RefusalStyle → Opt
 PrintsWaiversRefusal has file refusal_style before after = (why : Fault) × RefusedWaivers has file why × PrintsRefusal refusal_style (of_waivers why) before after
 
 -- what a status says of the report on a package
-abbrev pub IsReportStatus : Relation → List ℕ → GridRules → Option ℕ → MeasureFormat → Option (List Waiver) → Option (List ℕ) → Option (List ℕ) → Status → Type 0
+abbrev pub IsReportStatus : Relation → List ℕ → GridRules → Option ℕ → ReportFormat → Option (List Waiver) → Option (List ℕ) → Option (List ℕ) → Status → Type 0
 IsReportStatus has name rules limit form waivers before after s = SaysPackage has name (Reports rules limit form waivers before after) (report_style form) before after s
 
 -- what a status says of a report for which a file of waivers may be named: that file is refused, or the status is Device,
 -- or the file has waivers and the report is made with them
-abbrev pub IsWaivingReportStatus : Relation → List ℕ → GridRules → Option ℕ → MeasureFormat → Option (List ℕ) → Option (List ℕ) → Option (List ℕ) → Status → Type 0
+abbrev pub IsWaivingReportStatus : Relation → List ℕ → GridRules → Option ℕ → ReportFormat → Option (List ℕ) → Option (List ℕ) → Option (List ℕ) → Status → Type 0
 IsWaivingReportStatus has name rules limit form None before after s = IsReportStatus has name rules limit form None before after s
 IsWaivingReportStatus has name rules limit form (Some file) before after s =
     ((s ≡ status.Refused) × PrintsWaiversRefusal has file (report_style form) before after) ⊎ ((s ≡ status.Device) ⊎ ((waivers : List Waiver) × HasWaivers has file waivers × IsReportStatus has name rules limit form (Some waivers) before after s))
 
--- what a status says of a report with the rules, the limit and the format that words name, or where these are refused
-abbrev pub IsParsedReportStatus : Relation → List ℕ → Result (GridRules × Option ℕ × MeasureFormat) Reason → Option (List ℕ) → Option (List ℕ) → Option (List ℕ) → Status → Type 0
-IsParsedReportStatus has name (Ok (rules, limit, form)) waive before after s = IsWaivingReportStatus has name rules limit form waive before after s
-IsParsedReportStatus has name (Err why) waive before after s = IsUsageStatus why before after s
+-- what a status says of a report with the rules, the limit and the format that words name, or where these are refused and `below` stands
+-- below their line
+abbrev pub IsParsedReportStatus : Relation → List ℕ → Result (GridRules × Option ℕ × ReportFormat) Reason → List ℕ → Option (List ℕ) → Option (List ℕ) → Option (List ℕ) → Status → Type 0
+IsParsedReportStatus has name (Ok (rules, limit, form)) below waive before after s = IsWaivingReportStatus has name rules limit form waive before after s
+IsParsedReportStatus has name (Err why) below waive before after s = IsExplainedUsage why below before after s

@@ -19,6 +19,7 @@ use Rattle.ringcheck.specs.ParsedWords.{parse_draw, parse_format, parse_report, 
 use Rattle.ringcheck_files.specs.FileStatus.{IsParsedFileStatus, parse_kind}
 use Rattle.ringcheck.specs.ReportStatus.{IsParsedReportStatus}
 use Rattle.ringcheck.specs.CheckStatus.{IsLegalStatus, IsParsedCheckStatus}
+use Rattle.ringcheck.specs.Sentences.{below_measure, below_report}
 use Rattle.ringcheck_files.specs.LoaderRelation.{Relation}
 
 -- the bytes of a word that may be left out
@@ -28,9 +29,10 @@ word_bytes word = option_map (λ w. w.now) word
 -- what a status says of a request, command by command; `failed_before` and `failed_after` count the loader's failures
 abbrev pub IsRequestStatus : Request → Relation → ℕ → ℕ → Option (List ℕ) → Option (List ℕ) → Status → Type 0
 IsRequestStatus (Check ring gap manifest) has failed_before failed_after before after s = IsParsedCheckStatus has manifest.now (parse_rules ring.now gap.now) before after s
-IsRequestStatus (Measure format manifest) has failed_before failed_after before after s = IsParsedMeasureStatus has manifest.now (parse_format (word_bytes format)) before after s
+IsRequestStatus (Measure format manifest) has failed_before failed_after before after s = IsParsedMeasureStatus has manifest.now (parse_format (word_bytes format)) (below_measure (word_bytes format)) before after s
 IsRequestStatus (Report ring gap limit waive format manifest) has failed_before failed_after before after s =
-    IsParsedReportStatus has manifest.now (parse_report ring.now gap.now (word_bytes limit) (word_bytes waive) (word_bytes format)) (word_bytes waive) before after s
+    IsParsedReportStatus has manifest.now (parse_report ring.now gap.now (word_bytes limit) (word_bytes waive) (word_bytes format)) (below_report ring.now gap.now (word_bytes limit) (word_bytes format))
+    (word_bytes waive) before after s
 IsRequestStatus (Draw ring gap manifest) has failed_before failed_after before after s = IsParsedDrawStatus has manifest.now (parse_draw (word_bytes ring) (word_bytes gap)) before after s
 IsRequestStatus (Show kind file) has failed_before failed_after before after s = IsParsedFileStatus job.Show (parse_kind kind.now) has file.now before after s
 IsRequestStatus (Rewrite kind file) has failed_before failed_after before after s = IsParsedFileStatus job.Rewrite (parse_kind kind.now) has file.now before after s

@@ -2,16 +2,16 @@
 
 ghost use Rattle.std.specs.Prelude.{◌≡◌, List, IfErr, IfOk, OnOk, map};
 ghost use Rattle.std.specs.Io.KnownBytes.{Appends};
-ghost use Rattle.layer_image.specs.declared.keep.Keep.TheVariants as keep;
-ghost use Rattle.package_check.specs.Holding.{HasTakenAll};
+ghost use Rattle.grid_units.specs.Holes.{GridRules};
+ghost use Rattle.package_check.specs.Checking.{HasJudgedAll};
 ghost use Rattle.package_check.specs.Package.{FileView};
 ghost use Rattle.package_check.specs.Texts.{text_of};
 ghost use Rattle.ringcheck.specs.Inner.Halting.{OfTaken};
 ghost use Rattle.ringcheck.specs.CheckStatus.{Checks};
 
 use crate::refusals::{Halt, refused};
-use crate::{CheckText, PackageFault, PackageReader, Report};
-use grid_units::Rules;
+use crate::{CheckText, PackageFault, Report};
+use package_check::PackageCheck;
 use ringcheck_files::Failure;
 use std::io::Write;
 
@@ -23,18 +23,17 @@ fn print<W: Write>(names: &[&str], report: &Report, out: &mut W) -> Result<(), F
     Ok(())
 }
 
-/// Checks the files of these names, which a reader has taken, prints the report, and returns whether it has no finding.
+/// Prints the report of a check that has taken the files of these names, and returns whether it has no finding.
 pub(crate) fn check<'a, W: Write>(
-    reader: PackageReader,
+    check: PackageCheck,
     names: &[&'a str],
-    rules: Rules,
     out: &mut W,
 ) -> Result<Result<bool, Halt<'a>>, Failure>
-    ensures answers { (all : List FileView) → map (λ name. name.now) names.now ≡ map (λ source. source.name) all → HasTakenAll reader keep.Pads all
+    ensures answers { (all : List FileView) (rules : GridRules) → map (λ name. name.now) names.now ≡ map (λ source. source.name) all → HasJudgedAll check all rules
         → IfOk result (OfTaken (Checks rules (W.contents out.old) (W.contents out.new)) all) }
     ensures silent { IfOk result (λ done. IfErr done (λ halt. W.contents out.new ≡ W.contents out.old)) }
 {
-    let report = match reader.finish(rules) {
+    let report = match check.finish() {
         Ok(report) => report,
         Err(PackageFault::Memory) => return Err(Failure::Memory),
         Err(PackageFault::File { index, fault }) => {

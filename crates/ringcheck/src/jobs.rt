@@ -1,14 +1,13 @@
 //! What is done with the package of a manifest.
 
 ghost use Rattle.std.specs.Prelude.{◌≡◌};
-ghost use Rattle.ringcheck.specs.Inner.Jobs.{job_keep, job_style};
-ghost use Rattle.ringcheck.specs.MeasureStatus.{style_of};
+ghost use Rattle.ringcheck.specs.Inner.Jobs.{job_style};
+ghost use Rattle.ringcheck.specs.MeasureStatus.{measure_style};
 ghost use Rattle.ringcheck.specs.ReportStatus.{report_style};
 
-use crate::parsed_words::MeasureFormat;
+use crate::parsed_words::{MeasureFormat, ReportFormat};
 use crate::refusals::RefusalStyle;
 use grid_units::Rules;
-use package_check::Keep;
 use waivers::Waiver;
 
 /// What a report is asked for.
@@ -18,7 +17,7 @@ pub(crate) struct Order {
     pub(crate) rules: Rules,
     /// The most findings that a text shows; it shows all of them where there is no limit.
     pub(crate) limit: Option<usize>,
-    pub(crate) format: MeasureFormat,
+    pub(crate) format: ReportFormat,
     /// The waivers of the file that was named, if one was named.
     pub(crate) waivers: Option<Vec<Waiver>>,
 }
@@ -37,44 +36,34 @@ pub(crate) enum Job {
 }
 
 /// How a refusal is printed in place of a measure in this format.
-fn style_of(format: MeasureFormat) -> RefusalStyle
-    ensures { result ≡ style_of format }
+fn measure_style(format: MeasureFormat) -> RefusalStyle
+    ensures { result ≡ measure_style format }
 {
     match format {
-        MeasureFormat::Text | MeasureFormat::Waivers => RefusalStyle::Line,
+        MeasureFormat::Text => RefusalStyle::Page,
         MeasureFormat::Json => RefusalStyle::Json,
     }
 }
 
 /// How a refusal is printed in place of a report in this format.
-pub(crate) fn report_style(format: MeasureFormat) -> RefusalStyle
+pub(crate) fn report_style(format: ReportFormat) -> RefusalStyle
     ensures { result ≡ report_style format }
 {
     match format {
-        MeasureFormat::Text => RefusalStyle::Page,
-        MeasureFormat::Json => RefusalStyle::Json,
-        MeasureFormat::Waivers => RefusalStyle::Line,
+        ReportFormat::Text => RefusalStyle::Page,
+        ReportFormat::Json => RefusalStyle::Json,
+        ReportFormat::Html | ReportFormat::Waivers => RefusalStyle::Line,
     }
 }
 
 impl Job {
-    /// What is kept of copper files for it: a report and a picture need their flashes.
-    pub(crate) fn keep(&self) -> Keep
-        ensures { result ≡ job_keep self.now }
-    {
-        match self {
-            Job::Check(_) | Job::Measure(_) => Keep::Pads,
-            Job::Report(_) | Job::Draw(_) => Keep::Flashes,
-        }
-    }
-
     /// How a refusal is printed in its place.
     pub(crate) fn style(&self) -> RefusalStyle
         ensures { result ≡ job_style self.now }
     {
         match self {
             Job::Check(_) | Job::Draw(_) => RefusalStyle::Line,
-            Job::Measure(format) => style_of(*format),
+            Job::Measure(format) => measure_style(*format),
             Job::Report(options) => report_style(options.format),
         }
     }

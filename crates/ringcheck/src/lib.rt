@@ -12,13 +12,14 @@ mod program;
 mod refusals;
 mod reports;
 pub mod rewritten_packages;
+mod sentences;
 
 pub use manifest::{Entry, Name, Role, read_manifest};
 pub use package_check::{
     CheckText, File, FileSum, Numbered, PackageFault, PackageReader, PiecedFile, Report, Span,
     check_bytes, check_pieces, laws, write_report,
 };
-pub use parsed_words::MeasureFormat;
+pub use parsed_words::{MeasureFormat, ReportFormat};
 pub use program::run;
 pub use ringcheck_files::{LoadFault, Loader, MAX_LIMIT, ReadFail, Status, read_all};
 pub use single_files::{Kind, rewrite_bytes, show_drill, show_layer};

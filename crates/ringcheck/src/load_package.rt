@@ -1,20 +1,21 @@
 //! The manifest, the waivers and the files of a package, from a loader.
 
-ghost use Rattle.std.specs.Prelude.{◌≡◌, ◌≤◌, ◌↔◌, ℕ, List, length, IfOk, Result};
+ghost use Rattle.std.specs.Prelude.{◌≡◌, ◌≤◌, ◌↔◌, ℕ, List, length, true, IfOk, Result};
 ghost use Rattle.grid_units.specs.Results.{Answers};
 ghost use Rattle.grid_units.specs.declared.fault.Fault.{Fault as TheFault};
 ghost use Rattle.manifest.specs.Manifest.{manifest};
+ghost use Rattle.package_check.specs.Checking.{HasJudgedAll};
 ghost use Rattle.package_check.specs.Holding.{HasTakenAll, copper_files, is_kind};
 ghost use Rattle.package_check.specs.Package.{is_copper};
 ghost use Rattle.ringcheck_files.specs.Outcomes.{HasRisen};
 ghost use Rattle.ringcheck.specs.Inner.Halting.{OfFiles, OfTable};
-ghost use Rattle.ringcheck.specs.Inner.Loading.{EndsAt, LoadsKind, OfFile, OfTakenFile, copper_entries};
+ghost use Rattle.ringcheck.specs.Inner.Loading.{EndsAt, LoadsCopperTo, LoadsKind, OfCheckedFile, OfFile, OfTakenFile, copper_entries};
 ghost use Rattle.waivers.specs.Reading.{waivers};
 
 use crate::refusals::{Halt, Subject};
 use crate::{Entry, LoadFault, Loader, PackageReader, Role, read_manifest};
-use grid_units::Fail;
-use package_check::Keep;
+use grid_units::{Fail, Rules};
+use package_check::{Keep, PackageCheck};
 use ringcheck_files::{ABOVE_LIMIT, FILE_LIMIT, Failure};
 use std::alloc::Global;
 use waivers::{Waiver, read_waivers};
@@ -194,5 +195,85 @@ pub(crate) fn take_files<'a, L: Loader>(
     match copper.halt.or(drills.halt) {
         Some(halt) => Ok(Err(halt)),
         None => Ok(Ok(reader)),
+    }
+}
+
+/// Loads the copper file of an entry at this index, and hands it to the check, as the layer of this number; or returns why the file cannot
+/// be loaded.
+fn check_file<'a, L: Loader>(
+    alloc: Global,
+    loader: &mut L,
+    index: usize,
+    layer: usize,
+    entry: &'a Entry,
+    check: &mut PackageCheck,
+) -> Result<Option<Halt<'a>>, Failure>
+    ensures keeps { (n b : List ℕ) → L.has loader.new n b ↔ L.has loader.old n b }
+    ensures counts { L.failed loader.old ≤ L.failed loader.new }
+    ensures layers { check.new.layers ≡ check.old.layers }
+    ensures taken { is_copper entry.now.role ≡ true → IfOk result (OfCheckedFile (L.has loader.old) check.old check.new index layer entry.now (HasRisen (L.failed loader.old) (L.failed loader.new))) }
+{
+    match load_file(alloc, loader, index, entry)? {
+        Ok(bytes) => {
+            check.take(index, layer, entry.span, &[bytes.as_slice()])?;
+            Ok(None)
+        }
+        Err(halt) => Ok(Some(halt)),
+    }
+}
+
+/// Loads the copper files up to the first that cannot be loaded, and hands each to the check. The bytes of each are freed before the next
+/// is loaded.
+fn check_copper<'a, L: Loader>(
+    alloc: Global,
+    loader: &mut L,
+    entries: &'a [Entry],
+    check: &mut PackageCheck,
+) -> Result<Pass<'a>, Failure>
+    ensures keeps { (n b : List ℕ) → L.has loader.new n b ↔ L.has loader.old n b }
+    ensures counts { L.failed loader.old ≤ L.failed loader.new }
+    ensures within { IfOk result (λ pass. pass.end ≤ length entries.now) }
+    ensures ends { IfOk result (λ pass. EndsAt (L.has loader.old) entries.now (HasRisen (L.failed loader.old) (L.failed loader.new)) pass.end pass.halt) }
+    ensures loaded { IfOk result (λ pass. LoadsCopperTo (L.has loader.old) entries.now check.old check.new pass.end) }
+{
+    let mut layer = 0;
+    for (index, entry) in entries.iter().enumerate() {
+        if is_copper(entry.role) {
+            if let Some(halt) = check_file(alloc, loader, index, layer, entry, check)? {
+                return Ok(Pass {
+                    end: index,
+                    halt: Some(halt),
+                });
+            }
+            layer += 1;
+        }
+    }
+    Ok(Pass {
+        end: entries.len(),
+        halt: None,
+    })
+}
+
+/// A check that has taken the files of the entries, the drill files before the copper files. As in [`take_files`], the first file that
+/// cannot be loaded is the answer.
+pub(crate) fn check_files<'a, L: Loader>(
+    alloc: Global,
+    rules: Rules,
+    loader: &mut L,
+    entries: &'a [Entry],
+) -> Result<Result<PackageCheck, Halt<'a>>, Failure>
+    ensures { IfOk result (OfFiles (L.has loader.old) entries.now (HasRisen (L.failed loader.old) (L.failed loader.new)) (λ check all. HasJudgedAll check all rules)) }
+{
+    let mut reader = PackageReader::new(alloc, layer_count(entries));
+    let drills = take_kind(alloc, loader, entries, false, &mut reader)?;
+    if let Some(halt) = drills.halt {
+        let before = take_kind(alloc, loader, &entries[..drills.end], true, &mut reader)?;
+        return Ok(Err(before.halt.unwrap_or(halt)));
+    }
+    let mut check = reader.checking(rules)?;
+    let copper = check_copper(alloc, loader, entries, &mut check)?;
+    match copper.halt {
+        Some(halt) => Ok(Err(halt)),
+        None => Ok(Ok(check)),
     }
 }

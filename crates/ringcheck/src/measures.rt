@@ -47,7 +47,7 @@ fn print<W: Write>(
         measure,
     };
     match format {
-        MeasureFormat::Text | MeasureFormat::Waivers => write!(out, "{files}{lines}")?,
+        MeasureFormat::Text => write!(out, "{files}{lines}")?,
         MeasureFormat::Json => write!(out, "{json}")?,
     }
     Ok(())

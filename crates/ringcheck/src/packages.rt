@@ -1,20 +1,27 @@
 //! The commands on the package of a manifest: each does a job on it, or prints why it cannot be done.
 
-ghost use Rattle.std.specs.Prelude.{◌≡◌, IfErr, IfOk, map, option_map};
+ghost use Rattle.std.specs.Prelude.{◌≡◌, ◌++◌, ℕ, IfErr, IfOk, OnOk, Some, map, option_map, slice_get};
+ghost use Rattle.std.specs.Io.KnownBytes.{Appends};
+ghost use Rattle.manifest.specs.declared.Entry.{Entry as TheEntry};
 ghost use Rattle.ringcheck_files.specs.Outcomes.{HasCause, HasRisen};
 ghost use Rattle.ringcheck.specs.DrawStatus.{IsParsedDrawStatus};
-ghost use Rattle.ringcheck.specs.Inner.Halting.{OfFiles};
+ghost use Rattle.ringcheck.specs.Inner.Halting.{IsUnreadAt, OfFiles};
 ghost use Rattle.ringcheck.specs.Inner.Jobs.{Holds, SaysJob};
 ghost use Rattle.ringcheck.specs.MeasureStatus.{IsParsedMeasureStatus};
 ghost use Rattle.ringcheck.specs.ParsedWords as named;
 ghost use Rattle.ringcheck.specs.ReportStatus.{IsParsedReportStatus};
 ghost use Rattle.ringcheck.specs.CheckStatus.{IsLegalStatus, IsParsedCheckStatus, status_of};
+ghost use Rattle.ringcheck.specs.Sentences.{below_measure, below_report};
+ghost use Rattle.ringcheck_files.specs.Words.{usage_line};
 
 use crate::jobs::{Job, Order, report_style};
-use crate::load_package::{load_table, take_files};
+use crate::load_package::{check_files, load_table, take_files};
 use crate::parsed_words::{ReportWords, parse_draw, parse_format, parse_report, parse_rules};
 use crate::refusals::{Halt, Subject, print_halt};
+use crate::sentences::{NoMeasureFormat, NoReport, is_for_people};
 use crate::{Entry, Loader, checks, drawings, measures, reports};
+use grid_units::Reason;
+use package_check::Keep;
 use ringcheck_files::{Failure, Status, refuse_word};
 use std::alloc::{AllocError, Global};
 use std::io::Write;
@@ -43,15 +50,24 @@ fn answer<'a, L: Loader, W: Write>(
     ensures silent { IfOk result (λ done. IfErr done (λ halt. W.contents out.new ≡ W.contents out.old)) }
 {
     let names = names_of(alloc, entries)?;
-    let reader = match take_files(alloc, job.keep(), loader, entries)? {
-        Ok(reader) => reader,
-        Err(halt) => return Ok(Err(halt)),
-    };
+    let names = names.as_slice();
     match job {
-        Job::Check(rules) => checks::check(reader, names.as_slice(), *rules, out),
-        Job::Measure(format) => measures::measure(alloc, reader, names.as_slice(), *format, out),
-        Job::Report(options) => reports::report(alloc, reader, names.as_slice(), options, out),
-        Job::Draw(rules) => drawings::draw(alloc, reader, names.as_slice(), *rules, out),
+        Job::Check(rules) => match check_files(alloc, *rules, loader, entries)? {
+            Ok(check) => checks::check(check, names, out),
+            Err(halt) => Ok(Err(halt)),
+        },
+        Job::Measure(format) => match take_files(alloc, Keep::Pads, loader, entries)? {
+            Ok(reader) => measures::measure(alloc, reader, names, *format, out),
+            Err(halt) => Ok(Err(halt)),
+        },
+        Job::Report(options) => match take_files(alloc, Keep::Flashes, loader, entries)? {
+            Ok(reader) => reports::report(alloc, reader, names, options, out),
+            Err(halt) => Ok(Err(halt)),
+        },
+        Job::Draw(rules) => match take_files(alloc, Keep::Flashes, loader, entries)? {
+            Ok(reader) => drawings::draw(alloc, reader, names, *rules, out),
+            Err(halt) => Ok(Err(halt)),
+        },
     }
 }
 
@@ -63,6 +79,26 @@ fn status_of(passes: bool) -> Status
         Status::Pass
     } else {
         Status::Findings
+    }
+}
+
+/// The name of the file of the entry at an index, as the manifest has it; empty where there is none.
+fn file_at(entries: &[Entry], index: usize) -> &str
+    ensures { (entry : TheEntry) → slice_get entries.now index ≡ Some entry → result.now ≡ entry.file }
+{
+    match entries.get(index) {
+        Some(entry) => entry.file.as_str(),
+        None => "",
+    }
+}
+
+/// The name by which the file that cannot be read was looked for; empty where none was.
+fn path_of<'a>(entries: &'a [Entry], halt: Halt) -> &'a str
+    ensures { (index : ℕ) (entry : TheEntry) → IsUnreadAt halt.entry index → slice_get entries.now index ≡ Some entry → result.now ≡ entry.file }
+{
+    match halt {
+        Halt::Unread(Subject::File { index, .. }) => file_at(entries, index),
+        _ => "",
     }
 }
 
@@ -79,12 +115,43 @@ fn run_job<L: Loader, W: Write>(
 {
     let entries = match load_table::<L, Entry>(alloc, loader, name, Subject::Manifest)? {
         Ok(entries) => entries,
-        Err(halt) => return print_halt(out, job.style(), halt),
+        Err(halt) => return print_halt(out, job.style(), halt, name),
     };
     match answer(alloc, job, entries.as_slice(), loader, out)? {
         Ok(passes) => Ok(status_of(passes)),
-        Err(halt) => print_halt(out, job.style(), halt),
+        Err(halt) => {
+            let path = path_of(entries.as_slice(), halt);
+            print_halt(out, job.style(), halt, path)
+        }
     }
+}
+
+/// Prints the line of a word that is no format of a measure, and below it what is said of the word.
+fn refuse_measure<W: Write>(
+    out: &mut W,
+    reason: Reason,
+    format: Option<&str>,
+) -> Result<(), Failure>
+    ensures { OnOk result (Appends (W.contents out.old) (W.contents out.new) (usage_line reason ++ below_measure (option_map (λ w. w.now) format.entry))) }
+{
+    refuse_word(out, reason)?;
+    write!(out, "  {}\n", NoMeasureFormat(format))?;
+    Ok(())
+}
+
+/// Prints the line of the words of a report that are refused, and where a report would be for people below it what is said of them.
+fn refuse_report<W: Write>(
+    out: &mut W,
+    reason: Reason,
+    unparsed: &ReportWords,
+) -> Result<(), Failure>
+    ensures { OnOk result (Appends (W.contents out.old) (W.contents out.new) (usage_line reason ++ below_report unparsed.now.ring.now unparsed.now.gap.now (option_map (λ w. w.now) unparsed.now.limit) (option_map (λ w. w.now) unparsed.now.format))) }
+{
+    refuse_word(out, reason)?;
+    if is_for_people(unparsed.format) {
+        write!(out, "  {}\n", NoReport(unparsed))?;
+    }
+    Ok(())
 }
 
 /// Checks the package of a manifest under the rules that two words name.
@@ -117,13 +184,13 @@ pub(crate) fn measure<L: Loader, W: Write>(
     loader: &mut L,
     out: &mut W,
 ) -> Result<Status, Failure>
-    ensures says { IfOk result (IsParsedMeasureStatus (L.has loader.old) name.now (named.parse_format (option_map (λ w. w.now) format.entry)) (W.contents out.old) (W.contents out.new)) }
+    ensures says { IfOk result (IsParsedMeasureStatus (L.has loader.old) name.now (named.parse_format (option_map (λ w. w.now) format.entry)) (below_measure (option_map (λ w. w.now) format.entry)) (W.contents out.old) (W.contents out.new)) }
     ensures cause { IfOk result (HasCause (L.failed loader.old) (L.failed loader.new)) }
 {
     match parse_format(format) {
         Ok(format) => run_job(alloc, &Job::Measure(format), name, loader, out),
         Err(reason) => {
-            refuse_word(out, reason)?;
+            refuse_measure(out, reason, format)?;
             Ok(Status::Usage)
         }
     }
@@ -159,13 +226,13 @@ pub(crate) fn report<L: Loader, W: Write>(
     loader: &mut L,
     out: &mut W,
 ) -> Result<Status, Failure>
-    ensures says { IfOk result (IsParsedReportStatus (L.has loader.old) name.now (named.parse_report unparsed.now.ring.now unparsed.now.gap.now (option_map (λ w. w.now) unparsed.now.limit) (option_map (λ w. w.now) unparsed.now.waive) (option_map (λ w. w.now) unparsed.now.format)) (option_map (λ w. w.now) unparsed.now.waive) (W.contents out.old) (W.contents out.new)) }
+    ensures says { IfOk result (IsParsedReportStatus (L.has loader.old) name.now (named.parse_report unparsed.now.ring.now unparsed.now.gap.now (option_map (λ w. w.now) unparsed.now.limit) (option_map (λ w. w.now) unparsed.now.waive) (option_map (λ w. w.now) unparsed.now.format)) (below_report unparsed.now.ring.now unparsed.now.gap.now (option_map (λ w. w.now) unparsed.now.limit) (option_map (λ w. w.now) unparsed.now.format)) (option_map (λ w. w.now) unparsed.now.waive) (W.contents out.old) (W.contents out.new)) }
     ensures cause { IfOk result (HasCause (L.failed loader.old) (L.failed loader.new)) }
 {
     let (rules, limit, format) = match parse_report(unparsed) {
         Ok(named) => named,
         Err(reason) => {
-            refuse_word(out, reason)?;
+            refuse_report(out, reason, unparsed)?;
             return Ok(Status::Usage);
         }
     };
@@ -189,7 +256,7 @@ pub(crate) fn report<L: Loader, W: Write>(
                 };
                 run_job(alloc, &Job::Report(options), name, loader, out)
             }
-            Err(halt) => print_halt(out, report_style(format), halt),
+            Err(halt) => print_halt(out, report_style(format), halt, file),
         },
     }
 }

@@ -8,7 +8,7 @@ use grid_units::{Dec, Reason, Rules, Unit};
 
 /// The length in pm that a word names in millimetres, such as `0.125`.
 #[tactic(auto, unfolding(crate::specs::ParsedWords::parse_length))]
-fn parse_length(word: &str) -> Result<i64, Reason>
+pub(crate) fn parse_length(word: &str) -> Result<i64, Reason>
     ensures { result ≡ words.parse_length word.now }
 {
     Dec::read(word.as_bytes())?.picometres(Unit::Millimetre)
@@ -31,35 +31,52 @@ pub(crate) fn parse_rules(ring: &str, gap: &str) -> Result<Rules, Reason>
     rules_of(ring, gap)
 }
 
-/// How a measure or a report is printed.
+/// How a measure is printed.
 #[derive(Clone, Copy, Debug, PartialEq, Eq)]
 pub enum MeasureFormat {
     /// Lines for people.
     Text,
     /// One object of JSON on one line.
     Json,
-    /// The findings of a report as a file of waivers, in which the user fills in the reasons. No word names it for a measure.
+}
+
+/// How a report is printed.
+#[derive(Clone, Copy, Debug, PartialEq, Eq)]
+pub enum ReportFormat {
+    /// Lines for people.
+    Text,
+    /// One page of HTML, with the picture of the board and a table of the findings.
+    Html,
+    /// One object of JSON on one line.
+    Json,
+    /// The findings as a file of waivers, in which the user fills in the reasons.
     Waivers,
 }
 
 /// The format of a report that a word names; text where there is no word. `waivers` is refused where a file of waivers is given.
 #[tactic(auto, unfolding(crate::specs::ParsedWords::parse_report_format))]
-fn parse_report_format(waives: bool, word: Option<&str>) -> Result<MeasureFormat, Reason>
+fn parse_report_format(waives: bool, word: Option<&str>) -> Result<ReportFormat, Reason>
     ensures { result ≡ words.parse_report_format waives (option_map (λ w. w.now) word.entry) }
 {
     match word {
-        None | Some("text") => Ok(MeasureFormat::Text),
-        Some("json") => Ok(MeasureFormat::Json),
-        Some(word) if word == "waivers" && !waives => Ok(MeasureFormat::Waivers),
+        None | Some("text") => Ok(ReportFormat::Text),
+        Some("html") => Ok(ReportFormat::Html),
+        Some("json") => Ok(ReportFormat::Json),
+        Some(word) if word == "waivers" && !waives => Ok(ReportFormat::Waivers),
         Some(_) => Err(Reason::BadRole),
     }
 }
 
 /// The format of a measure that a word names, `text` or `json`; text where there is no word.
+#[tactic(auto, unfolding(crate::specs::ParsedWords::parse_format))]
 pub(crate) fn parse_format(word: Option<&str>) -> Result<MeasureFormat, Reason>
     ensures { result ≡ words.parse_format (option_map (λ w. w.now) word.entry) }
 {
-    parse_report_format(true, word)
+    match word {
+        None | Some("text") => Ok(MeasureFormat::Text),
+        Some("json") => Ok(MeasureFormat::Json),
+        Some(_) => Err(Reason::BadRole),
+    }
 }
 
 /// The number that a word of one to nine digits names, such as `20`.
@@ -75,7 +92,7 @@ fn parse_count(word: &str) -> Result<usize, Reason>
 
 /// The most findings that a text shows; it shows all of them where there is no word.
 #[tactic(auto, unfolding(crate::specs::ParsedWords::parse_limit))]
-fn parse_limit(word: Option<&str>) -> Result<Option<usize>, Reason>
+pub(crate) fn parse_limit(word: Option<&str>) -> Result<Option<usize>, Reason>
     ensures { result ≡ words.parse_limit (option_map (λ w. w.now) word.entry) }
 {
     match word {
@@ -98,7 +115,7 @@ pub(crate) struct ReportWords<'a> {
 #[tactic(auto, unfolding(crate::specs::ParsedWords::parse_report))]
 pub(crate) fn parse_report(
     unparsed: &ReportWords,
-) -> Result<(Rules, Option<usize>, MeasureFormat), Reason>
+) -> Result<(Rules, Option<usize>, ReportFormat), Reason>
     ensures { result ≡ words.parse_report unparsed.now.ring.now unparsed.now.gap.now (option_map (λ w. w.now) unparsed.now.limit) (option_map (λ w. w.now) unparsed.now.waive) (option_map (λ w. w.now) unparsed.now.format) }
 {
     let rules = parse_rules(unparsed.ring, unparsed.gap)?;

@@ -12,6 +12,7 @@ ghost use Rattle.ringcheck.specs.ParsedWords as named;
 ghost use Rattle.ringcheck_files.specs.FileStatus.{IsParsedFileStatus, parse_kind};
 ghost use Rattle.ringcheck.specs.ReportStatus.{IsParsedReportStatus};
 ghost use Rattle.ringcheck.specs.CheckStatus.{IsLegalStatus, IsParsedCheckStatus};
+ghost use Rattle.ringcheck.specs.Sentences.{below_measure, below_report};
 
 use crate::Loader;
 use crate::packages::{check, draw, measure, report};
@@ -124,9 +125,9 @@ pub fn run<L: Loader, W: Write>(
     ensures legal { (r g m : List ℕ) → map (λ w. w.now) words.now ≡ check_words r g m → is_plain_word r ≡ true → is_plain_word g ≡ true
         → is_plain_word m ≡ true → IsLegalStatus (L.has loader.old) m result }
     ensures report { (r g : List ℕ) (limit waive format : Option (List ℕ)) (m : List ℕ) → map (λ w. w.now) words.now ≡ report_words r g limit waive format m → is_plain_word r ≡ true → is_plain_word g ≡ true
-        → is_plain_if_some limit ≡ true → is_plain_if_some waive ≡ true → is_plain_if_some format ≡ true → is_plain_word m ≡ true → IsParsedReportStatus (L.has loader.old) m (named.parse_report r g limit waive format) waive (W.contents out.old) (W.contents out.new) result }
+        → is_plain_if_some limit ≡ true → is_plain_if_some waive ≡ true → is_plain_if_some format ≡ true → is_plain_word m ≡ true → IsParsedReportStatus (L.has loader.old) m (named.parse_report r g limit waive format) (below_report r g limit format) waive (W.contents out.old) (W.contents out.new) result }
     ensures measure { (format : Option (List ℕ)) (m : List ℕ) → map (λ w. w.now) words.now ≡ measure_words format m → is_plain_if_some format ≡ true → is_plain_word m ≡ true
-        → IsParsedMeasureStatus (L.has loader.old) m (named.parse_format format) (W.contents out.old) (W.contents out.new) result }
+        → IsParsedMeasureStatus (L.has loader.old) m (named.parse_format format) (below_measure format) (W.contents out.old) (W.contents out.new) result }
     ensures draw { (rules : Option (List ℕ × List ℕ)) (m : List ℕ) → map (λ w. w.now) words.now ≡ draw_words rules m → are_plain_rules rules ≡ true → is_plain_word m ≡ true
         → IsParsedDrawStatus (L.has loader.old) m (named.parse_draw (option_map (λ both. both.0) rules) (option_map (λ both. both.1) rules)) (W.contents out.old) (W.contents out.new) result }
     ensures show { (k f : List ℕ) → map (λ w. w.now) words.now ≡ file_words (codes "show") k f → is_plain_word k ≡ true → is_plain_word f ≡ true

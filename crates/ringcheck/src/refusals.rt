@@ -9,6 +9,8 @@ ghost use Rattle.print_json.specs.Values.{json_text};
 ghost use Rattle.ringcheck.specs.Inner.Halting.{AfterHalt, Halts, refusal};
 ghost use Rattle.ringcheck.specs.Refusals.{PrintsRefusal, indented, refusal_json, refusal_line};
 ghost use Rattle.ringcheck.specs.CheckStatus.{RefusedAmong};
+ghost use Rattle.ringcheck.specs.Sentences.{unread_json, unread_line, unread_sentence, unread_text};
+ghost use Rattle.std.specs.Io.KnownBytes.{Appends};
 
 use explanations::explanation;
 use grid_units::{Fault, Reason};
@@ -133,11 +135,60 @@ fn refused_stop<'a>(subject: Subject<'a>, fault: Fault) -> InputError<'a>
 }
 
 /// What cannot be read, for its JSON.
-fn unread_stop<'a>(subject: Subject<'a>) -> InputError<'a> {
+fn unread_stop<'a>(subject: Subject<'a>) -> InputError<'a>
+    ensures { json_text (input_error_value result) ≡ unread_json subject.entry }
+{
     match subject {
         Subject::Manifest => InputError::ManifestDevice,
         Subject::Waivers => InputError::WaiversDevice,
         Subject::File { index, name } => InputError::Device { index, name },
+    }
+}
+
+/// Something that cannot be read as a line, such as `device` or `device file=2 name=pth`.
+#[derive(Clone, Copy)]
+struct UnreadLine<'a>(Subject<'a>);
+
+impl Display for UnreadLine<'_> {
+    ghost output = { λ line. Some (unread_line line.0) };
+
+    fn fmt<W: fmt::Write>(&self, f: &mut Formatter<W>) -> fmt::Result {
+        match self.0 {
+            Subject::Manifest | Subject::Waivers => f.write_str("device\n"),
+            Subject::File { index, name } => {
+                let number = index as u128 + 1;
+                write!(f, "device file={number} name={name}\n")
+            }
+        }
+    }
+}
+
+/// What is said of something that cannot be read: the name by which it was looked for, and from where names are taken.
+#[derive(Clone, Copy)]
+struct UnreadSentence<'a> {
+    subject: Subject<'a>,
+    path: &'a str,
+}
+
+impl Display for UnreadSentence<'_> {
+    ghost output = { λ it. Some (unread_sentence it.subject it.path.now) };
+
+    fn fmt<W: fmt::Write>(&self, f: &mut Formatter<W>) -> fmt::Result {
+        let path = self.path;
+        match self.subject {
+            Subject::Manifest => write!(
+                f,
+                "cannot read the manifest {path}: file names are taken from the working directory"
+            ),
+            Subject::Waivers => write!(
+                f,
+                "cannot read the file of waivers {path}: file names are taken from the working directory"
+            ),
+            Subject::File { name, .. } => write!(
+                f,
+                "cannot read {path}, the file of {name}: file names are taken from the working directory"
+            ),
+        }
     }
 }
 
@@ -159,30 +210,33 @@ fn print_refusal<W: Write>(
     Ok(())
 }
 
-/// Prints in this style that something cannot be read.
+/// Prints in this style that something cannot be read, which was looked for by this name.
 fn print_unread<W: Write>(
     out: &mut W,
     style: RefusalStyle,
     subject: Subject,
-) -> Result<(), Failure> {
-    match (style, subject) {
-        (RefusalStyle::Json, _) => write!(out, "{}", unread_stop(subject))?,
-        (_, Subject::File { index, name }) => {
-            let number = index as u128 + 1;
-            write!(out, "device file={number} name={name}\n")?;
-        }
-        (_, Subject::Manifest | Subject::Waivers) => write!(out, "device\n")?,
+    path: &str,
+) -> Result<(), Failure>
+    ensures { OnOk result (Appends (W.contents out.old) (W.contents out.new) (unread_text style subject.entry path.now)) }
+{
+    let line = UnreadLine(subject);
+    let sentence = UnreadSentence { subject, path };
+    match style {
+        RefusalStyle::Line => write!(out, "{line}")?,
+        RefusalStyle::Page => write!(out, "{line}  {sentence}\n")?,
+        RefusalStyle::Json => write!(out, "{}", unread_stop(subject))?,
     }
     Ok(())
 }
 
-/// Prints why nothing is done with a package, and returns the status of the run.
+/// Prints why nothing is done with a package, and returns the status of the run. What cannot be read was looked for by the name `path`.
 pub(crate) fn print_halt<W: Write>(
     out: &mut W,
     style: RefusalStyle,
     halt: Halt,
+    path: &str,
 ) -> Result<Status, Failure>
-    ensures { IfOk result (AfterHalt style halt.entry (W.contents out.old) (W.contents out.new)) }
+    ensures { IfOk result (AfterHalt style halt.entry path.now (W.contents out.old) (W.contents out.new)) }
 {
     match halt {
         Halt::Refused(subject, fault) => {
@@ -190,7 +244,7 @@ pub(crate) fn print_halt<W: Write>(
             Ok(Status::Refused)
         }
         Halt::Unread(subject) => {
-            print_unread(out, style, subject)?;
+            print_unread(out, style, subject, path)?;
             Ok(Status::Device)
         }
     }

@@ -1,57 +1,74 @@
 //! Reports on a package: each finding under the rules, what is lacking, why, and whether it is waived.
 
 ghost use Rattle.std.specs.Prelude.{◌≡◌, ◌==◌, ◌&&◌, Bool, List, IfErr, IfOk, OnOk, length, map};
-ghost use Rattle.std.specs.Io.KnownBytes.{Appends};
 ghost use Rattle.layer_image.specs.declared.keep.Keep.TheVariants as keep;
 ghost use Rattle.package_check.specs.Holding.{HasTakenAll};
 ghost use Rattle.package_check.specs.Package.{FileView};
 ghost use Rattle.report.specs.declared.Acceptances.{Acceptances as TheAcceptances};
 ghost use Rattle.ringcheck.specs.Inner.Halting.{OfTaken};
 ghost use Rattle.ringcheck.specs.Inner.Jobs.{given};
-ghost use Rattle.ringcheck.specs.ReportStatus.{Judges, Reports, has_none, report_page};
+ghost use Rattle.ringcheck.specs.ReportStatus.{Judges, PrintsPage, PrintsReport, Reports, has_none};
 
 use crate::jobs::Order;
-use crate::parsed_words::MeasureFormat;
+use crate::parsed_words::ReportFormat;
 use crate::refusals::{Halt, refused};
 use crate::{PackageFault, PackageReader};
 use board_report::report_laws::report_agrees_with_check;
 use board_report::report_on;
-use package_check::FileSum;
+use package_check::Board;
 use print_json::ReportJson;
 use print_text::ReportText;
 use report::{Acceptances, BoardReport};
+use report_page::HtmlReport;
 use ringcheck_files::Failure;
 use std::alloc::Global;
 use std::io::Write;
 use waivers::{Waiver, WaiverText, idle, reasons, waive};
 
+/// Prints the page of a report on a board, with the reasons why findings are waived.
+fn print_page<W: Write>(
+    alloc: Global,
+    names: &[&str],
+    board: &Board,
+    report: &BoardReport,
+    accepted: &Acceptances,
+    out: &mut W,
+) -> Result<(), Failure>
+    ensures { OnOk result (PrintsPage (map (λ name. name.now) names.now) board.now report.now accepted.now (W.contents out.old) (W.contents out.new)) }
+{
+    let page = HtmlReport::new(alloc, names, board, report, accepted)?;
+    write!(out, "{page}")?;
+    Ok(())
+}
+
 /// Prints a report, with the reasons why findings are waived, in its format. Only the text has a limit of findings.
 fn print<W: Write>(
     alloc: Global,
     names: &[&str],
-    files: &[FileSum],
+    board: &Board,
     report: &BoardReport,
     options: &Order,
     accepted: &Acceptances,
     out: &mut W,
 ) -> Result<(), Failure>
-    ensures { OnOk result (Appends (W.contents out.old) (W.contents out.new) (report_page options.now.format (map (λ name. name.now) names.now) files.now report.now options.now.limit accepted.now)) }
+    ensures { OnOk result (PrintsReport options.now.format (map (λ name. name.now) names.now) board.now report.now options.now.limit accepted.now (W.contents out.old) (W.contents out.new)) }
 {
     match options.format {
-        MeasureFormat::Text => {
+        ReportFormat::Text => {
             let text = ReportText::new(alloc, names, report, options.limit, accepted)?;
             write!(out, "{text}")?;
         }
-        MeasureFormat::Json => {
+        ReportFormat::Html => print_page(alloc, names, board, report, accepted, out)?,
+        ReportFormat::Json => {
             let json = ReportJson {
                 names,
-                files,
+                files: board.files(),
                 report,
                 accepted,
             };
             write!(out, "{json}")?;
         }
-        MeasureFormat::Waivers => write!(out, "{}", WaiverText { names, report })?,
+        ReportFormat::Waivers => write!(out, "{}", WaiverText { names, report })?,
     }
     Ok(())
 }
@@ -67,14 +84,14 @@ fn has_none(report: &BoardReport) -> bool
 fn print_waived<W: Write>(
     alloc: Global,
     names: &[&str],
-    files: &[FileSum],
+    board: &Board,
     report: &BoardReport,
     options: &Order,
     waivers: &[Waiver],
     out: &mut W,
 ) -> Result<bool, Failure>
     ensures { IfOk result (λ passes. (accepted : TheAcceptances) × Judges (Some waivers.now) (map (λ name. name.now) names.now) report.now passes accepted
-        × Appends (W.contents out.old) (W.contents out.new) (report_page options.now.format (map (λ name. name.now) names.now) files.now report.now options.now.limit accepted)) }
+        × PrintsReport options.now.format (map (λ name. name.now) names.now) board.now report.now options.now.limit accepted (W.contents out.old) (W.contents out.new)) }
 {
     let waived = waive(alloc, names, report, waivers)?;
     let rings = reasons(alloc, waivers, waived.rings.as_slice())?;
@@ -85,7 +102,7 @@ fn print_waived<W: Write>(
         gaps: gaps.as_slice(),
         idle: idle.as_slice(),
     };
-    print(alloc, names, files, report, options, &accepted, out)?;
+    print(alloc, names, board, report, options, &accepted, out)?;
     Ok(waived.all())
 }
 
@@ -93,20 +110,20 @@ fn print_waived<W: Write>(
 fn print_judged<W: Write>(
     alloc: Global,
     names: &[&str],
-    files: &[FileSum],
+    board: &Board,
     report: &BoardReport,
     options: &Order,
     out: &mut W,
 ) -> Result<bool, Failure>
     ensures { IfOk result (λ passes. (accepted : TheAcceptances) × Judges (given options.now.waivers) (map (λ name. name.now) names.now) report.now passes accepted
-        × Appends (W.contents out.old) (W.contents out.new) (report_page options.now.format (map (λ name. name.now) names.now) files.now report.now options.now.limit accepted)) }
+        × PrintsReport options.now.format (map (λ name. name.now) names.now) board.now report.now options.now.limit accepted (W.contents out.old) (W.contents out.new)) }
 {
     match &options.waivers {
         Some(waivers) => {
             print_waived(
                 alloc,
                 names,
-                files,
+                board,
                 report,
                 options,
                 waivers.as_slice(),
@@ -119,7 +136,7 @@ fn print_judged<W: Write>(
                 gaps: &[],
                 idle: &[],
             };
-            print(alloc, names, files, report, options, &accepted, out)?;
+            print(alloc, names, board, report, options, &accepted, out)?;
             Ok(has_none(report))
         }
     }
@@ -146,7 +163,6 @@ pub(crate) fn report<'a, W: Write>(
         }
     };
     let report = report_on(alloc, &board, options.rules)?;
-    let files = board.files();
-    let passes = print_judged(alloc, names, files, &report, options, out)?;
+    let passes = print_judged(alloc, names, &board, &report, options, out)?;
     Ok(Ok(passes))
 }

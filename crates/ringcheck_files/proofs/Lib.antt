@@ -1,1 +1,2 @@
 pub mod ManifestStatus
+pub mod Appending

@@ -3,6 +3,7 @@ pub mod ManifestStatus
 pub mod LoaderRelation
 pub mod FileStatus
 pub mod ExitCodes
+pub mod Sentences
 pub mod Words
 pub mod ReaderBytes
 pub mod Inner

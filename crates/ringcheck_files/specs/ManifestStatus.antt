@@ -1,12 +1,13 @@
 -- What a loader has of the files of a proposed manifest, and what a status says of that manifest and of explanations.
-use Rattle.std.specs.Prelude.{◌≡◌, ◌<◌, ◌≤◌, ◌+◌, ◌-◌, ◌^◌, ◌⊎◌, ◌==◌, ◌&&◌, ℕ, Bool, true, false, not, List, [], ◌∷◌, length, map, Option, Some, None, ⊤}
+use Rattle.std.specs.Prelude.{◌≡◌, ◌<◌, ◌≤◌, ◌+◌, ◌-◌, ◌++◌, ◌^◌, ◌⊎◌, ◌==◌, ◌&&◌, ℕ, Bool, true, false, not, List, [], ◌∷◌, length, map, Option, Some, None, ⊤}
 use Rattle.std.specs.Borrow.{Bor}
 use Rattle.std.specs.List.{count_by, list_all, list_any}
 use Rattle.std.specs.Io.KnownBytes.{Appends}
 use Rattle.command_line.specs.declared.commands.TheConstants.{VERSION_LINE}
 use Rattle.grid_units.specs.declared.fault.Reason.TheVariants.{BadManifest, BadRole}
 use Rattle.manifest.specs.Manifest.{is_control}
-use Rattle.explanations.specs.Words.{FitsScreen, HasHeading, IsExplained, ListsWords}
+use Rattle.explanations.specs.KnownWords.{IsPageOf, known_word}
+use Rattle.explanations.specs.Words.{ListsWords}
 use Rattle.proposals.specs.Manifests.{IsManifestOf, reasons_text}
 use Rattle.proposals.specs.ProposalList.{name_of, proposals}
 use Rattle.proposals.specs.declared.model.FileContent.{FileContent}
@@ -17,7 +18,8 @@ use Rattle.ringcheck_files.specs.declared.Status.TheVariants as status
 use Rattle.ringcheck_files.specs.declared.proposed_manifest.LoadedFile.{LoadedFile}
 use Rattle.ringcheck_files.specs.declared.proposed_manifest.LoadedFile.TheVariants as loaded
 use Rattle.ringcheck_files.specs.LoaderRelation.{Relation, file_limit, within}
-use Rattle.ringcheck_files.specs.Words.{usage_line}
+use Rattle.ringcheck_files.specs.Sentences.{name_sentence, no_page_sentence}
+use Rattle.ringcheck_files.specs.Words.{sentence_line, usage_line}
 
 -- ---- files by their names
 
@@ -100,17 +102,16 @@ abbrev pub IsManifestStatus : Bool → Relation → ℕ → ℕ → List (List �
 IsManifestStatus why has failed_before failed_after names before after status.Pass = (list_all is_entry_name names ≡ true) × PrintsProposal why has failed_before failed_after names before after
 IsManifestStatus why has failed_before failed_after names before after status.Findings = ⊥
 IsManifestStatus why has failed_before failed_after names before after status.Refused = ⊥
-IsManifestStatus why has failed_before failed_after names before after status.Usage = (list_all is_entry_name names ≡ false) × Appends before after (usage_line BadManifest)
+IsManifestStatus why has failed_before failed_after names before after status.Usage =
+    (list_all is_entry_name names ≡ false) × Appends before after (usage_line BadManifest ++ sentence_line name_sentence)
 IsManifestStatus why has failed_before failed_after names before after status.Device = ⊤
 
 -- ---- explanations
 
--- the writer got just the page of a word, which begins with that word and fits a screen (docs/FORMATS.md, Explanations)
+-- the writer got just the page of a word, whatever its case; the page begins with that word and fits a screen (docs/FORMATS.md, Explanations)
 pub record PrintsPage (word : List ℕ) (before after : Option (List ℕ)) : Type 0 where
-  pub known : IsExplained word
   pub page : List ℕ
-  pub headed : HasHeading word page
-  pub fits : FitsScreen page
+  pub is : IsPageOf (known_word word) page
   pub written : Appends before after page
 
 -- what a status says of the page of a word, or, without a word, of the list of those that have one
@@ -119,7 +120,7 @@ IsExplainStatus (Some word) before after status.Pass = PrintsPage word before af
 IsExplainStatus None before after status.Pass = (list : List ℕ) × ListsWords list × Appends before after list
 IsExplainStatus word before after status.Findings = ⊥
 IsExplainStatus word before after status.Refused = ⊥
-IsExplainStatus (Some word) before after status.Usage = (¬ IsExplained word) × Appends before after (usage_line BadRole)
+IsExplainStatus (Some word) before after status.Usage = (known_word word ≡ None) × Appends before after (usage_line BadRole ++ sentence_line (no_page_sentence word))
 IsExplainStatus None before after status.Usage = ⊥
 IsExplainStatus word before after status.Device = ⊤
 

@@ -1,16 +1,39 @@
 //! Prints the page of a word, or the words that have one.
 
-ghost use Rattle.std.specs.Prelude.{ℕ, IfOk, option_map};
+ghost use Rattle.std.specs.Prelude.{ℕ, IfOk, Some, option_map};
 ghost use Rattle.ringcheck_files.specs.Outcomes.{HasCause};
 ghost use Rattle.ringcheck_files.specs.ManifestStatus.{IsExplainStatus};
+ghost use Rattle.ringcheck_files.specs.Sentences.{no_page_sentence};
 
 use crate::Status;
 use crate::outcomes::{Failure, refuse_word};
-use explanations::{explanation, words};
+use explanations::{explanation_in_any_case, near_word, words};
 use grid_units::Reason;
+use std::fmt;
+use std::fmt::{Display, Formatter};
 use std::io::Write;
 
-/// Prints the page of a word, or the refusal BadRole where it has none. Without a word it prints the list of the words that have one.
+/// What is said of a word without a page: `no page smal; did you mean small?`
+#[derive(Clone, Copy)]
+struct NoPage<'a>(&'a str);
+
+impl Display for NoPage<'_> {
+    ghost output = { λ it. Some (no_page_sentence it.0.now) };
+
+    fn fmt<W: fmt::Write>(&self, f: &mut Formatter<W>) -> fmt::Result {
+        let word = self.0;
+        match near_word(word) {
+            Some(near) => write!(f, "no page {word}; did you mean {near}?"),
+            None => write!(
+                f,
+                "no page {word}; ringcheck explain lists the words that have one"
+            ),
+        }
+    }
+}
+
+/// Prints the page of a word, in whichever case it is written, or the refusal BadRole where it has none. Without a word it
+/// prints the list of the words that have one.
 ///
 /// # Errors
 ///
@@ -23,13 +46,14 @@ pub fn explain<W: Write>(word: Option<&str>, out: &mut W) -> Result<Status, Fail
         write!(out, "{}", words())?;
         return Ok(Status::Pass);
     };
-    match explanation(word) {
+    match explanation_in_any_case(word) {
         Some(page) => {
             write!(out, "{page}")?;
             Ok(Status::Pass)
         }
         None => {
             refuse_word(out, Reason::BadRole)?;
+            write!(out, "  {}\n", NoPage(word))?;
             Ok(Status::Usage)
         }
     }

@@ -24,6 +24,10 @@ pub enum LoadedFile {
     TooLong,
 }
 
+/// What is said of a name that may not stand in a manifest.
+const NAME_SENTENCE: &str =
+    "a file name is not empty, and has no line end, tab or other control character";
+
 /// Whether a name has a control byte: one below 0x20, or 0x7F.
 fn has_control(name: &[u8]) -> bool
     ensures { result ≡ list_any is_control name.now }
@@ -151,6 +155,7 @@ pub fn print_manifest<L: Loader, W: Write>(
 {
     if !are_entry_names(names) {
         refuse_word(out, Reason::BadManifest)?;
+        write!(out, "  {NAME_SENTENCE}\n")?;
         return Ok(Status::Usage);
     }
     let loaded = load_files(alloc, loader, names)?;

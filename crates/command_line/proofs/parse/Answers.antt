@@ -3,7 +3,7 @@ use Rattle.std.proofs.lemmas.List.{length-map}
 use Rattle.clap.specs.Lexer.{usize_max}
 use Rattle.clap.specs.Words.{Row, Text, fault_of, is_simple, is_simple_and_free, subcommand_of, takes}
 use Rattle.command_line.specs.ProgramArgs.{ParsesLine, IsRequestOf, manifest_words, ringcheck_app}
-use Rattle.command_line.proofs.ParseResult.{request_is_parsed, refused, version_told}
+use Rattle.command_line.proofs.ParseResult.{fault_told, request_is_parsed, refused, version_told}
 use Rattle.command_line.proofs.CommandWords.{check_answer, check_options, draw_answer, explain_answer, is_free_command, is_plain_command, measure_answer, report_answer, rewrite_answer, show_answer, version_fault}
 use Rattle.command_line.proofs.GivenOptions.{first_is, rows_of}
 use Rattle.command_line.proofs.ManifestWords.{manifest_answer}
@@ -39,6 +39,7 @@ returns-in-Some c =
       list = λ e. is_explain None c.in-Some.request (asks _ _ e (explain_answer None refl));
       explain = λ w e p. is_explain (Some w) c.in-Some.request (asks _ _ e (explain_answer (Some w) p));
       version = λ e. let no = sym faultless ∙ ap₂ fault_of c.in-Ok.ensures e ∙ version_fault in cc no;
+      below = tt;
     }
 
 pub returns : goal.returns
@@ -62,4 +63,5 @@ returns c =
       list = λ e. rw (memory _ _ e (explain_answer None refl)) tt;
       explain = λ w e p. rw (memory _ _ e (explain_answer (Some w) p)) tt;
       version = λ e. version_told _ c.refusal_for.result (ap (fault_of ringcheck_app) e ∙ version_fault) exact;
+      below = fault_told _ _ _ c.refusal_for.result c.in-Ok.ensures fault c.refusal_for.ensures.below c.refusal_for.ensures.memory;
     }

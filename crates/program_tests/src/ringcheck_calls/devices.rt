@@ -5,15 +5,14 @@ use std::fmt::Write as FmtWrite;
 use std::io::{self, Write};
 use std::test::Fail as Failure;
 
-/// A call of the loader that fails, and what is printed. The drill file is loaded before the copper files.
-const CALLS: [(u64, &str); 4] = [
-    (1, "device\n"),
-    (2, "device file=3 name=pth\n"),
-    (3, "device file=1 name=top\n"),
-    (4, "device file=2 name=bot\n"),
+/// A call of the loader that fails, what a check prints, and what a measure prints below it. The drill file is loaded before the copper
+/// files.
+const CALLS: [(u64, &str, &str); 4] = [
+    (1, "device\n", "the manifest m.csv"),
+    (2, "device file=3 name=pth\n", "pth.drl, the file of pth"),
+    (3, "device file=1 name=top\n", "top.gbr, the file of top"),
+    (4, "device file=2 name=bot\n", "bot.gbr, the file of bot"),
 ];
-
-const COMMANDS: [&[&str]; 2] = [&WORDS, &MEASURE];
 
 /// Whether a run prints just this where the call of the loader with this number fails.
 fn fails_at(alloc: Global, words: &[&str], call: u64, text: &str) -> bool {
@@ -28,13 +27,24 @@ fn fails_at(alloc: Global, words: &[&str], call: u64, text: &str) -> bool {
     prints(alloc, &mut shelf, words, Status::Device, text) && shelf.failures() == 1
 }
 
+/// A line, and below it that this cannot be read.
+fn with_sentence(alloc: Global, line: &str, what: &str) -> Result<String, AllocError> {
+    format!(in alloc;
+        "{line}  cannot read {what}: file names are taken from the working directory\n"
+    )
+}
+
 #[test]
-fn a_loader_that_fails_is_told_at_each_call(rt: HostRuntime) {
-    for &words in &COMMANDS {
-        for &(call, text) in &CALLS {
-            assert!(rt; fails_at(rt.alloc(), words, call, text), "{text}");
-        }
+fn a_loader_that_fails_is_told_at_each_call(rt: HostRuntime) -> Result<(), Failure> {
+    for &(call, line, what) in &CALLS {
+        let text = with_sentence(rt.alloc(), line, what)?;
+        assert!(rt; fails_at(rt.alloc(), &WORDS, call, line), "{line}");
+        assert!(rt;
+            fails_at(rt.alloc(), &MEASURE, call, text.as_str()),
+            "{text}"
+        );
     }
+    Ok(())
 }
 
 /// The files of a package whose first layer is refused.
@@ -231,6 +241,8 @@ fn a_long_measure_is_written_in_parts(rt: HostRuntime) -> Result<(), Failure> {
 }
 
 const PACKAGE: [(&str, &str); 3] = [("m.csv", MANIFEST), ("top.gbr", LAYER), ("pth.drl", DRILL)];
+
+const COMMANDS: [&[&str]; 2] = [&WORDS, &MEASURE];
 
 /// Whether a run passes with more than three calls of its writer, and ends at each of them that fails.
 fn ends_at_each(alloc: Global, words: &[&str]) -> bool {

@@ -26,6 +26,15 @@ const LONG_LAYER: &str = "refused file=1 place=0 byte=0 reason=TooLong name=top\
 
 const LONG_DRILL: &str = "refused file=2 place=0 byte=0 reason=TooLong name=pth\n";
 
+/// The words of a measure as JSON, of which a refusal has no page.
+const MEASURE_AS_JSON: [&str; 4] = ["measure", "--format", "json", "m.csv"];
+
+const LONG_MANIFEST_AS_JSON: &str =
+    "{\"format\":\"ringcheck\",\"version\":2,\"result\":\"refused\",\"place\":0,\"reason\":\"TooLong\"}\n";
+
+const LONG_DRILL_AS_JSON: &str =
+    "{\"format\":\"ringcheck\",\"version\":2,\"result\":\"refused\",\"file\":2,\"name\":\"pth\",\"place\":0,\"byte\":0,\"reason\":\"TooLong\"}\n";
+
 /// The words of a run, a file, its length, the status of the run and what it prints.
 type LengthRow<'x> = (&'x [&'x str], &'x str, u64, Status, &'x str);
 
@@ -37,14 +46,20 @@ const LENGTHS: &[LengthRow] = &[
     (&WORDS, "pth.drl", 268_435_456, Status::Pass, REPORT),
     (&WORDS, "pth.drl", 268_435_457, Status::Refused, LONG_DRILL),
     (&MEASURE, "m.csv", 1_048_576, Status::Pass, MEASURED),
-    (&MEASURE, "m.csv", 1_048_577, Status::Refused, LONG_MANIFEST),
+    (
+        &MEASURE_AS_JSON,
+        "m.csv",
+        1_048_577,
+        Status::Refused,
+        LONG_MANIFEST_AS_JSON,
+    ),
     (&MEASURE, "pth.drl", 268_435_456, Status::Pass, MEASURED),
     (
-        &MEASURE,
+        &MEASURE_AS_JSON,
         "pth.drl",
         268_435_457,
         Status::Refused,
-        LONG_DRILL,
+        LONG_DRILL_AS_JSON,
     ),
     (
         &["manifest", "--why", "top.gbr"],

@@ -10,7 +10,7 @@ ghost use Rattle.report.specs.declared.Measure.{Measure};
 ghost use Rattle.package_check.specs.Soundness.{IsSound};
 ghost use Rattle.ringcheck.specs.ParsedWords.{parse_report, parse_rules};
 ghost use Rattle.ringcheck.specs.CheckStatus.{HasFiles, sources};
-ghost use Rattle.ringcheck.specs.declared.parsed_words.MeasureFormat.{MeasureFormat as TheFormat};
+ghost use Rattle.ringcheck.specs.declared.parsed_words.ReportFormat.{ReportFormat as TheFormat};
 
 use super::*;
 

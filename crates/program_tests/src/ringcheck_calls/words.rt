@@ -8,7 +8,8 @@ const NO_NAMES: [&str; 5] = ["a\tb.gbr", "a\u{7F}", "\n", "", "top\u{1F}"];
 
 #[test]
 fn words_that_name_no_file_are_told(rt: HostRuntime) {
-    let refusal = "usage reason=BadManifest\n";
+    let refusal =
+        "usage reason=BadManifest\n  a file name is not empty, and has no line end, tab or other control character\n";
     for &word in &NO_NAMES {
         let words = ["manifest", "top.gbr", word];
         let mut shelf = Shelf::new(&[("top.gbr", LAYER)]);

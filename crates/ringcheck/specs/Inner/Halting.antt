@@ -12,6 +12,8 @@ use Rattle.ringcheck.specs.declared.refusals.Halt.TheVariants as halt
 use Rattle.ringcheck.specs.declared.refusals.RefusalStyle.{RefusalStyle}
 use Rattle.ringcheck.specs.declared.refusals.Subject.{Subject}
 use Rattle.ringcheck.specs.declared.refusals.Subject.TheVariants as subject
+use Rattle.std.specs.Io.KnownBytes.{Appends}
+use Rattle.ringcheck.specs.Sentences.{unread_text}
 use Rattle.ringcheck.specs.Refusals.{Refusal, PrintsRefusal, of_file, of_manifest, of_waivers}
 use Rattle.ringcheck.specs.CheckStatus.{HasFiles, HasTable, RefusedAmong, RefusedFile, RefusedTable, sources}
 
@@ -26,10 +28,17 @@ abbrev pub Halts : (Refusal → Type 0) → Type 0 → Halt → Type 0
 Halts Is Risen (halt.Refused what why) = Is (refusal what why)
 Halts Is Risen (halt.Unread what) = Risen
 
--- what a status says where a halt was printed in this style
-abbrev pub AfterHalt : RefusalStyle → Halt → Option (List ℕ) → Option (List ℕ) → Status → Type 0
-AfterHalt refusal_style (halt.Refused what why) before after s = (s ≡ status.Refused) × PrintsRefusal refusal_style (refusal what why) before after
-AfterHalt refusal_style (halt.Unread what) before after s = s ≡ status.Device
+-- the file at this index cannot be read
+abbrev pub IsUnreadAt : Halt → ℕ → Type 0
+IsUnreadAt (halt.Refused what why) index = ⊥
+IsUnreadAt (halt.Unread subject.Manifest) index = ⊥
+IsUnreadAt (halt.Unread subject.Waivers) index = ⊥
+IsUnreadAt (halt.Unread (subject.File at name)) index = at ≡ index
+
+-- what a status says where a halt was printed in this style; what cannot be read was looked for by this name
+abbrev pub AfterHalt : RefusalStyle → Halt → List ℕ → Option (List ℕ) → Option (List ℕ) → Status → Type 0
+AfterHalt refusal_style (halt.Refused what why) path before after s = (s ≡ status.Refused) × PrintsRefusal refusal_style (refusal what why) before after
+AfterHalt refusal_style (halt.Unread what) path before after s = (s ≡ status.Device) × Appends before after (unread_text refusal_style what path)
 
 -- the refusal of the table under a name
 abbrev pub RefusesTable : {A : Type 0} → (List ℕ → Result (List A) Fault) → Relation → List ℕ → Subject → Refusal → Type 0

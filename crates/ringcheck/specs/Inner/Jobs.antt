@@ -1,8 +1,6 @@
 -- What is said of each job on a package.
 use Rattle.std.specs.Prelude.{ℕ, Bool, List, Option, option_map}
 use Rattle.std.specs.Global.{Vec}
-use Rattle.layer_image.specs.declared.keep.Keep.{Keep}
-use Rattle.layer_image.specs.declared.keep.Keep.TheVariants as keep
 use Rattle.package_check.specs.Package.{FileView}
 use Rattle.ringcheck_files.specs.LoaderRelation.{Relation}
 use Rattle.ringcheck_files.specs.declared.Status.{Status}
@@ -11,7 +9,7 @@ use Rattle.ringcheck.specs.declared.jobs.Job.TheVariants as job
 use Rattle.ringcheck.specs.declared.refusals.RefusalStyle.{RefusalStyle}
 use Rattle.ringcheck.specs.declared.refusals.RefusalStyle.TheVariants as style
 use Rattle.ringcheck.specs.DrawStatus.{PrintsPicture}
-use Rattle.ringcheck.specs.MeasureStatus.{PrintsMeasure, style_of}
+use Rattle.ringcheck.specs.MeasureStatus.{PrintsMeasure, measure_style}
 use Rattle.ringcheck.specs.ReportStatus.{Reports, report_style}
 use Rattle.ringcheck.specs.CheckStatus.{Checks, SaysPackage}
 use Rattle.waivers.specs.declared.Waiver.{Waiver}
@@ -20,17 +18,10 @@ use Rattle.waivers.specs.declared.Waiver.{Waiver}
 abbrev pub given : Option (Vec Waiver) → Option (List Waiver)
 given waivers = option_map (λ all. all.items) waivers
 
--- what is kept of copper files for a job: their flashes for a report and a picture
-abbrev pub job_keep : Job → Keep
-job_keep (job.Check rules) = keep.Pads
-job_keep (job.Measure form) = keep.Pads
-job_keep (job.Report options) = keep.Flashes
-job_keep (job.Draw rules) = keep.Flashes
-
 -- how a refusal is printed in place of a job's result
 abbrev pub job_style : Job → RefusalStyle
 job_style (job.Check rules) = style.Line
-job_style (job.Measure form) = style_of form
+job_style (job.Measure form) = measure_style form
 job_style (job.Report options) = report_style options.format
 job_style (job.Draw rules) = style.Line
 

@@ -2,8 +2,11 @@
 use Rattle.std.specs.Prelude.{◌≡◌, ◌<◌, ◌||◌, ◌&&◌, nat_lt, ℕ, Bool, true, false, List, [], length, get_or, slice_get, Option, None, Some, Result, Ok, Err}
 use Rattle.std.specs.List.{count_by}
 use Rattle.std.specs.Global.{Vec}
+use Rattle.grid_units.specs.Holes.{GridRules}
 use Rattle.layer_image.specs.declared.keep.Keep.{Keep}
 use Rattle.manifest.specs.declared.Entry.{Entry}
+use Rattle.package_check.specs.CheckViews.{CheckView}
+use Rattle.package_check.specs.Checking.{HasJudged, TakesCopper}
 use Rattle.package_check.specs.Holding.{HasTaken, TakesFile, copper_files, is_kind}
 use Rattle.package_check.specs.Package.{FileView, is_copper}
 use Rattle.package_check.specs.declared.package_reader.PackageReader.{PackageReader}
@@ -60,16 +63,32 @@ abbrev pub EndsAt : Relation → List Entry → Type 0 → ℕ → Option Halt �
 EndsAt has entries Risen end None = end ≡ length entries
 EndsAt has entries Risen end (Some halt) = (entry : Entry) × (slice_get entries end ≡ Some entry) × Halts (RefusesLong has end entry) Risen halt
 
--- Of the files of these entries those at the indexes that `done` is true of were loaded, and a reader has taken them. Nothing is said of
--- the bytes of the other files.
-pub record HasLoaded (has : Relation) (entries : List Entry) (reader : PackageReader) (keep : Keep) (done : ℕ → Bool) : Type 0 where
+-- Of the files of these entries those at the indexes that `done` is true of were loaded, and taken, as `Taken` says of all files and of these indexes.
+-- Nothing is said of the bytes of the other files.
+pub record HasLoaded (has : Relation) (entries : List Entry) (Taken : List FileView → (ℕ → Bool) → Type 0) (done : ℕ → Bool) : Type 0 where
   pub files : List (List ℕ)
   pub size : length files ≡ length entries
   pub loaded : (i : ℕ) (entry : Entry) → done i ≡ true → slice_get entries i ≡ Some entry → within file_limit has entry.file (get_or files i [])
-  pub taken : HasTaken reader keep (sources entries files) done
+  pub taken : Taken (sources entries files) done
 
 -- Between two states of a reader the files of one kind below an index were loaded, and the reader has taken them. These are the files of the first entries of some
 -- list, whichever it is, of which other files were loaded before.
 abbrev pub LoadsKind : Relation → List Entry → PackageReader → PackageReader → Bool → ℕ → Type 0
 LoadsKind has entries before after copper end = (all : List Entry) (keep : Keep) (done : ℕ → Bool) → AreFirstOf entries all → copper_files before ≡ copper_entries all
-    → ((i : ℕ) → is_kind_at copper all i ≡ true → done i ≡ false) → HasLoaded has all before keep done → HasLoaded has all after keep (λ i. done i || (nat_lt i end && is_kind_at copper all i))
+    → ((i : ℕ) → is_kind_at copper all i ≡ true → done i ≡ false) → HasLoaded has all (HasTaken before keep) done → HasLoaded has all (HasTaken after keep) (λ i. done i || (nat_lt i end && is_kind_at copper all i))
+
+-- ---- the check
+
+-- the copper file of an entry was loaded, and a check has taken it, its layer having this number
+abbrev pub LoadsCopper : Relation → CheckView → CheckView → ℕ → ℕ → Entry → Type 0
+LoadsCopper has before after index layer entry = (bytes : List ℕ) × within file_limit has entry.file bytes × TakesCopper before after index layer (source before.layers entry bytes)
+
+-- what came of handing the copper file of an entry to a check: that it has taken it, or why the file cannot be loaded
+abbrev pub OfCheckedFile : Relation → CheckView → CheckView → ℕ → ℕ → Entry → Type 0 → Option Halt → Type 0
+OfCheckedFile has before after index layer entry Risen None = LoadsCopper has before after index layer entry
+OfCheckedFile has before after index layer entry Risen (Some halt) = Halts (RefusesLong has index entry) Risen halt × (after ≡ before)
+
+-- between two states of a check the copper files of these entries below an index were loaded, and the check has taken them; other files were loaded before
+abbrev pub LoadsCopperTo : Relation → List Entry → CheckView → CheckView → ℕ → Type 0
+LoadsCopperTo has entries before after end = (rules : GridRules) (done : ℕ → Bool) → before.layers ≡ copper_entries entries → ((i : ℕ) → is_kind_at true entries i ≡ true → done i ≡ false)
+    → HasLoaded has entries (λ all. HasJudged before all rules) done → HasLoaded has entries (λ all. HasJudged after all rules) (λ i. done i || (nat_lt i end && is_kind_at true entries i))

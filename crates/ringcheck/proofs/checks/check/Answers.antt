@@ -1,19 +1,24 @@
-use Rattle.std.proofs.Common.{List, ℕ, subst, sym, ◌∙◌}
+use Rattle.std.proofs.Common.{Err, List, ℕ, subst, sym, ◌∙◌}
 use Rattle.std.specs.Io.KnownBytes.{Appends}
-use Rattle.layer_image.specs.declared.keep.Keep.TheVariants as keep
+use Rattle.package_check.specs.Package.{ReturnsReport}
 use Rattle.package_check.specs.Texts.{text_of}
+use Rattle.package_check.specs.declared.PackageFault.{PackageFault}
 use Rattle.ringcheck.proofs.Outcomes.{none_left}
 use Rattle.ringcheck.proofs.checks.check.Goals as goal
 
 pub returns-clause-answers : goal.returns-clause-answers
-returns-clause-answers g c all named stands =
+returns-clause-answers g c all rules named stands =
     let report = c.in-Ok.report in
     let contents = g.W.Write.contents in
     let passed = rw c.findings.ensures at c.is_empty.ensures in
     record {
       report = report;
-      is = c.in-Ok.ensures.exact keep.Pads all stands;
+      is = c.in-Ok.ensures.exact all rules stands;
       written = subst (λ (ns : List (List ℕ)). Appends (contents c.args.out.now) (contents c.print.new.out) (text_of ns report)) named c.in_ok-print.ensures;
       passed = passed;
-      sound = λ passes. c.in-Ok.ensures.sound keep.Pads all stands (none_left report.findings (sym passed ∙ passes));
+      sound = λ passes. c.in-Ok.ensures.sound all rules stands (none_left report.findings (sym passed ∙ passes));
     }
+
+pub returns-in-Err-File-clause-answers : goal.returns-in-Err-File-clause-answers
+returns-in-Err-File-clause-answers g c all rules named stands =
+    c.refused.ensures all named (subst (λ (f : PackageFault). ReturnsReport all rules (Err f)) c.in-Err-File.field-0-is (c.in-Err-File.ensures.exact all rules stands))

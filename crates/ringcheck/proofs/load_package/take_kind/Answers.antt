@@ -1,9 +1,9 @@
 use Rattle.std.proofs.Common.{◌∙◌, ◌&&◌, ◌||◌, ◌+◌, ap, arith, ltb, refl, subst, sym}
 use Rattle.std.proofs.lemmas.Option.{slice_get_read}
-use Rattle.package_check.specs.Holding.{copper_files}
+use Rattle.package_check.specs.Holding.{HasTaken, copper_files}
 use Rattle.package_check.specs.declared.package_reader.PackageReader.{PackageReader}
 use Rattle.ringcheck.specs.Inner.Loading.{HasLoaded, is_kind_at, is_kind_of}
-use Rattle.ringcheck.proofs.LoadedFiles.{kind_loaded, kind_passed, none_yet}
+use Rattle.ringcheck.proofs.LoadedFiles.{kind_passed, none_yet, reader_loaded}
 use Rattle.ringcheck.proofs.load_package.take_kind.Goals as goal
 use Rattle.ringcheck.proofs.load_package.take_kind.Goals.{then-is_kind+in_ok-halt+in_default, else-is_kind}
 
@@ -12,7 +12,7 @@ loop-index-init g c = record {
   keeps = λ n b. (λ h. h, λ h. h);
   counted = omega arith;
   layers = refl;
-  loaded = λ all keep done first layers new h. none_yet (g.L.Loader.has c.args.loader.now) all keep c.args.copper c.args.reader.now done h;
+  loaded = λ all keep done first layers new h. none_yet (g.L.Loader.has c.args.loader.now) all c.args.copper (HasTaken c.args.reader.now keep) done h;
 }
 
 pub loop-index-preserved : goal.loop-index-preserved
@@ -35,8 +35,8 @@ loop-index-preserved g c =
             layers = ap copper_files w.reader-is ∙ (one.layers ∙ inv.layers);
             loaded = λ all keep done first layers new h.
                 let at = first k entry here in
-                subst (λ (r : PackageReader). HasLoaded has all r keep (λ i. done i || (ltb i (k + 1) && is_kind_at copper all i))) (sym w.reader-is)
-                (kind_loaded has all keep copper c.loop-index.reader w.take_file.new.reader done k entry at kind (inv.layers ∙ layers) (new k (ap (is_kind_of copper) at ∙ kind))
+                subst (λ (r : PackageReader). HasLoaded has all (HasTaken r keep) (λ i. done i || (ltb i (k + 1) && is_kind_at copper all i))) (sym w.reader-is)
+                (reader_loaded has all keep copper c.loop-index.reader w.take_file.new.reader done k entry at kind (inv.layers ∙ layers) (new k (ap (is_kind_of copper) at ∙ kind))
                 (bytes, ((inv.keeps entry.file bytes).0 held.0, held.1), takes) (inv.loaded all keep done first layers new h));
           }
       | else-is_kind w ↦
@@ -46,7 +46,7 @@ loop-index-preserved g c =
             counted = rw w.loader-is inv.counted;
             layers = ap copper_files w.reader-is ∙ inv.layers;
             loaded = λ all keep done first layers new h.
-                subst (λ (r : PackageReader). HasLoaded has all r keep (λ i. done i || (ltb i (k + 1) && is_kind_at copper all i))) (sym w.reader-is)
-                (kind_passed has all keep copper c.loop-index.reader done k entry (first k entry here) kind (inv.loaded all keep done first layers new h));
+                subst (λ (r : PackageReader). HasLoaded has all (HasTaken r keep) (λ i. done i || (ltb i (k + 1) && is_kind_at copper all i))) (sym w.reader-is)
+                (kind_passed has all copper (HasTaken c.loop-index.reader keep) done k entry (first k entry here) kind (inv.loaded all keep done first layers new h));
           }
     ]

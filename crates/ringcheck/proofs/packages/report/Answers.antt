@@ -1,4 +1,4 @@
-use Rattle.std.proofs.Common.{Ok, Some, inr, sym}
+use Rattle.std.proofs.Common.{[], Ok, Some, inr, sym}
 use Rattle.std.proofs.lemmas.Result.{IfOk-weaker}
 use Rattle.ringcheck.specs.ReportStatus.{Reports, IsParsedReportStatus, report_style}
 use Rattle.ringcheck.specs.CheckStatus.{SaysPackage}
@@ -17,6 +17,6 @@ returns-in-Ok-2-clause-says g c =
     let listed = rw c.in-Ok-2.is at c.in_ok-waivers-in-Some.ensures.loaded in
     let holds = Reports rules limit form (Some waivers) before after in
     rw (sym c.in-Ok.ensures, c.in-Some.is)
-    (IfOk-weaker c.run_job-in-Ok-2.result (SaysPackage later name holds (report_style form) before after) (IsParsedReportStatus has name (Ok c.in-Ok.named) (Some c.in-Some.file.now) before after)
+    (IfOk-weaker c.run_job-in-Ok-2.result (SaysPackage later name holds (report_style form) before after) (IsParsedReportStatus has name (Ok c.in-Ok.named) [] (Some c.in-Some.file.now) before after)
     (λ s status_of_outcome. inr (inr (waivers, listed, says_along later has c.in_ok-waivers-in-Some.ensures.keeps name holds (report_style form) before after s status_of_outcome)))
     c.run_job-in-Ok-2.ensures.says)

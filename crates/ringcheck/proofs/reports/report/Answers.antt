@@ -1,11 +1,10 @@
 use Rattle.std.proofs.Common.{Err, List, ℕ, refl, subst}
-use Rattle.std.specs.Io.KnownBytes.{Appends}
 use Rattle.package_check.specs.Boards.{ReturnsBoard}
 use Rattle.package_check.specs.declared.PackageFault.{PackageFault}
 use Rattle.layer_image.specs.declared.keep.Keep.TheVariants as keep
 use Rattle.board_report.specs.BoardReport.{IsBoardReportOf}
 use Rattle.ringcheck.specs.Inner.Jobs.{given}
-use Rattle.ringcheck.specs.ReportStatus.{Judges, report_page}
+use Rattle.ringcheck.specs.ReportStatus.{Judges, PrintsReport}
 use Rattle.ringcheck.proofs.Outcomes.{neither_left}
 use Rattle.ringcheck.proofs.reports.report.Goals as goal
 
@@ -17,7 +16,7 @@ returns-clause-answers g c all named stands =
     let contents = g.W.Write.contents in
     let is : IsBoardReportOf all options.rules report = record { board = board; read = c.in-Ok.ensures.flashes keep.Flashes all stands refl; is = c.in_ok-report.ensures } in
     let as_check = c.report_agrees_with_check.ensures all options.rules report is in
-    let (accepted, judged, written) = rw c.files-files.ensures.sums at c.in_ok-passes.ensures in
+    let (accepted, judged, written) = c.in_ok-passes.ensures in
     record {
       report = report;
       is = is;
@@ -25,7 +24,7 @@ returns-clause-answers g c all named stands =
       sound = λ none. let (rings, gaps) = neither_left report.rings.items report.gaps.items none in as_check.sound rings gaps;
       accepted = accepted;
       judged = subst (λ (ns : List (List ℕ)). Judges (given options.waivers) ns report c.in_ok-passes.passes accepted) named judged;
-      written = subst (λ (ns : List (List ℕ)). Appends (contents c.args.out.now) (contents c.print_judged.new.out) (report_page options.format ns board.files report options.limit accepted)) named written;
+      written = subst (λ (ns : List (List ℕ)). PrintsReport options.format ns board report options.limit accepted (contents c.args.out.now) (contents c.print_judged.new.out)) named written;
     }
 
 pub returns-in-Err-File-clause-answers : goal.returns-in-Err-File-clause-answers

@@ -1,9 +1,10 @@
 use Rattle.std.proofs.Common.{◌∙◌, sym}
+use Rattle.ringcheck_files.proofs.Appending.{appends_both}
 use Rattle.ringcheck_files.proofs.ManifestStatus.{all_of_map, proposed}
 use Rattle.ringcheck_files.proofs.proposed_manifest.print_manifest.Goals as goal
 
 pub returns-then-not-are_entry_names-clause-says : goal.returns-then-not-are_entry_names-clause-says
-returns-then-not-are_entry_names-clause-says g c = (all_of_map c.args.names.now ∙ sym c.if-not-are_entry_names.ensures, c.in_ok-refuse_word.ensures)
+returns-then-not-are_entry_names-clause-says g c = (all_of_map c.args.names.now ∙ sym c.if-not-are_entry_names.ensures, appends_both _ _ _ _ _ c.in_ok-refuse_word.ensures c.in_ok-write.ensures.bytes)
 
 pub returns-clause-says : goal.returns-clause-says
 returns-clause-says g c =

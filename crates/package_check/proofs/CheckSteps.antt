@@ -1,0 +1,243 @@
+-- A check of a package takes copper files.
+use Rattle.std.proofs.Common.{◌≡◌, ◌<◌, ◌≤◌, ◌+◌, ◌||◌, ◌&&◌, eqb, ltb, ℕ, suc, List, [], ◌∷◌, Ok, Err, Result, Option, Some, None, OnOk, Bool, true, false, length, map, get_or, slice_get, inl, inr, arith, refl, sym, ap, ap₂, subst, ◌∙◌}
+use Rattle.std.specs.Prelude.{alloc_error, option_map}
+use Rattle.std.specs.List.{sum_by}
+use Rattle.std.specs.declared.alloc.AllocError.{AllocError}
+use Rattle.std.proofs.lemmas.Bool.{both_ways, cases_eq, false≢true}
+use Rattle.std.proofs.lemmas.List.{get_or-map, length-map}
+use Rattle.std.proofs.lemmas.List.Sums.{count_by_more_no, count_by_more_yes, sum_by-cons}
+use Rattle.std.proofs.lemmas.Option.{none-some, slice_get-map, slice_get_read}
+use Rattle.grid_units.specs.Holes.{GridRules}
+use Rattle.grid_units.specs.Results.{Answers}
+use Rattle.grid_units.specs.Spans.{LayerSpan}
+use Rattle.grid_units.specs.declared.fault.Fail.{Fail}
+use Rattle.grid_units.specs.declared.fault.Fail.TheVariants as fails
+use Rattle.ring_rules.specs.declared.finding.Drilled.{Drilled}
+use Rattle.manifest.specs.declared.Role.TheVariants as role
+use Rattle.package_check.specs.Boards.{hole_count}
+use Rattle.package_check.specs.CheckViews.{CheckView, holes_in_slot, is_drill_in, is_drill_sum}
+use Rattle.package_check.specs.Checking.{AreHolesOf, HasJudged, HasJudgedAll, IsJudgedOf, JudgesThose, TakesCopper, drill_files, layer_number}
+use Rattle.package_check.specs.Holding.{HoldsThose, IsPutAt, ReadsInto, is_kind_at, is_kind_of, is_wanted, kept_at, next_stop}
+use Rattle.package_check.specs.Judging.{IsLeftOf, Judges, JudgesCopper}
+use Rattle.package_check.specs.Package.{FileView, HasContent, HaveContents, bad_span, is_copper, sum_of, unnamed_file}
+use Rattle.package_check.specs.declared.FileSum.{FileSum}
+use Rattle.package_check.specs.declared.FileSum.TheVariants as sum
+use Rattle.package_check.specs.declared.PackageFault.{PackageFault}
+use Rattle.package_check.specs.declared.PackageFault.TheVariants as stop
+use Rattle.package_check.specs.declared.contents.Content.{Content}
+use Rattle.package_check.specs.declared.contents.Content.TheVariants as content
+use Rattle.package_check.specs.declared.judged.Judged.{Judged}
+use Rattle.package_check.proofs.ContentIsReading.{content_read}
+use Rattle.package_check.proofs.FileKinds.{drill_is_no_copper, either}
+use Rattle.package_check.proofs.GrowingLists.{any_name}
+use Rattle.package_check.proofs.TakeSteps.{all_below, all_held, either_kind, held_more, no_kind_past, none_below, none_more, one_more, or_none, or_together, passed_over, stopped_alike}
+
+-- ---- the holes that the slots count
+
+-- slots that have the same holes, one by one, have as many
+same_holes : (xs ys : List (Option Judged)) → ((i : ℕ) → holes_in_slot (kept_at xs i) ≡ holes_in_slot (kept_at ys i)) → sum_by holes_in_slot xs ≡ sum_by holes_in_slot ys
+same_holes [] [] each = refl
+same_holes [] (y ∷ ys) each =
+    let none : 0 ≡ holes_in_slot y = each 0 in
+    let rest : 0 ≡ sum_by holes_in_slot ys = same_holes [] ys (λ i. each (suc i)) in
+    ap₂ (λ (a b : ℕ). a + b) none rest ∙ sym (sum_by-cons holes_in_slot y ys)
+same_holes (x ∷ xs) [] each =
+    let none : holes_in_slot x ≡ 0 = each 0 in
+    let rest : sum_by holes_in_slot xs ≡ 0 = same_holes xs [] (λ i. each (suc i)) in
+    sum_by-cons holes_in_slot x xs ∙ ap₂ (λ (a b : ℕ). a + b) none rest
+same_holes (x ∷ xs) (y ∷ ys) each =
+    sum_by-cons holes_in_slot x xs ∙ (ap₂ (λ (a b : ℕ). a + b) (each 0) (same_holes xs ys (λ i. each (suc i))) ∙ sym (sum_by-cons holes_in_slot y ys))
+
+pub same_slots : (before after : List (Option Judged)) → ((i : ℕ) → kept_at after i ≡ kept_at before i) → sum_by holes_in_slot after ≡ sum_by holes_in_slot before
+same_slots before after same = same_holes after before (λ i. ap holes_in_slot (same i))
+
+no_holes_counted : (s : FileSum) → is_drill_sum s ≡ false → hole_count s ≡ 0
+no_holes_counted (sum.Layer pads other) is = refl
+no_holes_counted (sum.Drill plated span round slots) is = absurd (false≢true (sym is))
+
+no_holes : (o : Option Judged) → is_drill_in o ≡ false → holes_in_slot o ≡ 0
+no_holes None is = refl
+no_holes (Some one) is = no_holes_counted one.sum is
+
+-- a layer that is put where no drill file is adds no hole
+pub layer_put : (before after : List (Option Judged)) (index : ℕ) (one : Judged) → IsPutAt index one before after → is_drill_in (kept_at before index) ≡ false → is_drill_sum one.sum ≡ false
+    → sum_by holes_in_slot after ≡ sum_by holes_in_slot before
+layer_put before after index one put free layer = same_holes after before (λ i. elim (cases_eq i index) [
+  | inl same ↦
+      ap (λ (k : ℕ). holes_in_slot (kept_at after k)) same
+      ∙ (ap holes_in_slot put.here ∙ (no_holes (Some one) layer ∙ (sym (no_holes (kept_at before index) free) ∙ sym (ap (λ (k : ℕ). holes_in_slot (kept_at before k)) same))))
+  | inr other ↦ ap holes_in_slot (put.others i other)
+])
+
+-- ---- what is left of a copper file
+
+-- the counts of a copper file are those of a layer
+layer_counted : (s : FileView) (c : Content) → is_copper s.role ≡ true → HasContent s c → is_drill_sum (sum_of c) ≡ false
+layer_counted s (content.Layer image) copper has = refl
+layer_counted s (content.Drill plated span holes) copper has = absurd (both_ways (is_copper s.role) (drill_is_no_copper s plated span holes has) copper)
+
+pub layer_left : (rules : GridRules) (holes : List Drilled) (layer : ℕ) (s : FileView) (one : Judged) → is_copper s.role ≡ true → Judges rules holes layer s (Ok one) → is_drill_sum one.sum ≡ false
+layer_left rules holes layer s one copper h = ap is_drill_sum h.2.sum ∙ layer_counted s h.0 copper (content_read s h.0 h.1)
+
+-- a copper file without a span is judged by its bytes
+pub judged_bytes : (rules : GridRules) (holes : List Drilled) (layer layers : ℕ) (span : Option LayerSpan) (bytes : List ℕ) (r : Result Judged Fail) → span ≡ None → Answers {T = Judged} (λ one. one) (JudgesCopper rules holes layer bytes) r
+    → Answers {T = Judged} (λ one. one) (Judges rules holes layer (unnamed_file role.Copper span layers bytes)) r
+judged_bytes rules holes layer layers None bytes (Ok one) none h = h
+judged_bytes rules holes layer layers None bytes (Err fails.Memory) none h = tt
+judged_bytes rules holes layer layers None bytes (Err (fails.Refused f)) none h = h
+judged_bytes rules holes layer layers (Some s) bytes r none h = absurd (none-some s (sym none))
+
+-- and one with a span is refused
+pub judged_span : (rules : GridRules) (holes : List Drilled) (layer layers : ℕ) (span : Option LayerSpan) (s : LayerSpan) (bytes : List ℕ) (e : Fail) → span ≡ Some s → e ≡ fails.Refused bad_span
+    → Answers {T = Judged} (λ one. one) (Judges rules holes layer (unnamed_file role.Copper span layers bytes)) (Err e)
+judged_span rules holes layer layers None s bytes e some is = absurd (none-some s some)
+judged_span rules holes layer layers (Some t) s bytes e some is =
+    subst (λ (x : Fail). Answers {T = Judged} (λ one. one) (Judges rules holes layer (unnamed_file role.Copper (Some t) layers bytes)) (Err x)) (sym is) refl
+
+-- ---- a file is judged, and put into its slot
+
+module _ (rules : GridRules) (holes : List Drilled) (layer index layers : ℕ) (span : Option LayerSpan) (bytes : List ℕ) (before : List (Option Judged)) where
+  -- what a step of reading does
+  abbrev Puts : List (Option Judged) → Result (Unit {0}) Fail → Type 0
+  Puts after r = ReadsInto (λ one. Judges rules holes layer (unnamed_file role.Copper span layers bytes) (Ok one)) index (unnamed_file role.Copper span layers bytes) before after r
+
+  pub puts_none : (e : Fail) → Answers {T = Judged} (λ one. one) (Judges rules holes layer (unnamed_file role.Copper span layers bytes)) (Err e) → Puts before (Err e)
+  puts_none fails.Memory h = tt
+  puts_none (fails.Refused f) h = (h, refl)
+
+-- what is read of a file does not depend on its name
+judged_named : (rules : GridRules) (holes : List Drilled) (layer number index : ℕ) (name : List ℕ) (span : Option LayerSpan) (bytes : List ℕ) (n : ℕ) (before after : List (Option Judged)) (r : Result (Unit {0}) Fail) → layer ≡ number
+    → ReadsInto (λ one. Judges rules holes layer (unnamed_file role.Copper span n bytes) (Ok one)) index (unnamed_file role.Copper span n bytes) before after r
+    → ReadsInto (λ one. Judges rules holes number (record { role = role.Copper; name = name; span = span; bytes = bytes; layers = n }) (Ok one)) index (record { role = role.Copper; name = name; span = span; bytes = bytes; layers = n }) before after r
+judged_named rules holes layer number index name span bytes n before after (Ok u) same h =
+    (h.0, (h.1.0, any_name role.Copper name span bytes n (Ok h.1.0) h.1.1, subst (λ (k : ℕ). IsLeftOf rules holes k h.1.0 h.0) same h.1.2), h.2)
+judged_named rules holes layer number index name span bytes n before after (Err fails.Memory) same h = tt
+judged_named rules holes layer number index name span bytes n before after (Err (fails.Refused f)) same h = (any_name role.Copper name span bytes n (Err f) h.0, h.1)
+
+-- a check that goes on after a file went on before it
+went_on : (stopped : Option PackageFault) (index : ℕ) (read : Result (Unit {0}) Fail) → next_stop stopped index read ≡ None → stopped ≡ None
+went_on stopped index (Ok u) is = is
+went_on stopped index (Err fails.Memory) is = absurd (none-some stop.Memory (sym is))
+went_on stopped index (Err (fails.Refused f)) is = absurd (none-some (stop.File index f) (sym is))
+
+-- the slot of a copper file is not that of a drill file
+pub no_drill : (check : CheckView) (sources : List FileView) (rules : GridRules) (taken : ℕ → Bool) (index : ℕ) (s : FileView) → HasJudged check sources rules taken → slice_get sources index ≡ Some s → is_copper s.role ≡ true
+    → is_wanted check.stopped index ≡ true → is_drill_in (kept_at check.slots index) ≡ false
+no_drill check sources rules taken index s h at copper on = either (taken index)
+    (λ t. let one = h.holds.kept index s t at on in ap is_drill_in one.1 ∙ layer_left check.rules check.holes (layer_number sources index) s one.0 copper one.2)
+    (λ t. ap is_drill_in (h.holds.empty index t))
+
+-- a copper file after one that is refused
+pub judged_passed : (check : CheckView) (index layer : ℕ) (source : FileView) → is_wanted check.stopped index ≡ false → TakesCopper check check index layer source
+judged_passed check index layer source off = λ sources at number rules taken h. record {
+  same_rules = h.same_rules;
+  holds = passed_over (IsJudgedOf check.rules check.holes sources) check.slots check.stopped index sources taken off h.holds;
+  drilled = h.drilled;
+}
+
+-- a copper file that stands before any that is refused so far
+pub judged_more : (before after : CheckView) (index layer : ℕ) (name : List ℕ) (span : Option LayerSpan) (bytes : List ℕ) (read : Result (Unit {0}) Fail) (r : Result (Unit {0}) AllocError) → is_wanted before.stopped index ≡ true
+    → after.holes ≡ before.holes → after.rules ≡ before.rules
+    → (is_drill_in (kept_at before.slots index) ≡ false → ReadsInto (λ one. Judges before.rules before.holes layer (unnamed_file role.Copper span before.layers bytes) (Ok one)) index (unnamed_file role.Copper span before.layers bytes) before.slots after.slots read)
+    → after.stopped ≡ next_stop before.stopped index read → (after.stopped ≡ Some stop.Memory → r ≡ Err alloc_error)
+    → OnOk r (TakesCopper before after index layer (record { role = role.Copper; name = name; span = span; bytes = bytes; layers = before.layers }))
+judged_more before after index layer name span bytes read (Err e) on holes rules reads stops memory = tt
+judged_more before after index layer name span bytes read (Ok v) on holes rules reads stops memory = λ sources at number under taken h.
+    let source : FileView = record { role = role.Copper; name = name; span = span; bytes = bytes; layers = before.layers } in
+    let free = no_drill before sources under taken index source h at refl on in
+    let named = judged_named before.rules before.holes layer (layer_number sources index) index name span bytes before.layers before.slots after.slots read number (reads free) in
+    record {
+      same_rules = rules ∙ h.same_rules;
+      holds = subst (λ (rs : GridRules). HoldsThose (IsJudgedOf rs after.holes sources) after.slots after.stopped sources (λ i. taken i || eqb i index)) (sym rules)
+          (subst (λ (hs : List Drilled). HoldsThose (IsJudgedOf before.rules hs sources) after.slots after.stopped sources (λ i. taken i || eqb i index)) (sym holes)
+          (held_more (IsJudgedOf before.rules before.holes sources) before.slots after.slots before.stopped after.stopped index source sources taken read at on named stops (λ is. let e = memory is in absurd cc) h.holds));
+      drilled = λ none. subst (AreHolesOf sources) (sym holes) (h.drilled (went_on before.stopped index read (sym stops ∙ none)));
+    }
+
+-- other copper files stand at indexes that were not taken
+pub judged_alike : (check : CheckView) (rules : GridRules) (xs ys : List FileView) (p : ℕ → Bool) → length xs ≡ length ys → ((i : ℕ) → p i ≡ true → slice_get ys i ≡ slice_get xs i) → ((i : ℕ) → layer_number ys i ≡ layer_number xs i)
+    → drill_files ys ≡ drill_files xs → HasJudged check xs rules p → HasJudged check ys rules p
+judged_alike check rules xs ys p size same numbers drills h = record {
+  same_rules = h.same_rules;
+  holds = record {
+    inside = let le = h.holds.inside in omega (arith, le, size);
+    stopped = stopped_alike xs ys p same check.stopped h.holds.stopped;
+    kept = λ i s t at wanted.
+        let one = h.holds.kept i s t (sym (same i t) ∙ at) wanted in (one.0, one.1, subst (λ (k : ℕ). Judges check.rules check.holes k s (Ok one.0)) (sym (numbers i)) one.2);
+    empty = h.holds.empty;
+  };
+  drilled = λ none. let was = h.drilled none in (was.0, subst (λ (fs : List FileView). HaveContents fs was.0) (sym drills) was.1, was.2);
+}
+
+-- ---- a check takes the copper files, one after the other
+
+-- the same files, by another test
+judged_same : (check : CheckView) (sources : List FileView) (rules : GridRules) (p q : ℕ → Bool) → ((i : ℕ) → p i ≡ q i) → HasJudged check sources rules p → HasJudged check sources rules q
+judged_same check sources rules p q same h = subst (λ (t : ℕ → Bool). HasJudged check sources rules t) (λ j. λ i. same i j) h
+
+judges_then : (a b c : CheckView) (sources : List FileView) (p q r : ℕ → Bool) → ((i : ℕ) → (p i || q i) ≡ r i) → JudgesThose a b sources p → JudgesThose b c sources q → JudgesThose a c sources r
+judges_then a b c sources p q r same first second rules taken h =
+    judged_same c sources rules (λ i. (taken i || p i) || q i) (λ i. taken i || r i) (λ i. or_together (taken i) (p i) (q i) ∙ ap (λ (t : Bool). taken i || t) (same i))
+    (second rules (λ i. taken i || p i) (first rules taken h))
+
+judges_none : (check : CheckView) (sources : List FileView) (p : ℕ → Bool) → ((i : ℕ) → false ≡ p i) → JudgesThose check check sources p
+judges_none check sources p none rules taken h = judged_same check sources rules taken (λ i. taken i || p i) (λ i. sym (or_none (taken i)) ∙ ap (λ (t : Bool). taken i || t) (none i)) h
+
+judges_same : (a b : CheckView) (sources : List FileView) (p q : ℕ → Bool) → ((i : ℕ) → p i ≡ q i) → JudgesThose a b sources p → JudgesThose a b sources q
+judges_same a b sources p q same h rules taken was = judged_same b sources rules (λ i. taken i || p i) (λ i. taken i || q i) (λ i. ap (λ (t : Bool). taken i || t) (same i)) (h rules taken was)
+
+module _ {X : Type 0} (seen : X → FileView) (xs : List X) where
+  -- whether the file at an index is copper
+  abbrev of_copper : ℕ → Bool
+  of_copper i = is_kind_at true (map seen xs) i
+
+  source_at : (k : ℕ) (x : X) → k < length xs → x ≡ get_or xs k x → slice_get (map seen xs) k ≡ Some (seen x)
+  source_at k x lt is = slice_get-map seen xs k ∙ ap (option_map seen) (slice_get_read xs (length xs) k x refl lt is)
+
+  -- none so far
+  pub copper_none : (a : CheckView) → JudgesThose a a (map seen xs) (λ i. ltb i 0 && of_copper i)
+  copper_none a = judges_none a (map seen xs) (λ i. ltb i 0 && of_copper i) (none_below of_copper)
+
+  -- and the next, which is copper
+  pub copper_taken : (a b c : CheckView) (k layer : ℕ) (x : X) (s : FileView) → k < length xs → x ≡ get_or xs k x → is_copper (seen x).role ≡ true → s ≡ seen x → layer ≡ layer_number (map seen xs) k
+      → JudgesThose a b (map seen xs) (λ i. ltb i k && of_copper i) → TakesCopper b c k layer s → JudgesThose a c (map seen xs) (λ i. ltb i (k + 1) && of_copper i)
+  copper_taken a b c k layer x s lt is copper same number so_far takes =
+      let at = source_at k x lt is in
+      judges_then a b c (map seen xs) (λ i. ltb i k && of_copper i) (λ i. eqb i k) (λ i. ltb i (k + 1) && of_copper i) (one_more of_copper k (ap (is_kind_of true) at ∙ copper)) so_far
+      (takes (map seen xs) (at ∙ ap (λ (y : FileView). Some y) (sym same)) number)
+
+  -- or is not copper
+  pub copper_left : (a b : CheckView) (k : ℕ) (x : X) → k < length xs → x ≡ get_or xs k x → is_copper (seen x).role ≡ false
+      → JudgesThose a b (map seen xs) (λ i. ltb i k && of_copper i) → JudgesThose a b (map seen xs) (λ i. ltb i (k + 1) && of_copper i)
+  copper_left a b k x lt is drill so_far =
+      judges_same a b (map seen xs) (λ i. ltb i k && of_copper i) (λ i. ltb i (k + 1) && of_copper i) (none_more of_copper k (ap (is_kind_of true) (source_at k x lt is) ∙ drill)) so_far
+
+  -- all of them
+  pub copper_all : (a b : CheckView) (k : ℕ) → length xs ≤ k → JudgesThose a b (map seen xs) (λ i. ltb i k && of_copper i) → JudgesThose a b (map seen xs) of_copper
+  copper_all a b k le so_far =
+      judges_same a b (map seen xs) (λ i. ltb i k && of_copper i) of_copper (all_below of_copper k (λ i past. no_kind_past true (map seen xs) i (omega (arith, length-map xs seen, le, past)))) so_far
+
+  -- the number of the next layer after a copper file
+  pub number_taken : (k : ℕ) (x : X) → k < length xs → x ≡ get_or xs k x → is_copper (seen x).role ≡ true → layer_number (map seen xs) (k + 1) ≡ layer_number (map seen xs) k + 1
+  number_taken k x lt is copper =
+      count_by_more_yes (λ (s : FileView). is_copper s.role) (map seen xs) k (seen x) (omega (arith, length-map xs seen, lt))
+      (ap (λ (s : FileView). is_copper s.role) (get_or-map seen xs k x (seen x) lt ∙ ap seen (sym is)) ∙ copper)
+
+  -- and after a drill file
+  pub number_left : (k : ℕ) (x : X) → k < length xs → x ≡ get_or xs k x → is_copper (seen x).role ≡ false → layer_number (map seen xs) (k + 1) ≡ layer_number (map seen xs) k
+  number_left k x lt is drill =
+      count_by_more_no (λ (s : FileView). is_copper s.role) (map seen xs) k (seen x) (omega (arith, length-map xs seen, lt))
+      (ap (λ (s : FileView). is_copper s.role) (get_or-map seen xs k x (seen x) lt ∙ ap seen (sym is)) ∙ drill)
+
+-- a check has taken all files, where the test is true of each
+pub judged_all : (check : CheckView) (sources : List FileView) (rules : GridRules) (p : ℕ → Bool) → ((i : ℕ) → i < length sources → p i ≡ true) → HasJudged check sources rules p → HasJudgedAll check sources rules
+judged_all check sources rules p all h = record {
+  same_rules = h.same_rules;
+  holds = all_held (IsJudgedOf check.rules check.holes sources) check.slots check.stopped sources p all h.holds;
+  drilled = h.drilled;
+}
+
+-- the drill files, and then the copper files, are all files
+pub all_taken : (a b : CheckView) (sources : List FileView) (rules : GridRules) → HasJudged a sources rules (is_kind_at false sources) → JudgesThose a b sources (is_kind_at true sources) → HasJudgedAll b sources rules
+all_taken a b sources rules h copper =
+    judged_all b sources rules (λ i. is_kind_at false sources i || is_kind_at true sources i) (either_kind sources) (copper rules (is_kind_at false sources) h)

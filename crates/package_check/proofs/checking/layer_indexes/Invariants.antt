@@ -1,0 +1,7 @@
+use Rattle.std.proofs.Common.{◌≡◌, take}
+use Rattle.std.specs.List.{enumerate_from, flat_map}
+use Rattle.package_check.specs.Inner.Leftovers.{index_in}
+use Rattle.package_check.proofs.checking.layer_indexes.Given as goal
+
+abbrev pub invariant-loop-index : goal.invariant-loop-index
+invariant-loop-index l = l.indexes.items ≡ flat_map index_in (take l.index (enumerate_from 0 l.files))

@@ -1,0 +1,33 @@
+-- What contracts see of the check of a package.
+use Rattle.std.specs.Prelude.{ℕ, Bool, true, false, List, Option, None, Some}
+use Rattle.grid_units.specs.Holes.{GridRules}
+use Rattle.ring_rules.specs.declared.finding.Drilled.{Drilled}
+use Rattle.package_check.specs.Boards.{hole_count}
+use Rattle.package_check.specs.declared.FileSum.{FileSum}
+use Rattle.package_check.specs.declared.FileSum.TheVariants as sum
+use Rattle.package_check.specs.declared.PackageFault.{PackageFault}
+use Rattle.package_check.specs.declared.judged.Judged.{Judged}
+
+-- a check: how many copper files the package has, the holes of all drill files, the rules, what is left of each file in the slot at its index, and
+-- where it stopped
+pub record CheckView : Type 0 where
+  pub layers : ℕ
+  pub holes : List Drilled
+  pub rules : GridRules
+  pub slots : List (Option Judged)
+  pub stopped : Option PackageFault
+
+-- whether these are the counts of a drill file
+abbrev pub is_drill_sum : FileSum → Bool
+is_drill_sum (sum.Layer pads other) = false
+is_drill_sum (sum.Drill plated span round slots) = true
+
+-- whether a drill file has a slot
+abbrev pub is_drill_in : Option Judged → Bool
+is_drill_in None = false
+is_drill_in (Some one) = is_drill_sum one.sum
+
+-- how many holes the file in a slot has
+abbrev pub holes_in_slot : Option Judged → ℕ
+holes_in_slot None = 0
+holes_in_slot (Some one) = hole_count one.sum

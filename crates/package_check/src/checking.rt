@@ -1,0 +1,321 @@
+//! The check of a package whose drill files are read before its copper files.
+
+ghost use Rattle.std.specs.Prelude.{◌≡◌, ◌++◌, ◌∷◌, ℕ, List, [], Err, IfOk, Ok, OnErr, OnOk, Result, Some, alloc_error, false, length, map};
+ghost use Rattle.std.specs.List.{concat, flat_map, sum_by};
+ghost use Rattle.grid_units.specs.Holes.{GridRules};
+ghost use Rattle.grid_units.specs.Results.{Answers};
+ghost use Rattle.grid_units.specs.declared.fault.Fault.{Fault as TheFault};
+ghost use Rattle.layer_image.specs.declared.keep.Keep.{Keep as TheKeep};
+ghost use Rattle.manifest.specs.declared.Role.TheVariants as role;
+ghost use Rattle.package_check.specs.CheckViews.{holes_in_slot, is_drill_in};
+ghost use Rattle.package_check.specs.Checking.{HasJudged, HasJudgedAll, TakesCopper};
+ghost use Rattle.package_check.specs.Holding.{HasTaken, ReadsInto, copper_files, is_kind_at, kept_at};
+ghost use Rattle.package_check.specs.Inner.Leftovers.{count_in, holes_in, layer_indexes_in, left_in, left_report, rings_in, sums_in};
+ghost use Rattle.package_check.specs.Judging.{Judges};
+ghost use Rattle.package_check.specs.Package.{FileView, IsAnswer, NamesItsPlaces, ReturnsExactly, ReturnsReport, unnamed_file};
+ghost use Rattle.package_check.specs.Reports.{ReportView};
+ghost use Rattle.package_check.specs.Soundness.{IsSound};
+ghost use Rattle.package_check.specs.SoundnessAsRead.{AreLegal};
+ghost use Rattle.package_check.specs.declared.PackageFault.TheVariants as stop;
+ghost use Rattle.package_check.specs.declared.judged.Judged.{Judged as TheJudged};
+
+use crate::board::{push_holes, sum_of};
+use crate::contents::{Content, bad_span};
+use crate::indexed_holes::IndexedHoles;
+use crate::judged::Judged;
+use crate::laws::{findings_name_their_places, passing_is_sound, unique_answer, unique_reading};
+use crate::lists::push;
+use crate::package_reader::{is_wanted, next_stop, outcome};
+use crate::report::report_of;
+use crate::slots::{Kept, put};
+use crate::{FileSum, PackageFault, PackageReader, Report};
+use grid_units::{Fail, Rules};
+use ring_rules::{Drilled, Finding, Span};
+use std::alloc::{AllocError, Global};
+use std::marker::Model;
+
+/// The check of a package whose drill files were taken. It takes the copper files in any order, looks for the rings that are lacking on
+/// each as it is read, and keeps no pads. After a file that is refused it reads only those before it.
+#[derive(Drop)]
+pub struct PackageCheck {
+    alloc: Global,
+    layers: usize,
+    holes: IndexedHoles,
+    slots: Vec<Option<Judged>>,
+    /// The first file that is refused so far, or that memory ran out.
+    stopped: Option<PackageFault>,
+}
+
+impl Model for PackageCheck {
+    ghost use Rattle.std.specs.Prelude.{◌≡◌, length};
+    ghost use Rattle.std.specs.List.{sum_by};
+    ghost use Rattle.package_check.specs.CheckViews.{CheckView, holes_in_slot};
+
+    ghost Value = { CheckView };
+
+    ghost view = { λ c. record { layers = c.layers; holes = c.holes.holes; rules = c.holes.rules; slots = c.slots.items; stopped = c.stopped } };
+
+    ghost invariant = { λ c. sum_by holes_in_slot c.slots.items ≡ length c.holes.holes };
+}
+
+/// How many holes the drill files have together, to reserve their list at once.
+fn hole_total(slots: &[Option<Kept>]) -> usize {
+    let mut total: usize = 0;
+    for slot in slots {
+        if let Some(kept) = slot {
+            if let Content::Drill { drill, .. } = &kept.content {
+                total = total.saturating_add(drill.holes().len());
+            }
+        }
+    }
+    total
+}
+
+/// Appends what is left of the drill file in a slot, and its holes.
+fn add_drill(
+    alloc: Global,
+    slot: &Option<Kept>,
+    holes: &mut Vec<Drilled>,
+    slots: &mut Vec<Option<Judged>>,
+) -> Result<(), AllocError>
+    ensures holes { OnOk result (holes.new.items ≡ holes.old.items ++ holes_in slot.now) }
+    ensures slots { OnOk result (map left_in slots.new.items ≡ map left_in slots.old.items ++ count_in slot.now ∷ []) }
+{
+    match slot {
+        Some(kept) => {
+            push_holes(holes, &kept.content)?;
+            let sum = sum_of(&kept.content);
+            let rings = Vec::new(alloc);
+            push(slots, Some(Judged { sum, rings }))
+        }
+        None => push(slots, None),
+    }
+}
+
+/// Appends what is left of the drill files in the slots, and their holes. Each file's own list of holes is freed once it is appended.
+fn add_drills(
+    alloc: Global,
+    kept: Vec<Option<Kept>>,
+    holes: &mut Vec<Drilled>,
+    slots: &mut Vec<Option<Judged>>,
+) -> Result<(), AllocError>
+    ensures holes { OnOk result (holes.new.items ≡ holes.old.items ++ flat_map holes_in kept.items) }
+    ensures slots { OnOk result (map left_in slots.new.items ≡ map left_in slots.old.items ++ map count_in kept.items) }
+{
+    for slot in kept {
+        add_drill(alloc, &slot, holes, slots)?;
+    }
+    Ok(())
+}
+
+impl PackageReader {
+    /// Goes on to the copper files, where all drill files of the package were taken and no copper file was.
+    ///
+    /// # Errors
+    ///
+    /// `Memory` where there is no memory.
+    pub fn checking(self, rules: Rules) -> Result<PackageCheck, AllocError>
+        ensures stands { IfOk result (λ check. (keep : TheKeep) (sources : List FileView) → HasTaken self keep sources (is_kind_at false sources) → HasJudged check sources rules (is_kind_at false sources)) }
+        ensures layers { IfOk result (λ check. check.layers ≡ copper_files self) }
+    {
+        let PackageReader {
+            alloc,
+            layers,
+            slots: kept,
+            stopped,
+            ..
+        } = self;
+        let mut drilled = Vec::with_capacity(alloc, hole_total(&kept))?;
+        let mut slots = Vec::with_capacity(alloc, kept.len())?;
+        add_drills(alloc, kept, &mut drilled, &mut slots)?;
+        let holes = IndexedHoles::new(alloc, drilled, rules)?;
+        Ok(PackageCheck {
+            alloc,
+            layers,
+            holes,
+            slots,
+            stopped,
+        })
+    }
+}
+
+/// Whether the slot at this index is that of a drill file.
+fn has_drill(slots: &[Option<Judged>], index: usize) -> bool
+    ensures { result ≡ is_drill_in (kept_at {X = TheJudged} slots.now index) }
+{
+    match slots.get(index) {
+        Some(Some(one)) => matches!(one.sum, FileSum::Drill { .. }),
+        Some(None) | None => false,
+    }
+}
+
+/// What is left of the copper file whose text comes in these pieces, or its fault.
+fn judge_file(
+    alloc: Global,
+    holes: &IndexedHoles,
+    layer: usize,
+    span: Option<Span>,
+    pieces: &[&[u8]],
+) -> Result<Judged, Fail>
+    ensures { (layers : ℕ) → Answers (λ x. x) (Judges holes.now.rules holes.now.holes layer (unnamed_file role.Copper span layers (concat (map (λ piece. piece.now) pieces.now)))) result }
+{
+    match span {
+        Some(_) => Err(bad_span()),
+        None => holes.judge_copper(alloc, layer, pieces),
+    }
+}
+
+impl PackageCheck {
+    /// Takes the copper file at this index of the package, from 0, whose layer has this number among the copper files, from 0.
+    ///
+    /// # Errors
+    ///
+    /// An `AllocError` where there is no memory. A check that has failed so fails again.
+    pub fn take(
+        &mut self,
+        index: usize,
+        layer: usize,
+        span: Option<Span>,
+        pieces: &[&[u8]],
+    ) -> Result<(), AllocError>
+        ensures stands { (name : List ℕ) → OnOk result (TakesCopper self.old self.new index layer (record {
+          role = role.Copper;
+          name = name;
+          span = span;
+          bytes = concat (map (λ piece. piece.now) pieces.now);
+          layers = self.old.layers;
+        })) }
+        ensures layers { self.new.layers ≡ self.old.layers }
+        ensures failed { self.old.stopped ≡ Some stop.Memory → result ≡ Err alloc_error }
+        ensures fails { OnErr result (self.new.stopped ≡ Some stop.Memory) }
+    {
+        if !is_wanted(self.stopped, index) {
+            return outcome(self.stopped);
+        }
+        let read = self.read_at(index, layer, span, pieces);
+        self.stopped = next_stop(self.stopped, index, read);
+        outcome(self.stopped)
+    }
+
+    /// Reads the copper file at this index, looks for the rings that are lacking on its layer, and puts what is left of it into its
+    /// slot, unless a drill file was taken at this index.
+    fn read_at(
+        &mut self,
+        index: usize,
+        layer: usize,
+        span: Option<Span>,
+        pieces: &[&[u8]],
+    ) -> Result<(), Fail>
+        ensures read { is_drill_in (kept_at self.old.slots index) ≡ false → ReadsInto (λ one. Judges self.old.rules self.old.holes layer (unnamed_file role.Copper span self.old.layers (concat (map (λ piece. piece.now) pieces.now))) (Ok one)) index (unnamed_file role.Copper span self.old.layers (concat (map (λ piece. piece.now) pieces.now))) self.old.slots self.new.slots result }
+        ensures layers { self.new.layers ≡ self.old.layers }
+        ensures holes { self.new.holes ≡ self.old.holes }
+        ensures rules { self.new.rules ≡ self.old.rules }
+        ensures stopped { self.new.stopped ≡ self.old.stopped }
+    {
+        let judged = judge_file(self.alloc, &self.holes, layer, span, pieces)?;
+        if has_drill(&self.slots, index) {
+            return Ok(());
+        }
+        put(&mut self.slots, index, judged)?;
+        Ok(())
+    }
+
+    /// The report on the files that were taken, in the order of their indexes, as that of [`crate::check_bytes`].
+    ///
+    /// # Errors
+    ///
+    /// The first file that is refused, by its index, with its fault; `Memory` where there is no memory.
+    pub fn finish(self) -> Result<Report, PackageFault>
+        ensures exact { (sources : List FileView) (rules : GridRules) → HasJudgedAll self sources rules → ReturnsReport sources rules result }
+        ensures only { (sources : List FileView) (rules : GridRules) (answer : Result ReportView (ℕ × TheFault)) → HasJudgedAll self sources rules → IsAnswer sources rules answer → ReturnsExactly answer result }
+        ensures places { (sources : List FileView) (rules : GridRules) → HasJudgedAll self sources rules → IfOk result NamesItsPlaces }
+        ensures legal { (sources : List FileView) (rules : GridRules) → HasJudgedAll self sources rules → IfOk result (λ report. AreLegal sources) }
+        ensures sound { (sources : List FileView) (rules : GridRules) → HasJudgedAll self sources rules → IfOk result (λ report. report.findings ≡ [] → IsSound sources rules) }
+        ensures failed { self.stopped ≡ Some stop.Memory → result ≡ Err stop.Memory }
+    {
+        unique_answer();
+        findings_name_their_places();
+        passing_is_sound();
+        self.answer()
+    }
+
+    fn answer(self) -> Result<Report, PackageFault>
+        ensures exact { (sources : List FileView) (rules : GridRules) → HasJudgedAll self sources rules → ReturnsReport sources rules result }
+        ensures failed { self.stopped ≡ Some stop.Memory → result ≡ Err stop.Memory }
+    {
+        unique_reading();
+        match self.stopped {
+            Some(fault) => Err(fault),
+            None => match report_on_slots(self.alloc, self.holes, self.slots) {
+                Ok(report) => Ok(report),
+                Err(_) => Err(PackageFault::Memory),
+            },
+        }
+    }
+}
+
+/// Moves what is left of the file in a slot to the lists of counts and of findings.
+fn add_left(
+    files: &mut Vec<FileSum>,
+    findings: &mut Vec<Finding>,
+    slot: Option<Judged>,
+) -> Result<(), AllocError>
+    ensures files { OnOk result (files.new.items ≡ files.old.items ++ sums_in slot) }
+    ensures findings { OnOk result (findings.new.items ≡ findings.old.items ++ rings_in slot) }
+{
+    match slot {
+        Some(one) => {
+            push(files, one.sum)?;
+            findings.extend_from_slice(&one.rings)
+        }
+        None => Ok(()),
+    }
+}
+
+/// Moves what is left of the files in the slots to the lists of counts and of findings, slot by slot.
+fn add_all_left(
+    files: &mut Vec<FileSum>,
+    findings: &mut Vec<Finding>,
+    slots: Vec<Option<Judged>>,
+) -> Result<(), AllocError>
+    ensures files { OnOk result (files.new.items ≡ files.old.items ++ flat_map sums_in slots.items) }
+    ensures findings { OnOk result (findings.new.items ≡ findings.old.items ++ flat_map rings_in slots.items) }
+{
+    for slot in slots {
+        add_left(files, findings, slot)?;
+    }
+    Ok(())
+}
+
+/// The index of each copper file among all files, from 0, by the counts of the files.
+fn layer_indexes(alloc: Global, files: &[FileSum]) -> Result<Vec<usize>, AllocError>
+    ensures { IfOk result (λ indexes. indexes.items ≡ layer_indexes_in files.now) }
+{
+    let mut indexes = Vec::new(alloc);
+    for (index, file) in files.iter().enumerate() {
+        if let FileSum::Layer { .. } = file {
+            indexes.push(index)?;
+        }
+    }
+    Ok(indexes)
+}
+
+/// The report on the files in the slots: their counts, the findings of rings layer by layer, and then those of gaps.
+#[tactic(auto, using(crate::proofs::JudgedLayers::sums_counted))]
+fn report_on_slots(
+    alloc: Global,
+    holes: IndexedHoles,
+    slots: Vec<Option<Judged>>,
+) -> Result<Report, AllocError>
+    requires { sum_by holes_in_slot slots.items ≡ length holes.holes }
+    ensures { IfOk result (λ report. report ≡ left_report holes.rules holes.holes slots.items) }
+{
+    let mut files = Vec::with_capacity(alloc, slots.len())?;
+    let mut findings = Vec::new(alloc);
+    add_all_left(&mut files, &mut findings, slots)?;
+    let gaps = holes.gap_findings(alloc)?;
+    findings.extend_from_slice(&gaps)?;
+    let layers = layer_indexes(alloc, &files)?;
+    let rules = holes.rules();
+    report_of(alloc, rules, files, layers, holes.into_holes(), findings)
+}

@@ -1,0 +1,8 @@
+use Rattle.std.proofs.Common.{append_assoc}
+use Rattle.std.proofs.Output.{has_written_of_eq}
+use Rattle.json.specs.Print.{escape_byte}
+use Rattle.print_json.proofs.refused.write_refused_manifest.Goals as goal
+
+pub returns : goal.returns
+unfolding escape_byte
+returns g c = λ plain ok. has_written_of_eq _ _ _ _ _ (simp (c.name.ensures, append_assoc)) (c.write.ensures.writes plain ok)

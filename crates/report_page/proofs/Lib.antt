@@ -1,0 +1,3 @@
+pub mod MarkerLemmas
+pub mod NumberLemmas
+pub mod RowLemmas

@@ -1,0 +1,41 @@
+-- One more row of the table.
+use Rattle.std.proofs.Common.{◌≡◌, ◌<◌, ◌+◌, ◌++◌, ℕ, List, [], ◌∷◌, Option, length, take, get_or, refl, ap, ◌∙◌, arith}
+use Rattle.std.specs.Prelude.{◌-◌}
+use Rattle.std.specs.Borrow.{Bor}
+use Rattle.std.specs.List.{enumerate_from, flat_map}
+use Rattle.std.proofs.lemmas.List.{append-nil}
+use Rattle.std.proofs.lemmas.List.Concat.{flat_map-append, flat_map-cons}
+use Rattle.grid_units.specs.Holes.{GridRules}
+use Rattle.report.specs.Acceptances.{acceptance_at}
+use Rattle.report.specs.declared.GapLack.{GapLack}
+use Rattle.report.specs.declared.LayerHead.{LayerHead}
+use Rattle.report.specs.declared.RingLack.{RingLack}
+use Rattle.print_text.proofs.Showing.{marks_more}
+use Rattle.print_text.specs.Texts.{number_of}
+use Rattle.report_page.specs.Pages.{gap_row, gap_rows, ring_row, ring_rows}
+
+-- what one more element gives, by its position
+pub texts_more : {X : Type 0} (f : ℕ × X → List ℕ) (n : ℕ) (xs : List X) (i : ℕ) (d : X) → i < length xs
+    → flat_map f (take (i + 1) (enumerate_from n xs)) ≡ flat_map f (take i (enumerate_from n xs)) ++ f (n + i, get_or xs i d)
+texts_more f n xs i d lt =
+    ap (flat_map f) (marks_more n xs i (n + i) d refl lt)
+    ∙ (flat_map-append f (take i (enumerate_from n xs)) ((n + i, get_or xs i d) ∷ [])
+    ∙ ap (λ (t : List ℕ). flat_map f (take i (enumerate_from n xs)) ++ t) (flat_map-cons f (n + i, get_or xs i d) [] ∙ append-nil (f (n + i, get_or xs i d))))
+
+-- the row of one more ring
+pub ring_added : (names : List (List ℕ)) (layers : List LayerHead) (rules : GridRules) (accepted : List (Option (Bor (List ℕ)))) (rings : List RingLack) (i : ℕ) (d : RingLack) → i < length rings
+    → ring_rows names layers rules accepted (take (i + 1) (enumerate_from 0 rings))
+    ≡ ring_rows names layers rules accepted (take i (enumerate_from 0 rings)) ++ ring_row names layers rules (number_of i) (get_or rings i d) (acceptance_at accepted i)
+ring_added names layers rules accepted rings i d lt =
+    let place : 0 + i ≡ i = omega arith in
+    texts_more (λ (finding : ℕ × RingLack). ring_row names layers rules (number_of finding.0) finding.1 (acceptance_at accepted finding.0)) 0 rings i d lt
+    ∙ ap (λ (j : ℕ). ring_rows names layers rules accepted (take i (enumerate_from 0 rings)) ++ ring_row names layers rules (number_of j) (get_or rings i d) (acceptance_at accepted j)) place
+
+-- the row of one more gap, after this many rings
+pub gap_added : (names : List (List ℕ)) (rules : GridRules) (accepted : List (Option (Bor (List ℕ)))) (first : ℕ) (gaps : List GapLack) (i : ℕ) (d : GapLack) → i < length gaps
+    → gap_rows names rules accepted first (take (i + 1) (enumerate_from first gaps))
+    ≡ gap_rows names rules accepted first (take i (enumerate_from first gaps)) ++ gap_row names rules (number_of (first + i)) (get_or gaps i d) (acceptance_at accepted i)
+gap_added names rules accepted first gaps i d lt =
+    let place : (first + i) - first ≡ i = omega arith in
+    texts_more (λ (finding : ℕ × GapLack). gap_row names rules (number_of finding.0) finding.1 (acceptance_at accepted (finding.0 - first))) first gaps i d lt
+    ∙ ap (λ (j : ℕ). gap_rows names rules accepted first (take i (enumerate_from first gaps)) ++ gap_row names rules (number_of (first + i)) (get_or gaps i d) (acceptance_at accepted j)) place

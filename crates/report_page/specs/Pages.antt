@@ -1,0 +1,206 @@
+-- The report as one page of HTML (docs/FORMATS.md, Page). Lengths are whole picometres, printed in millimetres.
+-- Positions count all findings of a report from 0: the rings first, then the gaps. Their numbers count them from 1.
+use Rattle.std.specs.Prelude.{◌≡◌, ◌<◌, ℕ, ℤ, pos, ◌+◌, ◌-◌, ◌*◌, ◌==◌, ◌++◌, List, [], length, get_or, map, codes, decimal, slice_get, Option, Some, None, if◌then◌else◌}
+use Rattle.std.specs.Borrow.{Bor}
+use Rattle.std.specs.List.{enumerate_from, flat_map}
+use Rattle.grid_units.specs.Holes.{GridHole, GridRules}
+use Rattle.printing.specs.Holes.{ends_words, name_of, two_lengths}
+use Rattle.printing.specs.Lengths.{short_millimetres}
+use Rattle.report.specs.Acceptances.{acceptance_at, waived_in}
+use Rattle.report.specs.declared.Acceptances.{Acceptances}
+use Rattle.report.specs.declared.BoardReport.{BoardReport}
+use Rattle.report.specs.declared.GapLack.{GapLack}
+use Rattle.report.specs.declared.LayerHead.{LayerHead}
+use Rattle.report.specs.declared.PlacedHole.{PlacedHole}
+use Rattle.report.specs.declared.RingCause.{RingCause}
+use Rattle.report.specs.declared.RingCause.TheVariants as causes
+use Rattle.report.specs.declared.RingLack.{RingLack}
+use Rattle.print_text.specs.Causes.{kind_of, kind_words}
+use Rattle.print_text.specs.Texts.{number_of, rule_words, waived_words}
+use Rattle.package_check.specs.Boards.{BoardView}
+use Rattle.picture.specs.Escapes.{escaped}
+use Rattle.drawing.specs.Drawings.{IsDrawn, declaration, number_of as file_number, svg_text}
+use Rattle.report_page.specs.declared.frame.TheConstants.{BEFORE_RULES, BEFORE_SCRIPT, BEFORE_STYLE, BODY, CAPTION, COLUMNS, END, FIGURE, HEAD, TOOLS}
+use Rattle.report_page.specs.declared.page.HtmlReport.{HtmlReport}
+use Rattle.report_page.specs.declared.script.TheConstants.{SCRIPT}
+use Rattle.report_page.specs.declared.style.TheConstants.{STYLE}
+
+-- ---- the verdict and the rules
+
+-- `PASS` without findings, `WAIVED` where each is waived, else `FINDINGS`
+abbrev pub verdict_word : ℕ → ℕ → List ℕ
+verdict_word findings waived = if findings == 0 then codes "PASS" else if waived == findings then codes "WAIVED" else codes "FINDINGS"
+
+-- the number of findings: `1 finding` or `6 findings`
+abbrev pub count_words : ℕ → List ℕ
+count_words findings = if findings == 1 then codes "1 finding" else decimal findings ++ codes " findings"
+
+-- the verdict, by the numbers of findings and of waived ones: `FINDINGS: 6 findings, 2 waived`
+abbrev pub verdict : ℕ → ℕ → List ℕ
+verdict findings waived = verdict_word findings waived ++ (codes ": " ++ (count_words findings ++ waived_words waived))
+
+-- the rules: `rules: annular ring 0.15 mm, hole to hole 0.25 mm`
+abbrev pub rules_words : ℤ → ℤ → List ℕ
+rules_words ring gap = rule_words (codes "rules: annular ring ") ring ++ rule_words (codes ", hole to hole ") gap
+
+-- ---- the buttons of the layers
+
+-- a button, by the number of its file and the file's name
+unfoldable pub button : ℕ → List ℕ → List ℕ
+button file name =
+    codes "<button type=\"button\" aria-pressed=\"true\" data-file=\"" ++ (decimal file ++ (codes "\">" ++ (name ++ codes "</button>\n")))
+
+-- the button of a layer: its panel in the picture has the same number
+abbrev pub layer_button : List (List ℕ) → LayerHead → List ℕ
+layer_button names head = button (file_number head.file) (escaped (name_of names head.file))
+
+-- ---- the cells of a row
+
+-- the name of the file of a layer, by the layer's place among the copper files; empty where there is no such layer
+abbrev pub layer_name : List (List ℕ) → Option LayerHead → List ℕ
+layer_name names None = []
+layer_name names (Some head) = name_of names head.file
+
+-- a hole by its number in its file, the file's name, and where it is: `hole 17 of board-PTH.drl at 15.001,13`
+unfoldable pub hole_at_words : ℕ → List ℕ → GridHole → List ℕ
+hole_at_words number name hole = codes "hole " ++ (decimal number ++ (codes " of " ++ (name ++ (codes " at " ++ ends_words hole))))
+
+-- a hole with its place in the package
+abbrev pub hole_words : List (List ℕ) → PlacedHole → List ℕ
+hole_words names at = hole_at_words at.place.number (escaped (name_of names at.place.drill)) at.hole
+
+-- the diameter of a hole
+abbrev pub diameter_words : GridHole → List ℕ
+diameter_words hole = short_millimetres (pos (2 * hole.radius))
+
+-- the ring that a hole has in its pad: a length, `no pad`, or `not judged`
+abbrev pub ring_words : RingCause → List ℕ
+ring_words (causes.TooSmall place) = short_millimetres place.ring
+ring_words (causes.OffCentre place) = short_millimetres place.ring
+ring_words (causes.Other why flash) = codes "not judged"
+ring_words causes.NoFlash = codes "no pad"
+ring_words causes.Oblique = codes "not judged"
+
+-- the flash that a cause names: `: flash 17`; nothing where it names none
+abbrev pub flash_words : RingCause → List ℕ
+flash_words (causes.TooSmall place) = codes ": flash " ++ decimal place.flash
+flash_words (causes.OffCentre place) = codes ": flash " ++ decimal place.flash
+flash_words (causes.Other why flash) = codes ": flash " ++ decimal flash
+flash_words causes.NoFlash = []
+flash_words causes.Oblique = []
+
+-- the cause, in the words of the text of a report, and its flash: `off centre: flash 17`
+abbrev pub cause_words : RingCause → List ℕ
+cause_words cause = kind_words (kind_of cause) ++ flash_words cause
+
+-- the reason why a finding is waived, if it is
+abbrev pub reason_words : Option (Bor (List ℕ)) → List ℕ
+reason_words None = []
+reason_words (Some why) = escaped why.now
+
+-- between two cells
+abbrev pub next_cell : List ℕ
+next_cell = codes "</td><td>"
+
+-- the start of a row: the number of the finding, with a link to its marker in the picture, and its kind
+unfoldable pub row_start : ℕ → List ℕ → List ℕ
+row_start number kind =
+    codes "<tr><th scope=\"row\"><a href=\"#f" ++ (decimal number ++ (codes "\">" ++ (decimal number ++ (codes "</a></th><td>" ++ (kind ++ codes "</td><td>")))))
+
+-- the last cells of a ring: the ring that there is, the rule, the cause and the reason why it is waived
+unfoldable pub ring_end : List ℕ → ℤ → List ℕ → List ℕ → List ℕ
+ring_end ring rule cause reason =
+    ring ++ (next_cell ++ (short_millimetres rule ++ (next_cell ++ (cause ++ (next_cell ++ (reason ++ codes "</td></tr>\n"))))))
+
+-- the last cells of a gap: the gap that there is, the rule, no cause, and the reason why it is waived
+unfoldable pub gap_end : ℤ → ℤ → List ℕ → List ℕ
+gap_end gap rule reason = two_lengths gap next_cell rule ++ (codes "</td><td></td><td>" ++ (reason ++ codes "</td></tr>\n"))
+
+-- the cells of a ring to its diameter: the layer, the hole and the diameter
+unfoldable pub ring_place : List ℕ → List ℕ → GridHole → List ℕ
+ring_place layer hole at = layer ++ (next_cell ++ (hole ++ (next_cell ++ (diameter_words at ++ next_cell))))
+
+-- the row of a hole that lacks its ring
+abbrev pub ring_row : List (List ℕ) → List LayerHead → GridRules → ℕ → RingLack → Option (Bor (List ℕ)) → List ℕ
+ring_row names layers rules number lack why =
+    row_start number (codes "annular ring")
+    ++ (ring_place (escaped (layer_name names (slice_get layers lack.layer))) (hole_words names lack.at) lack.at.hole
+    ++ ring_end (ring_words lack.cause) (pos rules.ring) (cause_words lack.cause) (reason_words why))
+
+-- the cells of a gap to the diameters: all layers, the two holes and their diameters
+unfoldable pub gap_place : List ℕ → List ℕ → GridHole → GridHole → List ℕ
+gap_place first second one other =
+    codes "all" ++ (next_cell ++ (first ++ (codes ", and " ++ (second ++ (next_cell ++ (diameter_words one ++ (codes ", " ++ (diameter_words other ++ next_cell))))))))
+
+-- the row of two holes that lack their gap
+abbrev pub gap_row : List (List ℕ) → GridRules → ℕ → GapLack → Option (Bor (List ℕ)) → List ℕ
+gap_row names rules number lack why =
+    row_start number (codes "hole to hole")
+    ++ (gap_place (hole_words names lack.first) (hole_words names lack.second) lack.first.hole lack.second.hole
+    ++ gap_end lack.gap (pos rules.gap) (reason_words why))
+
+-- ---- the table
+
+-- the rows of some rings with their positions
+abbrev pub ring_rows : List (List ℕ) → List LayerHead → GridRules → List (Option (Bor (List ℕ))) → List (ℕ × RingLack) → List ℕ
+ring_rows names layers rules accepted findings =
+    flat_map (λ finding. ring_row names layers rules (number_of finding.0) finding.1 (acceptance_at accepted finding.0)) findings
+
+-- the rows of some gaps with their positions, which come after those of this many rings
+abbrev pub gap_rows : List (List ℕ) → GridRules → List (Option (Bor (List ℕ))) → ℕ → List (ℕ × GapLack) → List ℕ
+gap_rows names rules accepted rings findings =
+    flat_map (λ finding. gap_row names rules (number_of finding.0) finding.1 (acceptance_at accepted (finding.0 - rings))) findings
+
+-- the rows of a report: one for each finding, in order
+abbrev pub table_rows : List (List ℕ) → BoardReport → List (Option (Bor (List ℕ))) → List (Option (Bor (List ℕ))) → List ℕ
+table_rows names report rings gaps =
+    ring_rows names report.layers.items report.rules rings (enumerate_from 0 report.rings.items)
+    ++ gap_rows names report.rules gaps (length report.rings.items) (enumerate_from (length report.rings.items) report.gaps.items)
+
+-- the numbers of the rows, in their order
+abbrev pub row_numbers : BoardReport → List ℕ
+row_numbers report =
+    map (λ finding. number_of finding.0) (enumerate_from 0 report.rings.items)
+    ++ map (λ finding. number_of finding.0) (enumerate_from (length report.rings.items) report.gaps.items)
+
+-- there is a row for each finding, and the one at a position, from 0, has the number after it
+pub record NumbersEachOnce (report : BoardReport) : Type 0 where
+  pub all : length (row_numbers report) ≡ length report.rings.items + length report.gaps.items
+  pub at : (i d : ℕ) → i < length (row_numbers report) → get_or (row_numbers report) i d ≡ i + 1
+
+-- ---- the page
+
+-- the number of findings
+abbrev pub finding_count : BoardReport → ℕ
+finding_count report = length report.rings.items + length report.gaps.items
+
+-- the head of a page: its title, its style, the verdict and the rules
+abbrev pub head_text : GridRules → ℕ → ℕ → List ℕ
+head_text rules findings waived =
+    (HEAD.now ++ (verdict findings waived ++ (BEFORE_STYLE.now ++ (STYLE.now ++ BODY.now))))
+    ++ (verdict findings waived ++ (BEFORE_RULES.now ++ rules_words (pos rules.ring) (pos rules.gap)))
+
+-- the picture: the buttons of the layers, and the element `svg` of the drawing
+abbrev pub picture_text : List (List ℕ) → List LayerHead → List ℕ → List ℕ
+picture_text names layers svg = TOOLS.now ++ (flat_map (layer_button names) layers ++ (FIGURE.now ++ svg))
+
+-- the table, and the script that the page ends with
+abbrev pub table_text : List (List ℕ) → BoardReport → List (Option (Bor (List ℕ))) → List (Option (Bor (List ℕ))) → List ℕ
+table_text names report rings gaps =
+    CAPTION.now ++ (count_words (finding_count report) ++ (COLUMNS.now ++ (table_rows names report rings gaps ++ (BEFORE_SCRIPT.now ++ (SCRIPT.now ++ END.now)))))
+
+-- the text of a page, by the element `svg` of its drawing; `names` are those of the package's files
+abbrev pub html_text : List (List ℕ) → BoardReport → Acceptances → List ℕ → List ℕ
+html_text names report accepted svg =
+    head_text report.rules (finding_count report) (waived_in report accepted.rings.now accepted.gaps.now)
+    ++ (picture_text names report.layers.items svg ++ table_text names report accepted.rings.now accepted.gaps.now)
+
+-- what a page prints
+abbrev pub page_text : HtmlReport → List ℕ
+page_text page = html_text (map (λ name. name.now) page.names.now) page.report.now page.accepted.now (svg_text page.drawing)
+
+-- a text is the page of a report, with the drawing of a board under the rules of the report
+pub record IsHtmlPage (names : List (List ℕ)) (board : BoardView) (report : BoardReport) (accepted : Acceptances) (text : List ℕ) : Type 0 where
+  pub svg : List ℕ
+  pub drawn : IsDrawn names board (Some report.rules) (declaration ++ svg)
+  pub is : text ≡ html_text names report accepted svg

@@ -1,0 +1,194 @@
+//! The cells of a row.
+
+ghost use Rattle.std.specs.Prelude.{◌≡◌, ◌*◌, pos, map, slice_get, Some};
+ghost use Rattle.std.specs.Fmt.{DisplaysOnOk};
+ghost use Rattle.printing.specs.Holes.{ends_words, point_words};
+ghost use Rattle.print_text.specs.Causes.{kind_of, kind_words};
+ghost use Rattle.report_page.specs.Pages.{cause_words, diameter_words, flash_words, hole_words, layer_name, reason_words, ring_words, row_start};
+
+use grid_units::{Hole, Point};
+use layer_image::Why;
+use picture::Escaped;
+use printing::{ShortMillimetres, name_of};
+use report::{LayerHead, PlacedHole, RingCause};
+use std::fmt;
+use std::fmt::{Display, Formatter};
+
+/// The start of a row: the number of the finding, with a link to its marker in the picture, and its kind.
+#[derive(Clone, Copy)]
+pub(crate) struct RowStart<'a> {
+    /// The number of the finding, from 1.
+    pub(crate) number: u128,
+    pub(crate) kind: &'a str,
+}
+
+impl Display for RowStart<'_> {
+    ghost output = { λ row. Some (row_start row.number row.kind.now) };
+
+    #[tactic(auto, unfolding(crate::specs::Pages::row_start))]
+    fn fmt<W: fmt::Write>(&self, f: &mut Formatter<W>) -> fmt::Result {
+        let (number, kind) = (self.number, self.kind);
+        write!(
+            f,
+            "<tr><th scope=\"row\"><a href=\"#f{number}\">{number}</a></th><td>{kind}</td><td>"
+        )
+    }
+}
+
+/// The name of the file of a layer, by the layer's place among the copper files; empty where there is no such layer.
+pub(crate) fn layer_name<'a>(names: &[&'a str], layers: &[LayerHead], layer: usize) -> &'a str
+    ensures { result.now ≡ layer_name (map (λ name. name.now) names.now) (slice_get layers.now layer) }
+{
+    match layers.get(layer) {
+        Some(head) => name_of(names, head.file),
+        None => "",
+    }
+}
+
+/// A point: `142.24,-97.79`.
+#[derive(Clone, Copy)]
+struct PointWords(Point);
+
+impl Display for PointWords {
+    ghost output = { λ words. Some (point_words words.0) };
+
+    #[tactic(auto, unfolding(printing::specs::Holes::two_lengths))]
+    fn fmt<W: fmt::Write>(&self, f: &mut Formatter<W>) -> fmt::Result {
+        let (x, y) = (ShortMillimetres(self.0.x()), ShortMillimetres(self.0.y()));
+        write!(f, "{x},{y}")
+    }
+}
+
+/// The centre of a round hole, or both ends of a slot: `0,0 to 2,0`.
+#[derive(Clone, Copy)]
+struct EndsWords<'a>(&'a Hole);
+
+impl Display for EndsWords<'_> {
+    ghost output = { λ words. Some (ends_words words.0.now) };
+
+    fn fmt<W: fmt::Write>(&self, f: &mut Formatter<W>) -> fmt::Result {
+        let (from, to) = (PointWords(self.0.from()), PointWords(self.0.to()));
+        if self.0.is_round() {
+            write!(f, "{from}")
+        } else {
+            write!(f, "{from} to {to}")
+        }
+    }
+}
+
+/// A hole with its place in the package: `hole 17 of board-PTH.drl at 15.001,13`.
+#[derive(Clone, Copy)]
+pub(crate) struct HoleWords<'a> {
+    /// The names of the files of the package.
+    pub(crate) names: &'a [&'a str],
+    pub(crate) at: &'a PlacedHole,
+}
+
+impl Display for HoleWords<'_> {
+    ghost output = { λ words. Some (hole_words (map (λ name. name.now) words.names.now) words.at.now) };
+
+    #[tactic(auto, unfolding(crate::specs::Pages::hole_at_words))]
+    fn fmt<W: fmt::Write>(&self, f: &mut Formatter<W>) -> fmt::Result {
+        let place = self.at.place;
+        let name = Escaped(name_of(self.names, place.drill));
+        let ends = EndsWords(&self.at.hole);
+        write!(f, "hole {} of {name} at {ends}", place.number)
+    }
+}
+
+/// The diameter of a hole in pm.
+fn diameter(hole: &Hole) -> i64
+    ensures { result ≡ pos (2 * hole.now.radius) }
+{
+    2 * hole.radius()
+}
+
+/// The diameter of a hole.
+#[derive(Clone, Copy)]
+pub(crate) struct DiameterWords<'a>(pub(crate) &'a Hole);
+
+impl Display for DiameterWords<'_> {
+    ghost output = { λ words. Some (diameter_words words.0.now) };
+
+    fn fmt<W: fmt::Write>(&self, f: &mut Formatter<W>) -> fmt::Result {
+        write!(f, "{}", ShortMillimetres(diameter(self.0)))
+    }
+}
+
+/// The ring that a hole has in its pad: a length, `no pad`, or `not judged`.
+#[derive(Clone, Copy)]
+pub(crate) struct RingWords<'a>(pub(crate) &'a RingCause);
+
+impl Display for RingWords<'_> {
+    ghost output = { λ words. Some (ring_words words.0.now) };
+
+    fn fmt<W: fmt::Write>(&self, f: &mut Formatter<W>) -> fmt::Result {
+        match self.0 {
+            RingCause::TooSmall(place) | RingCause::OffCentre(place) => {
+                write!(f, "{}", ShortMillimetres(place.ring))
+            }
+            RingCause::NoFlash => f.write_str("no pad"),
+            RingCause::Other { .. } | RingCause::Oblique => f.write_str("not judged"),
+        }
+    }
+}
+
+/// The words for a cause, as in the text of a report.
+fn cause_word(cause: &RingCause) -> &'static str
+    ensures { result.now ≡ kind_words (kind_of cause.now) }
+{
+    match cause {
+        RingCause::TooSmall(_) => "pad too small",
+        RingCause::OffCentre(_) => "off centre",
+        RingCause::Other { why, .. } => match why {
+            Why::Macro => "only a macro flash",
+            Why::Polygon => "only a polygon flash",
+            Why::Holed => "only a holed flash",
+            Why::Scaled => "only a scaled flash",
+            Why::Turned => "only a turned flash",
+        },
+        RingCause::NoFlash => "missing pad",
+        RingCause::Oblique => "oblique slot",
+    }
+}
+
+/// Writes the flash that a cause names, if it names one: `: flash 17`.
+fn write_flash<W: fmt::Write>(f: &mut Formatter<W>, cause: &RingCause) -> fmt::Result
+    ensures { DisplaysOnOk W.write_str_gives f.old result (Some (flash_words cause.now)) f.new }
+{
+    match cause {
+        RingCause::TooSmall(place) | RingCause::OffCentre(place) => {
+            write!(f, ": flash {}", place.flash)
+        }
+        RingCause::Other { flash, .. } => write!(f, ": flash {flash}"),
+        RingCause::NoFlash | RingCause::Oblique => Ok(()),
+    }
+}
+
+/// A cause, and the flash that it names: `off centre: flash 17`.
+#[derive(Clone, Copy)]
+pub(crate) struct CauseWords<'a>(pub(crate) &'a RingCause);
+
+impl Display for CauseWords<'_> {
+    ghost output = { λ words. Some (cause_words words.0.now) };
+
+    fn fmt<W: fmt::Write>(&self, f: &mut Formatter<W>) -> fmt::Result {
+        f.write_str(cause_word(self.0))?;
+        write_flash(f, self.0)
+    }
+}
+
+/// The reason why a finding is waived, if it is.
+#[derive(Clone, Copy)]
+pub(crate) struct ReasonWords<'a>(pub(crate) Option<&'a str>);
+
+impl Display for ReasonWords<'_> {
+    ghost output = { λ words. Some (reason_words words.0) };
+
+    fn fmt<W: fmt::Write>(&self, f: &mut Formatter<W>) -> fmt::Result {
+        match self.0 {
+            Some(why) => write!(f, "{}", Escaped(why)),
+            None => Ok(()),
+        }
+    }
+}

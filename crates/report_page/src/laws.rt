@@ -1,0 +1,23 @@
+//! What holds of all pages.
+
+ghost use Rattle.std.specs.Prelude.{ℕ};
+ghost use Rattle.report.specs.declared.BoardReport.{BoardReport};
+ghost use Rattle.report_page.specs.Markers.{EachRowHasItsMarker};
+ghost use Rattle.report_page.specs.Pages.{NumbersEachOnce};
+
+use package_check::laws::findings_name_their_places;
+use pad_shapes::Pad;
+use ring_rules::laws::findings_name_places;
+
+/// The numbers of the rows of a page are 1, 2, 3 and so on, to the number of the findings.
+pub fn each_number_once()
+    ensures { (report : BoardReport) → NumbersEachOnce report }
+{}
+
+/// On the page of the report on a package with a copper file, the picture has the marker to which the link of each row leads.
+pub fn each_row_has_its_marker()
+    ensures { EachRowHasItsMarker }
+{
+    findings_name_places::<Pad>();
+    findings_name_their_places();
+}

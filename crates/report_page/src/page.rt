@@ -1,0 +1,141 @@
+//! The page.
+
+ghost use Rattle.std.specs.Prelude.{◌≡◌, Some, map, IfOk};
+ghost use Rattle.std.specs.Fmt.{DisplaysOnOk};
+ghost use Rattle.drawing.specs.Drawings.{svg_text};
+ghost use Rattle.report_page.specs.Pages.{IsHtmlPage, finding_count, head_text, layer_button, page_text, picture_text, table_text};
+
+use crate::frame::{
+    BEFORE_RULES, BEFORE_SCRIPT, BEFORE_STYLE, BODY, CAPTION, COLUMNS, END, FIGURE, HEAD, TOOLS,
+};
+use crate::rows::Rows;
+use crate::script::SCRIPT;
+use crate::style::STYLE;
+use crate::verdict::{CountWords, RulesWords, Verdict};
+use drawing::{Drawing, Svg};
+use package_check::Board;
+use picture::Escaped;
+use printing::{Line, Lines, name_of};
+use report::{Acceptances, BoardReport, LayerHead, count_waived};
+use std::alloc::{AllocError, Global};
+use std::fmt;
+use std::fmt::{Display, Formatter};
+
+/// The names of the files of the package.
+#[derive(Clone, Copy)]
+struct FileNames<'a>(&'a [&'a str]);
+
+/// The button of a layer.
+impl Line<FileNames<'_>> for LayerHead {
+    ghost text = { λ names head. layer_button (map (λ name. name.now) names.0.now) head };
+
+    #[tactic(auto, unfolding(crate::specs::Pages::button))]
+    fn fmt_on<W: fmt::Write>(&self, page: &FileNames<'_>, f: &mut Formatter<W>) -> fmt::Result {
+        let name = Escaped(name_of(page.0, self.file));
+        let number = self.file.saturating_add(1);
+        write!(
+            f,
+            "<button type=\"button\" aria-pressed=\"true\" data-file=\"{number}\">{name}</button>\n"
+        )
+    }
+}
+
+/// The number of findings of a report.
+fn finding_count(report: &BoardReport) -> u128
+    ensures { result ≡ finding_count report.now }
+{
+    report.rings.len() as u128 + report.gaps.len() as u128
+}
+
+/// Writes the head of a page: its title, its style, the verdict and the rules.
+fn write_head<W: fmt::Write>(
+    f: &mut Formatter<W>,
+    report: &BoardReport,
+    verdict: &Verdict,
+) -> fmt::Result
+    ensures { DisplaysOnOk W.write_str_gives f.old result (Some (head_text report.now.rules verdict.now.findings verdict.now.waived)) f.new }
+{
+    write!(f, "{HEAD}{verdict}{BEFORE_STYLE}{STYLE}{BODY}")?;
+    write!(f, "{verdict}{BEFORE_RULES}{}", RulesWords(&report.rules))
+}
+
+/// Writes the picture: the buttons of the layers, and the drawing.
+fn write_picture<W: fmt::Write>(
+    f: &mut Formatter<W>,
+    names: &[&str],
+    layers: &[LayerHead],
+    drawing: &Drawing,
+) -> fmt::Result
+    ensures { DisplaysOnOk W.write_str_gives f.old result (Some (picture_text (map (λ name. name.now) names.now) layers.now (svg_text drawing.now))) f.new }
+{
+    let buttons = Lines {
+        page: &FileNames(names),
+        lines: layers,
+    };
+    write!(f, "{TOOLS}{buttons}{FIGURE}{}", Svg(drawing))
+}
+
+/// Writes the table, and the script.
+fn write_table<W: fmt::Write>(f: &mut Formatter<W>, rows: &Rows) -> fmt::Result
+    ensures { DisplaysOnOk W.write_str_gives f.old result (Some (table_text (map (λ name. name.now) rows.now.names.now) rows.now.report.now rows.now.accepted.now.rings.now rows.now.accepted.now.gaps.now)) f.new }
+{
+    let count = CountWords(finding_count(rows.report));
+    write!(f, "{CAPTION}{count}{COLUMNS}{rows}")?;
+    write!(f, "{BEFORE_SCRIPT}{SCRIPT}{END}")
+}
+
+/// A report as one page of HTML, which is what it prints: the verdict and the rules, the picture of the board with buttons for its layers,
+/// and a table with a row for each finding. The page loads nothing. Each row links to the marker of its finding, whose id is `f` and
+/// its number. Lengths are printed in millimetres.
+#[derive(Drop)]
+pub struct HtmlReport<'a> {
+    names: &'a [&'a str],
+    report: &'a BoardReport,
+    accepted: &'a Acceptances<'a>,
+    drawing: Drawing<'a>,
+}
+
+impl<'a> HtmlReport<'a> {
+    /// The page of a report on a board, with the reasons why findings are waived. `names` are those of the package's files. All memory is
+    /// taken here, for the drawing of the board under the rules of the report; printing takes none.
+    ///
+    /// # Errors
+    ///
+    /// An `AllocError` when memory runs out.
+    pub fn new(
+        alloc: Global,
+        names: &'a [&'a str],
+        board: &'a Board,
+        report: &'a BoardReport,
+        accepted: &'a Acceptances<'a>,
+    ) -> Result<HtmlReport<'a>, AllocError>
+        ensures { IfOk result (λ page. IsHtmlPage (map (λ name. name.now) names.now) board.now report.now accepted.now (page_text page)) }
+    {
+        let drawing = Drawing::new(alloc, names, board, Some(report.rules))?;
+        Ok(HtmlReport {
+            names,
+            report,
+            accepted,
+            drawing,
+        })
+    }
+}
+
+impl Display for HtmlReport<'_> {
+    ghost output = { λ page. Some (page_text page) };
+
+    fn fmt<W: fmt::Write>(&self, f: &mut Formatter<W>) -> fmt::Result {
+        let verdict = Verdict {
+            findings: finding_count(self.report),
+            waived: count_waived(self.report, self.accepted),
+        };
+        let rows = Rows {
+            names: self.names,
+            report: self.report,
+            accepted: self.accepted,
+        };
+        write_head(f, self.report, &verdict)?;
+        write_picture(f, self.names, &self.report.layers, &self.drawing)?;
+        write_table(f, &rows)
+    }
+}

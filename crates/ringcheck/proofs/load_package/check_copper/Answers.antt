@@ -1,0 +1,68 @@
+use Rattle.std.proofs.Common.{◌∙◌, ◌&&◌, ◌||◌, ◌+◌, ℕ, ap, arith, ltb, refl, subst, sym, true}
+use Rattle.std.proofs.lemmas.List.Sums.{count_by_more_no, count_by_more_yes}
+use Rattle.std.proofs.lemmas.Option.{slice_get_read}
+use Rattle.manifest.specs.declared.Entry.{Entry}
+use Rattle.package_check.specs.CheckViews.{CheckView}
+use Rattle.package_check.specs.Checking.{HasJudged}
+use Rattle.package_check.specs.Package.{is_copper}
+use Rattle.ringcheck.specs.Inner.Loading.{HasLoaded, LoadsCopperTo, is_kind_at, is_kind_of}
+use Rattle.ringcheck.proofs.LoadedFiles.{copper_loaded, kind_passed, none_yet}
+use Rattle.ringcheck.proofs.load_package.check_copper.Goals as goal
+use Rattle.ringcheck.proofs.load_package.check_copper.Goals.{then-is_copper+in_ok-halt+in_default, else-is_copper}
+
+pub loop-index-init : goal.loop-index-init
+loop-index-init g c = record {
+  keeps = λ n b. (λ h. h, λ h. h);
+  counted = omega arith;
+  layers = refl;
+  number = refl;
+  few = omega arith;
+  loaded = λ rules done layers new h. none_yet (g.L.Loader.has c.args.loader.now) c.args.entries.now true (λ files. HasJudged c.args.check.now files rules) done h;
+}
+
+pub loop-index-preserved : goal.loop-index-preserved
+loop-index-preserved g c =
+    let entries = c.args.entries.now in
+    let has = g.L.Loader.has c.args.loader.now in
+    let k = c.loop-index.index in
+    let entry = c.index-entries-index.result in
+    let inv = c.loop-index.invariant in
+    let few = inv.few in
+    let at = slice_get_read entries _ k entry refl c.loop-index-test.true c.index-entries-index.is in
+    elim c.if-is_copper.branch [
+      | then-is_copper+in_ok-halt+in_default w ↦
+          let one = w.in_ok-halt.ensures in
+          let copper = sym c.is_copper.ensures ∙ w.if-is_copper.true in
+          let (bytes, held, takes) = rw w.in_default.is at one.taken copper in
+          let layer_is = w.layer-is in
+          record {
+            keeps = λ n b. rw w.loader-is (λ h. (inv.keeps n b).0 ((one.keeps n b).0 h), λ h. (one.keeps n b).1 ((inv.keeps n b).1 h));
+            counted = rw w.loader-is (omega (arith, one.counts, inv.counted));
+            layers = ap (λ (v : CheckView). v.layers) w.check-is ∙ (one.layers ∙ inv.layers);
+            number = w.layer-is ∙ (ap (λ (n : ℕ). n + 1) inv.number ∙ sym (count_by_more_yes (λ (e : Entry). is_copper e.role) entries k entry c.loop-index-test.true (ap (λ (e : Entry). is_copper e.role) (sym c.index-entries-index.is) ∙ copper)));
+            few = omega (arith, few, layer_is);
+            loaded = λ rules done layers new h.
+                subst (λ (v : CheckView). HasLoaded has entries (λ files. HasJudged v files rules) (λ i. done i || (ltb i (k + 1) && is_kind_at true entries i))) (sym w.check-is)
+                (copper_loaded has entries rules c.loop-index.check w.check_file.new.check done k c.loop-index.layer entry at copper (inv.layers ∙ layers) (new k (ap (is_kind_of true) at ∙ copper)) inv.number
+                (bytes, ((inv.keeps entry.file bytes).0 held.0, held.1), takes) (inv.loaded rules done layers new h));
+          }
+      | else-is_copper w ↦
+          let drill = sym c.is_copper.ensures ∙ w.if-is_copper.false in
+          let layer_is = w.layer-is in
+          record {
+            keeps = λ n b. rw w.loader-is (inv.keeps n b);
+            counted = rw w.loader-is inv.counted;
+            layers = ap (λ (v : CheckView). v.layers) w.check-is ∙ inv.layers;
+            number = w.layer-is ∙ (inv.number ∙ sym (count_by_more_no (λ (e : Entry). is_copper e.role) entries k entry c.loop-index-test.true (ap (λ (e : Entry). is_copper e.role) (sym c.index-entries-index.is) ∙ drill)));
+            few = omega (arith, few, layer_is);
+            loaded = λ rules done layers new h.
+                subst (λ (v : CheckView). HasLoaded has entries (λ files. HasJudged v files rules) (λ i. done i || (ltb i (k + 1) && is_kind_at true entries i))) (sym w.check-is)
+                (kind_passed has entries true (λ files. HasJudged c.loop-index.check files rules) done k entry at drill (inv.loaded rules done layers new h));
+          }
+    ]
+
+pub returns-in-Some-clause-loaded : goal.returns-in-Some-clause-loaded
+returns-in-Some-clause-loaded g c =
+    let copper = sym c.is_copper.ensures ∙ c.if-is_copper.true in
+    let taken = rw c.in-Some.is at c.in_ok-halt.ensures.taken copper in
+    subst (λ (v : CheckView). LoadsCopperTo (g.L.Loader.has c.args.loader.now) c.args.entries.now c.args.check.now v c.loop-index.index) (sym taken.1) c.loop-index.invariant.loaded

@@ -1,0 +1,102 @@
+-- What is said below the line of a refusal, in words: which word or file, why, and what to write instead (docs/FORMATS.md, The program).
+use Rattle.std.specs.Prelude.{◌+◌, ◌++◌, ◌∷◌, ◌&&◌, [], ℕ, ℤ, Bool, true, not, is_ok, List, Option, Some, None, Result, Ok, Err, codes, decimal, if◌then◌else◌}
+use Rattle.std.specs.Str.{bytes_eq}
+use Rattle.grid_units.specs.Ascii as ascii
+use Rattle.grid_units.specs.declared.fault.Reason.{Reason}
+use Rattle.grid_units.specs.declared.fault.Reason.TheVariants as reasons
+use Rattle.print_json.specs.Packages.{device_value, manifest_device_value, waivers_device_value}
+use Rattle.print_json.specs.Values.{json_text}
+use Rattle.ringcheck_files.specs.Words.{sentence_line}
+use Rattle.ringcheck.specs.declared.refusals.RefusalStyle.{RefusalStyle}
+use Rattle.ringcheck.specs.declared.refusals.RefusalStyle.TheVariants as style
+use Rattle.ringcheck.specs.declared.refusals.Subject.{Subject}
+use Rattle.ringcheck.specs.declared.refusals.Subject.TheVariants as subject
+use Rattle.ringcheck.specs.ParsedWords.{parse_length, parse_limit, parse_rules}
+
+-- ---- words
+
+-- what a rule is, where a word is none for this reason
+abbrev pub rule_words : Reason → List ℕ
+rule_words reasons.TooFine = codes "a rule has at most eight decimals, as 0.125"
+rule_words reasons.TooFar = codes "a rule is millimetres, and at most 10000"
+rule_words other = codes "a rule is millimetres without a unit, as 0.127 (5 mil)"
+
+-- what is said of the value of an option that is no length: `--ring 5mil: a rule is millimetres without a unit, as 0.127 (5 mil)`
+abbrev pub length_sentence : List ℕ → List ℕ → Reason → List ℕ
+length_sentence option word why = option ++ (codes " " ++ (word ++ (codes ": " ++ rule_words why)))
+
+-- what is said of a ring and a gap that are lengths, but no rules
+abbrev pub both_sentence : List ℕ → List ℕ → List ℕ
+both_sentence ring gap = codes "--ring " ++ (ring ++ (codes " --gap " ++ (gap ++ codes ": the ring is 0 or more, and the gap is more than 0")))
+
+-- what is said of a length that an option names, or the other sentence where it is one
+abbrev pub sentence_of_length : List ℕ → List ℕ → Result ℤ Reason → List ℕ → List ℕ
+sentence_of_length option word (Ok length) other = other
+sentence_of_length option word (Err why) other = length_sentence option word why
+
+-- what is said of words that name no rules: of the ring, of the gap, or of both, in this order
+abbrev pub rules_sentence : List ℕ → List ℕ → List ℕ
+rules_sentence ring gap =
+    sentence_of_length (codes "--ring") ring (parse_length ring) (sentence_of_length (codes "--gap") gap (parse_length gap) (both_sentence ring gap))
+
+-- what is said of a word that is no number of findings
+abbrev pub count_sentence : Option (List ℕ) → List ℕ
+count_sentence None = codes "--max is one to nine digits, as 20"
+count_sentence (Some word) = codes "--max " ++ (word ++ codes ": a number of findings is one to nine digits, as 20")
+
+-- what is said of a word that is no format of a report: `--format is text, html, json or waivers, not sarif`
+abbrev pub report_format_sentence : Option (List ℕ) → List ℕ
+report_format_sentence None = codes "--format is text, html, json or waivers"
+report_format_sentence (Some word) = codes "--format is text, html, json or waivers, not " ++ word
+
+-- what is said of a word that is no format of a measure
+abbrev pub measure_format_sentence : Option (List ℕ) → List ℕ
+measure_format_sentence None = codes "--format is text or json"
+measure_format_sentence (Some word) = codes "--format is text or json, not " ++ word
+
+-- what is said of the words of a report that are refused, by the first of them that is
+abbrev pub report_sentence : List ℕ → List ℕ → Option (List ℕ) → Option (List ℕ) → List ℕ
+report_sentence ring gap limit form =
+    if not (is_ok (parse_rules ring gap)) then rules_sentence ring gap
+    else if not (is_ok (parse_limit limit)) then count_sentence limit else report_format_sentence form
+
+-- whether what is printed is for people who see it at once: not where the format is `html`, `json` or `waivers`, which go to a program or into a file
+abbrev pub is_for_people : Option (List ℕ) → Bool
+is_for_people None = true
+is_for_people (Some word) = not (bytes_eq word (codes "html")) && (not (bytes_eq word (codes "json")) && not (bytes_eq word (codes "waivers")))
+
+-- what stands below the line of a report whose words are refused
+abbrev pub below_report : List ℕ → List ℕ → Option (List ℕ) → Option (List ℕ) → List ℕ
+below_report ring gap limit form = if is_for_people form then sentence_line (report_sentence ring gap limit form) else []
+
+-- what stands below the line of a measure whose format is refused
+abbrev pub below_measure : Option (List ℕ) → List ℕ
+below_measure form = sentence_line (measure_format_sentence form)
+
+-- ---- what cannot be read
+
+-- the line of something that cannot be read: `device`, and of a file `device file=2 name=pth`
+abbrev pub unread_line : Subject → List ℕ
+unread_line subject.Manifest = codes "device\n"
+unread_line subject.Waivers = codes "device\n"
+unread_line (subject.File index name) = codes "device file=" ++ (decimal (index + 1) ++ (codes " name=" ++ (name.now ++ ascii.line_feed ∷ [])))
+
+-- what is said of something that cannot be read, by the name of its file: `cannot read the manifest x.csv: file names are taken from the
+-- working directory`
+abbrev pub unread_sentence : Subject → List ℕ → List ℕ
+unread_sentence subject.Manifest path = codes "cannot read the manifest " ++ (path ++ codes ": file names are taken from the working directory")
+unread_sentence subject.Waivers path = codes "cannot read the file of waivers " ++ (path ++ codes ": file names are taken from the working directory")
+unread_sentence (subject.File index name) path =
+    codes "cannot read " ++ (path ++ (codes ", the file of " ++ (name.now ++ codes ": file names are taken from the working directory")))
+
+-- the JSON of something that cannot be read: one object on one line (docs/FORMATS.md, JSON)
+abbrev pub unread_json : Subject → List ℕ
+unread_json subject.Manifest = json_text manifest_device_value
+unread_json subject.Waivers = json_text waivers_device_value
+unread_json (subject.File index name) = json_text (device_value index name.now)
+
+-- the text of something that cannot be read, in a style: its line, this line with the sentence below it, or its JSON
+abbrev pub unread_text : RefusalStyle → Subject → List ℕ → List ℕ
+unread_text style.Line what path = unread_line what
+unread_text style.Page what path = unread_line what ++ sentence_line (unread_sentence what path)
+unread_text style.Json what path = unread_json what

@@ -1,0 +1,153 @@
+//! What is said below the line of refused words: which word, why, and what to write instead.
+
+ghost use Rattle.std.specs.Prelude.{◌≡◌, Some, option_map};
+ghost use Rattle.ringcheck.specs.Sentences as sentences;
+
+use crate::parsed_words::{ReportWords, parse_length, parse_limit, parse_rules};
+use grid_units::Reason;
+use std::fmt;
+use std::fmt::{Display, Formatter};
+
+/// What a rule is, where a word is none for this reason.
+fn rule_words(reason: Reason) -> &'static str
+    ensures { result.now ≡ sentences.rule_words reason }
+{
+    match reason {
+        Reason::TooFine => "a rule has at most eight decimals, as 0.125",
+        Reason::TooFar => "a rule is millimetres, and at most 10000",
+        _ => "a rule is millimetres without a unit, as 0.127 (5 mil)",
+    }
+}
+
+/// What is said of the value of an option that is no length.
+#[derive(Clone, Copy)]
+struct NoLength<'a> {
+    option: &'static str,
+    word: &'a str,
+    reason: Reason,
+}
+
+impl Display for NoLength<'_> {
+    ghost output = { λ it. Some (sentences.length_sentence it.option.now it.word.now it.reason) };
+
+    fn fmt<W: fmt::Write>(&self, f: &mut Formatter<W>) -> fmt::Result {
+        let (option, word) = (self.option, self.word);
+        let rule = rule_words(self.reason);
+        write!(f, "{option} {word}: {rule}")
+    }
+}
+
+/// What is said of words that name no rules: of the ring, of the gap, or of both.
+#[derive(Clone, Copy)]
+struct NoRules<'a> {
+    ring: &'a str,
+    gap: &'a str,
+}
+
+impl Display for NoRules<'_> {
+    ghost output = { λ it. Some (sentences.rules_sentence it.ring.now it.gap.now) };
+
+    fn fmt<W: fmt::Write>(&self, f: &mut Formatter<W>) -> fmt::Result {
+        let (ring, gap) = (self.ring, self.gap);
+        match (parse_length(ring), parse_length(gap)) {
+            (Err(reason), _) => {
+                let no_ring = NoLength {
+                    option: "--ring",
+                    word: ring,
+                    reason,
+                };
+                write!(f, "{no_ring}")
+            }
+            (Ok(_), Err(reason)) => {
+                let no_gap = NoLength {
+                    option: "--gap",
+                    word: gap,
+                    reason,
+                };
+                write!(f, "{no_gap}")
+            }
+            (Ok(_), Ok(_)) => write!(
+                f,
+                "--ring {ring} --gap {gap}: the ring is 0 or more, and the gap is more than 0"
+            ),
+        }
+    }
+}
+
+/// What is said of a word that is no number of findings.
+#[derive(Clone, Copy)]
+struct NoCount<'a>(Option<&'a str>);
+
+impl Display for NoCount<'_> {
+    ghost output = { λ it. Some (sentences.count_sentence (option_map (λ w. w.now) it.0)) };
+
+    fn fmt<W: fmt::Write>(&self, f: &mut Formatter<W>) -> fmt::Result {
+        match self.0 {
+            Some(word) => write!(
+                f,
+                "--max {word}: a number of findings is one to nine digits, as 20"
+            ),
+            None => f.write_str("--max is one to nine digits, as 20"),
+        }
+    }
+}
+
+/// What is said of a word that is no format of a report.
+#[derive(Clone, Copy)]
+struct NoReportFormat<'a>(Option<&'a str>);
+
+impl Display for NoReportFormat<'_> {
+    ghost output = { λ it. Some (sentences.report_format_sentence (option_map (λ w. w.now) it.0)) };
+
+    fn fmt<W: fmt::Write>(&self, f: &mut Formatter<W>) -> fmt::Result {
+        match self.0 {
+            Some(word) => write!(f, "--format is text, html, json or waivers, not {word}"),
+            None => f.write_str("--format is text, html, json or waivers"),
+        }
+    }
+}
+
+/// What is said of a word that is no format of a measure.
+#[derive(Clone, Copy)]
+pub(crate) struct NoMeasureFormat<'a>(pub(crate) Option<&'a str>);
+
+impl Display for NoMeasureFormat<'_> {
+    ghost output = { λ it. Some (sentences.measure_format_sentence (option_map (λ w. w.now) it.0)) };
+
+    fn fmt<W: fmt::Write>(&self, f: &mut Formatter<W>) -> fmt::Result {
+        match self.0 {
+            Some(word) => write!(f, "--format is text or json, not {word}"),
+            None => f.write_str("--format is text or json"),
+        }
+    }
+}
+
+/// What is said of the words of a report that are refused, by the first of them that is.
+#[derive(Clone, Copy)]
+pub(crate) struct NoReport<'a>(pub(crate) &'a ReportWords<'a>);
+
+impl Display for NoReport<'_> {
+    ghost output = { λ it. Some (sentences.report_sentence it.0.now.ring.now it.0.now.gap.now (option_map (λ w. w.now) it.0.now.limit) (option_map (λ w. w.now) it.0.now.format)) };
+
+    fn fmt<W: fmt::Write>(&self, f: &mut Formatter<W>) -> fmt::Result {
+        let words = self.0;
+        let (ring, gap) = (words.ring, words.gap);
+        if parse_rules(ring, gap).is_err() {
+            write!(f, "{}", NoRules { ring, gap })
+        } else if parse_limit(words.limit).is_err() {
+            write!(f, "{}", NoCount(words.limit))
+        } else {
+            write!(f, "{}", NoReportFormat(words.format))
+        }
+    }
+}
+
+/// Whether what is printed in the format of a word is for people who see it at once: not where it is `html`, `json` or `waivers`.
+pub(crate) fn is_for_people(word: Option<&str>) -> bool
+    ensures { result ≡ sentences.is_for_people (option_map (λ w. w.now) word.entry) }
+{
+    match word {
+        None => true,
+        Some(word) => word != "html" && word != "json" && word != "waivers",
+    }
+}
