@@ -19,12 +19,13 @@ contracts of what it calls, which such bodies leave as they are, so none of them
 anything else (a constant, a contract, a definition) is tried alone. Where a check does not compile, its bodies are tried by halves.
 
 What is kept. A line of planted/TRIED.csv: crate, body, day, kit, the function and its goal that failed, and a digest of all that the
-answer depends on: the body's text, its crate's `src` (without tests and comments), `specs` and `proofs`, HANDLES, and the crate's line of
-crates.txt; and of each library below it the same but for two things. The bodies of its functions are left out, and so are the files
-of proofs that belong to one function (Invariants, Answers, Proof): a check reads of a library its public interface, which has no code,
-its contracts, and what `specs` and the lemmas of `proofs` define; a function's code and proof are private to it. The bodies of `const`
-functions and of a trait's own methods are kept. With the same digest and the same kit the prover gives the same answer, since it reads
-the same. Another kit than a line's is said, and is no failure; `--all` is for that.
+answer depends on: the body's text, its crate's `src` (without tests and comments), `specs` and `proofs`, HANDLES, the lines of crates.txt,
+and what its crate reads of the libraries below it. A check reads of a library only its public interface, which has no code: a function's
+code and proof are private to it, and so are a function that is not `pub` and the fields of a type that has a model of its own. And it
+reads only what is named: so of each library those types, constants, traits, impls and contracts of functions count whose names the crate, or
+what it reads, has anywhere in its text (a name that two things have counts for both), and those files of `specs` and `proofs` that one
+of these imports. The bodies of `const` functions and of a trait's own methods are kept, comments are not. With the same digest and the same
+kit the prover gives the same answer, since it reads the same. Another kit than a line's is said, and is no failure; `--all` is for that.
 
 What a check begins with. Where `rt check` has kept work of a crate in this checkout, ./try_planted begins with that, as `rt must-fail` does, so
 only what an edit changed is proved; else, and with --all or --afresh, with nothing of the crate, over libraries as the gate leaves them.
@@ -38,6 +39,7 @@ import contextlib
 import csv
 import datetime
 import fcntl
+import functools
 import glob
 import hashlib
 import os
@@ -57,7 +59,9 @@ TRIED = "planted/TRIED.csv"
 COLUMNS = ["crate", "body", "day", "kit", "function", "goal", "digest"]
 # Where `rt check` keeps its work in the folder of a crate.
 KEPT = "out/incremental"
-OF_ONE_FUNCTION = ("Invariants.antt", "Answers.antt", "Proof.antt")
+ANTT_PATH = re.compile(r"\bRattle\.(\w+)\.(specs|proofs)\.([\w.-]+)")
+# What a file of definitions or lemmas names of code: the types that it imports.
+ANTT_USE = re.compile(r"\bRattle\.[^{\s]*(?:\{[^}]*\})?")
 # What a proof file says that names what the edit took away, or that cites such a proof.
 NAMES_ALONE = re.compile(r"has no field|is not in scope|has no `|was not admitted|is no name|: module `")
 REFUSED, MISSED, BAD, UNKNOWN = "refused", "not refused", "BAD", "not tried"
@@ -149,6 +153,19 @@ def source_files(crate):
     return {it: sources.TESTS.sub("", text) for it, text in kept.items()}
 
 
+@functools.lru_cache(maxsize=None)
+def antt_file(path):
+    """The file of definitions or lemmas that a path names, as (crate, specs or proofs, names), or None: of a function's goals or of a type that
+    code declares there is none."""
+    crate, part, names = path
+    names = names.split(".")
+    for count in range(len(names), 0, -1):
+        file = os.path.join(TOP, "crates", crate, part, *names[:count]) + ".antt"
+        if os.path.isfile(file):
+            return file
+    return None
+
+
 def sum_of(*parts):
     return hashlib.sha256(repr(parts).encode()).hexdigest()
 
@@ -172,21 +189,38 @@ class Digests:
         return self.seen[key]
 
     def of_crate(self, crate):
-        """The sum of what a check of the crate reads: its own files, and what the libraries below it state."""
-        return self.once((crate, "own"), lambda: sum_of(self.own(crate), [self.stated(it) for it in libraries_below(crate, self.lines)]))
+        """The sum of what a check of the crate reads: its own files, and what it reads of the libraries below it."""
+        return self.once((crate, "read"), lambda: sum_of(self.own(crate), self.read(crate)))
 
-    def antt(self, crate, leaves_out=()):
-        found = files_of(crate, "specs", ".antt") + [it for it in files_of(crate, "proofs", ".antt") if os.path.basename(it) not in leaves_out]
-        return [(it, text_of(os.path.join(TOP, "crates", crate, it))) for it in found]
+    def antt(self, crate):
+        found = files_of(crate, "specs", ".antt") + files_of(crate, "proofs", ".antt")
+        return [(it, sources.plain_antt(text_of(os.path.join(TOP, "crates", crate, it)))) for it in found]
 
     def own(self, crate):
         sources_of = [(it, sources.plain(text)) for it, text in source_files(crate).items()]
         return self.lines[crate], sources_of, self.antt(crate)
 
     def stated(self, crate):
-        """The sum of what a crate above can read of a library."""
-        said = lambda: [(it, sources.stated(text)) for it, text in source_files(crate).items()]
-        return self.once((crate, "stated"), lambda: sum_of(self.lines[crate], said(), self.antt(crate, OF_ONE_FUNCTION)))
+        """The items of a library that a crate above can read, by file."""
+        return self.once((crate, "stated"), lambda: [(it, item) for it, text in source_files(crate).items() for item in sources.stated(text)])
+
+    def read(self, crate):
+        """What a check of the crate reads of the libraries below it: items that are named by the crate or by what it reads, and files of
+        definitions and lemmas that one of these names by its path."""
+        below = libraries_below(crate, self.lines)
+        left = [(library, file, item) for library in below for file, item in self.stated(library)]
+        of_sources, of_antt, words = [it for _, it in self.own(crate)[1]], [it for _, it in self.antt(crate)], set()
+        files, items = {}, []
+        while of_sources or of_antt:
+            words.update(*(sources.WORD.findall(it) for text in of_antt for it in ANTT_USE.findall(text)), *map(sources.WORD.findall, of_sources))
+            paths = {it for text in of_sources + of_antt for it in ANTT_PATH.findall(text) if it[0] in below}
+            found = {it: sources.plain_antt(text_of(it)) for it in map(antt_file, paths) if it and it not in files}
+            named = [it for it in left if it[2].is_read(words)]
+            left = [it for it in left if not it[2].is_read(words)]
+            files.update(found)
+            items += [(library, file, item.text) for library, file, item in named]
+            of_sources, of_antt = [text for _, _, text in items[len(items) - len(named) :]], list(found.values())
+        return [self.lines[it] for it in below], sorted((os.path.relpath(it, TOP), text) for it, text in files.items()), sorted(items)
 
 
 def kit():

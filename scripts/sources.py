@@ -6,7 +6,7 @@ import bisect
 import functools
 import re
 
-LITERAL = re.compile(r"""//[^\n]*|(?<![\w'])b?r?"(?:\\.|[^"\\])*"|(?<![\w'])b?'(?:\\[^']+|[^'\\\n])'""", re.S)
+LITERAL = re.compile(r"""//[^\n]*|(?<![\w'])b?r(?P<hashes>#+)".*?"(?P=hashes)|(?<![\w'])b?r?"(?:\\.|[^"\\])*"|(?<![\w'])b?'(?:\\[^']+|[^'\\\n])'""", re.S)
 TOKEN = re.compile(r"\bfn\s+\w+|\b(?:impl|trait|mod)\b|[{}]")
 CLAUSE = re.compile(r"\b(?:requires|ensures|ghost)\b")
 TESTS = re.compile(r"#\[cfg\(test\)\]\s*mod (\w+);")
@@ -34,6 +34,11 @@ def plain(text):
         kept += [re.sub(r"\s+", " ", text[at : found.start()]), found[0]]
         at = found.end()
     return "".join([*kept, re.sub(r"\s+", " ", text[at:])]).strip()
+
+
+def plain_antt(text):
+    """The text of definitions or lemmas without the lines that are comments."""
+    return re.sub(r"^[ ]*--.*\n?", "", text, flags=re.M)
 
 
 def group_end(text, at):
@@ -136,12 +141,109 @@ def module_of(path):
     return "" if inside in ("lib", "main") else re.sub(r"/mod$", "", inside).replace("/", "::")
 
 
+# What a crate above can read of a source.
+
+WORD = re.compile(r"\w+")
+ATTRIBUTE = re.compile(r"#!?\[")
+ITEM = re.compile(r"(?P<shown>pub(?!\s*\()\s+)?(?:pub\s*\([^)]*\)\s*)?(?:const\s+(?=fn\b))?(?P<kind>fn|struct|enum|union|trait|impl|mod|ghost\s+use|ghost|use|const|static|type)\b\s*(?P<name>\w*)")
+
+
+class Item:
+    """What a crate above can read of an item: its text, and the words that name it, one of each group. An item without words counts for every
+    crate; an item with words only where the crate, or what it reads, has a word of each group."""
+
+    def __init__(self, text, *words):
+        self.text, self.words = text, [frozenset(it) for it in words]
+
+    def is_read(self, words):
+        return all(it & words for it in self.words)
+
+
+def item_end(text, at, kind):
+    """Where an item of this kind ends: after the first `;` or, but for what is a list of names or a value, the first braces."""
+    while True:
+        found = re.compile(r"[{;(\[]").search(text, at)
+        if not found:
+            return len(text)
+        if found[0] == ";":
+            return found.end()
+        at = group_end(text, found.start())
+        if found[0] == "{" and kind in ("struct", "enum", "union", "trait", "impl", "mod"):
+            return at
+
+
+def pieces_of(text, blank):
+    """The items of a text that stand side by side: what ITEM finds of each, its kind, and where it begins (with its attributes), is named and ends."""
+    start = at = 0
+    while at < len(blank):
+        attribute = ATTRIBUTE.match(blank, at)
+        if attribute:
+            at = group_end(blank, attribute.end() - 1)
+        elif blank[at].isspace():
+            at += 1
+        else:
+            found = ITEM.match(blank, at)
+            if not found:
+                raise ValueError(f"no item: {text[at : at + 60]!r}")
+            kind = re.sub(r"\s+", " ", found["kind"])
+            end = body_of(blank, found.end())[1] if kind == "fn" else item_end(blank, found.end(), kind)
+            yield found, kind, start, end
+            start = at = end
+
+
+def contract(text, blank, found, end):
+    """A function's text up to its body; all of it where a constant can need it."""
+    return text[found.start() : end if "const" in found[0].split() else body_of(blank, found.end())[0]]
+
+
+def items_of_impl(text, blank, opens, end):
+    """The items of an impl: of a trait's all but the bodies, and else each method that can be called from another crate."""
+    header, inside, shadow = text[:opens], text[opens + 1 : end - 1], blank[opens + 1 : end - 1]
+    of = re.search(r"\bfor\b(.*)", header, re.S)
+    type_words = WORD.findall(of[1] if of else re.sub(r"^impl\s*(<[^>]*>)?", "", header))
+    whole = [header]
+    for found, kind, start, stop in pieces_of(inside, shadow):
+        text_of_it = contract(inside, shadow, found, stop) if kind == "fn" else inside[start:stop]
+        if of:
+            whole.append(text_of_it)
+        elif kind != "fn" or found["shown"] or "const" in found[0].split():
+            yield Item(plain(f"{header} {text_of_it}"), type_words, [found["name"]] if kind == "fn" else type_words)
+    if of:
+        yield Item(plain(" ".join(whole)), type_words)
+
+
+def imports(text, blank):
+    """What the lines `use` of a file bring in, but for the standard library: pairs of a name and the path that it stands for."""
+    for found in re.finditer(r"\buse ([^;{]*)(\{[^;]*\})?;", blank):
+        path, names = text[slice(*found.span(1))], text[slice(*found.span(2))].strip("{}") if found[2] else ""
+        if not re.match(r"(?:Rattle\.)?(?:std|core)\b", path):
+            for name in [it.strip() for it in names.split(",")]:
+                yield (WORD.findall((name or path).split(" as ")[-1]) or [""])[-1], plain(f"use {path}{name}")
+
+
+@functools.lru_cache(maxsize=None)
 def stated(text):
-    """What a crate above can read of a source: all but the comments and the bodies of functions. The body of a `const` function, which a
-    constant may need, and one that a trait gives stay."""
-    kept, at = [], 0
-    for it in functions_in(text, ""):
-        if not it.is_needed and it.body < it.end:
-            kept += [text[at : it.body], "{ }"]
-            at = it.end
-    return plain("".join([*kept, text[at:]]))
+    """What a crate above can read of a source, item by item: types, constants, traits, impls of traits, and the contracts of functions that
+    can be called from there, each with what it names of the lines `use`. Left out are comments, the bodies of functions, functions that
+    are private to the crate, the fields of a type that has a model of its own in the same file, and which modules there are."""
+    blank, items = blanked(text), []
+    modelled = set(re.findall(r"\bimpl(?:<[^>]*>)?\s+Model\s+for\s+(\w+)", blank))
+    for found, kind, start, end in pieces_of(text, blank):
+        name = [found["name"]]
+        if kind == "fn":
+            if found["shown"] or "const" in found[0].split():
+                items.append(Item(plain(contract(text, blank, found, end)), name))
+        elif kind == "impl":
+            at = found.start()
+            items += items_of_impl(text[at:], blank[at:], blank.index("{", at) - at, end - at)
+        elif kind == "struct" and found["name"] in modelled:
+            items.append(Item(plain(text[start : found.end()]), name))
+        elif kind == "use" and found["shown"]:
+            items += [Item(f"pub {path}", *([[name]] if name else [])) for name, path in imports(text[start:end], blank[start:end])]
+        elif kind not in ("use", "ghost use", "mod") or blank[end - 1] == "}":
+            items.append(Item(plain(text[start:end]), *([] if kind == "mod" else [name])))
+    brought = list(imports(text, blank))
+    for item in items:
+        used = set(WORD.findall(item.text))
+        item.text = " ".join([item.text, *sorted(path for name, path in brought if name in used)])
+    return items
