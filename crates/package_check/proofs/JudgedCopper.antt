@@ -74,7 +74,7 @@ pub fault_of_file : (rules : GridRules) (holes : List Drilled) (layer : ℕ) (te
 fault_of_file rules holes layer text fails.Memory h = tt
 fault_of_file rules holes layer text (fails.Refused f) h = inl h
 
--- no pad is dropped before the first piece, and none is tried
-pub none_tried : (holes : List Drilled) (layer : ℕ) (index : RingIndex) (reader : LayerReader) (search : LayerSearch) → LayerStandsAfterPads reader keep.Pads [] [] → HasTried pad_covers holes layer [] index search
-    → HasTriedPadsOf holes layer index reader search []
-none_tried holes layer index reader search stands tried = record { dropped = []; read = stands; tried = tried }
+-- no pad was dropped so far, and none tried
+pub none_tried : (holes : List Drilled) (layer : ℕ) (index : RingIndex) (reader : LayerReader) (search : LayerSearch) (text : List ℕ) → LayerStandsAfterPads reader keep.Pads [] text → HasTried pad_covers holes layer [] index search
+    → HasTriedPadsOf holes layer index reader search text
+none_tried holes layer index reader search text stands tried = record { dropped = []; read = stands; tried = tried }

@@ -152,12 +152,14 @@ fn has_drill(slots: &[Option<Judged>], index: usize) -> bool
 /// What is left of the copper file whose text comes in these pieces, or its fault.
 fn judge_file(
     alloc: Global,
-    holes: &IndexedHoles,
+    holes: &mut IndexedHoles,
     layer: usize,
     span: Option<Span>,
     pieces: &[&[u8]],
 ) -> Result<Judged, Fail>
-    ensures { (layers : ℕ) → Answers (λ x. x) (Judges holes.now.rules holes.now.holes layer (unnamed_file role.Copper span layers (concat (map (λ piece. piece.now) pieces.now)))) result }
+    ensures judged { (layers : ℕ) → Answers (λ x. x) (Judges holes.old.rules holes.old.holes layer (unnamed_file role.Copper span layers (concat (map (λ piece. piece.now) pieces.now)))) result }
+    ensures holes { holes.new.holes ≡ holes.old.holes }
+    ensures rules { holes.new.rules ≡ holes.old.rules }
 {
     match span {
         Some(_) => Err(bad_span()),
@@ -212,7 +214,7 @@ impl PackageCheck {
         ensures rules { self.new.rules ≡ self.old.rules }
         ensures stopped { self.new.stopped ≡ self.old.stopped }
     {
-        let judged = judge_file(self.alloc, &self.holes, layer, span, pieces)?;
+        let judged = judge_file(self.alloc, &mut self.holes, layer, span, pieces)?;
         if has_drill(&self.slots, index) {
             return Ok(());
         }

@@ -3,8 +3,9 @@
 ghost use Rattle.std.specs.Prelude.{◌++◌, ℕ, List, [], Err, IfErr, OnOk, map};
 ghost use Rattle.std.specs.List.{concat};
 ghost use Rattle.grid_units.specs.Results.{Answers, IfFault};
-ghost use Rattle.layer_image.specs.Holding.{ShowsLayerFault};
+ghost use Rattle.layer_image.specs.Holding.{LayerStandsAfter, ShowsLayerFault};
 ghost use Rattle.layer_image.specs.Layers.{ReadsLayer};
+ghost use Rattle.layer_image.specs.declared.keep.Keep.TheVariants as keep;
 ghost use Rattle.package_check.specs.Judging.{HasTriedPadsOf, JudgesCopper};
 ghost use Rattle.ring_rules.specs.Search.{IsRingIndexOf, IsSearchOver};
 ghost use Rattle.ring_rules.specs.declared.finding.Drilled.{Drilled as TheDrilled};
@@ -13,7 +14,7 @@ use crate::FileSum;
 use crate::contents::not_copper;
 use crate::readers::{PIECE, is_copper_function};
 use grid_units::Fail;
-use layer_image::{Keep, LayerReader, shown_faults};
+use layer_image::{LayerReader, shown_faults};
 use pad_shapes::Pad;
 use ring_rules::{Drilled, Finding, LayerSearch, RingIndex};
 use std::alloc::Global;
@@ -62,7 +63,7 @@ fn search_piece(
     Ok(())
 }
 
-/// Feeds all pieces of a layer to the reader, and tries and drops its pads.
+/// Feeds the next pieces of a layer to the reader, and tries and drops their pads.
 fn search_pieces(
     index: &RingIndex,
     reader: &mut LayerReader,
@@ -71,8 +72,8 @@ fn search_pieces(
 ) -> Result<(), Fail>
     requires { IsSearchOver index.now search.old }
     ensures over { IsSearchOver index.now search.new }
-    ensures ok { (holes : List TheDrilled) (layer : ℕ) → HasTriedPadsOf holes layer index.now reader.old search.old [] → OnOk result (HasTriedPadsOf holes layer index.now reader.new search.new (concat (map (λ piece. piece.now) pieces.now))) }
-    ensures err { (holes : List TheDrilled) (layer : ℕ) → HasTriedPadsOf holes layer index.now reader.old search.old [] → IfErr result (IfFault (λ fault. ReadsLayer (concat (map (λ piece. piece.now) pieces.now)) (Err fault))) }
+    ensures ok { (holes : List TheDrilled) (layer : ℕ) (text : List ℕ) → HasTriedPadsOf holes layer index.now reader.old search.old text → OnOk result (HasTriedPadsOf holes layer index.now reader.new search.new (text ++ concat (map (λ piece. piece.now) pieces.now))) }
+    ensures err { (holes : List TheDrilled) (layer : ℕ) (text : List ℕ) → HasTriedPadsOf holes layer index.now reader.old search.old text → IfErr result (IfFault (λ fault. ReadsLayer (text ++ concat (map (λ piece. piece.now) pieces.now)) (Err fault))) }
 {
     shown_faults();
     for piece in pieces {
@@ -107,20 +108,23 @@ fn judge_rest(
     Ok(Judged { sum, rings })
 }
 
-/// What is left of the copper file whose text comes in these pieces, or its fault. Its layer has this number among the copper files,
-/// from 0, and the index is one of these holes.
-pub(crate) fn judge_copper(
+/// What is left of the copper file of which the reader has read the start, and whose text goes on with the rest of a piece and with more
+/// pieces; or its fault. Its layer has this number among the copper files, from 0, and the index is one of these holes.
+pub(crate) fn judge_rest_of_copper(
     alloc: Global,
     holes: &[Drilled],
     index: &RingIndex,
     layer: usize,
-    pieces: &[&[u8]],
+    mut reader: LayerReader,
+    rest: &[u8],
+    more: &[&[u8]],
 ) -> Result<Judged, Fail>
     requires { IsRingIndexOf holes.now index.now }
-    ensures { Answers (λ x. x) (JudgesCopper index.now.rules holes.now layer (concat (map (λ piece. piece.now) pieces.now))) result }
+    ensures { (text : List ℕ) → LayerStandsAfter reader keep.Pads text → Answers (λ x. x) (JudgesCopper index.now.rules holes.now layer (text ++ (rest.now ++ concat (map (λ piece. piece.now) more.now)))) result }
 {
-    let mut reader = LayerReader::keeping(alloc, Keep::Pads);
+    shown_faults();
     let mut search = LayerSearch::new::<Pad>(alloc, index, holes, layer)?;
-    search_pieces(index, &mut reader, &mut search, pieces)?;
+    search_piece(index, &mut reader, &mut search, rest)?;
+    search_pieces(index, &mut reader, &mut search, more)?;
     judge_rest(alloc, holes, index, reader, search)
 }

@@ -11,6 +11,7 @@ mod lines;
 mod lists;
 mod package;
 mod package_reader;
+mod pad_size;
 mod pieces;
 mod readers;
 mod report;

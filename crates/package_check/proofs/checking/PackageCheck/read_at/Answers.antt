@@ -1,9 +1,10 @@
-use Rattle.std.proofs.Common.{◌∙◌, List, Option, Ok, Err, ap, refl, subst, sym}
+use Rattle.std.proofs.Common.{◌∙◌, List, Option, Ok, Err, ap, length, refl, subst, sym}
 use Rattle.std.proofs.lemmas.Result.{err_from_is_err_and}
 use Rattle.grid_units.specs.Results.{Answers}
 use Rattle.manifest.specs.declared.Role.TheVariants as role
+use Rattle.ring_rules.specs.declared.finding.Drilled.{Drilled}
 use Rattle.package_check.specs.CheckViews.{CheckView, is_drill_in}
-use Rattle.package_check.specs.Holding.{IsPutAt, kept_at}
+use Rattle.package_check.specs.Holding.{IsPutAt, ReadsInto, kept_at}
 use Rattle.package_check.specs.Judging.{Judges}
 use Rattle.package_check.specs.Package.{unnamed_file}
 use Rattle.package_check.specs.declared.judged.Judged.{Judged}
@@ -17,18 +18,24 @@ returns-in_err-judged-clause-read c = λ free.
     let old = c.args.self.now in
     let bytes = joined c.args.pieces.now in
     let e = c.in_err-judged.field-0.0 in
-    let fault = subst (λ (v : CheckView). Answers {T = Judged} (λ one. one) (Judges v.rules v.holes c.args.layer (unnamed_file role.Copper c.args.span old.layers bytes)) (Err e)) c.self.view_is (c.in_err-judged.ensures old.layers) in
-    rw (p.1, p.2) (puts_none old.rules old.holes c.args.layer c.args.index old.layers c.args.span bytes old.slots e fault)
+    let fault = subst (λ (v : CheckView). Answers {T = Judged} (λ one. one) (Judges v.rules v.holes c.args.layer (unnamed_file role.Copper c.args.span old.layers bytes)) (Err e)) c.self.view_is (c.in_err-judged.ensures.judged old.layers) in
+    let file = unnamed_file role.Copper c.args.span old.layers bytes in
+    rw (p.1, p.2)
+    (subst (λ (ss : List (Option Judged)). ReadsInto {X = Judged} (λ one. Judges old.rules old.holes c.args.layer file (Ok one)) c.args.index file old.slots ss (Err e)) (sym (ap (λ (v : CheckView). v.slots) c.self.view_is))
+    (puts_none old.rules old.holes c.args.layer c.args.index old.layers c.args.span bytes old.slots e fault))
 
 pub invariant_of-self : goal.invariant_of-self
-invariant_of-self c = same_slots c.self.inside.slots.items c.put.new.slots.items c.in_err-put.ensures.same ∙ c.self.invariant
+invariant_of-self c = c.self.invariant ∙ ap (λ (hs : List Drilled). length hs) (sym c.judge_file.ensures.holes)
+
+pub invariant_of-self-in_err-put : goal.invariant_of-self-in_err-put
+invariant_of-self-in_err-put c = same_slots c.self.inside.slots.items c.put.new.slots.items c.in_err-put.ensures.same ∙ (c.self.invariant ∙ ap (λ (hs : List Drilled). length hs) (sym c.judge_file.ensures.holes))
 
 pub invariant_of-self-2 : goal.invariant_of-self-2
 invariant_of-self-2 c =
     let inside = c.self.inside in
     let free = sym (ap (λ (os : List (Option Judged)). is_drill_in (kept_at os c.args.index)) c.deref.ensures.value) ∙ (sym c.has_drill.ensures ∙ c.if-has_drill.false) in
-    let layer = layer_left inside.holes.rules inside.holes.holes c.args.layer (unnamed_file role.Copper c.args.span 0 (joined c.args.pieces.now)) c.in_ok-judged.judged refl (c.in_ok-judged.ensures 0) in
-    layer_put inside.slots.items c.put.new.slots.items c.args.index c.in_ok-judged.judged c.in_ok-put.ensures.put free layer ∙ c.self.invariant
+    let layer = layer_left inside.holes.rules inside.holes.holes c.args.layer (unnamed_file role.Copper c.args.span 0 (joined c.args.pieces.now)) c.in_ok-judged.judged refl (c.in_ok-judged.ensures.judged 0) in
+    layer_put inside.slots.items c.put.new.slots.items c.args.index c.in_ok-judged.judged c.in_ok-put.ensures.put free layer ∙ (c.self.invariant ∙ ap (λ (hs : List Drilled). length hs) (sym c.judge_file.ensures.holes))
 
 pub returns-clause-read : goal.returns-clause-read
 returns-clause-read c = λ free.
@@ -36,6 +43,6 @@ returns-clause-read c = λ free.
     let bytes = joined c.args.pieces.now in
     let one = c.in_ok-judged.judged in (
       one,
-      subst (λ (v : CheckView). Judges v.rules v.holes c.args.layer (unnamed_file role.Copper c.args.span old.layers bytes) (Ok one)) c.self.view_is (c.in_ok-judged.ensures old.layers),
+      subst (λ (v : CheckView). Judges v.rules v.holes c.args.layer (unnamed_file role.Copper c.args.span old.layers bytes) (Ok one)) c.self.view_is (c.in_ok-judged.ensures.judged old.layers),
       subst (λ (v : CheckView). IsPutAt c.args.index one v.slots c.put.new.slots.items) c.self.view_is c.in_ok-put.ensures.put,
     )
