@@ -7,7 +7,7 @@ ghost use Rattle.package_check.specs.Judging.{JudgesCopper};
 ghost use Rattle.ring_rules.specs.Findings.{gap_findings};
 
 use crate::judged::{Judged, judge_rest_of_copper};
-use crate::pad_size::{PadSize, likely_size, mean_size};
+use crate::pad_size::{PadSize, are_unlike, likely_size, mean_size};
 use crate::readers::PIECE;
 use grid_units::{Fail, Rules};
 use layer_image::{Keep, LayerReader, shown_faults};
@@ -58,7 +58,7 @@ impl IndexedHoles {
         })
     }
 
-    /// Makes the index anew where these pads, the first ones of a layer, are of another shape than those for which it is quick.
+    /// Makes the index anew where most of these pads, the first ones of a layer, are of another shape than those for which it is quick.
     fn suit(&mut self, alloc: Global, pads: &[Pad]) -> Result<(), AllocError>
         ensures holes { self.new.holes ≡ self.old.holes }
         ensures rules { self.new.rules ≡ self.old.rules }
@@ -66,7 +66,7 @@ impl IndexedHoles {
         let Some(size) = mean_size(pads) else {
             return Ok(());
         };
-        if size.is_shaped_like(self.size) {
+        if size.is_shaped_like(self.size) || !are_unlike(pads, self.size) {
             return Ok(());
         }
         self.index = RingIndex::new(alloc, &self.holes, self.rules, size.width, size.height)?;

@@ -53,6 +53,15 @@ fn size_of(pad: &Pad) -> PadSize {
     }
 }
 
+/// Whether most of these pads are shaped otherwise than one of this size.
+pub(crate) fn are_unlike(pads: &[Pad], size: PadSize) -> bool {
+    let unlike = pads
+        .iter()
+        .filter(|pad| !size_of(pad).is_shaped_like(size))
+        .count();
+    pads.len() / 2 < unlike
+}
+
 /// The mean size of pads; none where there is no pad.
 pub(crate) fn mean_size(pads: &[Pad]) -> Option<PadSize> {
     let (mut width, mut height): (u64, u64) = (0, 0);
