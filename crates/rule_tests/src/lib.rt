@@ -1,10 +1,8 @@
-//! Tests of the crates of pads, rings, gaps, depths and the check of a package.
+//! Tests of the crates of pads, rings, gaps and depths, and of mistakes of the unit.
 #![tactic(auto)]
 
 #[cfg(test)]
 mod margins_calls;
-#[cfg(test)]
-mod package_check_calls;
 #[cfg(test)]
 mod pad_shapes_calls;
 #[cfg(test)]

@@ -1,0 +1,5 @@
+//! Tests of the check of a package.
+#![tactic(auto)]
+
+#[cfg(test)]
+mod package_check_calls;
