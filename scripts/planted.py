@@ -573,9 +573,10 @@ def outcome(trial, said):
 
 def try_together(room, trials, proofs=None, rounds=ROUNDS):
     """What a check of all these bodies says of each; by halves where they do not compile together. Those of which it names no goal are tried
-    again, with the names in `proofs` in their proof files, and last alone: a proof file is not read to its end where it cites a function
-    that is refused."""
-    texts, proofs = {**changed_texts([it.body for it in trials])[0], **(proofs or {})}, proofs or {}
+    again, each with the names in its proof files that `proofs` has for it, and last alone: a proof file is not read to its end where it
+    cites a function that is refused."""
+    proofs = {it.body.key(): (proofs or {}).get(it.body.key(), {}) for it in trials}
+    texts = {**changed_texts([it.body for it in trials])[0], **{path: text for files in proofs.values() for path, text in files.items()}}
     said = room.check(texts, set().union(*(it.modules for it in trials)))
     if not compiles(said) and not re.search(r"^(?!so far: ).*\berror\[[\w-]+\]|^rattle: error", said, re.M):
         return {it.body.key(): (UNKNOWN, "", f"its check was killed, or came to no end: {room.said}") for it in trials}
@@ -585,9 +586,11 @@ def try_together(room, trials, proofs=None, rounds=ROUNDS):
         half = len(trials) // 2
         return {key: came for part in (trials[:half], trials[half:]) for key, came in try_together(room, part, proofs, rounds).items()}
     found = {it.body.key(): outcome(it, said) for it in trials}
-    left, more = [it for it in trials if found[it.body.key()][0] == BAD], dict(proofs)
+    left, more = [it for it in trials if found[it.body.key()][0] == BAD], {}
     for it in left:
-        more.update(renamed(said, it, lambda path: more.get(path) or text_of(os.path.join(TOP, "crates", room.crate, path))))
+        files = dict(proofs[it.body.key()])
+        files.update(renamed(said, it, lambda path, files=files: files.get(path) or text_of(os.path.join(TOP, "crates", room.crate, path))))
+        more[it.body.key()] = files
     if left and rounds and (len(left) < len(trials) or more != proofs):
         found.update(try_together(room, left, more, rounds - 1))
     elif len(trials) > 1:
