@@ -153,7 +153,7 @@ class Item:
     crate; an item with words only where the crate, or what it reads, has a word of each group."""
 
     def __init__(self, text, *words):
-        self.text, self.words = text, [frozenset(it) for it in words]
+        self.text, self.words = text, [frozenset(it) for it in words if it]
 
     def is_read(self, words):
         return all(it & words for it in self.words)
@@ -213,7 +213,8 @@ def items_of_impl(text, blank, opens, end):
 
 
 def imports(text, blank):
-    """What the lines `use` of a file bring in, but for the standard library: pairs of a name and the path that it stands for."""
+    """What the lines `use` of a file bring in, but for the standard library: pairs of a name and the path that it stands for. An operator and
+    `*` have no name, and count wherever the file does."""
     for found in re.finditer(r"\buse ([^;{]*)(\{[^;]*\})?;", blank):
         path, names = text[slice(*found.span(1))], text[slice(*found.span(2))].strip("{}") if found[2] else ""
         if not re.match(r"(?:Rattle\.)?(?:std|core)\b", path):
@@ -245,5 +246,5 @@ def stated(text):
     brought = list(imports(text, blank))
     for item in items:
         used = set(WORD.findall(item.text))
-        item.text = " ".join([item.text, *sorted(path for name, path in brought if name in used)])
+        item.text = " ".join([item.text, *sorted(path for name, path in brought if not name or name in used)])
     return items
