@@ -28,7 +28,8 @@ of these imports. The bodies of `const` functions and of a trait's own methods a
 kit the prover gives the same answer, since it reads the same. Another kit than a line's is said, and is no failure; `--all` is for that.
 
 What a check begins with. Where `rt check` has kept work of a crate in this checkout, ./try_planted begins with that, as `rt must-fail` does, so
-only what an edit changed is proved; else, and with --all or --afresh, with nothing of the crate, over libraries as the gate leaves them.
+only what an edit changed is proved; else with nothing of the crate, over libraries as the gate leaves them, and each further check of the crate
+begins with what the one before it kept. With --all or --afresh each check begins with nothing of the crate.
 
 What this cannot see is a line written by hand. So `--afresh`, after the gate, tries some bodies over libraries that the gate has just
 proved and with nothing kept of their own crate: a false line is found with some chance in each run, and for certain by `--all`.
@@ -466,6 +467,15 @@ class Room:
         return os.path.join(self.top, "crates", name, "out/rlib", f"{name}.rlib")
 
 
+class OwnRoom(Room):
+    """A room in which each check of the crate begins with what the one before it kept."""
+
+    def plain_words(self):
+        kept = os.path.join(self.top, "kept")
+        os.makedirs(kept, exist_ok=True)
+        return [*super().plain_words(), "--incremental", kept]
+
+
 class KeptRoom(Room):
     """A scratch copy of a crate in which checks of it begin with what `rt check` kept in this checkout, over the libraries that it built there."""
 
@@ -662,7 +672,7 @@ def try_planted(words):
 
     def one(crate):
         started = time.time()
-        room = KeptRoom(crate) if crate in kept else Room(crate, libraries)
+        room = KeptRoom(crate) if crate in kept else (Room if asked.all else OwnRoom)(crate, libraries)
         return note(crate, bodies[crate], try_crate(crate, bodies[crate], room), digests, version, started)
 
     with alone("run"), Libraries([it for it in bodies if it not in kept]) as libraries, concurrent.futures.ThreadPoolExecutor(asked.jobs) as pool:
