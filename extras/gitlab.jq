@@ -13,7 +13,7 @@ def hole($files): "hole \(.hole) of \($files[.drill - 1].name) at \(place)";
 def measured($rules):
   if .kind == "gap" then "gap \(.has_pm | mm) mm (rule \($rules.gap_pm | mm) mm)"
   elif .has_pm != null then "annular ring \(.has_pm | mm) mm (rule \($rules.ring_pm | mm) mm), \(.cause)"
-  elif .cause == "none" then "missing pad"
+  elif .cause == "none" then "no pad at the hole"
   else "annular ring not judged, \(.cause)" end;
 def stopped:
   if .waivers then "waivers" elif .name then .name else "manifest" end + ": " + .result + if .reason then " \(.reason)" else "" end

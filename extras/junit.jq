@@ -15,7 +15,7 @@ def hole: "hole \(.hole) of file \(.drill) at \(place)";
 def measured($rules):
   if .kind == "gap" then "gap \(.has_pm | mm) mm (rule \($rules.gap_pm | mm) mm)"
   elif .has_pm != null then "annular ring \(.has_pm | mm) mm (rule \($rules.ring_pm | mm) mm), \(.cause)"
-  elif .cause == "none" then "missing pad"
+  elif .cause == "none" then "no pad at the hole"
   else "annular ring not judged, \(.cause)" end;
 # what a refusal is of: the file by its name, the file of waivers or the manifest
 def refused: if .waivers then "waivers" elif .name then .name else "manifest" end;

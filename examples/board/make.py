@@ -298,7 +298,7 @@ def report_for_people(files):
     def rings(layer, number, name, holes):
         off = flash(layer, *VIAS[OFF_CENTRE])
         found = [f"{at(OFF_CENTRE)}: annular ring {length(RING - 1_000)} (rule {length(RING)}), off centre: flash {off}, disc 0.6x0.6, hole off by 0.001,0"]
-        found += [f"{at(hole)}: missing pad" for hole in holes]
+        found += [f"{at(hole)}: no pad at the hole" for hole in holes]
         found += [f"{at(rounded)}: annular ring not judged, only a macro flash: flash {flash(layer, *HEADER[0])}"]
         lines = [f"  #{finding} {words}" for finding, words in enumerate(found, number)]
         return [f"annular ring on {name}: {len(found)} of {len(pth.holes)} holes below the rule", *lines]
@@ -311,7 +311,7 @@ def report_for_people(files):
         f"  #6 {at(59)}, and {at(60)}: gap 0.2 (rule {length(GAP)})",
         "2 off centre: the pad is large enough for a hole at its centre; drill files are rounded: see `ringcheck explain ring`",
         "2 only a macro flash: flashes by a macro are not judged: choose circle, oval or rectangle: see `ringcheck explain macro`",
-        "1 missing pad: no pad reaches the hole's centre: removed or painted pad, plane, other origin or format: see `ringcheck explain none`",
+        "1 no pad at the hole: none was flashed here, or its copper is drawn or of a shape that is not judged, or origin or format differ: see `ringcheck explain none`",
         f"smallest ring {length(RING - 1_000)} (rule {length(RING)})",
         f"smallest gap 0.2 (rule {length(GAP)})",
         f"this board meets annular ring none, hole to hole 0.2; where a pad is, annular ring {length(RING - 1_000)}",

@@ -14,7 +14,7 @@ CAUSES = {
     "holed": "only a flash with a hole",
     "scaled": "only a scaled flash",
     "turned": "only a turned flash",
-    "none": "missing pad",
+    "none": "no pad at the hole",
     "oblique": "oblique slot: not judged",
 }
 LIMIT = 600

@@ -57,7 +57,7 @@ const PAGES: [PageRow; 3] = [
         &[],
         &[
             "<h1>FINDINGS: 3 findings</h1>",
-            "<a href=\"#f1\">1</a></th><td>annular ring</td><td>a&lt;b</td><td>hole 2 of c&amp;d at 2,0</td><td>0.4</td><td>no pad</td><td>0.125</td><td>missing pad</td><td></td></tr>\n",
+            "<a href=\"#f1\">1</a></th><td>annular ring</td><td>a&lt;b</td><td>hole 2 of c&amp;d at 2,0</td><td>0.4</td><td>no pad</td><td>0.125</td><td>no pad at the hole</td><td></td></tr>\n",
             "<a href=\"#f3\">3</a></th><td>hole to hole</td><td>all</td><td>hole 2 of c&amp;d at 2,0, and hole 3 of c&amp;d at 2,0.65</td><td>0.4, 0.5</td><td>0.2</td><td>0.25</td><td></td><td></td></tr>\n</tbody>",
         ],
     ),

@@ -2,11 +2,11 @@
 use Rattle.std.proofs.Common.{◌≡◌, ◌↔◌, ◌++◌, ℕ, Bool, Bor, true, false, List, [], ◌∷◌, IfSome, IsSome, MatchOption, Option, Some, None, cond, map, inl, inr, refl, sym, subst}
 use Rattle.std.specs.List.{find, AllByRecursion}
 use Rattle.std.specs.Option.{option_or}
-use Rattle.std.specs.Str.{bytes_eq}
+use Rattle.std.specs.Str.{bytes_eq, str_eq_ignore_ascii_case}
 use Rattle.grid_units.specs.Reasons.{reason_name}
 use Rattle.grid_units.specs.declared.fault.Reason.{Reason}
 use Rattle.explanations.specs.declared.topic.Topic.{Topic}
-use Rattle.explanations.specs.KnownWords.{IsPageOf, is_equal_but_for_case, known_word, listed, listed_in_any_case}
+use Rattle.explanations.specs.KnownWords.{IsPageOf, known_word, listed, listed_in_any_case}
 use Rattle.explanations.specs.Words.{FitsScreen, HasHeading, IsExplained, all_reasons, all_topics, all_words, topic_word}
 
 -- the names of reasons, before other explained words
@@ -46,7 +46,7 @@ chosen_holds P (Some y) second x p q e = p e
 pub known_is_explained : (word known : List ℕ) → known_word word ≡ Some known → IsExplained known
 known_is_explained word known e =
     let holds = λ (test : List ℕ → Bool) (is : find test all_words ≡ Some known). found_holds IsExplained test all_words known all_explained is in
-    chosen_holds IsExplained (listed word) (listed_in_any_case word) known (holds (λ x. bytes_eq x word)) (holds (λ x. is_equal_but_for_case x word)) e
+    chosen_holds IsExplained (listed word) (listed_in_any_case word) known (holds (λ x. bytes_eq x word)) (holds (λ x. str_eq_ignore_ascii_case x word)) e
 
 -- the page of a known word
 pub page_of_known : (word known : List ℕ) (page : Option (Bor (List ℕ))) → Some known ≡ known_word word → (IsSome page ↔ IsExplained known) → IfSome page (λ p. HasHeading known p.now)

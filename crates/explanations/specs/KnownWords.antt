@@ -5,10 +5,6 @@ use Rattle.std.specs.Option.{option_or}
 use Rattle.std.specs.Str.{bytes_eq, str_eq_ignore_ascii_case}
 use Rattle.explanations.specs.Words.{FitsScreen, HasHeading, all_words}
 
--- whether two words are equal but for the case of their letters: `small` and `SMALL`
-abbrev pub is_equal_but_for_case : List ℕ → List ℕ → Bool
-is_equal_but_for_case known word = str_eq_ignore_ascii_case known word
-
 -- whether a text begins with another, whatever the case of their letters: `Truncated` begins with `trunc`
 abbrev pub begins_with : List ℕ → List ℕ → Bool
 begins_with text start = nat_le (length start) (length text) && str_eq_ignore_ascii_case (take (length start) text) start
@@ -21,9 +17,9 @@ is_near known word = nat_le 3 (length word) && (begins_with known word || begins
 abbrev pub listed : List ℕ → Option (List ℕ)
 listed word = find (λ known. bytes_eq known word) all_words
 
--- the first listed word that is equal to this one but for the case of its letters
+-- the first listed word that is equal to this one but for the case of its letters: `small` for `SMALL`
 abbrev pub listed_in_any_case : List ℕ → Option (List ℕ)
-listed_in_any_case word = find (λ known. is_equal_but_for_case known word) all_words
+listed_in_any_case word = find (λ known. str_eq_ignore_ascii_case known word) all_words
 
 -- the word with a page that a word is: itself where it is listed, else the first that is equal to it but for case
 abbrev pub known_word : List ℕ → Option (List ℕ)

@@ -2,9 +2,9 @@
 
 ghost use Rattle.std.specs.Prelude.{◌≡◌, map, option_map};
 ghost use Rattle.std.specs.List.{find};
-ghost use Rattle.std.specs.Str.{bytes_eq};
+ghost use Rattle.std.specs.Str.{bytes_eq, str_eq_ignore_ascii_case};
 ghost use Rattle.explanations.specs.KnownWords as words;
-ghost use Rattle.explanations.specs.KnownWords.{is_equal_but_for_case, is_near};
+ghost use Rattle.explanations.specs.KnownWords.{is_near};
 
 /// The words that have a page, in the order of their list.
 const LISTED: [&str; 60] = [
@@ -73,13 +73,6 @@ const LISTED: [&str; 60] = [
 /// The fewest letters of a word that another is guessed from.
 const FEWEST: usize = 3;
 
-/// Whether two words are equal but for the case of their letters.
-fn is_equal_but_for_case(known: &str, word: &str) -> bool
-    ensures { result ≡ words.is_equal_but_for_case known.now word.now }
-{
-    known.eq_ignore_ascii_case(word)
-}
-
 /// Whether a text begins with another, whatever the case of their letters.
 fn begins_with(text: &str, start: &str) -> bool
     ensures { result ≡ words.begins_with text.now start.now }
@@ -109,10 +102,10 @@ fn first_equal(words: &[&'static str], word: &str) -> Option<&'static str>
 
 /// The first of these words that is equal to this one but for the case of its letters.
 fn first_in_any_case(words: &[&'static str], word: &str) -> Option<&'static str>
-    ensures { option_map (λ known. known.now) result ≡ find (λ known. is_equal_but_for_case known word.now) (map (λ known. known.now) words.now) }
+    ensures { option_map (λ known. known.now) result ≡ find (λ known. str_eq_ignore_ascii_case known word.now) (map (λ known. known.now) words.now) }
 {
     for known in words.iter() {
-        if is_equal_but_for_case(known, word) {
+        if known.eq_ignore_ascii_case(word) {
             return Some(*known);
         }
     }

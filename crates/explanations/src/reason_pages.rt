@@ -8,7 +8,8 @@ use grid_units::Reason;
 const TOO_LONG: &str = "\
 TooLong: an item or a line has more than 1,048,576 bytes, or the file is
 above its limit (268,435,456 bytes; 1,048,576 of a manifest or of a file of
-waivers). See that the right file was named, and export it again.
+waivers). See that the right file was named, and export it again. A zip
+archive is no manifest: unpack it, and name the files.
 In a file of waivers, at a place above 0: the reason of that record has more
 than 1,000 bytes. Write a shorter one.
 ";
@@ -246,6 +247,8 @@ fields (role,name,file), and each other record must have as many fields, of
 UTF-8 text without control characters. Place is the number of the record.
 In a file of waivers: the same, of the fields kind,layer,hole,and,has,why.
 With manifest: a word is empty or has a control character.
+A folder or a zip archive is no manifest and no file of a package: unpack the
+archive, and name the files, as ringcheck manifest gerbers/*
 ";
 
 const BAD_ROLE: &str = "\

@@ -58,10 +58,12 @@ fail at 0.150, and none at 0.149. Give the rule
 ";
 
 const BARE: &str = "\
-none: no pad reaches the centre of the hole. What may be the cause:
+none: no pad reaches the centre of the hole, and no flash stands in the hole.
+What may be the cause:
 - an unused pad that was removed (KiCad: keep pads on all layers);
-- a pad painted as a region (gEDA pcb and pcb-rnd: square and octagon pins;
-  use round ones);
+- a pad drawn as a region (gEDA pcb and pcb-rnd: square and octagon pins; use
+  round ones), or flashed from beside the hole in a shape that is not judged:
+  its copper may be there (see ringcheck explain macro);
 - a plane in which the hole stands without a pad;
 - an unplated hole in a plated drill file;
 - a drill file with another origin or another format of numbers than the

@@ -63,7 +63,7 @@ OBLIQUE: a finding: a plated slot runs along neither axis
 ring: the copper round a hole is narrower than the rule
 small: the pad is too small for the hole and its ring
 off: the hole is off the centre of its pad
-none: no pad reaches the centre of the hole
+none: no pad reaches the centre of the hole, and no flash stands in the hole
 macro: only a flash by an aperture macro stands here
 polygon: a flash by a regular polygon is not judged
 holed: a flash by an aperture with a hole is not judged

@@ -4,7 +4,7 @@ use proposals::*;
 use std::test::Fail;
 
 /// A text, and the kind of file that it is.
-const KINDS: [(&str, FileKind); 5] = [
+const KINDS: [(&str, FileKind); 8] = [
     ("%FSLAX46Y46*%\nM02*\n", FileKind::Gerber),
     (
         "M48\r\nT1C0.4\r\n%\r\nT1\r\nX0Y0\r\nM30\r\n",
@@ -13,6 +13,9 @@ const KINDS: [(&str, FileKind); 5] = [
     ("M30\n", FileKind::Empty),
     ("%\nX0Y0\nM30\n", FileKind::Drill),
     ("role,name,file\n", FileKind::Neither),
+    ("PK\u{3}\u{4}\u{14}\0", FileKind::Archive),
+    ("PK\u{3}\u{4}%FSLAX46Y46*%\nM02*\n", FileKind::Archive),
+    ("PK\u{5}\u{6}", FileKind::Neither),
 ];
 
 #[test]

@@ -236,11 +236,11 @@ fn each_file_has_a_reason(rt: HostRuntime) -> Result<(), Fail> {
 }
 
 /// Files, and the table of reasons for them without its header.
-const REASON_ROWS: [(&[InputFile<'static>], &str); 2] = [
+const REASON_ROWS: [(&[InputFile<'static>], &str); 3] = [
     (
         &[
             InputFile {
-                name: "folder",
+                name: "none.gbr",
                 content: FileContent::NotRead,
             },
             InputFile {
@@ -248,7 +248,20 @@ const REASON_ROWS: [(&[InputFile<'static>], &str); 2] = [
                 content: FileContent::TooLong,
             },
         ],
-        "folder,?,it cannot be read\nlong.gbr,?,it is too long\n",
+        "none.gbr,?,it cannot be read\nlong.gbr,?,it is too long\n",
+    ),
+    (
+        &[
+            InputFile {
+                name: "old",
+                content: FileContent::Folder,
+            },
+            InputFile {
+                name: "b.zip",
+                content: FileContent::Bytes(b"PK\x03\x04\x14\x00"),
+            },
+        ],
+        "old,-,a folder: name its files\nb.zip,-,a zip archive: unpack it\n",
     ),
     (
         &[InputFile {

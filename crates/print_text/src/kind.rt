@@ -78,7 +78,7 @@ pub(crate) fn kind_words(kind: CauseKind) -> &'static str
         CauseKind::Holed => "only a holed flash",
         CauseKind::Scaled => "only a scaled flash",
         CauseKind::Turned => "only a turned flash",
-        CauseKind::Bare => "missing pad",
+        CauseKind::Bare => "no pad at the hole",
         CauseKind::Oblique => "oblique slot",
     }
 }
@@ -102,7 +102,7 @@ pub(crate) fn hint(kind: CauseKind) -> &'static str
         CauseKind::Scaled => "scaled flashes are not judged",
         CauseKind::Turned => "flashes turned by other than quarters are not judged",
         CauseKind::Bare => {
-            "no pad reaches the hole's centre: removed or painted pad, plane, other origin or format: see `ringcheck explain none`"
+            "none was flashed here, or its copper is drawn or of a shape that is not judged, or origin or format differ: see `ringcheck explain none`"
         }
         CauseKind::Oblique => "plated slots that lie along no axis are not judged",
     }

@@ -49,10 +49,12 @@ fn there_are_so_many_words(rt: HostRuntime) {
 }
 
 /// A word, and a setting that its page names.
-const SETTINGS: [(&str, &str); 7] = [
+const SETTINGS: [(&str, &str); 9] = [
     ("Routed", "use alternate drill mode"),
     ("ring", "less 0.001 mm"),
     ("none", "keep pads on all layers"),
+    ("none", "no flash stands in the hole"),
+    ("BadManifest", "as ringcheck manifest gerbers/*"),
     ("oblique", "OBLIQUE"),
     ("RING", "What to do"),
     ("GAP", "What to do"),

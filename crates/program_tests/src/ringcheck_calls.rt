@@ -4,6 +4,7 @@ ghost use Rattle.std.specs.List.{Contains};
 use ringcheck::*;
 use std::alloc::{AllocError, Global};
 
+mod containers;
 mod devices;
 mod limits;
 mod sound;

@@ -10,7 +10,7 @@ use Rattle.grid_units.proofs.DigitLemmas.{nine_digits}
 use Rattle.proposals.specs.Contents.{field, function_of, kind_of, has_line, plated_line, unplated_line}
 use Rattle.proposals.specs.Names.{digits_of, extension_of, ends_in_copper, has_dot, inner_extensions, inner_words, is_one_of, is_number_within, last_other_word, letters_of, says_unplated, number_within, number_suffix, stem_of, words_of}
 use Rattle.proposals.specs.declared.contents.FileKind.{FileKind}
-use Rattle.proposals.specs.declared.contents.FileKind.TheVariants.{Gerber, Drill, Empty, Neither}
+use Rattle.proposals.specs.declared.contents.FileKind.TheVariants.{Gerber, Drill, Empty, Archive, Neither}
 use Rattle.proposals.specs.declared.model.StackPosition.{StackPosition}
 use Rattle.proposals.specs.declared.model.StackPosition.TheVariants.{Numbered, Top, Inner, Bottom, Unknown}
 use Rattle.proposals.specs.declared.model.LayerRange.{LayerRange}
@@ -124,4 +124,5 @@ module _ (Q : ProposedRole → Type 0) (left_out : Q LeftOut) (undecided : Q Und
       first_of (by_file_function drill_by_function (function_of text)) (drill_by_lines (has_line plated_line text) (has_line unplated_line text)) (drill_by_name name)
       (by_function (function_of text) (drill_by_name name) h last) (by_lines (has_line plated_line text) (has_line unplated_line text) (drill_by_name name) last)
   of_kind Empty name text h = left_out
+  of_kind Archive name text h = left_out
   of_kind Neither name text h = left_out

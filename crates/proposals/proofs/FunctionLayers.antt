@@ -61,6 +61,7 @@ of_decision name text = of_kind (λ r. is_small r ≡ true) refl refl (λ place 
 of_content : (name : List ℕ) (c : FileContent) → is_small (decision_for name c).0 ≡ true
 of_content name (content.Bytes bytes) = of_decision name bytes.now
 of_content name content.NotRead = refl
+of_content name content.Folder = refl
 of_content name content.TooLong = refl
 
 -- the layers are those of the function, if there is one

@@ -19,6 +19,8 @@ is_byte b = nat_lt b 256
 words_visible : (why : ProposalReason) → list_all is_visible (reason_words why) ≡ true
 words_visible because.NoKind = refl
 words_visible because.NoHoles = refl
+words_visible because.Archive = refl
+words_visible because.Folder = refl
 words_visible (because.FileFunction function) = refl
 words_visible because.MixedHoles = refl
 words_visible because.PlatedType = refl

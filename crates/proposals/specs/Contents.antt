@@ -1,12 +1,12 @@
 -- What the text of a file says of itself: its kind, its file function and the plating that its lines name
 -- (docs/FORMATS.md, Proposals).
-use Rattle.std.specs.Prelude.{ℕ, zero, suc, ◌+◌, Bool, ◌||◌, ◌&&◌, ◌==◌, List, [], Option, is_some, length, take, drop, codes, if◌then◌else◌}
+use Rattle.std.specs.Prelude.{ℕ, zero, suc, ◌+◌, ◌++◌, Bool, ◌||◌, ◌&&◌, ◌==◌, List, [], ◌∷◌, Option, is_some, length, take, drop, codes, if◌then◌else◌}
 use Rattle.std.specs.List.{list_all, list_any, slice_split, before_first, after_first}
 use Rattle.std.specs.Option.{option_map}
 use Rattle.std.specs.Str.{bytes_eq}
 use Rattle.memchr.specs.Find.{matches, rmatches, first_of}
 use Rattle.proposals.specs.declared.contents.FileKind.{FileKind}
-use Rattle.proposals.specs.declared.contents.FileKind.TheVariants.{Gerber, Drill, Empty, Neither}
+use Rattle.proposals.specs.declared.contents.FileKind.TheVariants.{Gerber, Drill, Empty, Archive, Neither}
 use Rattle.grid_units.specs.Ascii as ascii
 
 -- ---- lines
@@ -33,6 +33,10 @@ has_no_hole line = is_line_of [] line || (is_line_of (codes "M30") line || is_li
 
 -- ---- the kind of a file
 
+-- whether bytes begin as a zip archive that holds a file does: with `PK` and the bytes 3 and 4
+abbrev pub is_archive : List ℕ → Bool
+is_archive bytes = bytes_eq (take 4 bytes) (codes "PK" ++ 3 ∷ 4 ∷ [])
+
 -- the bytes of `part` stand somewhere in the text
 abbrev pub contains : List ℕ → List ℕ → Bool
 contains text part = is_some (first_of (matches text part 0))
@@ -45,9 +49,13 @@ is_gerber text = contains text (codes "%FS") || (contains text (codes "D02*") ||
 abbrev pub kind_without_m48 : List ℕ → FileKind
 kind_without_m48 text = if has_line (codes "M30") text then (if list_all has_no_hole (lines text) then Empty else Drill) else Neither
 
--- the kind of a text; Gerber is asked first, then a line `M48`, then a line `M30`
+-- the kind of a text that is no archive; Gerber is asked first, then a line `M48`, then a line `M30`
+abbrev pub kind_of_text : List ℕ → FileKind
+kind_of_text text = if is_gerber text then Gerber else if has_line (codes "M48") text then Drill else kind_without_m48 text
+
+-- the kind of a file by its bytes
 abbrev pub kind_of : List ℕ → FileKind
-kind_of text = if is_gerber text then Gerber else if has_line (codes "M48") text then Drill else kind_without_m48 text
+kind_of text = if is_archive text then Archive else kind_of_text text
 
 -- ---- the file function
 

@@ -5,7 +5,7 @@ use Rattle.std.specs.Str.{bytes_eq}
 use Rattle.proposals.specs.Contents.{field, function_of, has_line, kind_of, plated_line, unplated_line}
 use Rattle.proposals.specs.Names.{bottom_extensions, bottom_words, extension_of, ends_in_copper, has_dot, inner_extensions, inner_words, is_one_of, last_other_word, says_unplated, number_within, number_suffix, numbered_other_extensions, other_extensions, other_words, plane_extensions, stem_of, top_extensions, top_words, words_of}
 use Rattle.proposals.specs.declared.contents.FileKind.{FileKind}
-use Rattle.proposals.specs.declared.contents.FileKind.TheVariants.{Gerber, Drill, Empty, Neither}
+use Rattle.proposals.specs.declared.contents.FileKind.TheVariants.{Gerber, Drill, Empty, Archive, Neither}
 use Rattle.proposals.specs.declared.model.StackPosition.{StackPosition}
 use Rattle.proposals.specs.declared.model.StackPosition.TheVariants.{Numbered, Top, Inner, Unknown, Bottom}
 use Rattle.proposals.specs.declared.model.LayerRange.{LayerRange}
@@ -135,6 +135,7 @@ abbrev pub by_kind : FileKind → List ℕ → List ℕ → Decision
 by_kind Gerber name text = gerber_decision name text
 by_kind Drill name text = drill_decision name text
 by_kind Empty name text = (LeftOut, because.NoHoles)
+by_kind Archive name text = (LeftOut, because.Archive)
 by_kind Neither name text = (LeftOut, because.NoKind)
 
 -- what a file with this name and text is

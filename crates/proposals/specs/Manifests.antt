@@ -30,6 +30,8 @@ role_word LeftOut = codes "-"
 abbrev pub reason_words : ProposalReason → List ℕ
 reason_words because.NoKind = codes "neither a Gerber nor a drill file"
 reason_words because.NoHoles = codes "a drill file without holes"
+reason_words because.Archive = codes "a zip archive: unpack it"
+reason_words because.Folder = codes "a folder: name its files"
 reason_words (because.FileFunction function) = codes "file function "
 reason_words because.MixedHoles = codes "plated and unplated holes in one file"
 reason_words because.PlatedType = codes ";TYPE=PLATED"
@@ -47,6 +49,8 @@ reason_words because.TooLong = codes "it is too long"
 abbrev pub named_function : ProposalReason → List ℕ
 named_function because.NoKind = []
 named_function because.NoHoles = []
+named_function because.Archive = []
+named_function because.Folder = []
 named_function (because.FileFunction function) = function
 named_function because.MixedHoles = []
 named_function because.PlatedType = []

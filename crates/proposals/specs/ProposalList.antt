@@ -5,17 +5,18 @@ use Rattle.std.specs.Str.{bytes_eq}
 use Rattle.grid_units.specs.Lists.{with_prefixes}
 use Rattle.proposals.specs.Decisions.{Decision, decision}
 use Rattle.proposals.specs.Stack.{layers_checked}
-use Rattle.proposals.specs.declared.model.ProposedRole.TheVariants.{Undecided}
+use Rattle.proposals.specs.declared.model.ProposedRole.TheVariants.{LeftOut, Undecided}
 use Rattle.proposals.specs.declared.model.ProposalReason.TheVariants as because
 use Rattle.proposals.specs.declared.model.Proposal.{Proposal}
 use Rattle.proposals.specs.declared.model.InputFile.{InputFile}
 use Rattle.proposals.specs.declared.model.FileContent.{FileContent}
 use Rattle.proposals.specs.declared.model.FileContent.TheVariants as content
 
--- what a file of this name is: by its bytes, or undecided where it cannot be read or is too long
+-- what a file of this name is: by its bytes, undecided where it cannot be read or is too long, and left out where it is a folder
 abbrev pub decision_for : List ℕ → FileContent → Decision
 decision_for name (content.Bytes bytes) = decision name bytes.now
 decision_for name content.NotRead = (Undecided, because.NotRead)
+decision_for name content.Folder = (LeftOut, because.Folder)
 decision_for name content.TooLong = (Undecided, because.TooLong)
 
 -- the name of a file, as it was asked for

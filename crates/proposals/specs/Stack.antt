@@ -18,6 +18,8 @@ use Rattle.proposals.specs.Manifests.{is_copper, layers_of_role}
 abbrev pub may_be_copper : ProposalReason → Bool
 may_be_copper because.NoKind = false
 may_be_copper because.NoHoles = false
+may_be_copper because.Archive = false
+may_be_copper because.Folder = false
 may_be_copper (because.FileFunction function) = false
 may_be_copper because.MixedHoles = false
 may_be_copper because.PlatedType = false

@@ -16,8 +16,17 @@ pub enum FileKind {
     Drill,
     /// A drill file without a hole.
     Empty,
-    /// Neither a Gerber nor a drill file.
+    /// A zip archive.
+    Archive,
+    /// Neither of these.
     Neither,
+}
+
+/// Whether bytes begin as a zip archive that holds a file does: with `PK` and the bytes 3 and 4.
+pub fn is_archive(bytes: &[u8]) -> bool
+    ensures { result ≡ says.is_archive bytes.now }
+{
+    bytes.starts_with(b"PK\x03\x04")
 }
 
 /// Whether a byte is a space, a tab or CR.
@@ -75,11 +84,14 @@ fn is_gerber(text: &[u8]) -> bool
         || contains(text, b"M02*")
 }
 
-/// The kind of a text: Gerber where it contains `%FS`, `D02*`, `D03*` or `M02*`, drill where a line is `M48` or `M30`. A drill
-/// file without `M48` is empty where each line is empty, `M30` or `%`.
+/// The kind of a text: an archive where it begins as one, Gerber where it contains `%FS`, `D02*`, `D03*` or `M02*`, drill where a
+/// line is `M48` or `M30`. A drill file without `M48` is empty where each line is empty, `M30` or `%`.
 pub fn kind_of(text: &[u8]) -> FileKind
     ensures { result ≡ says.kind_of text.now }
 {
+    if is_archive(text) {
+        return FileKind::Archive;
+    }
     if is_gerber(text) {
         return FileKind::Gerber;
     }

@@ -339,6 +339,7 @@ pub(crate) fn decision(alloc: Global, name: &[u8], text: &[u8]) -> Result<Decisi
         FileKind::Gerber => gerber_decision(alloc, name, text),
         FileKind::Drill => drill_decision(alloc, name, text),
         FileKind::Empty => Ok((ProposedRole::LeftOut, ProposalReason::NoHoles)),
+        FileKind::Archive => Ok((ProposedRole::LeftOut, ProposalReason::Archive)),
         FileKind::Neither => Ok((ProposedRole::LeftOut, ProposalReason::NoKind)),
     }
 }

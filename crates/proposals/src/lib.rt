@@ -17,7 +17,9 @@ mod proposal_list;
 mod reasons;
 mod stack;
 
-pub use contents::{FileKind, FunctionFields, fields_of, function_of, has_line, kind_of};
+pub use contents::{
+    FileKind, FunctionFields, fields_of, function_of, has_line, is_archive, kind_of,
+};
 pub use manifests::write_proposal;
 pub use model::{
     FileContent, InputFile, LayerRange, Proposal, ProposalReason, ProposedRole, StackPosition,

@@ -10,6 +10,8 @@ pub enum FileContent<'a> {
     Bytes(&'a [u8]),
     /// The file cannot be read.
     NotRead,
+    /// The name is that of a folder.
+    Folder,
     /// The file has more bytes than the limit of a file.
     TooLong,
 }
@@ -66,6 +68,10 @@ pub enum ProposalReason {
     NoKind,
     /// A drill file without a hole.
     NoHoles,
+    /// A zip archive.
+    Archive,
+    /// A folder.
+    Folder,
     /// The first field of the file function.
     FileFunction(Text),
     /// Plated and unplated holes stand in one file.

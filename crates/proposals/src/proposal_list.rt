@@ -21,6 +21,7 @@ fn decision_for(
     match file.content {
         FileContent::Bytes(bytes) => decision(alloc, file.name.as_bytes(), bytes),
         FileContent::NotRead => Ok((ProposedRole::Undecided, ProposalReason::NotRead)),
+        FileContent::Folder => Ok((ProposedRole::LeftOut, ProposalReason::Folder)),
         FileContent::TooLong => Ok((ProposedRole::Undecided, ProposalReason::TooLong)),
     }
 }

@@ -28,6 +28,8 @@ fn reason_words(because: &ProposalReason) -> &'static str
     match because {
         ProposalReason::NoKind => "neither a Gerber nor a drill file",
         ProposalReason::NoHoles => "a drill file without holes",
+        ProposalReason::Archive => "a zip archive: unpack it",
+        ProposalReason::Folder => "a folder: name its files",
         ProposalReason::FileFunction(_) => "file function ",
         ProposalReason::MixedHoles => "plated and unplated holes in one file",
         ProposalReason::PlatedType => ";TYPE=PLATED",

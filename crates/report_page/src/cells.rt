@@ -147,7 +147,7 @@ fn cause_word(cause: &RingCause) -> &'static str
             Why::Scaled => "only a scaled flash",
             Why::Turned => "only a turned flash",
         },
-        RingCause::NoFlash => "missing pad",
+        RingCause::NoFlash => "no pad at the hole",
         RingCause::Oblique => "oblique slot",
     }
 }

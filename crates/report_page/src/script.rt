@@ -14,6 +14,7 @@ var chosen = [], waits = false, drag = null;
 var here = document.createElementNS(svg.namespaceURI, 'circle');
 here.setAttribute('class', 'here');
 partTable(200);
+joinHoles(2000, 250);
 
 // Many rows stand in parts of some hundreds each: a browser lays out only the parts that come into view.
 function partTable(size) {
@@ -26,6 +27,29 @@ function partTable(size) {
     table.appendChild(part);
   }
   all.remove();
+}
+
+// Many round holes become paths of some hundreds each, which look the same: a browser is done with these sooner than with as many circles.
+function joinHoles(most, size) {
+  if (svg.querySelectorAll('circle.plated').length <= most) { return; }
+  svg.querySelectorAll('.layer > g:not(.finding)').forEach(function (group) {
+    var first = group.querySelector('circle.plated'), rest = document.createDocumentFragment(), places = [], radius, round, path, i;
+    if (!first) { return; }
+    radius = first.getAttribute('r');
+    round = 'a' + radius + ' ' + radius + ' 0 1 0 ';
+    round = 'm-' + radius + ' 0' + round + 2 * radius + ' 0' + round + -2 * radius + ' 0z';
+    Array.from(group.children).forEach(function (it) {
+      if (it.matches('circle.plated')) { places.push('M' + it.getAttribute('cx') + ' ' + it.getAttribute('cy') + round); } else { rest.appendChild(it); }
+    });
+    for (i = 0; i < places.length; i += size) {
+      path = document.createElementNS(svg.namespaceURI, 'path');
+      path.setAttribute('class', 'plated');
+      path.setAttribute('stroke-width', first.getAttribute('stroke-width'));
+      path.setAttribute('d', places.slice(i, i + size).join(''));
+      rest.appendChild(path);
+    }
+    group.replaceChildren(rest);
+  });
 }
 
 // The picture shows a part of the page; many changes within a frame are drawn once.

@@ -247,7 +247,7 @@ const LINES: [(HoleRow, CauseRow, &str); 11] = [
     (
         OBLIQUE,
         CauseRow::NoFlash,
-        "  #1 hole 3 of pth, 0.5 at 0,0 to 2,1: missing pad\n",
+        "  #1 hole 3 of pth, 0.5 at 0,0 to 2,1: no pad at the hole\n",
     ),
     (
         SLOT,
@@ -366,14 +366,14 @@ fn mixed_layers_are_printed_one_by_one(rt: HostRuntime) -> Result<(), Fail> {
     let report = mixed_layers(rt.alloc())?;
     let text = "rules: annular ring 0.1 mm, hole to hole 0.25 mm\n\
         annular ring on F_Cu: 2 of 9 holes below the rule\n  \
-        #2 hole 2 of StickHub-PTH, 0.3 at 0,0: missing pad\n  \
-        #4 hole 4 of StickHub-PTH, 0.3 at 0,0: missing pad\n\
+        #2 hole 2 of StickHub-PTH, 0.3 at 0,0: no pad at the hole\n  \
+        #4 hole 4 of StickHub-PTH, 0.3 at 0,0: no pad at the hole\n\
         annular ring on B_Cu: 3 of 8 holes below the rule\n  \
-        #1 hole 1 of StickHub-PTH, 0.3 at 0,0: missing pad\n  \
-        #3 hole 3 of StickHub-PTH, 0.3 at 0,0: missing pad\n  \
+        #1 hole 1 of StickHub-PTH, 0.3 at 0,0: no pad at the hole\n  \
+        #3 hole 3 of StickHub-PTH, 0.3 at 0,0: no pad at the hole\n  \
         and 1 more\n\
         hole to hole: 0 gaps too small\n\
-        5 missing pad: no pad reaches the hole's centre: removed or painted pad, plane, other origin or format: see `ringcheck explain none`\n\
+        5 no pad at the hole: none was flashed here, or its copper is drawn or of a shape that is not judged, or origin or format differ: see `ringcheck explain none`\n\
         this board meets annular ring 0, hole to hole 0.25\n\
         FINDINGS 5\n";
     assert!(rt; is_printed(rt, &STICK, &report, Some(4), text)?);
@@ -484,7 +484,7 @@ fn causes_and_scales_are_printed(rt: HostRuntime) -> Result<(), Fail> {
         1 only a holed flash: flashes with a hole are not judged\n\
         1 only a scaled flash: scaled flashes are not judged\n\
         1 only a turned flash: flashes turned by other than quarters are not judged\n\
-        1 missing pad: no pad reaches the hole's centre: removed or painted pad, plane, other origin or format: see `ringcheck explain none`\n\
+        1 no pad at the hole: none was flashed here, or its copper is drawn or of a shape that is not judged, or origin or format differ: see `ringcheck explain none`\n\
         1 oblique slot: plated slots that lie along no axis are not judged\n\
         smallest ring 0.099394596 (rule 0.15)\n\
         this board meets annular ring none, hole to hole 1.046051224; where a pad is, annular ring 0.275\n\
@@ -546,14 +546,14 @@ const WAIVED: [WaivedRow; 4] = [
         6,
         "rules: annular ring 0.1 mm, hole to hole 0.25 mm\n\
         annular ring on top_layer: 3 of 245 holes below the rule, 3 waived\n  \
-        #1 hole 1 of pth, 0.4 at 0,0: missing pad, waived: milled\n  \
-        #2 hole 2 of pth, 0.4 at 0,0: missing pad, waived: milled\n  \
-        #3 hole 3 of pth, 0.4 at 0,0: missing pad, waived: by hand\n\
+        #1 hole 1 of pth, 0.4 at 0,0: no pad at the hole, waived: milled\n  \
+        #2 hole 2 of pth, 0.4 at 0,0: no pad at the hole, waived: milled\n  \
+        #3 hole 3 of pth, 0.4 at 0,0: no pad at the hole, waived: by hand\n\
         hole to hole: 3 gaps too small, 3 waived\n  \
         #4 hole 1 of pth, 0.4 at 0,0, and hole 1 of pth, 0.4 at 0,0: gap -0.4 (rule 0.25), waived: drilled \"twice\"\n  \
         #5 hole 2 of pth, 0.4 at 0,0, and hole 2 of pth, 0.4 at 0,0: gap -0.4 (rule 0.25), waived: x\n  \
         #6 hole 3 of pth, 0.4 at 0,0, and hole 3 of pth, 0.4 at 0,0: gap -0.4 (rule 0.25), waived: y\n\
-        3 missing pad: no pad reaches the hole's centre: removed or painted pad, plane, other origin or format: see `ringcheck explain none`\n\
+        3 no pad at the hole: none was flashed here, or its copper is drawn or of a shape that is not judged, or origin or format differ: see `ringcheck explain none`\n\
         smallest gap -0.4 (rule 0.25)\n\
         this board meets annular ring 0.1, hole to hole -0.4\n\
         waiver 8 waives nothing\n\
@@ -569,12 +569,12 @@ const WAIVED: [WaivedRow; 4] = [
         5,
         "rules: annular ring 0.1 mm, hole to hole 0.25 mm\n\
         annular ring on top_layer: 3 of 245 holes below the rule, 2 waived\n  \
-        #1 hole 1 of pth, 0.4 at 0,0: missing pad, waived: milled\n  \
-        #2 hole 2 of pth, 0.4 at 0,0: missing pad\n  \
+        #1 hole 1 of pth, 0.4 at 0,0: no pad at the hole, waived: milled\n  \
+        #2 hole 2 of pth, 0.4 at 0,0: no pad at the hole\n  \
         and 1 more\n\
         hole to hole: 3 gaps too small, 3 waived\n  \
         and 3 more\n\
-        3 missing pad: no pad reaches the hole's centre: removed or painted pad, plane, other origin or format: see `ringcheck explain none`\n\
+        3 no pad at the hole: none was flashed here, or its copper is drawn or of a shape that is not judged, or origin or format differ: see `ringcheck explain none`\n\
         smallest gap -0.4 (rule 0.25)\n\
         this board meets annular ring 0.1, hole to hole -0.4\n\
         waiver 2 waives nothing\n\
@@ -591,13 +591,13 @@ const WAIVED: [WaivedRow; 4] = [
         3,
         "rules: annular ring 0.1 mm, hole to hole 0.25 mm\n\
         annular ring on top_layer: 3 of 245 holes below the rule, 3 waived\n  \
-        #1 hole 1 of pth, 0.4 at 0,0: missing pad, waived: milled\n  \
-        #2 hole 2 of pth, 0.4 at 0,0: missing pad, waived: milled\n  \
-        #3 hole 3 of pth, 0.4 at 0,0: missing pad, waived: by hand\n\
+        #1 hole 1 of pth, 0.4 at 0,0: no pad at the hole, waived: milled\n  \
+        #2 hole 2 of pth, 0.4 at 0,0: no pad at the hole, waived: milled\n  \
+        #3 hole 3 of pth, 0.4 at 0,0: no pad at the hole, waived: by hand\n\
         hole to hole: 3 gaps too small\n  \
         #4 hole 1 of pth, 0.4 at 0,0, and hole 1 of pth, 0.4 at 0,0: gap -0.4 (rule 0.25)\n  \
         and 2 more\n\
-        3 missing pad: no pad reaches the hole's centre: removed or painted pad, plane, other origin or format: see `ringcheck explain none`\n\
+        3 no pad at the hole: none was flashed here, or its copper is drawn or of a shape that is not judged, or origin or format differ: see `ringcheck explain none`\n\
         smallest gap -0.4 (rule 0.25)\n\
         this board meets annular ring 0.1, hole to hole -0.4\n\
         FINDINGS 3\n",
@@ -615,7 +615,7 @@ const WAIVED: [WaivedRow; 4] = [
         and 3 more\n\
         hole to hole: 3 gaps too small, 1 waived\n  \
         and 3 more\n\
-        3 missing pad: no pad reaches the hole's centre: removed or painted pad, plane, other origin or format: see `ringcheck explain none`\n\
+        3 no pad at the hole: none was flashed here, or its copper is drawn or of a shape that is not judged, or origin or format differ: see `ringcheck explain none`\n\
         smallest gap -0.4 (rule 0.25)\n\
         this board meets annular ring 0.1, hole to hole -0.4\n\
         FINDINGS 5\n",

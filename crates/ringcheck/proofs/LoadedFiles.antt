@@ -22,7 +22,7 @@ use Rattle.ringcheck_files.specs.Outcomes.{HasRisen}
 use Rattle.ringcheck.specs.CheckStatus.{HasFiles, RefusedFile, file_views_among, long_file, sources}
 use Rattle.ringcheck.specs.Inner.Halting.{Halts, refusal}
 use Rattle.ringcheck.specs.Inner.Loading.{AreFirstOf, EndsAt, HasLoaded, LoadsCopper, LoadsCopperTo, LoadsFile, LoadsKind, RefusesLong, copper_entries, is_kind_at, is_kind_of, source}
-use Rattle.ringcheck.specs.Refusals.{Refusal}
+use Rattle.ringcheck.specs.Refusals.{Refusal, of_archive}
 use Rattle.ringcheck.proofs.Outcomes.{risen_since}
 use Rattle.ringcheck.specs.declared.refusals.Halt.{Halt}
 use Rattle.ringcheck.specs.declared.refusals.Halt.TheVariants as halt
@@ -259,6 +259,7 @@ risen_by old middle new a b (inr last) = elim (cases_lt middle new) [ inl more �
 
 pub halts_weaker : (Is Is' : Refusal → Type 0) (Risen Risen' : Type 0) → ((why : Refusal) → Is why → Is' why) → (Risen → Risen') → (h : Halt) → Halts Is Risen h → Halts Is' Risen' h
 halts_weaker Is Is' Risen Risen' to rise (halt.Refused what why) is = to (refusal what why) is
+halts_weaker Is Is' Risen Risen' to rise (halt.Archive what why name) is = to (of_archive name.now (refusal what why)) is
 halts_weaker Is Is' Risen Risen' to rise (halt.Unread what) risen = rise risen
 
 module _ (has : List ℕ → List ℕ → Type 0) (all : List Entry) (Taken : List FileView → (ℕ → Bool) → Type 0) (drills copper : ℕ) (le : copper ≤ drills) (h : HasLoaded has all Taken (done_to all drills copper)) where

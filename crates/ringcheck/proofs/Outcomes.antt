@@ -5,6 +5,7 @@ use Rattle.std.specs.Borrow.{Bor}
 use Rattle.std.specs.List.{count_by}
 use Rattle.std.proofs.lemmas.Bool.{eqb-true, false≢true}
 use Rattle.std.proofs.lemmas.List.{nil_from_length}
+use Rattle.std.proofs.lemmas.Option.{none-some, same_Some}
 use Rattle.std.proofs.lemmas.Result.{IfOk-weaker}
 use Rattle.grid_units.specs.Holes.{GridRules}
 use Rattle.manifest.specs.declared.Entry.{Entry}
@@ -19,8 +20,8 @@ use Rattle.ringcheck_files.specs.LoaderRelation.{file_limit, within}
 use Rattle.ringcheck.specs.declared.refusals.Halt.{Halt}
 use Rattle.ringcheck.specs.declared.refusals.Halt.TheVariants as halt
 use Rattle.ringcheck.specs.declared.refusals.RefusalStyle.{RefusalStyle}
-use Rattle.ringcheck.specs.Inner.Halting.{AfterHalt, Halts, OfFiles, OfTaken, refusal}
-use Rattle.ringcheck.specs.Refusals.{Refusal, PrintsRefusal}
+use Rattle.ringcheck.specs.Inner.Halting.{AfterHalt, Halts, OfFiles, OfTaken, refusal, refusal_of}
+use Rattle.ringcheck.specs.Refusals.{Refusal, PrintsRefusal, of_archive}
 use Rattle.ringcheck.specs.CheckStatus.{HasFiles, HasTable, HoldsForPackage, RefusedFile, IsPackageRefusal, SaysPackage, Checks, IsCheckStatus, IsLegalStatus, bad_file, long_file, refused_file, refused_manifest, sources, status_of}
 use Rattle.ringcheck.proofs.LoadSteps.{has_files_along, names_among, same_length}
 
@@ -58,6 +59,7 @@ module _ (has : List ℕ → List ℕ → Type 0) (entries : List Entry) (Risen 
   of_taken : (done : Result Bool Halt) → OfTaken Holds (sources entries files) done → OfFiles has entries Risen Holds done
   of_taken (Ok passes) h = (files, held, h)
   of_taken (Err (halt.Refused what why)) h = bad_file files held h
+  of_taken (Err (halt.Archive what why name)) h = bad_file files held h
   of_taken (Err (halt.Unread what)) h = absurd h
 
   -- files were loaded, and a reader has taken them
@@ -73,13 +75,21 @@ module _ (has : List ℕ → List ℕ → Type 0) (entries : List Entry) (Risen 
   done_with stands reader names same (files, held, stood) r answered =
       taken has entries Risen Holds files held r (answered (sources entries files) (named (within file_limit has) entries files names held same) stood)
 
+-- a halt with this refusal
+pub halts_of : (Is : Refusal → Type 0) (Risen : Type 0) (h : Halt) (why : Refusal) → refusal_of h ≡ Some why → Is why → Halts Is Risen h
+halts_of Is Risen (halt.Refused what fault) why same is = subst Is (sym (same_Some (refusal what fault) why same)) is
+halts_of Is Risen (halt.Archive what fault name) why same is = subst Is (sym (same_Some (of_archive name.now (refusal what fault)) why same)) is
+halts_of Is Risen (halt.Unread what) why same is = absurd (none-some why same)
+
 -- a halt was printed
-module _ (Is : Refusal → Type 0) (Risen : Type 0) (refusal_style : RefusalStyle) (path : List ℕ) (before after : Option (List ℕ)) (P : Status → Type 0) where
+module _ (Is : Refusal → Type 0) (Risen : Type 0) (refusal_style : RefusalStyle) (path : List ℕ) (folder : Bool) (before after : Option (List ℕ)) (P : Status → Type 0) where
   pub halted : (Risen → P status.Device) → ((why : Refusal) → Is why → PrintsRefusal refusal_style why before after → P status.Refused) → (h : Halt) → Halts Is Risen h
-      → (r : Result Status Failure) → IfOk r (AfterHalt refusal_style h path before after) → IfOk r P
+      → (r : Result Status Failure) → IfOk r (AfterHalt refusal_style h path folder before after) → IfOk r P
   halted device refused (halt.Refused what why) is r printed =
-      IfOk-weaker r (AfterHalt refusal_style (halt.Refused what why) path before after) P (λ s p. subst P (sym p.0) (refused (refusal what why) is p.1)) printed
-  halted device refused (halt.Unread what) risen r printed = IfOk-weaker r (AfterHalt refusal_style (halt.Unread what) path before after) P (λ s p. subst P (sym p.0) (device risen)) printed
+      IfOk-weaker r (AfterHalt refusal_style (halt.Refused what why) path folder before after) P (λ s p. subst P (sym p.0) (refused (refusal what why) is p.1)) printed
+  halted device refused (halt.Archive what why name) is r printed =
+      IfOk-weaker r (AfterHalt refusal_style (halt.Archive what why name) path folder before after) P (λ s p. subst P (sym p.0) (refused (of_archive name.now (refusal what why)) is p.1)) printed
+  halted device refused (halt.Unread what) risen r printed = IfOk-weaker r (AfterHalt refusal_style (halt.Unread what) path folder before after) P (λ s p. subst P (sym p.0) (device risen)) printed
 
 -- ---- what a loader has
 
@@ -107,7 +117,7 @@ module _ (later has : List ℕ → List ℕ → Type 0) (to : (n b : List ℕ) �
     package_along Holds h = record { entries = h.entries; listed = listed_along h.entries h.listed; files = h.files; loaded = files_along h.entries h.files h.loaded; holds = h.holds }
 
     refused_along : (why : Refusal) → IsPackageRefusal later name why → IsPackageRefusal has name why
-    refused_along why (refused_manifest fault h is) = refused_manifest fault (h.0, to name h.0 h.1, h.2) is
+    refused_along why (refused_manifest h) = refused_manifest (h.0, to name h.0 h.1, h.2)
     refused_along why (refused_file entries listed file) = refused_file entries (listed_along entries listed) (file_along entries why file)
 
     pub says_along : (Holds : Bool → List FileView → Type 0) (refusal_style : RefusalStyle) (before after : Option (List ℕ)) (s : Status) → SaysPackage later name Holds refusal_style before after s

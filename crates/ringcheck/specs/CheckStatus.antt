@@ -11,7 +11,8 @@ use Rattle.ringcheck_files.specs.declared.Status.{Status}
 use Rattle.ringcheck_files.specs.declared.Status.TheVariants as status
 use Rattle.ringcheck.specs.declared.refusals.RefusalStyle.{RefusalStyle}
 use Rattle.ringcheck.specs.declared.refusals.RefusalStyle.TheVariants as style
-use Rattle.ringcheck.specs.Refusals.{Refusal, PrintsRefusal, of_file, of_manifest}
+use Rattle.ringcheck.specs.Refusals.{Refusal, PrintsRefusal, of_archive, of_file, of_manifest}
+use Rattle.proposals.specs.Contents.{is_archive}
 use Rattle.ringcheck_files.specs.LoaderRelation.{Relation, file_limit, too_long, within}
 use Rattle.ringcheck_files.specs.Words.{IsUsageStatus}
 use Rattle.package_check.specs.Reports.{ReportView}
@@ -46,9 +47,18 @@ manifest_limit = 1048576
 abbrev pub HasTable : {A : Type 0} → (List ℕ → Result (List A) Fault) → Relation → List ℕ → List A → Type 0
 HasTable parse has name rows = (text : List ℕ) × has name text × (length text ≤ manifest_limit) × (parse text ≡ Ok rows)
 
--- the loader has under this name a table that is refused for its length or its rows, with this fault
-abbrev pub RefusedTable : {A : Type 0} → (List ℕ → Result (List A) Fault) → Relation → List ℕ → Fault → Type 0
-RefusedTable parse has name why = (text : List ℕ) × has name text × (((manifest_limit < length text) × (why ≡ too_long)) ⊎ (parse text ≡ Err why))
+-- the refusal of a table of this text and this name: of a zip archive it says that it is one
+abbrev pub refusal_of_text : List ℕ → List ℕ → Refusal → Refusal
+refusal_of_text name text why = if is_archive text then of_archive name why else why
+
+-- a table of this text is refused: the text is above the limit, or it has a fault, as `parse` says; `plain` makes the refusal of a fault
+abbrev pub RefusesText : {A : Type 0} → (List ℕ → Result (List A) Fault) → (Fault → Refusal) → List ℕ → List ℕ → Refusal → Type 0
+RefusesText parse plain name text why =
+    ((manifest_limit < length text) × (why ≡ plain too_long)) ⊎ ((fault : Fault) × (parse text ≡ Err fault) × (why ≡ refusal_of_text name text (plain fault)))
+
+-- the loader has under this name a table that is refused for its length or its rows
+abbrev pub RefusedTable : {A : Type 0} → (List ℕ → Result (List A) Fault) → (Fault → Refusal) → Relation → List ℕ → Refusal → Type 0
+RefusedTable parse plain has name why = (text : List ℕ) × has name text × RefusesText parse plain name text why
 
 -- a package that the loader has under this name: its manifest, and files of which none is above its limit; `Holds` is true of the files
 pub record HoldsForPackage (has : Relation) (name : List ℕ) (Holds : List FileView → Type 0) : Type 0 where
@@ -83,7 +93,7 @@ pub data RefusedFile (has : Relation) (entries : List Entry) (why : Refusal) : T
 
 -- bytes that the loader has are refused: the manifest under this name, or a file that it names
 pub data IsPackageRefusal (has : Relation) (name : List ℕ) (why : Refusal) : Type 0 where
-  refused_manifest : (fault : Fault) → RefusedTable manifest has name fault → why ≡ of_manifest fault → IsPackageRefusal has name why
+  refused_manifest : RefusedTable manifest of_manifest has name why → IsPackageRefusal has name why
   refused_file : (entries : List Entry) → HasTable manifest has name entries → RefusedFile has entries why → IsPackageRefusal has name why
 
 -- such bytes are refused, and the writer got just the text of the refusal

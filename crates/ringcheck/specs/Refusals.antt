@@ -10,22 +10,27 @@ use Rattle.grid_units.specs.declared.fault.Fault.{Fault}
 use Rattle.grid_units.specs.declared.fault.Reason.{Reason}
 use Rattle.print_json.specs.Packages.{refused_manifest_value, refused_value, refused_waivers_value}
 use Rattle.print_json.specs.Values.{json_text}
+use Rattle.ringcheck_files.specs.Containers.{archive_sentence}
+use Rattle.ringcheck_files.specs.Words.{sentence_line}
 use Rattle.ringcheck.specs.declared.refusals.RefusalStyle.{RefusalStyle}
 use Rattle.ringcheck.specs.declared.refusals.RefusalStyle.TheVariants as style
 
 -- ---- refusals
 
--- what is refused, and why: the manifest, the file of waivers, or a file, by its index from 0 and its name
+-- what is refused, and why: the manifest, the file of waivers, or a file, by its index from 0 and its name; or a refusal of one of the
+-- first two whose text is a zip archive, by the name under which it was looked for
 pub data Refusal : Type 0 where
   of_manifest : Fault → Refusal
   of_waivers : Fault → Refusal
   of_file : ℕ → List ℕ → Fault → Refusal
+  of_archive : List ℕ → Refusal → Refusal
 
 -- the reason of a refusal, such as TooLong
 abbrev pub reason_of : Refusal → Reason
 reason_of (of_manifest why) = why.reason
 reason_of (of_waivers why) = why.reason
 reason_of (of_file index name why) = why.reason
+reason_of (of_archive name why) = reason_of why
 
 -- the line of a refusal, with files numbered from 1: `refused file=1 place=0 byte=0 reason=TooLong name=top`
 abbrev pub refusal_line : Refusal → List ℕ
@@ -34,12 +39,21 @@ refusal_line (of_waivers why) = codes "refused waivers place=" ++ (decimal why.p
 refusal_line (of_file index name why) =
     codes "refused file=" ++ (decimal (index + 1) ++ (codes " place=" ++ (decimal why.place ++ (codes " byte=" ++ (decimal why.byte
     ++ (codes " reason=" ++ (reason_name why.reason ++ (codes " name=" ++ (name ++ ascii.line_feed ∷ [])))))))))
+refusal_line (of_archive name why) = refusal_line why
+
+-- what stands between the line of a refusal and its page: of a zip archive, that it is one
+abbrev pub said_between : Refusal → List ℕ
+said_between (of_manifest why) = []
+said_between (of_waivers why) = []
+said_between (of_file index name why) = []
+said_between (of_archive name why) = sentence_line (archive_sentence name)
 
 -- the JSON of a refusal: one object on one line (docs/FORMATS.md, JSON)
 abbrev pub refusal_json : Refusal → List ℕ
 refusal_json (of_manifest why) = json_text (refused_manifest_value why.place why.reason)
 refusal_json (of_waivers why) = json_text (refused_waivers_value why.place why.reason)
 refusal_json (of_file index name why) = json_text (refused_value index name why)
+refusal_json (of_archive name why) = refusal_json why
 
 -- a line of a page below a refusal: two spaces, the line, and LF
 abbrev pub indented_row : List ℕ → List ℕ
@@ -49,14 +63,14 @@ indented_row row = codes "  " ++ (row ++ ascii.line_feed ∷ [])
 abbrev pub indented : List ℕ → List ℕ
 indented page = flat_map indented_row (lines page)
 
--- the text is a line with the page of this reason below it, which begins with the reason's name and fits a screen
-abbrev pub HasPage : Reason → List ℕ → List ℕ → Type 0
-HasPage why line text = (page : List ℕ) × HasHeading (reason_name why) page × FitsScreen page × (text ≡ line ++ indented page)
+-- the text is a line with what is said below it and then the page of this reason, which begins with the reason's name and fits a screen
+abbrev pub HasPage : Reason → List ℕ → List ℕ → List ℕ → Type 0
+HasPage why line said text = (page : List ℕ) × HasHeading (reason_name why) page × FitsScreen page × (text ≡ line ++ (said ++ indented page))
 
--- the text of a refusal in a style: its line, this line with the page of its reason below it, or its JSON
+-- the text of a refusal in a style: its line, this line with what is said of it and the page of its reason below it, or its JSON
 abbrev pub IsRefusalText : RefusalStyle → Refusal → List ℕ → Type 0
 IsRefusalText style.Line why text = text ≡ refusal_line why
-IsRefusalText style.Page why text = HasPage (reason_of why) (refusal_line why) text
+IsRefusalText style.Page why text = HasPage (reason_of why) (refusal_line why) (said_between why) text
 IsRefusalText style.Json why text = text ≡ refusal_json why
 
 -- the writer got just the text of a refusal

@@ -2,7 +2,6 @@
 use Rattle.std.specs.Prelude.{◌≡◌, ◌⊎◌, ◌==◌, ◌&&◌, ℕ, Bool, true, List, [], Option, Some, None, Result, Ok, Err, length, map}
 use Rattle.std.specs.Io.KnownBytes.{Appends}
 use Rattle.grid_units.specs.Holes.{GridRules}
-use Rattle.grid_units.specs.declared.fault.Fault.{Fault}
 use Rattle.grid_units.specs.declared.fault.Reason.{Reason}
 use Rattle.package_check.specs.Package.{FileView}
 use Rattle.package_check.specs.Soundness.{IsSound}
@@ -20,7 +19,7 @@ use Rattle.ringcheck.specs.declared.parsed_words.ReportFormat.{ReportFormat}
 use Rattle.ringcheck.specs.declared.parsed_words.ReportFormat.TheVariants as format
 use Rattle.ringcheck.specs.declared.refusals.RefusalStyle.{RefusalStyle}
 use Rattle.ringcheck.specs.declared.refusals.RefusalStyle.TheVariants as style
-use Rattle.ringcheck.specs.Refusals.{PrintsRefusal, of_waivers}
+use Rattle.ringcheck.specs.Refusals.{Refusal, PrintsRefusal}
 use Rattle.ringcheck_files.specs.LoaderRelation.{Relation}
 use Rattle.ringcheck_files.specs.Words.{IsExplainedUsage}
 use Rattle.ringcheck.specs.CheckStatus.{SaysPackage}
@@ -72,7 +71,7 @@ report_style format.Waivers = style.Line
 
 -- a file of waivers is refused, and the writer got just the text of the refusal
 abbrev pub PrintsWaiversRefusal : Relation → List ℕ → RefusalStyle → Option (List ℕ) → Option (List ℕ) → Type 0
-PrintsWaiversRefusal has file refusal_style before after = (why : Fault) × RefusedWaivers has file why × PrintsRefusal refusal_style (of_waivers why) before after
+PrintsWaiversRefusal has file refusal_style before after = (why : Refusal) × RefusedWaivers has file why × PrintsRefusal refusal_style why before after
 
 -- what a status says of the report on a package
 abbrev pub IsReportStatus : Relation → List ℕ → GridRules → Option ℕ → ReportFormat → Option (List Waiver) → Option (List ℕ) → Option (List ℕ) → Status → Type 0

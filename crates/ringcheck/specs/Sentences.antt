@@ -6,6 +6,7 @@ use Rattle.grid_units.specs.declared.fault.Reason.{Reason}
 use Rattle.grid_units.specs.declared.fault.Reason.TheVariants as reasons
 use Rattle.print_json.specs.Packages.{device_value, manifest_device_value, waivers_device_value}
 use Rattle.print_json.specs.Values.{json_text}
+use Rattle.ringcheck_files.specs.Containers.{folder_sentence}
 use Rattle.ringcheck_files.specs.Words.{sentence_line}
 use Rattle.ringcheck.specs.declared.refusals.RefusalStyle.{RefusalStyle}
 use Rattle.ringcheck.specs.declared.refusals.RefusalStyle.TheVariants as style
@@ -81,8 +82,13 @@ unread_line subject.Manifest = codes "device\n"
 unread_line subject.Waivers = codes "device\n"
 unread_line (subject.File index name) = codes "device file=" ++ (decimal (index + 1) ++ (codes " name=" ++ (name.now ++ ascii.line_feed ∷ [])))
 
--- what is said of something that cannot be read, by the name of its file: `cannot read the manifest x.csv: file names are taken from the
--- working directory`
+-- what is said of a folder by the name under which a file was looked for: `boards is a folder: ringcheck reads files; ..`
+abbrev pub found_folder_sentence : Subject → List ℕ → List ℕ
+found_folder_sentence subject.Manifest path = folder_sentence path
+found_folder_sentence subject.Waivers path = path ++ codes " is a folder: name a file of waivers"
+found_folder_sentence (subject.File index name) path = path ++ (codes ", the file of " ++ (name.now ++ codes ", is a folder: the manifest names files"))
+
+-- what is said of something else that cannot be read: `cannot read the manifest x.csv: file names are taken from the working directory`
 abbrev pub unread_sentence : Subject → List ℕ → List ℕ
 unread_sentence subject.Manifest path = codes "cannot read the manifest " ++ (path ++ codes ": file names are taken from the working directory")
 unread_sentence subject.Waivers path = codes "cannot read the file of waivers " ++ (path ++ codes ": file names are taken from the working directory")
@@ -95,8 +101,12 @@ unread_json subject.Manifest = json_text manifest_device_value
 unread_json subject.Waivers = json_text waivers_device_value
 unread_json (subject.File index name) = json_text (device_value index name.now)
 
+-- what is said of something that cannot be read, which may be a folder
+abbrev pub unread_words : Subject → List ℕ → Bool → List ℕ
+unread_words what path folder = if folder then found_folder_sentence what path else unread_sentence what path
+
 -- the text of something that cannot be read, in a style: its line, this line with the sentence below it, or its JSON
-abbrev pub unread_text : RefusalStyle → Subject → List ℕ → List ℕ
-unread_text style.Line what path = unread_line what
-unread_text style.Page what path = unread_line what ++ sentence_line (unread_sentence what path)
-unread_text style.Json what path = unread_json what
+abbrev pub unread_text : RefusalStyle → Subject → List ℕ → Bool → List ℕ
+unread_text style.Line what path folder = unread_line what
+unread_text style.Page what path folder = unread_line what ++ sentence_line (unread_words what path folder)
+unread_text style.Json what path folder = unread_json what

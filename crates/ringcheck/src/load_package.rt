@@ -12,7 +12,7 @@ ghost use Rattle.ringcheck.specs.Inner.Halting.{OfFiles, OfTable};
 ghost use Rattle.ringcheck.specs.Inner.Loading.{EndsAt, LoadsCopperTo, LoadsKind, OfCheckedFile, OfFile, OfTakenFile, copper_entries};
 ghost use Rattle.waivers.specs.Reading.{waivers};
 
-use crate::refusals::{Halt, Subject};
+use crate::refusals::{Halt, Subject, refused_table};
 use crate::{Entry, LoadFault, Loader, PackageReader, Role, read_manifest};
 use grid_units::{Fail, Rules};
 use package_check::{Keep, PackageCheck};
@@ -57,7 +57,7 @@ impl Row for Waiver {
 pub(crate) fn load_table<'a, L: Loader, R: Row + Drop>(
     alloc: Global,
     loader: &mut L,
-    name: &str,
+    name: &'a str,
     subject: Subject<'a>,
 ) -> Result<Result<Vec<R>, Halt<'a>>, Failure>
     ensures keeps { (n b : List ℕ) → L.has loader.new n b → L.has loader.old n b }
@@ -68,7 +68,9 @@ pub(crate) fn load_table<'a, L: Loader, R: Row + Drop>(
         Ok(text) => match R::read(alloc, text.as_slice()) {
             Ok(rows) => Ok(Ok(rows)),
             Err(Fail::Memory) => Err(Failure::Memory),
-            Err(Fail::Refused(fault)) => Ok(Err(Halt::Refused(subject, fault))),
+            Err(Fail::Refused(fault)) => {
+                Ok(Err(refused_table(subject, fault, name, text.as_slice())))
+            }
         },
         Err(LoadFault::Device) => Ok(Err(Halt::Unread(subject))),
         Err(LoadFault::Memory) => Err(Failure::Memory),

@@ -102,6 +102,11 @@ fn path_of<'a>(entries: &'a [Entry], halt: Halt) -> &'a str
     }
 }
 
+/// Whether what cannot be read, and was looked for by this name, is a folder, as far as the loader knows.
+fn is_unread_folder<L: Loader>(loader: &L, halt: Halt, path: &str) -> bool {
+    matches!(halt, Halt::Unread(_)) && loader.is_folder(path)
+}
+
 /// Does a job on the package of a manifest.
 fn run_job<L: Loader, W: Write>(
     alloc: Global,
@@ -115,13 +120,17 @@ fn run_job<L: Loader, W: Write>(
 {
     let entries = match load_table::<L, Entry>(alloc, loader, name, Subject::Manifest)? {
         Ok(entries) => entries,
-        Err(halt) => return print_halt(out, job.style(), halt, name),
+        Err(halt) => {
+            let is_folder = is_unread_folder(loader, halt, name);
+            return print_halt(out, job.style(), halt, name, is_folder);
+        }
     };
     match answer(alloc, job, entries.as_slice(), loader, out)? {
         Ok(passes) => Ok(status_of(passes)),
         Err(halt) => {
             let path = path_of(entries.as_slice(), halt);
-            print_halt(out, job.style(), halt, path)
+            let is_folder = is_unread_folder(loader, halt, path);
+            print_halt(out, job.style(), halt, path, is_folder)
         }
     }
 }
@@ -256,7 +265,10 @@ pub(crate) fn report<L: Loader, W: Write>(
                 };
                 run_job(alloc, &Job::Report(options), name, loader, out)
             }
-            Err(halt) => print_halt(out, report_style(format), halt, file),
+            Err(halt) => {
+                let is_folder = is_unread_folder(loader, halt, file);
+                print_halt(out, report_style(format), halt, file, is_folder)
+            }
         },
     }
 }

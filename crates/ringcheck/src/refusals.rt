@@ -6,16 +6,18 @@ ghost use Rattle.grid_units.specs.Reasons.{reason_name};
 ghost use Rattle.package_check.specs.Package.{FileView, IsFirstRefused};
 ghost use Rattle.print_json.specs.Packages.{input_error_value};
 ghost use Rattle.print_json.specs.Values.{json_text};
-ghost use Rattle.ringcheck.specs.Inner.Halting.{AfterHalt, Halts, refusal};
-ghost use Rattle.ringcheck.specs.Refusals.{PrintsRefusal, indented, refusal_json, refusal_line};
+ghost use Rattle.ringcheck.specs.CheckStatus.{refusal_of_text};
+ghost use Rattle.ringcheck.specs.Inner.Halting.{AfterHalt, Halts, refusal, refusal_of};
+ghost use Rattle.ringcheck.specs.Refusals.{PrintsRefusal, indented, of_archive, refusal_json, refusal_line};
 ghost use Rattle.ringcheck.specs.CheckStatus.{RefusedAmong};
-ghost use Rattle.ringcheck.specs.Sentences.{unread_json, unread_line, unread_sentence, unread_text};
+ghost use Rattle.ringcheck.specs.Sentences.{found_folder_sentence, unread_json, unread_line, unread_sentence, unread_text};
 ghost use Rattle.std.specs.Io.KnownBytes.{Appends};
 
 use explanations::explanation;
 use grid_units::{Fault, Reason};
 use print_json::InputError;
-use ringcheck_files::{Failure, Status};
+use proposals::is_archive;
+use ringcheck_files::{Container, Failure, Status};
 use std::fmt;
 use std::fmt::{Display, Formatter};
 use std::io::Write;
@@ -47,6 +49,8 @@ pub(crate) enum Subject<'a> {
 pub(crate) enum Halt<'a> {
     /// This is refused, with its fault.
     Refused(Subject<'a>, Fault),
+    /// This manifest or file of waivers is refused, with its fault: under this name is a zip archive.
+    Archive(Subject<'a>, Fault, &'a str),
     /// This cannot be read.
     Unread(Subject<'a>),
 }
@@ -67,6 +71,22 @@ pub(crate) fn refused<'a>(names: &[&'a str], index: usize, fault: Fault) -> Halt
 {
     let name = name_at(names, index);
     Halt::Refused(Subject::File { index, name }, fault)
+}
+
+/// Why there are no rows in a table of this text, which was looked for by this name: it has a fault, and may be a zip archive.
+pub(crate) fn refused_table<'a>(
+    subject: Subject<'a>,
+    fault: Fault,
+    name: &'a str,
+    text: &[u8],
+) -> Halt<'a>
+    ensures { refusal_of result ≡ Some (refusal_of_text name.now text.now (refusal subject.entry fault)) }
+{
+    if is_archive(text) {
+        Halt::Archive(subject, fault, name)
+    } else {
+        Halt::Refused(subject, fault)
+    }
 }
 
 /// A refusal as a line, such as `refused file=1 place=0 byte=0 reason=TooLong name=top` or `refused manifest place=0 reason=TooLong`.
@@ -192,6 +212,29 @@ impl Display for UnreadSentence<'_> {
     }
 }
 
+/// What is said of a folder, by the name under which a file was looked for.
+#[derive(Clone, Copy)]
+struct FolderSentence<'a> {
+    subject: Subject<'a>,
+    path: &'a str,
+}
+
+impl Display for FolderSentence<'_> {
+    ghost output = { λ it. Some (found_folder_sentence it.subject it.path.now) };
+
+    fn fmt<W: fmt::Write>(&self, f: &mut Formatter<W>) -> fmt::Result {
+        let path = self.path;
+        match self.subject {
+            Subject::Manifest => write!(f, "{}", Container::Folder(path)),
+            Subject::Waivers => write!(f, "{path} is a folder: name a file of waivers"),
+            Subject::File { name, .. } => write!(
+                f,
+                "{path}, the file of {name}, is a folder: the manifest names files"
+            ),
+        }
+    }
+}
+
 /// Prints a refusal in this style.
 fn print_refusal<W: Write>(
     out: &mut W,
@@ -210,41 +253,74 @@ fn print_refusal<W: Write>(
     Ok(())
 }
 
-/// Prints in this style that something cannot be read, which was looked for by this name.
+/// Prints in this style the refusal of a manifest or a file of waivers, under whose name is a zip archive.
+fn print_archive<W: Write>(
+    out: &mut W,
+    style: RefusalStyle,
+    subject: Subject,
+    fault: Fault,
+    name: &str,
+) -> Result<(), Failure>
+    ensures { OnOk result (PrintsRefusal style (of_archive name.now (refusal subject.entry fault)) (W.contents out.old) (W.contents out.new)) }
+{
+    let line = RefusalLine { subject, fault };
+    let archive = Container::Archive(name);
+    match style {
+        RefusalStyle::Line => write!(out, "{line}")?,
+        RefusalStyle::Page => write!(
+            out,
+            "{line}  {archive}\n{}",
+            Indented(page_of(fault.reason))
+        )?,
+        RefusalStyle::Json => write!(out, "{}", refused_stop(subject, fault))?,
+    }
+    Ok(())
+}
+
+/// Prints in this style that something cannot be read, which was looked for by this name, and may be a folder.
 fn print_unread<W: Write>(
     out: &mut W,
     style: RefusalStyle,
     subject: Subject,
     path: &str,
+    is_folder: bool,
 ) -> Result<(), Failure>
-    ensures { OnOk result (Appends (W.contents out.old) (W.contents out.new) (unread_text style subject.entry path.now)) }
+    ensures { OnOk result (Appends (W.contents out.old) (W.contents out.new) (unread_text style subject.entry path.now is_folder)) }
 {
     let line = UnreadLine(subject);
     let sentence = UnreadSentence { subject, path };
+    let folder = FolderSentence { subject, path };
     match style {
         RefusalStyle::Line => write!(out, "{line}")?,
+        RefusalStyle::Page if is_folder => write!(out, "{line}  {folder}\n")?,
         RefusalStyle::Page => write!(out, "{line}  {sentence}\n")?,
         RefusalStyle::Json => write!(out, "{}", unread_stop(subject))?,
     }
     Ok(())
 }
 
-/// Prints why nothing is done with a package, and returns the status of the run. What cannot be read was looked for by the name `path`.
+/// Prints why nothing is done with a package, and returns the status of the run. What cannot be read was looked for by the name `path`, and
+/// may be a folder.
 pub(crate) fn print_halt<W: Write>(
     out: &mut W,
     style: RefusalStyle,
     halt: Halt,
     path: &str,
+    is_folder: bool,
 ) -> Result<Status, Failure>
-    ensures { IfOk result (AfterHalt style halt.entry path.now (W.contents out.old) (W.contents out.new)) }
+    ensures { IfOk result (AfterHalt style halt.entry path.now is_folder (W.contents out.old) (W.contents out.new)) }
 {
     match halt {
         Halt::Refused(subject, fault) => {
             print_refusal(out, style, subject, fault)?;
             Ok(Status::Refused)
         }
+        Halt::Archive(subject, fault, name) => {
+            print_archive(out, style, subject, fault, name)?;
+            Ok(Status::Refused)
+        }
         Halt::Unread(subject) => {
-            print_unread(out, style, subject, path)?;
+            print_unread(out, style, subject, path, is_folder)?;
             Ok(Status::Device)
         }
     }

@@ -1,13 +1,17 @@
 -- Files that were loaded one by one, by their names.
-use Rattle.std.proofs.Common.{◌≡◌, ◌∙◌, ◌<◌, ◌≤◌, ◌+◌, ◌++◌, ◌&&◌, inl, inr, ℕ, zero, suc, Bool, true, false, cond, List, [], ◌∷◌, length, map, take, get_or, Bor, Option, arith, refl, ap, sym, subst}
+use Rattle.std.proofs.Common.{◌≡◌, ◌∙◌, ◌<◌, ◌≤◌, ◌+◌, ◌++◌, ◌&&◌, inl, inr, ℕ, zero, suc, Bool, true, false, cond, List, [], ◌∷◌, length, map, take, get_or, Bor, Option, Some, arith, refl, ap, sym, subst}
 use Rattle.std.specs.Io.KnownBytes.{Appends}
+use Rattle.std.specs.Prelude.{slice_get}
 use Rattle.std.specs.List.{list_all}
+use Rattle.std.proofs.lemmas.Bool.{false≢true}
 use Rattle.std.proofs.lemmas.List.Sums.{sum_by_push}
 use Rattle.proposals.specs.ProposalList.{name_of}
 use Rattle.proposals.specs.declared.model.InputFile.{InputFile}
+use Rattle.ringcheck_files.specs.declared.Status.{Status}
+use Rattle.ringcheck_files.specs.declared.Status.TheVariants as status
 use Rattle.ringcheck_files.specs.declared.proposed_manifest.LoadedFile.{LoadedFile}
 use Rattle.ringcheck_files.specs.Outcomes.{HasRisen}
-use Rattle.ringcheck_files.specs.ManifestStatus.{HasLoaded, HasAllLoaded, IsProposalText, LoadedView, PrintsProposal, HasRisenBy, bytes, unread, long, is_entry_name, count_unread, loaded_view, is_unread, loaded_file, loaded_files}
+use Rattle.ringcheck_files.specs.ManifestStatus.{HasLoaded, HasAllLoaded, IsHeldStatus, IsManifestStatus, IsProposalText, LoadedView, PrintsProposal, HasRisenBy, bytes, unread, folder, long, is_container, is_entry_name, count_unread, first_said, loaded_view, is_unread, loaded_file, loaded_files, said_of}
 
 -- the names
 abbrev pub texts : List (Bor (List ℕ)) → List (List ℕ)
@@ -101,4 +105,47 @@ proposed why has failed_before failed_after names all before after files text ma
 pub loaded_before : (has before : List ℕ → List ℕ → Type 0) → ((n b : List ℕ) → has n b → before n b) → (name : List ℕ) (k : LoadedView) → HasLoaded has name k → HasLoaded before name k
 loaded_before has before to name (bytes b) h = (to name b h.0, h.1)
 loaded_before has before to name unread h = tt
+loaded_before has before to name folder h = tt
 loaded_before has before to name long h = (h.0, to name h.0 h.1, h.2)
+
+-- ---- folders and zip archives
+
+-- two that are true
+both_true : (a b : Bool) → (a && b) ≡ true → (a ≡ true) × (b ≡ true)
+both_true true b is = (refl, is)
+both_true false b is = absurd (false≢true is)
+
+-- where each of the loaded files is one, each file by its name is
+pub all_hold : (names : List (Bor (List ℕ))) (all : List LoadedFile) → list_all (λ one. is_container (loaded_view one)) all ≡ true → list_all (λ (p : List ℕ × LoadedView). is_container p.1) (loaded_files names all) ≡ true
+all_hold [] all is = refl
+all_hold (y ∷ ys) [] is = refl
+all_hold (y ∷ ys) (x ∷ xs) is =
+    let (one, rest) = both_true (is_container (loaded_view x)) (list_all (λ one. is_container (loaded_view one)) xs) is in
+    rw one (all_hold ys xs rest)
+
+-- what is said of the first file
+pub said_first : (names : List (Bor (List ℕ))) (all : List LoadedFile) (name : Bor (List ℕ)) (one : LoadedFile) → slice_get names 0 ≡ Some name → slice_get all 0 ≡ Some one
+    → first_said (loaded_files names all) ≡ said_of (name.now, loaded_view one)
+said_first [] all name one at at2 = absurd cc
+said_first (y ∷ ys) [] name one at at2 = absurd cc
+said_first (y ∷ ys) (x ∷ xs) name one at at2 =
+    let same_name : y ≡ name = cc in
+    let same : x ≡ one = cc in
+    rw (same_name, same) refl
+
+-- what a status says of files that are at hand it says of files that were loaded
+module _ (why : Bool) (has : List ℕ → List ℕ → Type 0) (failed_before failed_after : ℕ) (names : List (Bor (List ℕ))) (all : List LoadedFile) (before after : Option (List ℕ)) where
+  pub held_status : length names ≡ length all → list_all is_entry_name (texts names) ≡ true → HasAllLoaded has (loaded_files names all) → HasRisenBy (count_unread (loaded_files names all)) failed_before failed_after
+      → (s : Status) → IsHeldStatus why (loaded_files names all) before after s → IsManifestStatus why has failed_before failed_after (texts names) before after s
+  held_status many entries loaded rose status.Pass (held, same, text, is, written) = (entries, proposed why has failed_before failed_after names all before after held text many same loaded rose is written)
+  held_status many entries loaded rose status.Findings h = absurd h
+  held_status many entries loaded rose status.Refused h = absurd h
+  held_status many entries loaded rose status.Usage (hold, written) = inr (record {
+    all = loaded_files names all;
+    named = names_of_loaded names all many;
+    loaded = loaded;
+    failed = rose;
+    hold = hold;
+    written = written;
+  })
+  held_status many entries loaded rose status.Device h = tt

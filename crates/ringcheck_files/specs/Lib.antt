@@ -4,6 +4,7 @@ pub mod LoaderRelation
 pub mod FileStatus
 pub mod ExitCodes
 pub mod Sentences
+pub mod Containers
 pub mod Words
 pub mod ReaderBytes
 pub mod Inner

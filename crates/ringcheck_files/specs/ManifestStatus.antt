@@ -8,6 +8,7 @@ use Rattle.grid_units.specs.declared.fault.Reason.TheVariants.{BadManifest, BadR
 use Rattle.manifest.specs.Manifest.{is_control}
 use Rattle.explanations.specs.KnownWords.{IsPageOf, known_word}
 use Rattle.explanations.specs.Words.{ListsWords}
+use Rattle.proposals.specs.Contents.{is_archive}
 use Rattle.proposals.specs.Manifests.{IsManifestOf, reasons_text}
 use Rattle.proposals.specs.ProposalList.{name_of, proposals}
 use Rattle.proposals.specs.declared.model.FileContent.{FileContent}
@@ -17,34 +18,39 @@ use Rattle.ringcheck_files.specs.declared.Status.{Status}
 use Rattle.ringcheck_files.specs.declared.Status.TheVariants as status
 use Rattle.ringcheck_files.specs.declared.proposed_manifest.LoadedFile.{LoadedFile}
 use Rattle.ringcheck_files.specs.declared.proposed_manifest.LoadedFile.TheVariants as loaded
+use Rattle.ringcheck_files.specs.Containers.{archive_sentence, folder_sentence}
 use Rattle.ringcheck_files.specs.LoaderRelation.{Relation, file_limit, within}
 use Rattle.ringcheck_files.specs.Sentences.{name_sentence, no_page_sentence}
 use Rattle.ringcheck_files.specs.Words.{sentence_line, usage_line}
 
 -- ---- files by their names
 
--- what is known of the bytes of a file: the bytes, or that they cannot be read, or that they are above the limit
+-- what is known of the bytes of a file: the bytes, or that they cannot be read, that a folder has its name, or that they are above the limit
 pub data LoadedView : Type 0 where
   bytes : List ℕ → LoadedView
   unread : LoadedView
+  folder : LoadedView
   long : LoadedView
 
 -- what is known of a file, by its content
 abbrev pub content_view : FileContent → LoadedView
 content_view (content.Bytes text) = bytes text.now
 content_view content.NotRead = unread
+content_view content.Folder = folder
 content_view content.TooLong = long
 
 -- what is known of a file, by what was loaded
 abbrev pub loaded_view : LoadedFile → LoadedView
 loaded_view (loaded.Bytes text) = bytes text.items
 loaded_view loaded.NotRead = unread
+loaded_view loaded.Folder = folder
 loaded_view loaded.TooLong = long
 
--- the loader has these bytes within the limit, or bytes above it; of a file that cannot be read nothing is said
+-- the loader has these bytes within the limit, or bytes above it; of a file that cannot be read, or is a folder, nothing is said
 abbrev pub HasLoaded : Relation → List ℕ → LoadedView → Type 0
 HasLoaded has name (bytes text) = within file_limit has name text
 HasLoaded has name unread = ⊤
+HasLoaded has name folder = ⊤
 HasLoaded has name long = (text : List ℕ) × has name text × (file_limit < length text)
 
 -- the loader has what is known of each of these names
@@ -56,10 +62,11 @@ HasAllLoaded has (p ∷ ps) = HasLoaded has p.0 p.1 × HasAllLoaded has ps
 abbrev pub loaded_file : InputFile → List ℕ × LoadedView
 loaded_file file = (name_of file, content_view file.content)
 
--- whether a file cannot be read
+-- whether a file cannot be read, as a folder cannot
 abbrev pub is_unread : LoadedView → Bool
 is_unread (bytes text) = false
 is_unread unread = true
+is_unread folder = true
 is_unread long = false
 
 -- how many of the files cannot be read
@@ -97,14 +104,53 @@ pub record PrintsProposal (why : Bool) (has : Relation) (failed_before failed_af
   pub is : IsProposalText why files text
   pub written : Appends before after text
 
+-- whether a file is a folder, as its loader says, or a zip archive by its bytes
+abbrev pub is_container : LoadedView → Bool
+is_container (bytes text) = is_archive text
+is_container unread = false
+is_container folder = true
+is_container long = false
+
+-- what is said of a file that is a zip archive or a folder
+abbrev pub said_of : List ℕ × LoadedView → List ℕ
+said_of (name, bytes text) = archive_sentence name
+said_of (name, unread) = []
+said_of (name, folder) = folder_sentence name
+said_of (name, long) = []
+
+-- what is said of some files that are folders or zip archives: that the first of them is one
+abbrev pub first_said : List (List ℕ × LoadedView) → List ℕ
+first_said [] = []
+first_said (file ∷ rest) = said_of file
+
+-- each file of these names is a folder, as its loader says, or a zip archive; the writer got just the line of words that are refused, and
+-- what is said of the first
+pub record PrintsContainers (has : Relation) (failed_before failed_after : ℕ) (names : List (List ℕ)) (before after : Option (List ℕ)) : Type 0 where
+  pub all : List (List ℕ × LoadedView)
+  pub named : map (λ p. p.0) all ≡ names
+  pub loaded : HasAllLoaded has all
+  pub failed : HasRisenBy (count_unread all) failed_before failed_after
+  pub hold : list_all (λ p. is_container p.1) all ≡ true
+  pub written : Appends before after (usage_line BadManifest ++ sentence_line (first_said all))
+
 -- what a status says of a manifest of files with these names; `failed_before` and `failed_after` count the loader's failures
 abbrev pub IsManifestStatus : Bool → Relation → ℕ → ℕ → List (List ℕ) → Option (List ℕ) → Option (List ℕ) → Status → Type 0
 IsManifestStatus why has failed_before failed_after names before after status.Pass = (list_all is_entry_name names ≡ true) × PrintsProposal why has failed_before failed_after names before after
 IsManifestStatus why has failed_before failed_after names before after status.Findings = ⊥
 IsManifestStatus why has failed_before failed_after names before after status.Refused = ⊥
 IsManifestStatus why has failed_before failed_after names before after status.Usage =
-    (list_all is_entry_name names ≡ false) × Appends before after (usage_line BadManifest ++ sentence_line name_sentence)
+    ((list_all is_entry_name names ≡ false) × Appends before after (usage_line BadManifest ++ sentence_line name_sentence)) ⊎ PrintsContainers has failed_before failed_after names before after
 IsManifestStatus why has failed_before failed_after names before after status.Device = ⊤
+
+-- ---- files that are at hand
+
+-- what a status says of the manifest or the table of files that are at hand: it was written, or each of them is a folder or a zip archive
+abbrev pub IsHeldStatus : Bool → List (List ℕ × LoadedView) → Option (List ℕ) → Option (List ℕ) → Status → Type 0
+IsHeldStatus why all before after status.Pass = (files : List InputFile) × (map loaded_file files ≡ all) × (text : List ℕ) × IsProposalText why files text × Appends before after text
+IsHeldStatus why all before after status.Findings = ⊥
+IsHeldStatus why all before after status.Refused = ⊥
+IsHeldStatus why all before after status.Usage = (list_all (λ p. is_container p.1) all ≡ true) × Appends before after (usage_line BadManifest ++ sentence_line (first_said all))
+IsHeldStatus why all before after status.Device = ⊥
 
 -- ---- explanations
 

@@ -4,6 +4,7 @@
 ghost use Rattle.std.specs.Prelude.{◌≡◌};
 ghost use Rattle.ringcheck_files.specs.ExitCodes.{code_of};
 
+mod containers;
 mod explanation_pages;
 mod file_jobs;
 mod limits;
@@ -13,6 +14,7 @@ mod proposed_manifest;
 mod read_counter;
 mod reader_bytes;
 
+pub use containers::Container;
 pub use explanation_pages::explain;
 pub use file_jobs::{FileJob, print};
 pub use limits::{ABOVE_LIMIT, FILE_LIMIT};

@@ -40,6 +40,12 @@ pub trait Loader {
         ensures counts { failed self.old ≤ failed self.new }
         ensures device { IfErr result (λ e. e ≡ LoadFault.Device → (failed self.old < failed self.new) ⊎ (failed self.new ≡ 2 ^ 64 - 1)) };
 
+    /// Whether a name is that of a folder, as far as the loader knows. It is asked where a load has failed, so that this can be said. A
+    /// loader without folders needs no body of its own.
+    fn is_folder(&self, _name: &str) -> bool {
+        false
+    }
+
     /// How many loads have failed, up to the greatest `u64`.
     fn failures(&self) -> u64
         ensures { result ≡ failed self.now };

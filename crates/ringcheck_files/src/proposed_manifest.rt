@@ -1,18 +1,20 @@
 //! Prints a manifest of files from a loader, or what each of them is, and why.
 
-ghost use Rattle.std.specs.Prelude.{◌≡◌, ◌≤◌, ◌↔◌, ℕ, List, IfOk, length, map, true};
+ghost use Rattle.std.specs.Prelude.{◌≡◌, ◌≤◌, ◌↔◌, ℕ, List, IfOk, IfSome, length, map, true};
 ghost use Rattle.std.specs.List.{list_all, list_any};
 ghost use Rattle.manifest.specs.Manifest.{is_control};
+ghost use Rattle.ringcheck_files.specs.Containers.{container_sentence};
 ghost use Rattle.ringcheck_files.specs.Outcomes.{HasCause, HasRisen};
 ghost use Rattle.ringcheck_files.specs.ManifestStatus as folders;
-ghost use Rattle.ringcheck_files.specs.ManifestStatus.{HasLoaded, HasAllLoaded, IsProposalText, HasRisenBy, IsManifestStatus, count_unread, loaded_view, is_unread, loaded_file, loaded_files};
+ghost use Rattle.ringcheck_files.specs.ManifestStatus.{HasLoaded, HasAllLoaded, IsHeldStatus, IsProposalText, HasRisenBy, IsManifestStatus, count_unread, first_said, loaded_view, is_container, is_unread, loaded_file, loaded_files, said_of};
 ghost use Rattle.proposals.specs.declared.model.InputFile.{InputFile as TheNamed};
 
+use crate::containers::Container;
 use crate::limits::FILE_LIMIT;
 use crate::outcomes::{Failure, refuse_word};
 use crate::{LoadFault, Loader, Status};
 use grid_units::Reason;
-use proposals::{FileContent, InputFile, propose, write_proposal, write_reasons};
+use proposals::{FileContent, InputFile, is_archive, propose, write_proposal, write_reasons};
 use std::alloc::{AllocError, Global};
 use std::io::Write;
 
@@ -21,6 +23,8 @@ use std::io::Write;
 pub enum LoadedFile {
     Bytes(Vec<u8>),
     NotRead,
+    /// It cannot be read, and its loader says that it is a folder.
+    Folder,
     TooLong,
 }
 
@@ -58,6 +62,7 @@ fn load_file<L: Loader>(alloc: Global, loader: &mut L, name: &str) -> Result<Loa
 {
     match loader.load(alloc, name, FILE_LIMIT) {
         Ok(bytes) => Ok(LoadedFile::Bytes(bytes)),
+        Err(LoadFault::Device) if loader.is_folder(name) => Ok(LoadedFile::Folder),
         Err(LoadFault::Device) => Ok(LoadedFile::NotRead),
         Err(LoadFault::TooLong) => Ok(LoadedFile::TooLong),
         Err(LoadFault::Memory) => Err(AllocError),
@@ -88,6 +93,7 @@ fn file_of<'a>(name: &'a str, loaded: &'a LoadedFile) -> InputFile<'a>
     let content = match loaded {
         LoadedFile::Bytes(bytes) => FileContent::Bytes(bytes.as_slice()),
         LoadedFile::NotRead => FileContent::NotRead,
+        LoadedFile::Folder => FileContent::Folder,
         LoadedFile::TooLong => FileContent::TooLong,
     };
     InputFile { name, content }
@@ -138,7 +144,72 @@ fn text_of_held(
     text_of(alloc, why, files.as_slice())
 }
 
-/// Loads files and prints a manifest of them, or the table of what each of them is, and why.
+/// Whether this is a folder or a zip archive.
+fn is_container(loaded: &LoadedFile) -> bool
+    ensures { result ≡ is_container (loaded_view loaded.now) }
+{
+    match loaded {
+        LoadedFile::Bytes(bytes) => is_archive(bytes.as_slice()),
+        LoadedFile::Folder => true,
+        LoadedFile::NotRead | LoadedFile::TooLong => false,
+    }
+}
+
+/// Whether each of these is a folder or a zip archive.
+fn are_containers(all: &[LoadedFile]) -> bool
+    ensures { result ≡ list_all (λ one. is_container (loaded_view one)) all.now }
+{
+    all.iter().all(|loaded| is_container(loaded))
+}
+
+/// A folder or a zip archive by its name; none where there is neither.
+fn container_of<'a>(name: &'a str, loaded: &LoadedFile) -> Option<Container<'a>>
+    ensures { IfSome result (λ one. said_of (name.now, loaded_view loaded.now) ≡ container_sentence one) }
+{
+    match loaded {
+        LoadedFile::Bytes(_) => Some(Container::Archive(name)),
+        LoadedFile::Folder => Some(Container::Folder(name)),
+        LoadedFile::NotRead | LoadedFile::TooLong => None,
+    }
+}
+
+/// The first of some files as a folder or a zip archive, where each of them is one.
+fn first_container<'a>(names: &[&'a str], loaded: &[LoadedFile]) -> Option<Container<'a>>
+    requires { length names.now ≡ length loaded.now }
+    ensures { IfSome result (λ first. (list_all (λ file. is_container file.1) (loaded_files names.now loaded.now) ≡ true) × (first_said (loaded_files names.now loaded.now) ≡ container_sentence first)) }
+{
+    if !are_containers(loaded) {
+        return None;
+    }
+    let (name, first) = (names.first()?, loaded.first()?);
+    container_of(*name, first)
+}
+
+/// Prints a manifest of files that are at hand, or the table of what each of them is, and why. Where each of them is a folder or a zip
+/// archive, there is nothing to propose, and the words are refused.
+fn print_held<W: Write>(
+    alloc: Global,
+    why: bool,
+    names: &[&str],
+    loaded: &[LoadedFile],
+    out: &mut W,
+) -> Result<Status, Failure>
+    requires { length names.now ≡ length loaded.now }
+    ensures says { IfOk result (IsHeldStatus why (loaded_files names.now loaded.now) (W.contents out.old) (W.contents out.new)) }
+    ensures cause { (before after : ℕ) → IfOk result (HasCause before after) }
+{
+    let Some(first) = first_container(names, loaded) else {
+        let text = text_of_held(alloc, why, names, loaded)?;
+        out.write_all(text.as_slice())?;
+        return Ok(Status::Pass);
+    };
+    refuse_word(out, Reason::BadManifest)?;
+    write!(out, "  {first}\n")?;
+    Ok(Status::Usage)
+}
+
+/// Loads files and prints a manifest of them, or the table of what each of them is, and why. Words of which each names a folder or a zip
+/// archive are refused.
 ///
 /// # Errors
 ///
@@ -159,7 +230,5 @@ pub fn print_manifest<L: Loader, W: Write>(
         return Ok(Status::Usage);
     }
     let loaded = load_files(alloc, loader, names)?;
-    let text = text_of_held(alloc, why, names, loaded.as_slice())?;
-    out.write_all(text.as_slice())?;
-    Ok(Status::Pass)
+    print_held(alloc, why, names, loaded.as_slice(), out)
 }

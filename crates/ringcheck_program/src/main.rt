@@ -42,6 +42,13 @@ impl<R: Files> Loader for Disk<'_, R> {
         }
     }
 
+    fn is_folder(&self, name: &str) -> bool {
+        match fs::metadata(self.rt, name) {
+            Ok(metadata) => metadata.is_dir(),
+            Err(_) => false,
+        }
+    }
+
     fn failures(&self) -> u64 {
         self.failures
     }

@@ -53,7 +53,7 @@ fn each_status_has_its_number(rt: HostRuntime) {
 }
 
 /// Appends a line, two spaces to the right.
-fn push_indented(text: &mut String, line: &str) -> Result<(), AllocError> {
+pub(super) fn push_indented(text: &mut String, line: &str) -> Result<(), AllocError> {
     text.push_str("  ")?;
     text.push_str(line)?;
     text.push('\n')

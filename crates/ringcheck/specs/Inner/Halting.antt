@@ -1,5 +1,5 @@
 -- Why nothing is done with a package, and what its printing says.
-use Rattle.std.specs.Prelude.{◌≡◌, ℕ, Bool, List, Option, Result, Ok, Err}
+use Rattle.std.specs.Prelude.{◌≡◌, ℕ, Bool, List, Option, Some, None, Result, Ok, Err}
 use Rattle.std.specs.Global.{Vec}
 use Rattle.grid_units.specs.declared.fault.Fault.{Fault}
 use Rattle.manifest.specs.declared.Entry.{Entry}
@@ -14,7 +14,7 @@ use Rattle.ringcheck.specs.declared.refusals.Subject.{Subject}
 use Rattle.ringcheck.specs.declared.refusals.Subject.TheVariants as subject
 use Rattle.std.specs.Io.KnownBytes.{Appends}
 use Rattle.ringcheck.specs.Sentences.{unread_text}
-use Rattle.ringcheck.specs.Refusals.{Refusal, PrintsRefusal, of_file, of_manifest, of_waivers}
+use Rattle.ringcheck.specs.Refusals.{Refusal, PrintsRefusal, of_archive, of_file, of_manifest, of_waivers}
 use Rattle.ringcheck.specs.CheckStatus.{HasFiles, HasTable, RefusedAmong, RefusedFile, RefusedTable, sources}
 
 -- the refusal of a subject, with its fault
@@ -23,26 +23,35 @@ refusal subject.Manifest why = of_manifest why
 refusal subject.Waivers why = of_waivers why
 refusal (subject.File index name) why = of_file index name.now why
 
+-- the refusal of a halt; none where something cannot be read
+abbrev pub refusal_of : Halt → Option Refusal
+refusal_of (halt.Refused what why) = Some (refusal what why)
+refusal_of (halt.Archive what why name) = Some (of_archive name.now (refusal what why))
+refusal_of (halt.Unread what) = None
+
 -- what a halt says: `Is` of the refusal, or `Risen` where something cannot be read
 abbrev pub Halts : (Refusal → Type 0) → Type 0 → Halt → Type 0
 Halts Is Risen (halt.Refused what why) = Is (refusal what why)
+Halts Is Risen (halt.Archive what why name) = Is (of_archive name.now (refusal what why))
 Halts Is Risen (halt.Unread what) = Risen
 
 -- the file at this index cannot be read
 abbrev pub IsUnreadAt : Halt → ℕ → Type 0
 IsUnreadAt (halt.Refused what why) index = ⊥
+IsUnreadAt (halt.Archive what why name) index = ⊥
 IsUnreadAt (halt.Unread subject.Manifest) index = ⊥
 IsUnreadAt (halt.Unread subject.Waivers) index = ⊥
 IsUnreadAt (halt.Unread (subject.File at name)) index = at ≡ index
 
--- what a status says where a halt was printed in this style; what cannot be read was looked for by this name
-abbrev pub AfterHalt : RefusalStyle → Halt → List ℕ → Option (List ℕ) → Option (List ℕ) → Status → Type 0
-AfterHalt refusal_style (halt.Refused what why) path before after s = (s ≡ status.Refused) × PrintsRefusal refusal_style (refusal what why) before after
-AfterHalt refusal_style (halt.Unread what) path before after s = (s ≡ status.Device) × Appends before after (unread_text refusal_style what path)
+-- what a status says where a halt was printed in this style; what cannot be read was looked for by this name, and may be a folder
+abbrev pub AfterHalt : RefusalStyle → Halt → List ℕ → Bool → Option (List ℕ) → Option (List ℕ) → Status → Type 0
+AfterHalt refusal_style (halt.Refused what why) path folder before after s = (s ≡ status.Refused) × PrintsRefusal refusal_style (refusal what why) before after
+AfterHalt refusal_style (halt.Archive what why name) path folder before after s = (s ≡ status.Refused) × PrintsRefusal refusal_style (of_archive name.now (refusal what why)) before after
+AfterHalt refusal_style (halt.Unread what) path folder before after s = (s ≡ status.Device) × Appends before after (unread_text refusal_style what path folder)
 
 -- the refusal of the table under a name
 abbrev pub RefusesTable : {A : Type 0} → (List ℕ → Result (List A) Fault) → Relation → List ℕ → Subject → Refusal → Type 0
-RefusesTable parse has name what why = (fault : Fault) × RefusedTable parse has name fault × (why ≡ refusal what fault)
+RefusesTable parse has name what why = RefusedTable parse (refusal what) has name why
 
 -- what came of the table under a name: its rows, or why there are none
 abbrev pub OfTable : {A : Type 0} → (List ℕ → Result (List A) Fault) → Relation → List ℕ → Subject → Type 0 → Result (Vec A) Halt → Type 0

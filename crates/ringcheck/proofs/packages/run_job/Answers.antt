@@ -14,9 +14,9 @@ returns-in-Err-clause-says g c =
     let job = c.args.job.now in
     let before = g.W.Write.contents c.args.out.now in
     let after = g.W.Write.contents c.print_halt.new.out in
-    halted (RefusesTable manifest has c.args.name.now subject.Manifest) (HasRisen (failed c.args.loader.now) (failed c.load_table.new.loader)) (job_style job) c.args.name.now before after
+    halted (RefusesTable manifest has c.args.name.now subject.Manifest) (HasRisen (failed c.args.loader.now) (failed c.load_table.new.loader)) (job_style job) c.args.name.now c.is_unread_folder-is_folder.result before after
     (SaysJob job has c.args.name.now before after) (λ risen. tt)
-    (λ why is printed. record { why = why; refused = refused_manifest is.0 is.1 is.2; printed = printed })
+    (λ why is printed. record { why = why; refused = refused_manifest is; printed = printed })
     c.in-Err.halt (rw c.in-Err.is at c.in_ok-entries.ensures.loaded) c.print_halt.result (rw c.style.ensures at c.print_halt.ensures)
 
 pub returns-in-Ok-2-clause-says : goal.returns-in-Ok-2-clause-says
@@ -43,7 +43,7 @@ returns-clause-says g c =
     let entries = c.in-Ok.entries.items in
     let listed = rw c.in-Ok.is at c.in_ok-entries.ensures.loaded in
     let silent = rw c.in-Err-2.is at c.in_ok-passes.ensures.silent in
-    halted (RefusedFile later entries) (HasRisen (failed c.load_table.new.loader) (failed c.answer.new.loader)) (job_style job) c.path_of-path.result.now before after
+    halted (RefusedFile later entries) (HasRisen (failed c.load_table.new.loader) (failed c.answer.new.loader)) (job_style job) c.path_of-path.result.now c.is_unread_folder-is_folder-in-Err-2.result before after
     (SaysJob job has c.args.name.now before after) (λ risen. tt)
     (λ why is printed. record { why = why; refused = refused_file entries listed (file_along later has c.in_ok-entries.ensures.keeps entries why is); printed = printed })
     c.in-Err-2.halt (rw (c.in-Err-2.is, c.as_slice.ensures.value) at c.in_ok-passes.ensures.answers) c.print_halt-in-Err-2.result (rw (c.style-in-Err-2.ensures, silent) at c.print_halt-in-Err-2.ensures)

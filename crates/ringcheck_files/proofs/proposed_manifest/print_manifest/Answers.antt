@@ -1,17 +1,26 @@
-use Rattle.std.proofs.Common.{◌∙◌, sym}
+use Rattle.std.proofs.Common.{◌∙◌, inl, sym}
+use Rattle.std.proofs.lemmas.Result.{IfOk-weaker}
+use Rattle.ringcheck_files.specs.ManifestStatus.{IsHeldStatus, IsManifestStatus, loaded_files}
 use Rattle.ringcheck_files.proofs.Appending.{appends_both}
-use Rattle.ringcheck_files.proofs.ManifestStatus.{all_of_map, proposed}
+use Rattle.ringcheck_files.proofs.ManifestStatus.{all_of_map, held_status, texts}
 use Rattle.ringcheck_files.proofs.proposed_manifest.print_manifest.Goals as goal
 
 pub returns-then-not-are_entry_names-clause-says : goal.returns-then-not-are_entry_names-clause-says
-returns-then-not-are_entry_names-clause-says g c = (all_of_map c.args.names.now ∙ sym c.if-not-are_entry_names.ensures, appends_both _ _ _ _ _ c.in_ok-refuse_word.ensures c.in_ok-write.ensures.bytes)
+returns-then-not-are_entry_names-clause-says g c = inl (all_of_map c.args.names.now ∙ sym c.if-not-are_entry_names.ensures, appends_both _ _ _ _ _ c.in_ok-refuse_word.ensures c.in_ok-write.ensures.bytes)
 
 pub returns-clause-says : goal.returns-clause-says
 returns-clause-says g c =
+    let has = g.L.Loader.has c.args.loader.now in
+    let failed_before = g.L.Loader.failed c.args.loader.now in
+    let failed_after = g.L.Loader.failed c.load_files.new.loader in
     let names = c.args.names.now in
+    let all = c.in_ok-loaded.loaded.items in
+    let before = g.W.Write.contents c.args.out.now in
+    let after = g.W.Write.contents c.print_held.new.out in
     let loaded = c.in_ok-loaded.ensures in
-    let (files, same, is) = rw c.as_slice.ensures.value at c.in_ok-text.ensures in (
-      all_of_map names ∙ sym c.if-not-are_entry_names.ensures,
-      proposed c.args.why (g.L.Loader.has c.args.loader.now) _ _ names c.in_ok-loaded.loaded.items _ _ files c.in_ok-text.text.items loaded.1 same loaded.0 loaded.2 is
-          (rw c.as_slice-2.ensures.value at c.in_ok-write_all.ensures.bytes),
-    )
+    IfOk-weaker c.print_held.result (IsHeldStatus c.args.why (loaded_files names all) before after) (IsManifestStatus c.args.why has failed_before failed_after (texts names) before after)
+    (held_status c.args.why has failed_before failed_after names all before after loaded.1 (all_of_map names ∙ sym c.if-not-are_entry_names.ensures) loaded.0 loaded.2)
+    (rw c.as_slice.ensures.value at c.print_held.ensures.says)
+
+pub returns-clause-cause : goal.returns-clause-cause
+returns-clause-cause g c = c.print_held.ensures.cause
