@@ -98,7 +98,7 @@ const START: &str =
     "<?xml version=\"1.0\" encoding=\"UTF-8\"?>\n<svg xmlns=\"http://www.w3.org/2000/svg\" font-family=\"sans-serif\" font-size=\"1.25\" width=\"1034\" height=\"1200\" viewBox=\"0 0 81 94\">\n<style>text{fill:#222;font-size:1.25px}";
 
 const MIDDLE: &str =
-    "</style>\n<rect width=\"100%\" height=\"100%\" fill=\"#fff\"/>\n<text class=\"title\" transform=\"translate(3 3) scale(1)\">no rules</text>\n<g class=\"layer\" data-file=\"1\" transform=\"translate(40.5 46.5)\">\n<text class=\"name\" transform=\"translate(-37.5 -40) scale(1)\">top</text>\n<text class=\"note\" transform=\"translate(-37.5 -38.3) scale(1)\">1 pad, 0 other</text>\n<rect class=\"board\" x=\"-37.5\" y=\"-37.5\" width=\"75\" height=\"75\"/>\n<path class=\"pad\" d=\"M-37.5 -37.5h75v75h-75z\"><title>rect 75x75</title></path>\n<g><title>plated hole, 10</title>\n<circle class=\"plated\" cx=\"0\" cy=\"0\" r=\"5\" stroke-width=\"0.1\"/>\n</g>\n</g>\n<path class=\"scale\" d=\"M3 87h10\"/>\n<text transform=\"translate(14 87.4) scale(1)\">10 mm</text>\n<g class=\"legend\" font-size=\"1.25\" transform=\"translate(4 90) scale(1)\">\n<circle class=\"pad\" r=\".6\"/>\n<text x=\"1.2\" y=\".4\">pad</text>\n";
+    "</style>\n<rect width=\"100%\" height=\"100%\" fill=\"#fff\"/>\n<text class=\"title\" transform=\"translate(3 3) scale(1)\">no rules</text>\n<g class=\"layer\" data-file=\"1\" transform=\"translate(40.5 46.5)\">\n<text class=\"name\" transform=\"translate(-37.5 -40) scale(1)\">top</text>\n<text class=\"note\" transform=\"translate(-37.5 -38.3) scale(1)\">1 pad, 0 other</text>\n<rect class=\"board\" x=\"-37.5\" y=\"-37.5\" width=\"75\" height=\"75\"/>\n<path class=\"pad\" d=\"M-37.5 -37.5h75v75h-75z\"><title>rect 75x75</title></path>\n<path class=\"plated\" stroke-width=\"0.1\" d=\"M-5 0a5 5 0 1 0 10 0a5 5 0 1 0 -10 0z\"><title>plated hole, 10</title></path>\n</g>\n<path class=\"scale\" d=\"M3 87h10\"/>\n<text transform=\"translate(14 87.4) scale(1)\">10 mm</text>\n<g class=\"legend\" font-size=\"1.25\" transform=\"translate(4 90) scale(1)\">\n<circle class=\"pad\" r=\".6\"/>\n<text x=\"1.2\" y=\".4\">pad</text>\n";
 
 const END: &str =
     "<path class=\"gap\" stroke-width=\".3\" d=\"M28.5 2.5h1\"/>\n<text x=\"30.2\" y=\"2.9\">gap lacking</text>\n</g>\n</svg>\n";
@@ -163,14 +163,14 @@ const PAGES: [PageRow; 10] = [
             ">2 pads, 0 other, 1 ring lacking</text>",
         ],
     ),
-    // A gap stands in each panel, and has its id in the first. Holes alike stand in one group.
+    // A gap stands in each panel, and has its id in the first. Round holes alike stand in one path.
     (
         ("top", SQUARE),
         ("bottom", SQUARE),
         NEAR,
         true,
         &[
-            "<g><title>plated hole, 0.8</title>\n<circle class=\"plated\" cx=\"0\" cy=\"0\" r=\"0.4\" stroke-width=\"0.1\"/>\n<circle class=\"plated\" cx=\"0.9\" cy=\"0\" r=\"0.4\" stroke-width=\"0.1\"/>\n</g>\n<g><title>plated hole, 0.5</title>\n<circle class=\"plated\" cx=\"10\" cy=\"0\" r=\"0.25\" stroke-width=\"0.0625\"/>\n</g>\n<g class=\"finding\" id=\"f1\"><title>#1 gap too small: hole 0.8 at 0,0, and hole 0.8 at 0.9,0</title>\n<path class=\"gap\"",
+            "<path class=\"plated\" stroke-width=\"0.1\" d=\"M-0.4 0a0.4 0.4 0 1 0 0.8 0a0.4 0.4 0 1 0 -0.8 0zM0.5 0a0.4 0.4 0 1 0 0.8 0a0.4 0.4 0 1 0 -0.8 0z\"><title>plated hole, 0.8</title></path>\n<path class=\"plated\" stroke-width=\"0.0625\" d=\"M9.75 0a0.25 0.25 0 1 0 0.5 0a0.25 0.25 0 1 0 -0.5 0z\"><title>plated hole, 0.5</title></path>\n<g class=\"finding\" id=\"f1\"><title>#1 gap too small: hole 0.8 at 0,0, and hole 0.8 at 0.9,0</title>\n<path class=\"gap\"",
             "<g class=\"finding\" data-id=\"f1\"><title>#1 gap too small: hole 0.8 at 0,0, and hole 0.8 at 0.9,0</title>\n<path class=\"gap\"",
         ],
     ),
@@ -259,6 +259,117 @@ fn pages_have_what_belongs_to_their_boards(rt: HostRuntime) -> Result<(), Fail> 
         let page = page_of(rt, first, second, drill, rules)?;
         let missing = missing_in(page.as_str(), words);
         assert!(rt; missing.is_none(), "{missing:?}");
+    }
+    Ok(())
+}
+
+/// A square of 75 mm at the origin, and over it a line and the contour of a region.
+const DRAWN: &[u8] =
+    b"%FSLAX46Y46*%\n%MOMM*%\n%ADD10R,75.0X75.0*%\n%ADD11C,0.5*%\nD10*\nX0Y0D03*\nD11*\nX-1000000Y-2000000D02*\nX3000000Y4000000D01*\nG36*\nX0Y0D02*\nX2000000D01*\nY1000000D01*\nX0Y0D01*\nG37*\nM02*\n";
+
+/// 101,000 discs of 1 mm, and a line.
+const MANY_AND_A_LINE: &[u8] =
+    b"%FSLAX46Y46*%\n%MOMM*%\n%ADD10C,1.0*%\nD10*\n%SRX1000Y101I1.0J1.0*%\nX0Y0D03*\n%SR*%\nX1000000D01*\nM02*\n";
+
+/// Copper files, and what stands in their page where the board has what they draw.
+const COPPER: [(&[u8], &str); 4] = [
+    // Lines, then contours, each a path, stand behind the pads. The region begins at the end of the line.
+    (
+        DRAWN,
+        "<rect class=\"board\" x=\"-37.5\" y=\"-37.5\" width=\"75\" height=\"75\"/>\n<g class=\"drawn\" fill=\"none\" stroke=\"#f0dcc0\" stroke-linecap=\"round\"><title>drawn copper, not judged</title>\n<path stroke-width=\"0.5\" d=\"M-1 2L3 -4\"/>\n<g fill=\"#f0dcc0\" fill-rule=\"evenodd\" stroke=\"none\">\n<path d=\"\"/>\n<path d=\"M3 -4\"/>\n<path d=\"M0 0L2 0L2 -1L0 0\"/>\n</g>\n</g>\n<path class=\"pad\" d=\"M-37.5 -37.5h75v75h-75z\">",
+    ),
+    // A line does not widen the box.
+    (
+        NOTHING,
+        "<rect class=\"board\" x=\"0\" y=\"-1\" width=\"1\" height=\"1\"/>\n<g class=\"drawn\" fill=\"none\" stroke=\"#f0dcc0\" stroke-linecap=\"round\"><title>drawn copper, not judged</title>\n<path stroke-width=\"1\" d=\"M0 0L1 0\"/>\n<g fill=\"#f0dcc0\" fill-rule=\"evenodd\" stroke=\"none\">\n<path d=\"\"/>\n</g>\n</g>\n</g>\n",
+    ),
+    // Where nothing is drawn there is no group.
+    (
+        SQUARE,
+        "<rect class=\"board\" x=\"-37.5\" y=\"-37.5\" width=\"75\" height=\"75\"/>\n<path class=\"pad\"",
+    ),
+    // A crowded panel has its box alone.
+    (
+        MANY_AND_A_LINE,
+        "<rect class=\"board\" x=\"-0.5\" y=\"-100.5\" width=\"1000\" height=\"101\"/>\n</g>\n",
+    ),
+];
+
+/// A copper file, and a drill file without a hole.
+fn with_copper<'a>(copper: &'a [u8]) -> [File<'a>; 2] {
+    [
+        File {
+            role: Role::Copper,
+            name: "top",
+            span: None,
+            bytes: copper,
+        },
+        File {
+            role: Role::Plated,
+            name: "pth",
+            span: None,
+            bytes: NO_HOLE,
+        },
+    ]
+}
+
+/// The page of a copper file and a drill file without a hole, read so.
+fn page_of_copper(rt: HostRuntime, copper: &[u8], keep: Keep) -> Result<String, Fail> {
+    let files = with_copper(copper);
+    let board = read_package(rt.alloc(), &files, keep)
+        .ok()
+        .ok_or("refused")?;
+    let drawing = Drawing::new(rt.alloc(), &["top", "pth"], &board, None)?;
+    Ok(format!(in rt.alloc(); "{drawing}")?)
+}
+
+#[test]
+fn pages_show_what_is_drawn(rt: HostRuntime) -> Result<(), Fail> {
+    for &(copper, words) in &COPPER {
+        let page = page_of_copper(rt, copper, Keep::All)?;
+        assert!(rt; page.contains(words), "{words}");
+    }
+    Ok(())
+}
+
+#[test]
+fn a_board_has_what_its_files_draw(rt: HostRuntime) -> Result<(), Fail> {
+    let files = with_copper(DRAWN);
+    for (keep, count) in [(Keep::All, 6), (Keep::Flashes, 0), (Keep::Pads, 0)] {
+        let board = read_package(rt.alloc(), &files, keep)
+            .ok()
+            .ok_or("refused")?;
+        let counts = [0, 1, 2].map(|file| board.drawn_of(file).len());
+        assert!(rt; counts == [count, 0, 0]);
+    }
+    Ok(())
+}
+
+/// The text of a layer that draws so many lines of no length.
+fn dots(rt: HostRuntime, count: usize) -> Result<Vec<u8>, Fail> {
+    let start = b"%FSLAX46Y46*%\n%MOMM*%\n%ADD10C,1.0*%\nD10*\n";
+    let mut text = Vec::from_slice(rt.alloc(), start)?;
+    for _ in 0..count {
+        text.extend_from_slice(b"X0Y0D01*\n")?;
+    }
+    text.extend_from_slice(b"M02*\n")?;
+    Ok(text)
+}
+
+/// How a layer is read that draws so many lines, and whether they stand on the page.
+const SHOWN: [(usize, Keep, bool); 4] = [
+    (1, Keep::All, true),
+    (1, Keep::Flashes, false),
+    (100_000, Keep::All, true),
+    (100_001, Keep::All, false),
+];
+
+#[test]
+fn more_than_a_panel_draws_is_left_out(rt: HostRuntime) -> Result<(), Fail> {
+    for &(count, keep, is_shown) in &SHOWN {
+        let page = page_of_copper(rt, &dots(rt, count)?, keep)?;
+        let is_there = page.contains("<g class=\"drawn\"");
+        assert!(rt; is_there == is_shown, "of {count}");
     }
     Ok(())
 }

@@ -3,11 +3,12 @@ use Rattle.std.specs.Prelude.{◌≡◌, ◌==◌, ◌+◌, ◌-◌, ◌^◌, �
 use Rattle.std.specs.List.{AllZip, enumerate_from}
 use Rattle.grid_units.specs.Holes.{GridRules}
 use Rattle.layer_image.specs.Flashes.{pads_of}
+use Rattle.layer_image.specs.declared.drawn.Drawn.{Drawn}
 use Rattle.layer_image.specs.declared.flash.Flash.{Flash}
 use Rattle.ring_rules.specs.declared.finding.Drilled.{Drilled}
 use Rattle.ring_rules.specs.declared.finding.Finding.{Finding}
 use Rattle.package_check.specs.Boards.{BoardView, board_findings}
-use Rattle.picture.specs.Scenes.{AreSortedBySize, crosses_of, is_crowded, drawn_findings, unless_crowded}
+use Rattle.picture.specs.Scenes.{AreSortedBySize, crosses_of, is_crowded, drawn_findings, shown_copper, unless_crowded}
 use Rattle.picture.specs.declared.scene.Scene.{Scene}
 use Rattle.drawing.specs.Boxes.{board_extent}
 use Rattle.drawing.specs.Pages.{page_text}
@@ -22,8 +23,9 @@ findings_under None board = []
 findings_under (Some rules) board = board_findings rules board
 
 -- the contents of a layer's panel, by the layer's place among the copper files, from 0
-pub record IsScene (layer : ℕ) (flashes : List Flash) (drilled : List Drilled) (findings : List Finding) (scene : Scene) : Type 0 where
+pub record IsScene (layer : ℕ) (flashes : List Flash) (copper : List Drawn) (drilled : List Drilled) (findings : List Finding) (scene : Scene) : Type 0 where
   pub crowded : scene.crowded ≡ is_crowded flashes drilled
+  pub drawn : scene.drawn.now ≡ shown_copper scene.crowded copper
   pub pads : IsPermutation (pads_of (unless_crowded scene.crowded flashes)) scene.pads.items
   pub order : AreSortedBySize scene.pads.items
   pub crosses : scene.crosses.items ≡ crosses_of (unless_crowded scene.crowded flashes)
@@ -41,7 +43,7 @@ pub record IsPanel (names : List (List ℕ)) (board : BoardView) (findings : Lis
   pub first : panel.place.first ≡ (at.0 == 0)
   pub x : panel.place.x ≡ pos (box_left l at.0) -ℤ l.frame.left
   pub y : panel.place.y ≡ pos (box_top l at.0) +ℤ l.frame.top
-  pub scene : IsScene at.0 (get_or board.flashes at.1 []) board.holes findings panel.scene
+  pub scene : IsScene at.0 (get_or board.flashes at.1 []) (get_or board.drawn at.1 []) board.holes findings panel.scene
 
 -- the contents of a board's page, under rules if there are any; `names` are those of its files, in order
 pub record IsPage (names : List (List ℕ)) (board : BoardView) (given_rules : Option GridRules) (drawing : Drawing) : Type 0 where

@@ -67,8 +67,9 @@ fn page_of<'a>(
 }
 
 impl<'a> Drawing<'a> {
-    /// Draws a board, by the names of its files: a panel for each copper file, with the findings under the rules. Without rules it has
-    /// no findings. All memory is taken here, for the contents of all panels; printing takes none.
+    /// Draws a board, by the names of its files: a panel for each copper file, with the findings under the rules, and behind the pads what
+    /// the file draws, where the board has it. Without rules it has no findings. All memory is taken here, for the contents of all
+    /// panels; printing takes none.
     ///
     /// # Errors
     ///

@@ -7,7 +7,7 @@ ghost use Rattle.drawing.specs.Layouts.{box_left, box_top};
 ghost use Rattle.drawing.specs.Pages.{text_of_panel};
 
 use crate::layout::Layout;
-use layer_image::Flash;
+use layer_image::{Drawn, Flash};
 use package_check::Board;
 use picture::{Place, Scene, scene_of};
 use printing::Line;
@@ -21,7 +21,7 @@ use std::fmt::Formatter;
 pub(crate) struct Panel<'a> {
     /// Its place on the page, and the number and name of its file.
     pub(crate) place: Place<'a>,
-    /// Its pads, crosses, holes and findings.
+    /// What its layer draws, its pads, crosses, holes and findings.
     pub(crate) scene: Scene<'a>,
 }
 
@@ -72,12 +72,13 @@ fn scene_on<'a>(
     alloc: Global,
     layer: usize,
     flashes: &[Flash],
+    drawn: &'a [Drawn],
     holes: &'a [Drilled],
     findings: &[Finding],
 ) -> Result<Scene<'a>, AllocError>
-    ensures { IfOk result (IsScene layer flashes.now holes.now findings.now) }
+    ensures { IfOk result (IsScene layer flashes.now drawn.now holes.now findings.now) }
 {
-    scene_of(alloc, layer, flashes, holes, findings)
+    scene_of(alloc, layer, flashes, drawn, holes, findings)
 }
 
 /// The panel of a layer, by its place among the copper files and the index of its file.
@@ -87,15 +88,16 @@ fn panel_of<'a>(
     names: &[&'a str],
     board: &'a Board,
     findings: &[Finding],
-    layer: usize,
-    file: usize,
+    at: (usize, usize),
 ) -> Result<Panel<'a>, AllocError>
-    ensures { IfOk result (IsPanel (map (λ name. name.now) names.now) board.now findings.now layout.now (layer, file)) }
+    ensures { IfOk result (IsPanel (map (λ name. name.now) names.now) board.now findings.now layout.now at) }
 {
+    let (layer, file) = at;
     let scene = scene_on(
         alloc,
         layer,
         board.flashes_of(file),
+        board.drawn_of(file),
         board.holes(),
         findings,
     )?;
@@ -131,7 +133,8 @@ pub(crate) fn panels_of<'a>(
     let files = board.layer_indexes();
     let mut panels = Vec::new(alloc);
     for layer in 0..files.len() {
-        let panel = panel_of(alloc, layout, names, board, findings, layer, files[layer])?;
+        let at = (layer, files[layer]);
+        let panel = panel_of(alloc, layout, names, board, findings, at)?;
         add(&mut panels, panel)?;
     }
     Ok(panels)

@@ -1,47 +1,116 @@
-use crate::drill_writing::{NEW, OLD};
+use crate::drill_pieces::{Cut, failure_of, read_cut};
+use crate::drill_writing::{NEW, OLD, is_text};
 use drill_lines::DrillCommand;
 use drill_text::{Coordinates, Drill, DrillReader, Keep, drill_sayable, read_drill, write_drill};
 use grid_units::{Fail, Fault, Hole, Reason, Text};
 use std::alloc::{AllocError, Global};
-use std::test::Fail as TestFail;
 
 /// The ends of a hole, each with its x and its y, and its radius, in pm.
 type Ends = (i64, i64, i64, i64, i64);
 
 fn ends(hole: &Hole) -> Ends {
-    (
-        hole.from().x(),
-        hole.from().y(),
-        hole.to().x(),
-        hole.to().y(),
-        hole.radius(),
-    )
+    let (from, to) = (hole.from(), hole.to());
+    (from.x(), from.y(), to.x(), to.y(), hole.radius())
+}
+
+fn are_holes(holes: &[Hole], wanted: &[Ends]) -> bool {
+    for (hole, wanted) in holes.iter().zip(wanted) {
+        if ends(hole) != *wanted {
+            return false;
+        }
+    }
+    holes.len() == wanted.len()
+}
+
+/// The number of a tool, and its diameter in units of 10^-8.
+type Tool = (u16, i64);
+
+fn has_tools(drill: &Drill, wanted: &[Tool]) -> bool {
+    for ((number, diameter), wanted) in drill.tools().iter().zip(wanted) {
+        if (*number, diameter.units()) != *wanted {
+            return false;
+        }
+    }
+    drill.tools().len() == wanted.len()
+}
+
+/// Whether there are so many commands, the last of which ends the file.
+fn end_after(commands: &[DrillCommand], count: usize) -> bool {
+    commands.len() == count && matches!(commands.last(), Some(DrillCommand::Finish))
+}
+
+/// Whether commands can be said, and are written as this text.
+fn are_written_as(alloc: Global, commands: &[DrillCommand], text: &[u8]) -> bool {
+    drill_sayable(commands) && is_text(&write_drill(alloc, commands), text)
+}
+
+/// What is asked of the read of a text.
+#[derive(Clone, Copy)]
+enum Asked<'a> {
+    /// A file with just these holes.
+    Holes(&'a [Ends]),
+    /// A file with just these tools.
+    Tools(&'a [Tool]),
+    /// A file with so many commands, the last of which ends it.
+    Commands(usize),
+    /// A file with so many holes and commands.
+    Counts(usize, usize),
+    /// A file that is written as this text.
+    Written(&'a [u8]),
+    /// A file that this text gives too.
+    Again(&'a [u8]),
+    /// What the text gives that is cut so.
+    InPieces(Cut),
+    /// What the text gives that is cut in two, at each byte.
+    Splits,
+    /// What the text gives byte by byte, the holes alone too.
+    Bytes,
+}
+
+fn is_file(alloc: Global, drill: &Drill, asked: Asked) -> bool {
+    match asked {
+        Asked::Holes(holes) => are_holes(drill.holes(), holes),
+        Asked::Tools(tools) => has_tools(drill, tools),
+        Asked::Commands(count) => end_after(drill.commands(), count),
+        Asked::Counts(holes, commands) => {
+            drill.holes().len() == holes && drill.commands().len() == commands
+        }
+        Asked::Written(text) => are_written_as(alloc, drill.commands(), text),
+        _ => false,
+    }
+}
+
+/// Whether the read of a text is as asked.
+fn is_so(alloc: Global, text: &[u8], read: &Result<Drill, Fail>, asked: Asked) -> bool {
+    match (read, asked) {
+        (_, Asked::Splits) => splits_read_as(alloc, text, read),
+        (_, Asked::Bytes) => bytes_read_as(alloc, text, read),
+        (_, Asked::InPieces(cut)) => reads_as(alloc, Keep::Commands, text, cut, read),
+        (Err(_), _) => false,
+        (Ok(_), Asked::Again(other)) => { reads_as(alloc, Keep::Commands, other, Cut::At(0), read) }
+        (Ok(drill), _) => is_file(alloc, drill, asked),
+    }
+}
+
+fn reads(alloc: Global, text: &[u8], asked: Asked) -> bool {
+    let read = read_drill(alloc, text);
+    is_so(alloc, text, &read, asked)
 }
 
 /// Whether a text is read and drills just these holes.
 fn drills(alloc: Global, text: &[u8], wanted: &[Ends]) -> bool {
-    match read_drill(alloc, text) {
-        Ok(drill) => {
-            let holes = drill.holes();
-            holes.len() == wanted.len() && holes.iter().zip(wanted).all(|(h, e)| ends(h) == *e)
-        }
-        Err(_) => false,
-    }
-}
-
-/// The failure of a read, or `None` where it succeeded.
-fn failure_of(read: Result<Drill, Fail>) -> Option<Fail> {
-    match read {
-        Ok(_) => None,
-        Err(fail) => Some(fail),
-    }
+    reads(alloc, text, Asked::Holes(wanted))
 }
 
 fn fault_of(alloc: Global, text: &[u8]) -> Option<Fail> {
     failure_of(read_drill(alloc, text))
 }
 
-fn refused(reason: Reason, place: u64, byte: u64) -> Option<Fail> {
+/// The reason of a fault, its place and its byte.
+type Refusal = (Reason, u64, u64);
+
+fn failure(refusal: Option<Refusal>) -> Option<Fail> {
+    let (reason, place, byte) = refusal?;
     Some(Fail::Refused(Fault {
         place,
         byte,
@@ -49,82 +118,74 @@ fn refused(reason: Reason, place: u64, byte: u64) -> Option<Fail> {
     }))
 }
 
-/// Whether a text has this fault, whole and in pieces.
-fn refuses(alloc: Global, text: &str, reason: Reason, place: u64, byte: u64) -> bool {
+/// Whether a text has this fault or none, whole and in pieces.
+fn answers(alloc: Global, text: &str, refusal: Option<Refusal>) -> bool {
     let text = text.as_bytes();
-    fault_of(alloc, text) == refused(reason, place, byte) && pieces_alike(alloc, text)
+    fault_of(alloc, text) == failure(refusal) && pieces_alike(alloc, text)
+}
+
+/// Whether a text drills just these holes, whole and in pieces.
+fn drills_in_pieces(alloc: Global, text: &[u8], wanted: &[Ends]) -> bool {
+    drills(alloc, text, wanted) && pieces_alike(alloc, text)
 }
 
 /// Whether a text drills just one round hole at this point, whole and in pieces.
 fn drills_one(alloc: Global, text: &str, x: i64, y: i64, radius: i64) -> bool {
-    let text = text.as_bytes();
-    drills(alloc, text, &[(x, y, x, y, radius)]) && pieces_alike(alloc, text)
+    drills_in_pieces(alloc, text.as_bytes(), &[(x, y, x, y, radius)])
 }
 
-/// Reads a text in two pieces.
-fn in_two(alloc: Global, text: &[u8], at: usize) -> Result<Drill, Fail> {
-    let mut reader = DrillReader::new(alloc);
-    let at = at.min(text.len());
-    reader.feed(&text[..at])?;
-    reader.feed(&text[at..])?;
-    reader.finish()
-}
-
-/// Reads a text byte by byte, with an empty piece after each byte.
-fn byte_by_byte(alloc: Global, text: &[u8]) -> Result<Drill, Fail> {
-    let mut reader = DrillReader::new(alloc);
-    for i in 0..text.len() {
-        reader.feed(&text[i..i + 1])?;
-        reader.feed(&[])?;
+/// Whether two files are the same, as far as the first was kept.
+fn is_same_drill(keep: Keep, a: &Drill, b: &Drill) -> bool {
+    if a.holes() != b.holes() {
+        return false;
     }
-    reader.finish()
-}
-
-/// Reads the holes alone, byte by byte, with an empty piece after each byte.
-fn holes_byte_by_byte(alloc: Global, text: &[u8]) -> Result<Vec<Hole>, Fail> {
-    let mut reader = DrillReader::keeping(alloc, Keep::Holes);
-    for i in 0..text.len() {
-        reader.feed(&text[i..i + 1])?;
-        reader.feed(&[])?;
+    match keep {
+        Keep::Holes => true,
+        _ => a.commands() == b.commands() && a.tools().len() == b.tools().len(),
     }
-    Ok(reader.finish()?.into_holes())
 }
 
-/// Whether the holes are those of a drill file, or both failed alike.
-fn same_holes(a: &Result<Vec<Hole>, Fail>, b: &Result<Drill, Fail>) -> bool {
+/// Whether two reads gave the same file, as far as the first was kept, or the same failure.
+fn is_same(keep: Keep, a: &Result<Drill, Fail>, b: &Result<Drill, Fail>) -> bool {
     match (a, b) {
-        (Ok(a), Ok(b)) => a.as_slice() == b.holes(),
+        (Ok(a), Ok(b)) => is_same_drill(keep, a, b),
         (Err(a), Err(b)) => a == b,
         _ => false,
     }
 }
 
-fn same_drill(a: &Drill, b: &Drill) -> bool {
-    a.commands() == b.commands() && a.holes() == b.holes() && a.tools().len() == b.tools().len()
+/// Whether a text that is cut so gives what was read, as far as it is kept.
+fn reads_as(
+    alloc: Global,
+    keep: Keep,
+    text: &[u8],
+    cut: Cut,
+    wanted: &Result<Drill, Fail>,
+) -> bool {
+    let read = read_cut(alloc, keep, text, cut);
+    is_same(keep, &read, wanted)
 }
 
-fn same(a: &Result<Drill, Fail>, b: &Result<Drill, Fail>) -> bool {
-    match (a, b) {
-        (Ok(a), Ok(b)) => same_drill(a, b),
-        (Err(a), Err(b)) => a == b,
-        _ => false,
+/// Whether a text gives byte by byte what was read, and its holes where they are read alone.
+fn bytes_read_as(alloc: Global, text: &[u8], wanted: &Result<Drill, Fail>) -> bool {
+    reads_as(alloc, Keep::Commands, text, Cut::EachByte, wanted)
+        && reads_as(alloc, Keep::Holes, text, Cut::EachByte, wanted)
+}
+
+/// Whether a text that is cut in two at each byte gives what was read.
+fn splits_read_as(alloc: Global, text: &[u8], wanted: &Result<Drill, Fail>) -> bool {
+    for n in 0..text.len() {
+        if !reads_as(alloc, Keep::Commands, text, Cut::At(n), wanted) {
+            return false;
+        }
     }
-}
-
-/// Whether a text that is cut in two at each byte reads as the whole does.
-fn splits_alike(alloc: Global, text: &[u8]) -> bool {
-    let whole = read_drill(alloc, text);
-    (0..text.len()).all(|n| same(&in_two(alloc, text, n), &whole))
+    true
 }
 
 /// Whether each prefix of a text reads byte by byte as it does whole, the holes alone too.
 fn cuts_alike(alloc: Global, text: &[u8]) -> bool {
     for n in 0..text.len() + 1 {
-        let front = &text[..n];
-        let whole = read_drill(alloc, front);
-        if !same(&byte_by_byte(alloc, front), &whole)
-            || !same_holes(&holes_byte_by_byte(alloc, front), &whole)
-        {
+        if !reads(alloc, &text[..n], Asked::Bytes) {
             return false;
         }
     }
@@ -133,7 +194,7 @@ fn cuts_alike(alloc: Global, text: &[u8]) -> bool {
 
 /// Whether a text and its prefixes read in pieces as they do whole.
 fn pieces_alike(alloc: Global, text: &[u8]) -> bool {
-    splits_alike(alloc, text) && cuts_alike(alloc, text)
+    reads(alloc, text, Asked::Splits) && cuts_alike(alloc, text)
 }
 
 const PLATED: &[u8; 36] = b"M48\nMETRIC\nT1C0.4\n%\nT1\nX0.0Y0.0\nM30\n";
@@ -213,38 +274,23 @@ const HOLES: [(&[u8], &[Ends]); 4] = [
 #[test]
 fn holes_and_slots(rt: HostRuntime) {
     for &(text, holes) in &HOLES {
-        assert!(rt; drills(rt.alloc(), text, holes) && pieces_alike(rt.alloc(), text));
+        assert!(rt; drills_in_pieces(rt.alloc(), text, holes));
     }
 }
 
 /// Three tools, one of them with feed, speed and other settings, and no hole.
 const TOOLS: &[u8] = b"M48\nMETRIC\nT3C0.3\nT1F00S00C.0350H5Z-1\nT2C2.\n%\nM30\n";
 
-/// The numbers of a file's tools, with their diameters in units of 10^-8.
-fn tools_of(alloc: Global, text: &[u8]) -> Result<Vec<(u16, i64)>, Fail> {
-    let drill = read_drill(alloc, text)?;
-    let mut tools = Vec::new(alloc);
-    for (number, diameter) in drill.tools().iter() {
-        tools.push((*number, diameter.units()))?;
-    }
-    Ok(tools)
-}
-
 #[test]
-fn tools_in_order(rt: HostRuntime) -> Result<(), Fail> {
-    let tools = tools_of(rt.alloc(), TOOLS)?;
+fn tools_in_order(rt: HostRuntime) {
     let wanted = &[(3, 30_000_000), (1, 3_500_000), (2, 200_000_000)];
-    assert!(rt; tools.as_slice() == wanted.as_slice());
+    assert!(rt; reads(rt.alloc(), TOOLS, Asked::Tools(wanted)));
     assert!(rt; pieces_alike(rt.alloc(), TOOLS));
-    Ok(())
 }
 
 #[test]
-fn tools_among_commands(rt: HostRuntime) -> Result<(), TestFail> {
-    let drill = read_drill(rt.alloc(), TOOLS).map_err(|_| "refused")?;
-    assert_eq!(rt; drill.commands().len(), 7);
-    assert!(rt; matches!(drill.commands().last(), Some(DrillCommand::Finish)));
-    Ok(())
+fn tools_among_commands(rt: HostRuntime) {
+    assert!(rt; reads(rt.alloc(), TOOLS, Asked::Commands(7)));
 }
 
 /// Texts that are refused for coordinates, digits, ends, tools, lines of the header and of the body, settings and definitions.
@@ -374,33 +420,42 @@ const REFUSED: [(&str, Reason, u64, u64); 35] = [
 #[test]
 fn refused_texts(rt: HostRuntime) {
     for &(text, reason, place, byte) in &REFUSED {
-        assert!(rt; refuses(rt.alloc(), text, reason, place, byte), "{text}");
+        assert!(rt;
+            answers(rt.alloc(), text, Some((reason, place, byte))),
+            "{text}"
+        );
     }
 }
 
-/// Whether the file, cut off after so many bytes, has this fault.
-fn cut_refuses(alloc: Global, len: usize, reason: Reason, place: u64, byte: u64) -> bool {
-    len <= 36 && fault_of(alloc, &PLATED[..len]) == refused(reason, place, byte)
+/// Numbers of bytes after which a file is cut off, and what is said of what is left.
+const CUTS: [(usize, Option<Refusal>); 9] = [
+    (0, Some((Reason::Truncated, 1, 0))),
+    (2, Some((Reason::OldFormat, 1, 0))),
+    (6, Some((Reason::BadLine, 2, 4))),
+    (24, Some((Reason::BadNumber, 6, 23))),
+    (25, Some((Reason::NoZeros, 6, 23))),
+    (26, Some((Reason::Truncated, 7, 26))),
+    (32, Some((Reason::Truncated, 7, 32))),
+    (34, Some((Reason::BadLine, 7, 32))),
+    (35, None),
+];
+
+/// Whether the file, cut off after so many bytes, has this fault or none.
+fn cut_answers(alloc: Global, len: usize, refusal: Option<Refusal>) -> bool {
+    len <= 36 && fault_of(alloc, &PLATED[..len]) == failure(refusal)
 }
 
 #[test]
 fn cut_off(rt: HostRuntime) {
-    let alloc = rt.alloc();
-    for &(len, reason, place, byte) in &[
-        (0, Reason::Truncated, 1, 0),
-        (2, Reason::OldFormat, 1, 0),
-        (6, Reason::BadLine, 2, 4),
-        (24, Reason::BadNumber, 6, 23),
-        (25, Reason::NoZeros, 6, 23),
-        (26, Reason::Truncated, 7, 26),
-        (32, Reason::Truncated, 7, 32),
-        (34, Reason::BadLine, 7, 32),
-    ] {
-        assert!(rt; cut_refuses(alloc, len, reason, place, byte), "{len}");
+    for &(len, refusal) in &CUTS {
+        assert!(rt; cut_answers(rt.alloc(), len, refusal), "{len}");
     }
-    assert_eq!(rt; fault_of(alloc, &PLATED[..35]), None);
-    assert_eq!(rt; fault_of(alloc, PLATED), None);
-    assert!(rt; pieces_alike(alloc, PLATED));
+}
+
+#[test]
+fn not_cut_off(rt: HostRuntime) {
+    assert!(rt; cut_answers(rt.alloc(), 36, None));
+    assert!(rt; pieces_alike(rt.alloc(), PLATED));
 }
 
 /// Lines may end with CR and LF, but a CR among a line's bytes is refused.
@@ -410,24 +465,24 @@ fn carriage_returns(rt: HostRuntime) {
     let text = "M48\r\nMETRIC\r\nT1C0.4\r\n%\r\nT1\r\nX0.5Y-0.25\r\nM30\r\n";
     assert!(rt; drills_one(alloc, text, 500_000_000, -250_000_000, 200_000_000));
     let broken = "M48\nMETRIC\nT1C0.4\n%\nT1\nX0.5Y-0.25\rX1.0\nM30\n";
-    assert!(rt; refuses(alloc, broken, Reason::BadLine, 6, 23));
+    assert!(rt; answers(alloc, broken, Some((Reason::BadLine, 6, 23))));
 }
+
+/// Texts with blanks, and what is said of them.
+const BLANKS: [(&str, Option<Refusal>); 5] = [
+    ("M48\nMETRIC\n% ", Some((Reason::Truncated, 4, 13))),
+    ("M48\nMETRIC\n%\n ", Some((Reason::Truncated, 5, 14))),
+    (" ;x\nM48\n", Some((Reason::OldFormat, 1, 0))),
+    ("M48\n ;x\n", Some((Reason::BadLine, 2, 4))),
+    ("M48 \r\nMETRIC\t\r\n%\nM30\r\n \n\r\n", None),
+];
 
 /// Blanks at the end of a line are dropped, and blanks at its start are not.
 #[test]
 fn blanks(rt: HostRuntime) {
-    let alloc = rt.alloc();
-    for &(text, reason, place, byte) in &[
-        ("M48\nMETRIC\n% ", Reason::Truncated, 4, 13),
-        ("M48\nMETRIC\n%\n ", Reason::Truncated, 5, 14),
-        (" ;x\nM48\n", Reason::OldFormat, 1, 0),
-        ("M48\n ;x\n", Reason::BadLine, 2, 4),
-    ] {
-        assert!(rt; refuses(alloc, text, reason, place, byte), "{text}");
+    for &(text, refusal) in &BLANKS {
+        assert!(rt; answers(rt.alloc(), text, refusal), "{text}");
     }
-    let read = b"M48 \r\nMETRIC\t\r\n%\nM30\r\n \n\r\n";
-    assert_eq!(rt; fault_of(alloc, read), None);
-    assert!(rt; pieces_alike(alloc, read));
 }
 
 /// OldFormat at the first line.
@@ -445,137 +500,141 @@ const REFUSED_PIECES: [(&str, Option<Fail>); 4] = [
     ("", OLD_FORMAT),
 ];
 
+/// The first of these pieces to which a reader gives another answer.
+fn piece_answered_otherwise(reader: &mut DrillReader) -> Option<&'static str> {
+    for &(piece, answer) in &REFUSED_PIECES {
+        if reader.feed(piece.as_bytes()).err() != answer {
+            return Some(piece);
+        }
+    }
+    None
+}
+
+/// The first of these pieces, or the end, at which a reader gives another answer.
+pub(crate) fn answered_otherwise(alloc: Global, keep: Keep) -> Option<&'static str> {
+    let mut reader = DrillReader::keeping(alloc, keep);
+    let piece = piece_answered_otherwise(&mut reader);
+    if failure_of(reader.finish()) == OLD_FORMAT {
+        piece
+    } else {
+        Some("the end")
+    }
+}
+
 /// A reader that has failed gives its fault again at each later call.
 #[test]
 fn a_fault_stays(rt: HostRuntime) {
-    let mut reader = DrillReader::new(rt.alloc());
-    for &(piece, answer) in &REFUSED_PIECES {
-        assert!(rt; reader.feed(piece.as_bytes()).err() == answer, "{piece}");
-    }
-    assert!(rt; failure_of(reader.finish()) == OLD_FORMAT);
+    assert_eq!(rt; answered_otherwise(rt.alloc(), Keep::Commands), None);
 }
 
 /// A reader of the holes alone that has failed gives its fault again at each later call.
 #[test]
 fn a_fault_of_holes_stays(rt: HostRuntime) {
-    let mut reader = DrillReader::keeping(rt.alloc(), Keep::Holes);
-    for &(piece, answer) in &REFUSED_PIECES {
-        assert!(rt; reader.feed(piece.as_bytes()).err() == answer, "{piece}");
+    assert_eq!(rt; answered_otherwise(rt.alloc(), Keep::Holes), None);
+}
+
+/// Whether the holes that are moved out of what was read are just these.
+fn gives_holes(read: Result<Drill, Fail>, wanted: &[Ends]) -> bool {
+    match read {
+        Ok(drill) => are_holes(&drill.into_holes(), wanted),
+        Err(_) => false,
     }
-    assert!(rt; failure_of(reader.finish()) == OLD_FORMAT);
 }
 
 /// Holes that are read alone are those that are moved out of a file.
 #[test]
-fn holes_alone(rt: HostRuntime) -> Result<(), TestFail> {
-    let holes = holes_byte_by_byte(rt.alloc(), PLATED).map_err(|_| "refused")?;
-    assert_eq!(rt; holes.len(), 1);
-    assert!(rt;
-        holes
-            .iter()
-            .all(|hole| ends(hole) == (0, 0, 0, 0, 200_000_000))
-    );
-    let drill = read_drill(rt.alloc(), PLATED).map_err(|_| "refused")?;
-    assert!(rt; drill.into_holes().as_slice() == holes.as_slice());
-    Ok(())
+fn holes_alone(rt: HostRuntime) {
+    let alloc = rt.alloc();
+    let wanted = &[(0, 0, 0, 0, 200_000_000)];
+    let cut = Cut::EachByte;
+    assert!(rt; gives_holes(read_cut(alloc, Keep::Holes, PLATED, cut), wanted));
+    assert!(rt; gives_holes(read_drill(alloc, PLATED), wanted));
 }
 
 #[test]
-fn two_pieces(rt: HostRuntime) -> Result<(), TestFail> {
-    assert!(rt;
-        same(
-            &in_two(rt.alloc(), PLATED, 30),
-            &read_drill(rt.alloc(), PLATED)
-        )
-    );
-    assert!(rt;
-        same(
-            &byte_by_byte(rt.alloc(), PLATED),
-            &read_drill(rt.alloc(), PLATED)
-        )
-    );
+fn two_pieces(rt: HostRuntime) {
+    assert!(rt; reads(rt.alloc(), PLATED, Asked::InPieces(Cut::At(30))));
+    assert!(rt; reads(rt.alloc(), PLATED, Asked::InPieces(Cut::EachByte)));
     assert!(rt; drills(rt.alloc(), PLATED, &[(0, 0, 0, 0, 200_000_000)]));
-    Ok(())
 }
 
-/// A file with a comment of a million bytes.
-fn commented(alloc: Global) -> Result<Vec<u8>, AllocError> {
-    let mut text = Vec::from_slice(alloc, b"M48\nMETRIC\n;")?;
-    for _ in 0..1_000_000 {
-        text.push(b'a')?;
-    }
-    text.extend_from_slice(b"\nT1C0.4\n%\nT1\nX0.0Y0.0\nM30\n")?;
-    Ok(text)
+/// A text in which a part comes `count` times between two others.
+fn repeated(
+    alloc: Global,
+    head: &str,
+    part: &str,
+    count: usize,
+    tail: &str,
+) -> Result<String, AllocError> {
+    let middle = part.repeat(alloc, count)?;
+    format!(in alloc; "{head}{middle}{tail}")
 }
 
-/// How many holes and commands a text has byte by byte, or `None` where its holes read alone are others.
-fn counts_byte_by_byte(alloc: Global, text: &[u8]) -> Option<(usize, usize)> {
-    let drill = byte_by_byte(alloc, text);
-    let is_same = same_holes(&holes_byte_by_byte(alloc, text), &drill);
-    match drill {
-        Ok(drill) if is_same => Some((drill.holes().len(), drill.commands().len())),
-        _ => None,
+/// Whether the read of a text with a comment of a million bytes is as asked.
+fn reads_comment(alloc: Global, asked: Asked) -> bool {
+    let tail = "\nT1C0.4\n%\nT1\nX0.0Y0.0\nM30\n";
+    match repeated(alloc, "M48\nMETRIC\n;", "a", 1_000_000, tail) {
+        Ok(text) => reads(alloc, text.as_bytes(), asked),
+        Err(_) => false,
     }
 }
 
 #[test]
-fn a_long_comment(rt: HostRuntime) -> Result<(), AllocError> {
-    let text = commented(rt.alloc())?;
-    assert!(rt; counts_byte_by_byte(rt.alloc(), &text) == Some((1, 8)));
-    Ok(())
+fn a_long_comment(rt: HostRuntime) {
+    assert!(rt; reads_comment(rt.alloc(), Asked::Counts(1, 8)));
+    assert!(rt; reads_comment(rt.alloc(), Asked::Bytes));
 }
+
+/// Whether a text in which a part comes `count` times between two others has this fault.
+fn is_too_much(
+    alloc: Global,
+    (head, part, tail): (&str, &str, &str),
+    count: usize,
+    refusal: Refusal,
+) -> bool {
+    match repeated(alloc, head, part, count, tail) {
+        Ok(text) => fault_of(alloc, text.as_bytes()) == failure(Some(refusal)),
+        Err(_) => false,
+    }
+}
+
+/// The number of spaces of a comment, its end, and its fault.
+const LONG_LINES: [(usize, &str, Refusal); 3] = [
+    (1_048_575, "", (Reason::Truncated, 2, 1_048_576)),
+    (1_048_576, "", (Reason::TooLong, 1, 0)),
+    (1_048_576, "\n", (Reason::TooLong, 1, 0)),
+];
 
 /// A line of 1,048,576 bytes is read, and one more is too long, with its LF or without.
 #[test]
-fn long_lines(rt: HostRuntime) -> Result<(), TestFail> {
-    let mut text = Vec::from_slice(rt.alloc(), b";")?;
-    for _ in 0..1_048_575 {
-        text.push(b' ')?;
+fn long_lines(rt: HostRuntime) {
+    for &(count, end, refusal) in &LONG_LINES {
+        assert!(rt;
+            is_too_much(rt.alloc(), (";", " ", end), count, refusal),
+            "{count}"
+        );
     }
-    assert_eq!(rt;
-        fault_of(rt.alloc(), &text),
-        refused(Reason::Truncated, 2, 1_048_576)
-    );
-    text.push(b' ')?;
-    assert_eq!(rt; fault_of(rt.alloc(), &text), refused(Reason::TooLong, 1, 0));
-    text.push(b'\n')?;
-    assert_eq!(rt; fault_of(rt.alloc(), &text), refused(Reason::TooLong, 1, 0));
-    Ok(())
 }
 
 /// 1,048,576 holes are read, and one more is one too many.
 #[test]
-fn many_holes(rt: HostRuntime) -> Result<(), TestFail> {
-    let mut text = Vec::from_slice(rt.alloc(), b"M48\nMETRIC\nT1C0.4\n%\nT1\n")?;
-    for _ in 0..1_048_577 {
-        text.extend_from_slice(b"X0.0Y0.0\n")?;
-    }
-    text.extend_from_slice(b"M30\n")?;
-    assert_eq!(rt;
-        fault_of(rt.alloc(), &text),
-        refused(Reason::TooManyHoles, 1_048_582, 9_437_207)
-    );
-    Ok(())
+fn many_holes(rt: HostRuntime) {
+    let parts = ("M48\nMETRIC\nT1C0.4\n%\nT1\n", "X0.0Y0.0\n", "M30\n");
+    let refusal = (Reason::TooManyHoles, 1_048_582, 9_437_207);
+    assert!(rt; is_too_much(rt.alloc(), parts, 1_048_577, refusal));
 }
 
 /// A text with various spellings is written as its canonical text.
 #[test]
-fn written_back(rt: HostRuntime) -> Result<(), TestFail> {
-    let drill = read_drill(rt.alloc(), OLD).map_err(|_| "refused")?;
-    assert!(rt; drill_sayable(drill.commands()));
-    let written = write_drill(rt.alloc(), drill.commands()).map_err(|_| "too long")?;
-    assert_eq!(rt; written.as_slice(), NEW);
+fn written_back(rt: HostRuntime) {
+    assert!(rt; reads(rt.alloc(), OLD, Asked::Written(NEW)));
     assert!(rt; pieces_alike(rt.alloc(), OLD));
-    Ok(())
 }
 
 /// The canonical text reads as the text from which it was written.
 #[test]
-fn read_again(rt: HostRuntime) -> Result<(), TestFail> {
-    let drill = read_drill(rt.alloc(), OLD).map_err(|_| "refused")?;
-    let again = read_drill(rt.alloc(), NEW).map_err(|_| "refused")?;
-    assert!(rt; again.commands() == drill.commands() && again.holes() == drill.holes());
-    Ok(())
+fn read_again(rt: HostRuntime) {
+    assert!(rt; reads(rt.alloc(), OLD, Asked::Again(NEW)));
 }
 
 /// Lists of commands, and whether some text spells them.
@@ -603,7 +662,7 @@ fn not_sayable(rt: HostRuntime) {
         (&[DrillCommand::Start, DrillCommand::Finish], false),
     ];
     for &(commands, is_sayable) in lists {
-        assert_eq!(rt; drill_sayable(commands), is_sayable);
+        assert!(rt; drill_sayable(commands) == is_sayable);
     }
 }
 
@@ -618,13 +677,23 @@ fn is_said_in_body(command: DrillCommand) -> bool {
 }
 
 #[test]
-fn not_sayable_in_the_body(rt: HostRuntime) -> Result<(), TestFail> {
+fn not_sayable_in_the_body(rt: HostRuntime) {
     let nowhere = Coordinates::new(None, None);
     assert!(rt; !is_said_in_body(DrillCommand::Hit(nowhere)));
     assert!(rt; !is_said_in_body(DrillCommand::Pick(1000)));
-    for &text in &["a ", "a\nb"] {
-        let comment = Text::from_slice(rt.alloc(), text.as_bytes())?;
-        assert!(rt; !is_said_in_body(DrillCommand::Comment(comment)), "{text}");
+}
+
+/// Whether a comment of this text is read by none.
+fn is_no_comment(alloc: Global, text: &str) -> bool {
+    match Text::from_slice(alloc, text.as_bytes()) {
+        Ok(comment) => !is_said_in_body(DrillCommand::Comment(comment)),
+        Err(_) => false,
     }
-    Ok(())
+}
+
+#[test]
+fn comments_that_are_not_sayable(rt: HostRuntime) {
+    for &text in &["a ", "a\nb"] {
+        assert!(rt; is_no_comment(rt.alloc(), text), "{text}");
+    }
 }

@@ -2,6 +2,8 @@
 #![tactic(auto)]
 
 #[cfg(test)]
+mod drill_pieces;
+#[cfg(test)]
 mod drill_text_calls;
 #[cfg(test)]
 mod drill_writing;

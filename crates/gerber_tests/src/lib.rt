@@ -2,6 +2,8 @@
 #![tactic(auto)]
 
 #[cfg(test)]
+mod drawn_calls;
+#[cfg(test)]
 mod gerber_sayable_calls;
 #[cfg(test)]
 mod gerber_text_calls;

@@ -1,177 +1,189 @@
 //! What words of the command line ask for, and what is printed where they ask for nothing.
 
-use clap::error::ErrorKind;
-use clap::{ArgMatches, Error};
 use command_line::*;
+use std::alloc::AllocError;
 
-/// The words of a command line.
-type Words = &'static [&'static str];
+/// Parts of a text.
+type Parts = &'static [&'static str];
 
-fn is_usage(rt: HostRuntime, words: &[&str]) -> bool {
-    matches!(parse(rt.alloc(), words), Err(Refusal::Usage(_)))
+/// The words of a command line, with a space between any two.
+fn words_of(rt: HostRuntime, line: &str) -> Result<Vec<&str>, AllocError> {
+    line.split_whitespace().collect(rt.alloc())
 }
 
-/// The ring, the gap and the manifest of a check that the words ask for.
-fn check_of<'a>(rt: HostRuntime, words: &'a [&'a str]) -> Option<(&'a str, &'a str, &'a str)> {
-    match parse(rt.alloc(), words) {
-        Ok(
-            Request::Check {
-                ring,
-                gap,
-                manifest,
-            },
-        ) => Some((ring, gap, manifest)),
-        _ => None,
+/// Whether words ask for what is printed so.
+fn words_ask(rt: HostRuntime, words: &[&str], request: &str) -> bool {
+    let Ok(asked) = parse(rt.alloc(), words) else {
+        return false;
+    };
+    match format!(in rt.alloc(); "{asked:?}") {
+        Ok(text) => text.as_str() == request,
+        Err(_) => false,
     }
 }
 
-const CHECKS: [Words; 6] = [
-    &["check", "--ring", "0.125", "--gap", "0.2", "m.csv"],
-    &["check", "--gap", "0.2", "--ring", "0.125", "m.csv"],
-    &["check", "m.csv", "--gap", "0.2", "--ring", "0.125"],
-    &["check", "--ring", "0.125", "m.csv", "--gap", "0.2"],
-    &["check", "--gap=0.2", "--ring=0.125", "m.csv"],
-    &["check", "--gap=0.2", "--ring=0.125", "--", "m.csv"],
+/// Whether the words of a line ask for what is printed so.
+fn asks(rt: HostRuntime, line: &str, request: &str) -> bool {
+    match words_of(rt, line) {
+        Ok(words) => words_ask(rt, &words, request),
+        Err(_) => false,
+    }
+}
+
+/// What is printed where words ask for nothing.
+#[derive(Clone, Copy)]
+enum Told<'a> {
+    Usage,
+    Version,
+    /// Help with these parts.
+    Help(&'a [&'a str]),
+    /// Help that fits 24 lines of 79 columns, and whose usage begins with the program's name.
+    Screen,
+}
+
+fn is_refusal(refusal: &Refusal, told: Told) -> bool {
+    match (refusal, told) {
+        (Refusal::Usage(_), Told::Usage) => true,
+        (Refusal::Version, Told::Version) => true,
+        (Refusal::Help(text), Told::Help(parts)) => has_parts(text.as_str(), parts),
+        (Refusal::Help(text), Told::Screen) => fits_a_screen(text.as_str()),
+        _ => false,
+    }
+}
+
+fn has_parts(text: &str, parts: &[&str]) -> bool {
+    for part in parts {
+        if !text.contains(*part) {
+            return false;
+        }
+    }
+    true
+}
+
+fn fits_a_screen(text: &str) -> bool {
+    text.lines().count() <= 24
+        && text.lines().all(|line| line.len() < 80)
+        && text.contains("Usage: ringcheck ")
+}
+
+fn words_tell(rt: HostRuntime, words: &[&str], told: Told) -> bool {
+    match parse(rt.alloc(), words) {
+        Ok(_) => false,
+        Err(refusal) => is_refusal(&refusal, told),
+    }
+}
+
+/// Whether the words of a line are answered so.
+fn tells(rt: HostRuntime, line: &str, told: Told) -> bool {
+    match words_of(rt, line) {
+        Ok(words) => words_tell(rt, &words, told),
+        Err(_) => false,
+    }
+}
+
+const CHECKS: [&str; 6] = [
+    "check --ring 0.125 --gap 0.2 m.csv",
+    "check --gap 0.2 --ring 0.125 m.csv",
+    "check m.csv --gap 0.2 --ring 0.125",
+    "check --ring 0.125 m.csv --gap 0.2",
+    "check --gap=0.2 --ring=0.125 m.csv",
+    "check --gap=0.2 --ring=0.125 -- m.csv",
 ];
 
 #[test]
 fn options_of_a_check_stand_in_any_order(rt: HostRuntime) {
-    for &words in &CHECKS {
-        assert!(rt;
-            check_of(rt, words) == Some(("0.125", "0.2", "m.csv")),
-            "{words:?}"
-        );
+    for &line in &CHECKS {
+        let request = "Check { ring: \"0.125\", gap: \"0.2\", manifest: \"m.csv\" }";
+        assert!(rt; asks(rt, line, request), "{line}");
     }
 }
 
 /// A value may begin with a minus after an equals sign; elsewhere it is refused (below).
 #[test]
 fn a_value_may_begin_with_a_minus(rt: HostRuntime) {
-    let words = &["check", "--ring=-1", "--gap", "0.2", "m.csv"];
-    assert!(rt; check_of(rt, words) == Some(("-1", "0.2", "m.csv")));
+    let line = "check --ring=-1 --gap 0.2 m.csv";
+    let request = "Check { ring: \"-1\", gap: \"0.2\", manifest: \"m.csv\" }";
+    assert!(rt; asks(rt, line, request));
 }
 
-/// The kind and the file of a table or a canonical text that the words ask for, and whether it is a table.
-fn file_of<'a>(rt: HostRuntime, words: &'a [&'a str]) -> Option<(bool, &'a str, &'a str)> {
-    match parse(rt.alloc(), words) {
-        Ok(Request::Show { kind, file }) => Some((true, kind, file)),
-        Ok(Request::Rewrite { kind, file }) => Some((false, kind, file)),
-        _ => None,
-    }
-}
-
-const FILES: [(Words, bool, &str, &str); 5] = [
+/// Words, and what they ask for.
+const FILES: [(&str, &str); 5] = [
     (
-        &["show", "--kind", "layer", "top.gbr"],
-        true,
-        "layer",
-        "top.gbr",
+        "show --kind layer top.gbr",
+        "Show { kind: \"layer\", file: \"top.gbr\" }",
     ),
     (
-        &["show", "top.gbr", "--kind", "layer"],
-        true,
-        "layer",
-        "top.gbr",
-    ),
-    (&["show", "--kind", "board", "x"], true, "board", "x"),
-    (
-        &["rewrite", "--kind", "drill", "pth.drl"],
-        false,
-        "drill",
-        "pth.drl",
+        "show top.gbr --kind layer",
+        "Show { kind: \"layer\", file: \"top.gbr\" }",
     ),
     (
-        &["rewrite", "pth.drl", "--kind", "drill"],
-        false,
-        "drill",
-        "pth.drl",
+        "show --kind board x",
+        "Show { kind: \"board\", file: \"x\" }",
+    ),
+    (
+        "rewrite --kind drill pth.drl",
+        "Rewrite { kind: \"drill\", file: \"pth.drl\" }",
+    ),
+    (
+        "rewrite pth.drl --kind drill",
+        "Rewrite { kind: \"drill\", file: \"pth.drl\" }",
     ),
 ];
 
 #[test]
 fn a_table_and_a_canonical_text_are_asked_for(rt: HostRuntime) {
-    for &(words, is_table, kind, file) in &FILES {
-        assert!(rt;
-            file_of(rt, words) == Some((is_table, kind, file)),
-            "{words:?}"
-        );
+    for &(line, request) in &FILES {
+        assert!(rt; asks(rt, line, request), "{line}");
     }
 }
 
-const REFUSED: [Words; 36] = [
-    &["check", "--ring", "-1", "--gap", "0.2", "m.csv"],
+const REFUSED: [&str; 36] = [
+    "check --ring -1 --gap 0.2 m.csv",
     // other words
-    &[],
-    &["Check", "--ring", "0.125", "--gap", "0.2", "m.csv"],
-    &["--ring", "0.125", "--gap", "0.2", "m.csv"],
-    &["show", "top.gbr"],
-    &["rewrite", "--kind", "layer"],
-    &["plot", "top.gbr"],
-    &["manifest"],
-    &["manifest", "--why"],
-    &["manifest", "--why", "--why", "top.gbr"],
-    &["manifest", "--fast", "top.gbr"],
-    &["explain", "Routed", "ring"],
-    &["check", "--version"],
+    "",
+    "Check --ring 0.125 --gap 0.2 m.csv",
+    "--ring 0.125 --gap 0.2 m.csv",
+    "show top.gbr",
+    "rewrite --kind layer",
+    "plot top.gbr",
+    "manifest",
+    "manifest --why",
+    "manifest --why --why top.gbr",
+    "manifest --fast top.gbr",
+    "explain Routed ring",
+    "check --version",
     // a check with other words
-    &["check"],
-    &["check", "--ring", "0.125", "m.csv"],
-    &["check", "--gap", "0.2", "m.csv"],
-    &["check", "--ring", "0.125", "--gap", "0.2"],
-    &[
-        "check",
-        "--ring=0.125",
-        "--ring=0.125",
-        "--gap=0.2",
-        "m.csv",
-    ],
-    &["check", "--ring=0.125", "--gap=0.2", "m.csv", "n.csv"],
-    &["check", "--ring=0.125", "--gap=0.2", "--fast", "m.csv"],
+    "check",
+    "check --ring 0.125 m.csv",
+    "check --gap 0.2 m.csv",
+    "check --ring 0.125 --gap 0.2",
+    "check --ring=0.125 --ring=0.125 --gap=0.2 m.csv",
+    "check --ring=0.125 --gap=0.2 m.csv n.csv",
+    "check --ring=0.125 --gap=0.2 --fast m.csv",
     // measures, reports and pictures with other words
-    &["measure"],
-    &["measure", "m.csv", "n.csv"],
-    &["measure", "--ring", "0.125", "m.csv"],
-    &["measure", "--max", "2", "m.csv"],
-    &["report", "m.csv"],
-    &["report", "--ring", "0.125", "m.csv"],
-    &["report", "--ring=0.125", "--gap=0.2", "--max", "m.csv"],
-    &["draw"],
-    &["draw", "--max", "2", "m.csv"],
+    "measure",
+    "measure m.csv n.csv",
+    "measure --ring 0.125 m.csv",
+    "measure --max 2 m.csv",
+    "report m.csv",
+    "report --ring 0.125 m.csv",
+    "report --ring=0.125 --gap=0.2 --max m.csv",
+    "draw",
+    "draw --max 2 m.csv",
     // a format is named once, and of two commands
-    &["measure", "m.csv", "--format"],
-    &["measure", "--format", "json"],
-    &["measure", "--format", "json", "--format", "json", "m.csv"],
-    &["report", "--ring=0.125", "--gap=0.2", "m.csv", "--format"],
-    &[
-        "report",
-        "--format=text",
-        "--ring=0.125",
-        "--gap=0.2",
-        "--format=json",
-        "m.csv",
-    ],
-    &[
-        "check",
-        "--format=json",
-        "--ring=0.125",
-        "--gap=0.2",
-        "m.csv",
-    ],
-    &["draw", "--format", "json", "m.csv"],
+    "measure m.csv --format",
+    "measure --format json",
+    "measure --format json --format json m.csv",
+    "report --ring=0.125 --gap=0.2 m.csv --format",
+    "report --format=text --ring=0.125 --gap=0.2 --format=json m.csv",
+    "check --format=json --ring=0.125 --gap=0.2 m.csv",
+    "draw --format json m.csv",
 ];
 
 #[test]
 fn other_words_are_refused(rt: HostRuntime) {
-    for &words in &REFUSED {
-        assert!(rt; is_usage(rt, words), "{words:?}");
-    }
-}
-
-/// Whether help is given, and its text has these parts.
-fn helps(rt: HostRuntime, words: &[&str], parts: &[&str]) -> bool {
-    match parse(rt.alloc(), words) {
-        Err(Refusal::Help(text)) => parts.iter().all(|part| text.as_str().contains(*part)),
-        _ => false,
+    for &line in &REFUSED {
+        assert!(rt; tells(rt, line, Told::Usage), "{line}");
     }
 }
 
@@ -199,16 +211,16 @@ const VALUES: [&str; 5] = [
 ];
 
 /// Words that ask for help, and parts of it.
-const HELP: [(Words, Words); 10] = [
-    (&["--help"], &COMMANDS),
-    (&["-h"], &COMMANDS),
-    (&["help"], &COMMANDS),
-    (&["check", "--help"], &VALUES),
-    (&["help", "check"], &VALUES),
-    (&["show", "--help"], &["--kind <layer|drill>", "<FILE>"]),
-    (&["rewrite", "-h"], &["--kind <layer|drill>", "<FILE>"]),
+const HELP: [(&str, Parts); 10] = [
+    ("--help", &COMMANDS),
+    ("-h", &COMMANDS),
+    ("help", &COMMANDS),
+    ("check --help", &VALUES),
+    ("help check", &VALUES),
+    ("show --help", &["--kind <layer|drill>", "<FILE>"]),
+    ("rewrite -h", &["--kind <layer|drill>", "<FILE>"]),
     (
-        &["measure", "--help"],
+        "measure --help",
         &[
             "ringcheck measure [--format <text|json>] <MANIFEST>",
             "--format <text|json>  Lines for people, or one object of JSON;\n",
@@ -216,7 +228,7 @@ const HELP: [(Words, Words); 10] = [
         ],
     ),
     (
-        &["report", "--help"],
+        "report --help",
         &[
             "ringcheck report --ring <MM> --gap <MM> [--max <N>] [--waive <FILE>]\n",
             " [--format <text|html|json|waivers>] <MANIFEST>\n",
@@ -227,7 +239,7 @@ const HELP: [(Words, Words); 10] = [
         ],
     ),
     (
-        &["draw", "--help"],
+        "draw --help",
         &[
             "ringcheck draw [--ring <MM> --gap <MM>] <MANIFEST>",
             "Draw a package as an SVG picture",
@@ -237,265 +249,184 @@ const HELP: [(Words, Words); 10] = [
 
 #[test]
 fn help_names_commands_and_options(rt: HostRuntime) {
-    for &(words, parts) in &HELP {
-        assert!(rt; helps(rt, words, parts), "{words:?}");
+    for &(line, parts) in &HELP {
+        assert!(rt; tells(rt, line, Told::Help(parts)), "{line}");
     }
 }
 
-/// Whether help fits 24 lines of 79 columns, and its usage begins with the program's name.
-fn fits_a_screen(rt: HostRuntime, words: &[&str]) -> bool {
-    match parse(rt.alloc(), words) {
-        Err(Refusal::Help(text)) => {
-            let text = text.as_str();
-            text.lines().count() <= 24
-                && text.lines().all(|line| line.len() < 80)
-                && text.contains("Usage: ringcheck ")
-        }
-        _ => false,
-    }
-}
-
-const PAGES: [Words; 9] = [
-    &["--help"],
-    &["check", "--help"],
-    &["report", "--help"],
-    &["measure", "--help"],
-    &["draw", "--help"],
-    &["manifest", "--help"],
-    &["explain", "--help"],
-    &["show", "--help"],
-    &["rewrite", "--help"],
+const PAGES: [&str; 9] = [
+    "--help",
+    "check --help",
+    "report --help",
+    "measure --help",
+    "draw --help",
+    "manifest --help",
+    "explain --help",
+    "show --help",
+    "rewrite --help",
 ];
 
 #[test]
 fn help_fits_a_screen(rt: HostRuntime) {
-    for &words in &PAGES {
-        assert!(rt; fits_a_screen(rt, words), "{words:?}");
+    for &line in &PAGES {
+        assert!(rt; tells(rt, line, Told::Screen), "{line}");
     }
 }
 
-/// Whether the words ask for a manifest of `top.gbr` and `pth.drl`, `with_why` or without.
-fn asks_for_manifest(rt: HostRuntime, words: &[&str], with_why: bool) -> bool {
-    match parse(rt.alloc(), words) {
-        Ok(Request::Manifest { why, files }) => {
-            why == with_why && files.as_slice() == ["top.gbr", "pth.drl"].as_slice()
-        }
-        _ => false,
-    }
-}
-
-const MANIFESTS: [(Words, bool); 4] = [
-    (&["manifest", "top.gbr", "pth.drl"], false),
-    (&["manifest", "--why", "top.gbr", "pth.drl"], true),
-    (&["manifest", "top.gbr", "--why", "pth.drl"], true),
-    (&["manifest", "top.gbr", "pth.drl", "--why"], true),
+const MANIFESTS: [(&str, &str); 4] = [
+    (
+        "manifest top.gbr pth.drl",
+        "Manifest { why: false, files: [\"top.gbr\", \"pth.drl\"] }",
+    ),
+    (
+        "manifest --why top.gbr pth.drl",
+        "Manifest { why: true, files: [\"top.gbr\", \"pth.drl\"] }",
+    ),
+    (
+        "manifest top.gbr --why pth.drl",
+        "Manifest { why: true, files: [\"top.gbr\", \"pth.drl\"] }",
+    ),
+    (
+        "manifest top.gbr pth.drl --why",
+        "Manifest { why: true, files: [\"top.gbr\", \"pth.drl\"] }",
+    ),
 ];
 
 #[test]
 fn a_manifest_is_asked_for(rt: HostRuntime) {
-    for &(words, with_why) in &MANIFESTS {
-        assert!(rt; asks_for_manifest(rt, words, with_why), "{words:?}");
+    for &(line, request) in &MANIFESTS {
+        assert!(rt; asks(rt, line, request), "{line}");
     }
 }
 
-/// The format in which the words ask for a measure of the manifest `m.csv`, if they do.
-fn measure_of<'a>(rt: HostRuntime, words: &'a [&'a str]) -> Option<Option<&'a str>> {
-    match parse(rt.alloc(), words) {
-        Ok(
-            Request::Measure {
-                format,
-                manifest: "m.csv",
-            },
-        ) => Some(format),
-        _ => None,
-    }
-}
-
-const MEASURES: [(Words, Option<&str>); 7] = [
-    (&["measure", "m.csv"], None),
-    (&["measure", "--format", "json", "m.csv"], Some("json")),
-    (&["measure", "m.csv", "--format", "json"], Some("json")),
-    (&["measure", "--format=json", "m.csv"], Some("json")),
-    (&["measure", "--format=json", "--", "m.csv"], Some("json")),
-    (&["measure", "--format", "xml", "m.csv"], Some("xml")),
-    (&["measure", "--format=", "m.csv"], Some("")),
+const MEASURES: [(&str, &str); 7] = [
+    (
+        "measure m.csv",
+        "Measure { format: None, manifest: \"m.csv\" }",
+    ),
+    (
+        "measure --format json m.csv",
+        "Measure { format: Some(\"json\"), manifest: \"m.csv\" }",
+    ),
+    (
+        "measure m.csv --format json",
+        "Measure { format: Some(\"json\"), manifest: \"m.csv\" }",
+    ),
+    (
+        "measure --format=json m.csv",
+        "Measure { format: Some(\"json\"), manifest: \"m.csv\" }",
+    ),
+    (
+        "measure --format=json -- m.csv",
+        "Measure { format: Some(\"json\"), manifest: \"m.csv\" }",
+    ),
+    (
+        "measure --format xml m.csv",
+        "Measure { format: Some(\"xml\"), manifest: \"m.csv\" }",
+    ),
+    (
+        "measure --format= m.csv",
+        "Measure { format: Some(\"\"), manifest: \"m.csv\" }",
+    ),
 ];
 
 #[test]
 fn a_measure_is_asked_for(rt: HostRuntime) {
-    for &(words, format) in &MEASURES {
-        assert!(rt; measure_of(rt, words) == Some(format), "{words:?}");
+    for &(line, request) in &MEASURES {
+        assert!(rt; asks(rt, line, request), "{line}");
     }
 }
 
-/// The limit of findings, the file of waivers and the format.
-type Limits<'a> = (Option<&'a str>, Option<&'a str>, Option<&'a str>);
-
-/// The limit of findings, the file of waivers and the format of a report that the words ask for, with a ring of 0.125, a gap
-/// of 0.2 and the manifest `m.csv`.
-fn limits_of<'a>(rt: HostRuntime, words: &'a [&'a str]) -> Option<Limits<'a>> {
-    match parse(rt.alloc(), words) {
-        Ok(
-            Request::Report {
-                ring: "0.125",
-                gap: "0.2",
-                limit,
-                waive,
-                format,
-                manifest: "m.csv",
-            },
-        ) => Some((limit, waive, format)),
-        _ => None,
-    }
-}
-
-const REPORTS: [(Words, Limits<'static>); 10] = [
+const REPORTS: [(&str, &str); 10] = [
     (
-        &["report", "--ring", "0.125", "--gap", "0.2", "m.csv"],
-        (None, None, None),
+        "report --ring 0.125 --gap 0.2 m.csv",
+        "Report { ring: \"0.125\", gap: \"0.2\", limit: None, waive: None, format: None, manifest: \"m.csv\" }",
     ),
     (
-        &[
-            "report", "--ring", "0.125", "--gap", "0.2", "--max", "2", "m.csv",
-        ],
-        (Some("2"), None, None),
+        "report --ring 0.125 --gap 0.2 --max 2 m.csv",
+        "Report { ring: \"0.125\", gap: \"0.2\", limit: Some(\"2\"), waive: None, format: None, manifest: \"m.csv\" }",
     ),
     (
-        &[
-            "report", "--max", "2", "m.csv", "--gap", "0.2", "--ring", "0.125",
-        ],
-        (Some("2"), None, None),
+        "report --max 2 m.csv --gap 0.2 --ring 0.125",
+        "Report { ring: \"0.125\", gap: \"0.2\", limit: Some(\"2\"), waive: None, format: None, manifest: \"m.csv\" }",
     ),
     // in a format
     (
-        &[
-            "report", "--ring", "0.125", "--gap", "0.2", "--format", "json", "m.csv",
-        ],
-        (None, None, Some("json")),
+        "report --ring 0.125 --gap 0.2 --format json m.csv",
+        "Report { ring: \"0.125\", gap: \"0.2\", limit: None, waive: None, format: Some(\"json\"), manifest: \"m.csv\" }",
     ),
     (
-        &[
-            "report", "--ring", "0.125", "--gap", "0.2", "--max", "2", "--format", "json", "m.csv",
-        ],
-        (Some("2"), None, Some("json")),
+        "report --ring 0.125 --gap 0.2 --max 2 --format json m.csv",
+        "Report { ring: \"0.125\", gap: \"0.2\", limit: Some(\"2\"), waive: None, format: Some(\"json\"), manifest: \"m.csv\" }",
     ),
     (
-        &[
-            "report",
-            "--format=json",
-            "m.csv",
-            "--gap",
-            "0.2",
-            "--max=2",
-            "--ring",
-            "0.125",
-        ],
-        (Some("2"), None, Some("json")),
+        "report --format=json m.csv --gap 0.2 --max=2 --ring 0.125",
+        "Report { ring: \"0.125\", gap: \"0.2\", limit: Some(\"2\"), waive: None, format: Some(\"json\"), manifest: \"m.csv\" }",
     ),
     (
-        &[
-            "report", "m.csv", "--gap", "0.2", "--ring", "0.125", "--format", "text",
-        ],
-        (None, None, Some("text")),
+        "report m.csv --gap 0.2 --ring 0.125 --format text",
+        "Report { ring: \"0.125\", gap: \"0.2\", limit: None, waive: None, format: Some(\"text\"), manifest: \"m.csv\" }",
     ),
     // with waivers
     (
-        &[
-            "report", "--ring", "0.125", "--gap", "0.2", "--waive", "w.csv", "m.csv",
-        ],
-        (None, Some("w.csv"), None),
+        "report --ring 0.125 --gap 0.2 --waive w.csv m.csv",
+        "Report { ring: \"0.125\", gap: \"0.2\", limit: None, waive: Some(\"w.csv\"), format: None, manifest: \"m.csv\" }",
     ),
     (
-        &[
-            "report", "--ring", "0.125", "--gap", "0.2", "--max", "2", "--waive", "w.csv",
-            "--format", "json", "m.csv",
-        ],
-        (Some("2"), Some("w.csv"), Some("json")),
+        "report --ring 0.125 --gap 0.2 --max 2 --waive w.csv --format json m.csv",
+        "Report { ring: \"0.125\", gap: \"0.2\", limit: Some(\"2\"), waive: Some(\"w.csv\"), format: Some(\"json\"), manifest: \"m.csv\" }",
     ),
     (
-        &[
-            "report",
-            "m.csv",
-            "--format=waivers",
-            "--waive=w.csv",
-            "--gap",
-            "0.2",
-            "--ring",
-            "0.125",
-        ],
-        (None, Some("w.csv"), Some("waivers")),
+        "report m.csv --format=waivers --waive=w.csv --gap 0.2 --ring 0.125",
+        "Report { ring: \"0.125\", gap: \"0.2\", limit: None, waive: Some(\"w.csv\"), format: Some(\"waivers\"), manifest: \"m.csv\" }",
     ),
 ];
 
 #[test]
 fn a_report_is_asked_for(rt: HostRuntime) {
-    for &(words, limits) in &REPORTS {
-        assert!(rt; limits_of(rt, words) == Some(limits), "{words:?}");
+    for &(line, request) in &REPORTS {
+        assert!(rt; asks(rt, line, request), "{line}");
     }
 }
 
-/// The ring and the gap with which the words ask for a picture of the manifest `m.csv`.
-fn rules_of<'a>(
-    rt: HostRuntime,
-    words: &'a [&'a str],
-) -> Option<(Option<&'a str>, Option<&'a str>)> {
-    match parse(rt.alloc(), words) {
-        Ok(
-            Request::Draw {
-                ring,
-                gap,
-                manifest: "m.csv",
-            },
-        ) => Some((ring, gap)),
-        _ => None,
-    }
-}
-
-const PICTURES: [(Words, Option<&str>, Option<&str>); 3] = [
-    (&["draw", "m.csv"], None, None),
+const PICTURES: [(&str, &str); 3] = [
     (
-        &["draw", "--ring", "0.125", "--gap", "0.2", "m.csv"],
-        Some("0.125"),
-        Some("0.2"),
+        "draw m.csv",
+        "Draw { ring: None, gap: None, manifest: \"m.csv\" }",
     ),
-    (&["draw", "--ring", "0.125", "m.csv"], Some("0.125"), None),
+    (
+        "draw --ring 0.125 --gap 0.2 m.csv",
+        "Draw { ring: Some(\"0.125\"), gap: Some(\"0.2\"), manifest: \"m.csv\" }",
+    ),
+    (
+        "draw --ring 0.125 m.csv",
+        "Draw { ring: Some(\"0.125\"), gap: None, manifest: \"m.csv\" }",
+    ),
 ];
 
 #[test]
 fn a_picture_is_asked_for(rt: HostRuntime) {
-    for &(words, ring, gap) in &PICTURES {
-        assert!(rt; rules_of(rt, words) == Some((ring, gap)), "{words:?}");
+    for &(line, request) in &PICTURES {
+        assert!(rt; asks(rt, line, request), "{line}");
     }
 }
 
-/// The word that the words ask to explain, if they do.
-fn explained<'a>(rt: HostRuntime, words: &'a [&'a str]) -> Option<Option<&'a str>> {
-    match parse(rt.alloc(), words) {
-        Ok(Request::Explain { word }) => Some(word),
-        _ => None,
-    }
-}
-
-const EXPLAINED: [(Words, Option<&str>); 2] = [
-    (&["explain", "Routed"], Some("Routed")),
-    (&["explain"], None),
+const EXPLAINED: [(&str, &str); 2] = [
+    ("explain Routed", "Explain { word: Some(\"Routed\") }"),
+    ("explain", "Explain { word: None }"),
 ];
 
 #[test]
 fn an_explanation_is_asked_for(rt: HostRuntime) {
-    for &(words, word) in &EXPLAINED {
-        assert!(rt; explained(rt, words) == Some(word), "{words:?}");
+    for &(line, request) in &EXPLAINED {
+        assert!(rt; asks(rt, line, request), "{line}");
     }
-}
-
-fn asks_for_version(rt: HostRuntime, words: &[&str]) -> bool {
-    matches!(parse(rt.alloc(), words), Err(Refusal::Version))
 }
 
 #[test]
 fn the_version_is_asked_for(rt: HostRuntime) {
     for &word in &["--version", "-V"] {
-        assert!(rt; asks_for_version(rt, &[word]), "{word}");
+        assert!(rt; tells(rt, word, Told::Version), "{word}");
     }
 }
 

@@ -3,25 +3,60 @@
 use grid_units::{Fail, Reason, Span};
 use manifest::*;
 use std::alloc::{AllocError, Global};
-use std::test::Fail as TestFail;
 
 /// The place, the byte and the reason with which a manifest is refused.
-fn refusal(rt: HostRuntime, text: &str) -> Option<(u64, u64, Reason)> {
-    match read_manifest(rt.alloc(), text.as_bytes()) {
+fn refusal(rt: HostRuntime, text: &[u8]) -> Option<(u64, u64, Reason)> {
+    match read_manifest(rt.alloc(), text) {
         Err(Fail::Refused(fault)) => Some((fault.place, fault.byte, fault.reason)),
         _ => None,
     }
 }
 
-/// Whether a manifest is accepted and names just these files.
-fn names(rt: HostRuntime, text: &[u8], files: &[Record]) -> bool {
-    let Ok(entries) = read_manifest(rt.alloc(), text) else {
-        return false;
-    };
+/// Whether a manifest is refused for this reason at the record of this number.
+fn refuses(rt: HostRuntime, text: &[u8], place: u64, reason: Reason) -> bool {
+    refusal(rt, text) == Some((place, 0, reason))
+}
+
+fn are_named(entries: &[Entry], files: &[Record]) -> bool {
+    for (entry, file) in entries.iter().zip(files) {
+        let is_named = entry.name.as_str() == file.1 && entry.file.as_str() == file.2;
+        if entry.role != file.0 || !is_named {
+            return false;
+        }
+    }
     entries.len() == files.len()
-        && entries.iter().zip(files).all(|(entry, file)| {
-            entry.role == file.0 && entry.name.as_str() == file.1 && entry.file.as_str() == file.2
-        })
+}
+
+/// Whether the entries have just these spans.
+fn are_spanned(entries: &[Entry], spans: &[LayerRange]) -> bool {
+    for (entry, span) in entries.iter().zip(spans) {
+        if layers_of(entry.span) != *span {
+            return false;
+        }
+    }
+    entries.len() == spans.len()
+}
+
+/// What the entries of a manifest have: just these files, or just these spans.
+#[derive(Clone, Copy)]
+enum Has<'a> {
+    Files(&'a [Record]),
+    Spans(&'a [LayerRange]),
+}
+
+fn are_so(entries: &[Entry], what: Has) -> bool {
+    match what {
+        Has::Files(files) => are_named(entries, files),
+        Has::Spans(spans) => are_spanned(entries, spans),
+    }
+}
+
+/// Whether a manifest is accepted, and its entries have this.
+fn is_accepted(rt: HostRuntime, text: &str, what: Has) -> bool {
+    match read_manifest(rt.alloc(), text.as_bytes()) {
+        Ok(entries) => are_so(&entries, what),
+        Err(_) => false,
+    }
 }
 
 /// The role, the name and the file of a record.
@@ -79,7 +114,7 @@ const NAMED: [(&str, &[Record]); 9] = [
 #[test]
 fn files_are_named_in_order(rt: HostRuntime) {
     for &(text, files) in &NAMED {
-        assert!(rt; names(rt, text.as_bytes(), files), "of {text}");
+        assert!(rt; is_accepted(rt, text, Has::Files(files)), "of {text}");
     }
 }
 
@@ -165,34 +200,19 @@ const REFUSED: [(&str, u64, Reason); 36] = [
 #[test]
 fn manifests_that_break_a_rule_are_refused(rt: HostRuntime) {
     for &(text, place, reason) in &REFUSED {
-        assert!(rt; refusal(rt, text) == Some((place, 0, reason)), "of {text}");
+        assert!(rt; refuses(rt, text.as_bytes(), place, reason), "of {text}");
     }
 }
 
 /// A name that is not UTF-8 is refused.
 #[test]
 fn names_are_text(rt: HostRuntime) {
-    let fault = match read_manifest(rt.alloc(), b"role,name,file\ncopper,a\xFF,b\n") {
-        Err(Fail::Refused(fault)) => Some((fault.place, fault.reason)),
-        _ => None,
-    };
-    assert!(rt; fault == Some((2, Reason::BadManifest)));
+    let text = b"role,name,file\ncopper,a\xFF,b\n";
+    assert!(rt; refuses(rt, text, 2, Reason::BadManifest));
 }
 
 /// The span of a record, if it has one.
 type LayerRange = Option<(usize, usize)>;
-
-/// Whether a manifest is accepted, and its files have just these spans.
-fn has_spans(rt: HostRuntime, text: &str, spans: &[LayerRange]) -> bool {
-    let Ok(entries) = read_manifest(rt.alloc(), text.as_bytes()) else {
-        return false;
-    };
-    entries.len() == spans.len()
-        && entries
-            .iter()
-            .zip(spans)
-            .all(|(entry, span)| layers_of(entry.span) == *span)
-}
 
 fn layers_of(span: Option<Span>) -> LayerRange {
     match span {
@@ -213,6 +233,30 @@ fn with_span(alloc: Global, fields: &str) -> Result<String, AllocError> {
     )
 }
 
+/// Whether such a manifest is accepted with this span.
+fn has_span(rt: HostRuntime, fields: &str, span: LayerRange) -> bool {
+    match with_span(rt.alloc(), fields) {
+        Ok(text) => is_accepted(rt, text.as_str(), Has::Spans(&[None, None, span])),
+        Err(_) => false,
+    }
+}
+
+/// Whether such a manifest is refused for its span.
+fn refuses_span(rt: HostRuntime, fields: &str) -> bool {
+    match with_span(rt.alloc(), fields) {
+        Ok(text) => refuses(rt, text.as_bytes(), 4, Reason::BadSpan),
+        Err(_) => false,
+    }
+}
+
+/// Whether a manifest with these records is refused for this reason at the record of this number.
+fn refuses_records(rt: HostRuntime, records: &str, place: u64, reason: Reason) -> bool {
+    match with_records(rt.alloc(), records) {
+        Ok(text) => refuses(rt, text.as_bytes(), place, reason),
+        Err(_) => false,
+    }
+}
+
 /// The fields of a span, and the span.
 const SPANS: [(&str, LayerRange); 5] = [
     ("1,1", Some((1, 1))),
@@ -223,15 +267,10 @@ const SPANS: [(&str, LayerRange); 5] = [
 ];
 
 #[test]
-fn drill_files_name_the_layers_that_they_go_through(rt: HostRuntime) -> Result<(), TestFail> {
+fn drill_files_name_the_layers_that_they_go_through(rt: HostRuntime) {
     for &(fields, span) in &SPANS {
-        let text = with_span(rt.alloc(), fields)?;
-        assert!(rt;
-            has_spans(rt, text.as_str(), &[None, None, span]),
-            "of {fields}"
-        );
+        assert!(rt; has_span(rt, fields, span), "of {fields}");
     }
-    Ok(())
 }
 
 const NO_SPANS: [&str; 15] = [
@@ -253,15 +292,10 @@ const NO_SPANS: [&str; 15] = [
 ];
 
 #[test]
-fn spans_that_are_none_are_refused(rt: HostRuntime) -> Result<(), TestFail> {
+fn spans_that_are_none_are_refused(rt: HostRuntime) {
     for &fields in &NO_SPANS {
-        let text = with_span(rt.alloc(), fields)?;
-        assert!(rt;
-            refusal(rt, text.as_str()) == Some((4, 0, Reason::BadSpan)),
-            "of {fields}"
-        );
+        assert!(rt; refuses_span(rt, fields), "of {fields}");
     }
-    Ok(())
 }
 
 /// Records of files, and the place and the reason of their refusal.
@@ -287,19 +321,14 @@ const REFUSED_RECORDS: [(&str, u64, Reason); 10] = [
 ];
 
 #[test]
-fn the_first_refusal_is_told_of_spans(rt: HostRuntime) -> Result<(), TestFail> {
+fn the_first_refusal_is_told_of_spans(rt: HostRuntime) {
     for &(records, place, reason) in &REFUSED_RECORDS {
-        let text = with_records(rt.alloc(), records)?;
-        assert!(rt;
-            refusal(rt, text.as_str()) == Some((place, 0, reason)),
-            "of {records}"
-        );
+        assert!(rt; refuses_records(rt, records, place, reason), "of {records}");
     }
-    Ok(())
 }
 
 #[test]
 fn files_of_version_1_have_no_span(rt: HostRuntime) {
     let text = "role,name,file\ncopper,a,b\nplated,c,d\n";
-    assert!(rt; has_spans(rt, text, &[None, None]));
+    assert!(rt; is_accepted(rt, text, Has::Spans(&[None, None])));
 }

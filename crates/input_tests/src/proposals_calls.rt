@@ -1,9 +1,8 @@
 //! Manifests that are proposed, and the reasons for them. More of them are in the data of `worked_examples`.
 
-use manifest::{Role, read_manifest};
+use manifest::{Entry, Role, read_manifest};
 use proposals::*;
 use std::alloc::{AllocError, Global};
-use std::test::Fail;
 
 /// A top layer whose text says that it is Gerber, but not what it is for.
 const LAYER: &str = "%FSLAX46Y46*%\n%MOMM*%\n%ADD10C,0.6*%\nD10*\nX0Y0D03*\nM02*\n";
@@ -59,10 +58,15 @@ fn folder_of(alloc: Global, files: &[ThreeFiles]) -> Result<Vec<InputFile<'stati
 }
 
 /// The manifest that is proposed for these files.
-fn proposed(alloc: Global, files: &[ThreeFiles]) -> Result<Vec<u8>, AllocError> {
-    let folder = folder_of(alloc, files)?;
-    let list = propose(alloc, folder.as_slice())?;
+fn proposed(alloc: Global, folder: &[InputFile<'_>]) -> Result<Vec<u8>, AllocError> {
+    let list = propose(alloc, folder)?;
     write_proposal(alloc, list.as_slice())
+}
+
+/// The manifest that is proposed for the files of a folder.
+fn proposed_for(alloc: Global, files: &[ThreeFiles]) -> Result<Vec<u8>, AllocError> {
+    let folder = folder_of(alloc, files)?;
+    proposed(alloc, &folder)
 }
 
 /// The table of what the files are and why.
@@ -76,9 +80,17 @@ const FIRST_VERSION: &str = "role,name,file\n";
 
 const SECOND_VERSION: &str = "role,name,file,first,last\n";
 
-/// Whether these are the records of a manifest, after its header.
+/// Whether these are the records of a text, after its header.
 fn has_records(text: &[u8], header: &str, records: &str) -> bool {
     text.strip_prefix(header.as_bytes()) == Some(records.as_bytes())
+}
+
+/// Whether a manifest with these records is proposed for the files of a folder.
+fn is_proposed(alloc: Global, files: &[ThreeFiles], header: &str, records: &str) -> bool {
+    match proposed_for(alloc, files) {
+        Ok(text) => has_records(&text, header, records),
+        Err(_) => false,
+    }
 }
 
 /// Files, and the records of the manifest of version 1 that is proposed for them.
@@ -172,67 +184,98 @@ const SPANS: [ProposedRole; 2] = [
 ];
 
 #[test]
-fn files_are_proposed(rt: HostRuntime) -> Result<(), Fail> {
+fn files_are_proposed(rt: HostRuntime) {
     for &(files, records) in &NAMES {
-        let text = proposed(rt.alloc(), files)?;
-        assert!(rt; has_records(&text, FIRST_VERSION, records), "{records}");
+        assert!(rt;
+            is_proposed(rt.alloc(), files, FIRST_VERSION, records),
+            "{records}"
+        );
     }
-    Ok(())
 }
 
 #[test]
-fn layers_are_proposed_where_they_are_clear(rt: HostRuntime) -> Result<(), Fail> {
+fn layers_are_proposed_where_they_are_clear(rt: HostRuntime) {
     for &(files, records) in &SPANS {
-        let text = proposed(rt.alloc(), files)?;
-        assert!(rt; has_records(&text, SECOND_VERSION, records), "{records}");
+        assert!(rt;
+            is_proposed(rt.alloc(), files, SECOND_VERSION, records),
+            "{records}"
+        );
     }
-    Ok(())
 }
 
 #[test]
-fn a_drill_file_whose_layers_are_not_clear_is_undecided(rt: HostRuntime) -> Result<(), Fail> {
+fn a_drill_file_whose_layers_are_not_clear_is_undecided(rt: HostRuntime) {
     for &(files, records) in &LAYERS {
-        let text = proposed(rt.alloc(), files)?;
-        assert!(rt; has_records(&text, FIRST_VERSION, records), "{records}");
+        assert!(rt;
+            is_proposed(rt.alloc(), files, FIRST_VERSION, records),
+            "{records}"
+        );
     }
-    Ok(())
 }
 
-/// The roles of the files that a manifest names, if it is accepted.
-fn roles(alloc: Global, text: &[u8]) -> Result<Option<Vec<Role>>, AllocError> {
-    let Ok(entries) = read_manifest(alloc, text) else {
-        return Ok(None);
-    };
-    let mut roles = Vec::new(alloc);
-    for entry in entries.iter() {
-        roles.push(entry.role)?;
+fn are_of_roles(entries: &[Entry], roles: &[Role]) -> bool {
+    for (entry, role) in entries.iter().zip(roles) {
+        if entry.role != *role {
+            return false;
+        }
     }
-    Ok(Some(roles))
+    entries.len() == roles.len()
+}
+
+/// Whether a manifest is accepted, and its files have just these roles.
+fn has_roles(alloc: Global, text: &[u8], roles: &[Role]) -> bool {
+    match read_manifest(alloc, text) {
+        Ok(entries) => are_of_roles(&entries, roles),
+        Err(_) => false,
+    }
+}
+
+/// Whether the manifest that is proposed for the files of a folder has just these roles.
+fn proposes_roles(alloc: Global, files: &[ThreeFiles], roles: &[Role]) -> bool {
+    match proposed_for(alloc, files) {
+        Ok(text) => has_roles(alloc, &text, roles),
+        Err(_) => false,
+    }
 }
 
 #[test]
-fn what_is_proposed_is_a_manifest(rt: HostRuntime) -> Result<(), Fail> {
-    let text = proposed(rt.alloc(), &BOARD)?;
-    let roles = roles(rt.alloc(), &text)?.ok_or("refused")?;
-    let wanted = [Role::Copper, Role::Copper, Role::Plated, Role::Unplated];
-    assert!(rt; roles.as_slice() == wanted.as_slice());
-    Ok(())
+fn what_is_proposed_is_a_manifest(rt: HostRuntime) {
+    let roles = &[Role::Copper, Role::Copper, Role::Plated, Role::Unplated];
+    assert!(rt; proposes_roles(rt.alloc(), &BOARD, roles));
+}
+
+/// Whether the table of what these files are and why has these lines after its header.
+fn has_reasons(alloc: Global, folder: &[InputFile<'_>], lines: &str) -> bool {
+    match reasons(alloc, folder) {
+        Ok(text) => has_records(&text, "file,role,because\n", lines),
+        Err(_) => false,
+    }
 }
 
 const REASONS: &str =
-    "file,role,because\nStickHub-B_Cu.gbr,copper,file function Copper\nStickHub-F_Cu.gbr,copper,file function Copper\nStickHub-NPTH.drl,unplated,file function NonPlated\nStickHub-PTH.drl,plated,file function Plated\nmanifest.csv,-,neither a Gerber nor a drill file\n";
+    "StickHub-B_Cu.gbr,copper,file function Copper\nStickHub-F_Cu.gbr,copper,file function Copper\nStickHub-NPTH.drl,unplated,file function NonPlated\nStickHub-PTH.drl,plated,file function Plated\nmanifest.csv,-,neither a Gerber nor a drill file\n";
 
 /// The files of a board, the first of them named twice.
-#[test]
-fn each_file_has_a_reason(rt: HostRuntime) -> Result<(), Fail> {
-    let mut folder = folder_of(rt.alloc(), &BOARD)?;
+fn board_and_copy(alloc: Global) -> Result<Vec<InputFile<'static>>, AllocError> {
+    let mut folder = folder_of(alloc, &BOARD)?;
     folder.push(InputFile {
         name: "StickHub-B_Cu.gbr",
         content: FileContent::NotRead,
     })?;
-    let text = reasons(rt.alloc(), &folder)?;
-    assert!(rt; text.as_slice() == REASONS.as_bytes());
-    Ok(())
+    Ok(folder)
+}
+
+/// Whether the files of a board and a copy have just these reasons.
+fn are_board_reasons(alloc: Global, lines: &str) -> bool {
+    match board_and_copy(alloc) {
+        Ok(folder) => has_reasons(alloc, &folder, lines),
+        Err(_) => false,
+    }
+}
+
+#[test]
+fn each_file_has_a_reason(rt: HostRuntime) {
+    assert!(rt; are_board_reasons(rt.alloc(), REASONS));
 }
 
 /// Files, and the table of reasons for them without its header.
@@ -276,10 +319,8 @@ const REASON_ROWS: [(&[InputFile<'static>], &str); 3] = [
 
 /// Files that were not read are undecided, and what a file says of itself is printed as printable ASCII.
 #[test]
-fn other_files_have_reasons(rt: HostRuntime) -> Result<(), Fail> {
+fn other_files_have_reasons(rt: HostRuntime) {
     for &(folder, lines) in &REASON_ROWS {
-        let text = reasons(rt.alloc(), folder)?;
-        assert!(rt; has_records(&text, "file,role,because\n", lines), "{lines}");
+        assert!(rt; has_reasons(rt.alloc(), folder, lines), "{lines}");
     }
-    Ok(())
 }

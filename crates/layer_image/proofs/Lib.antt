@@ -19,3 +19,4 @@ pub mod LegalPads
 pub mod UniquePads
 pub mod FlashedPads
 pub mod PadExamples
+pub mod DrawnLemmas

@@ -2,3 +2,4 @@ pub mod CopyGrids
 pub mod MovedPads
 pub mod FastOperations
 pub mod IsStateAfter
+pub mod Pencils

@@ -2,6 +2,7 @@ pub mod Lookback
 pub mod Numbers
 pub mod Flashes
 pub mod Pads
+pub mod Drawn
 pub mod Rules
 pub mod Tables
 pub mod KeptFlashes

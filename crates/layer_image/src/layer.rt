@@ -1,16 +1,19 @@
 //! Layers: the commands of a legal text, and the flashes, pads and file function that follow from them.
 
-ghost use Rattle.std.specs.Prelude.{◌≡◌};
+ghost use Rattle.std.specs.Prelude.{◌≡◌, IfOk};
 ghost use Rattle.std.specs.Option.{option_copied};
 ghost use Rattle.grid_units.specs.Results.{Answers};
+ghost use Rattle.gerber_text.specs.Writing.{without_places};
+ghost use Rattle.layer_image.specs.Drawn.{drawn_of};
 ghost use Rattle.layer_image.specs.Layers.{ReadsLayer};
 
+use crate::drawn::{Drawn, drawn_of};
 use crate::flash::Flash;
 use crate::reader::LayerReader;
 use gerber_text::{Command, Placed};
 use grid_units::{Fail, Text};
 use pad_shapes::Pad;
-use std::alloc::Global;
+use std::alloc::{AllocError, Global};
 use std::marker::Model;
 
 /// A layer, or what a reader kept of it: a list that was not asked for is empty, and the pads are those that the reader
@@ -77,6 +80,18 @@ impl Layer {
             Some(text) => Some(text.bytes()),
             None => None,
         }
+    }
+
+    /// What the commands draw, in order: straight lines, and the contours of regions. Copies of a step and repeat block are not
+    /// told. Nothing where the commands are not kept.
+    ///
+    /// # Errors
+    ///
+    /// An `AllocError` where there is no memory for it.
+    pub fn drawn(&self, alloc: Global) -> Result<Vec<Drawn>, AllocError>
+        ensures { IfOk result (λ drawn. drawn.items ≡ drawn_of (without_places self.now.commands)) }
+    {
+        drawn_of(alloc, &self.commands)
     }
 
     /// The flashes, moved out of the layer. This takes no memory.

@@ -1,10 +1,11 @@
-//! The rules that make a list of Gerber commands legal, and the flashes and pads of a legal list.
+//! The rules that make a list of Gerber commands legal, the flashes and pads of a legal list, and what it draws.
 #![tactic(auto)]
 
 mod aperture;
 mod cached;
 mod cached_values;
 mod current;
+mod drawn;
 mod flash;
 mod flashes;
 mod function;
@@ -13,6 +14,8 @@ mod keep;
 mod laws;
 mod layer;
 mod length;
+mod line_apertures;
+mod pencil;
 mod reader;
 mod rules;
 mod scan;
@@ -20,6 +23,7 @@ mod size;
 mod state;
 mod tables;
 
+pub use drawn::Drawn;
 pub use flash::{Flash, What, Why};
 pub use keep::Keep;
 pub use laws::{

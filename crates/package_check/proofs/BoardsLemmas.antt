@@ -8,6 +8,7 @@ use Rattle.std.proofs.Math.Seq.{take-append_seam, drop-append_seam}
 use Rattle.std.specs.Prelude.{Option}
 use Rattle.grid_units.specs.Holes.{GridHole, GridRules, is_round}
 use Rattle.grid_units.specs.Spans.{LayerSpan}
+use Rattle.layer_image.specs.declared.drawn.Drawn.{Drawn}
 use Rattle.layer_image.specs.declared.flash.Flash.{Flash}
 use Rattle.ring_rules.specs.declared.finding.Drilled.{Drilled}
 use Rattle.package_check.specs.declared.Numbered.{Numbered}
@@ -84,8 +85,8 @@ numbered_all n (c ∷ cs) =
     ∙ sym (flat_map-cons holes_of (n, c) (enumerate_from (n + 1) cs)))))
 
 -- the report on the board of files is that on their contents
-same_report : (rules : GridRules) (contents : List Content) (flashes : List (List Flash)) → reported rules (board_of contents flashes) ≡ report_on rules contents
-same_report rules contents flashes = λ i. record {
+same_report : (rules : GridRules) (contents : List Content) (flashes : List (List Flash)) (drawn : List (List Drawn)) → reported rules (board_of contents flashes drawn) ≡ report_on rules contents
+same_report rules contents flashes drawn = λ i. record {
   rules = rules;
   files = map sum_of contents;
   layers = layer_indexes contents;
@@ -94,4 +95,4 @@ same_report rules contents flashes = λ i. record {
 }
 
 pub reported_on : (sources : List FileView) (rules : GridRules) (board : BoardView) (report : ReportView) → IsBoard sources board → report ≡ reported rules board → IsReport sources rules report
-reported_on sources rules board report b is = record { contents = b.contents; read = b.read; is = is ∙ (ap (reported rules) b.is ∙ same_report rules b.contents board.flashes) }
+reported_on sources rules board report b is = record { contents = b.contents; read = b.read; is = is ∙ (ap (reported rules) b.is ∙ same_report rules b.contents board.flashes board.drawn) }

@@ -1,10 +1,13 @@
 -- Copper files that are read with their flashes.
-use Rattle.std.proofs.Common.{◌≡◌, ◌++◌, ◌∷◌, [], ◌+◌, ◌<◌, ℕ, List, Result, Ok, Err, OnOk, length, take, get_or, ap, sym, ◌∙◌}
+use Rattle.std.proofs.Common.{◌≡◌, ◌++◌, ◌∷◌, [], ◌+◌, ◌<◌, ℕ, Bool, true, List, Result, Ok, Err, OnOk, length, take, get_or, ap, sym, ◌∙◌}
+use Rattle.std.specs.Prelude.{if◌then◌else◌}
 use Rattle.std.proofs.lemmas.List.{take_more}
 use Rattle.std.proofs.lemmas.List.Elements.{filter_map-append}
 use Rattle.layer_image.specs.Flashes.{pad_in, pads_of}
-use Rattle.layer_image.specs.Layers.{LayerImage, ReadsLayer}
+use Rattle.layer_image.specs.KeptFlashes.{keeps_commands, keeps_flashes}
+use Rattle.layer_image.specs.Layers.{LayerImage, ReadsLayer, kept_of}
 use Rattle.layer_image.specs.declared.flash.Flash.{Flash}
+use Rattle.layer_image.specs.declared.keep.Keep.{Keep}
 
 -- the pads of flashes and of more flashes
 pads_append : (xs ys : List Flash) → pads_of (xs ++ ys) ≡ pads_of xs ++ pads_of ys
@@ -17,6 +20,14 @@ pads_more flashes i d lt = sym (pads_append (take i flashes) (get_or flashes i d
 -- the pads of a layer are those among its flashes
 pub pads_are : (text : List ℕ) (image : LayerImage) → ReadsLayer text (Ok image) → pads_of image.flashes ≡ image.pads
 pads_are text image h = ap (λ (i : LayerImage). pads_of i.flashes) h.1 ∙ sym (ap (λ (i : LayerImage). i.pads) h.1)
+
+-- where flashes are kept of a layer, they are all of its flashes
+pub flashes_kept : (keep : Keep) (image kept : LayerImage) → keeps_flashes keep ≡ true → kept ≡ kept_of keep image → kept.flashes ≡ image.flashes
+flashes_kept keep image kept keeps is = ap (λ (i : LayerImage). i.flashes) is ∙ ap (λ (t : Bool). if t then image.flashes else []) keeps
+
+-- where commands are kept of a layer, they are all of its commands
+pub commands_kept : (keep : Keep) (image kept : LayerImage) → keeps_commands keep ≡ true → kept ≡ kept_of keep image → kept.commands ≡ image.commands
+commands_kept keep image kept keeps is = ap (λ (i : LayerImage). i.commands) is ∙ ap (λ (t : Bool). if t then image.commands else []) keeps
 
 -- what holds anyway holds of a success
 pub held : {T E : Type 0} (r : Result T E) (X : Type 0) → X → OnOk r X

@@ -1,10 +1,24 @@
--- Flashes that are kept file by file.
-use Rattle.std.proofs.Common.{◌≡◌, ◌<◌, ◌∷◌, ℕ, zero, suc, List, [], Result, Ok, length, get_or, arith, refl, ap, subst, ◌∙◌}
+-- Flashes, and what is drawn, that are kept file by file.
+use Rattle.std.proofs.Common.{◌≡◌, ◌<◌, ◌∷◌, ℕ, zero, suc, List, [], Result, Ok, length, get_or, arith, refl, true, ap, subst, ◌∙◌}
+use Rattle.std.proofs.lemmas.Bool.{false≢true}
 use Rattle.grid_units.specs.declared.fault.Fault.{Fault}
+use Rattle.gerber_text.specs.Writing.{without_places}
+use Rattle.layer_image.specs.Drawn.{drawn_of}
+use Rattle.layer_image.specs.KeptFlashes.{keeps_commands, keeps_flashes}
 use Rattle.layer_image.specs.Layers.{LayerImage, ReadingIsUnique, ReadsFlashes, ReadsLayer}
+use Rattle.layer_image.specs.declared.drawn.Drawn.{Drawn}
 use Rattle.layer_image.specs.declared.flash.Flash.{Flash}
+use Rattle.layer_image.specs.declared.keep.Keep.{Keep}
+use Rattle.layer_image.specs.declared.keep.Keep.TheVariants as keep
+use Rattle.package_check.specs.FileTexts.{Draws}
 use Rattle.package_check.specs.Package.{FileView}
-use Rattle.package_check.specs.Boards.{AreFileFlashes, AreFlashesOf}
+use Rattle.package_check.specs.Boards.{AreDrawnOf, AreFileLists, AreFlashesOf}
+
+-- flashes are kept where commands are
+pub flashes_too : (kept : Keep) → keeps_commands kept ≡ true → keeps_flashes kept ≡ true
+flashes_too keep.All h = refl
+flashes_too keep.Flashes h = absurd (false≢true h)
+flashes_too keep.Pads h = absurd (false≢true h)
 
 abbrev the_ok : LayerImage → Result LayerImage Fault
 the_ok image = Ok image
@@ -17,17 +31,22 @@ pub flashes_read : ReadingIsUnique → (source : FileView) (text : List ℕ) (fl
 flashes_read one source text flashes same read = λ copper image reads.
     read.2 ∙ ap (λ (i : LayerImage). i.flashes) (ok_same (one text (Ok read.0) (Ok image) read.1 (subst (λ (t : List ℕ). ReadsLayer t (Ok image)) same reads)))
 
+-- what a text draws is what each layer draws that it reads as
+pub drawn_read : ReadingIsUnique → (source : FileView) (text : List ℕ) (drawn : List Drawn) → source.bytes ≡ text → Draws text drawn → AreDrawnOf source drawn
+drawn_read one source text drawn same read = λ copper image reads.
+    read.2 ∙ ap (λ (i : LayerImage). drawn_of (without_places i.commands)) (ok_same (one text (Ok read.0) (Ok image) read.1 (subst (λ (t : List ℕ). ReadsLayer t (Ok image)) same reads)))
+
 -- no file
-pub no_flashes : AreFileFlashes [] []
-no_flashes = record { size = refl; each = λ i d lt. absurd (omega (arith, lt)) }
+pub no_lists : {X : Type 0} (IsOf : FileView → List X → Type 0) → AreFileLists IsOf [] []
+no_lists IsOf = record { size = refl; each = λ i d lt. absurd (omega (arith, lt)) }
 
 -- a file and those after it
-pub flashes_first : (s : FileView) (sources : List FileView) (f : List Flash) (flashes : List (List Flash)) → AreFlashesOf s f → AreFileFlashes sources flashes → AreFileFlashes (s ∷ sources) (f ∷ flashes)
-flashes_first s sources f flashes here h = record {
+pub lists_first : {X : Type 0} (IsOf : FileView → List X → Type 0) (s : FileView) (sources : List FileView) (list : List X) (lists : List (List X)) → IsOf s list → AreFileLists IsOf sources lists → AreFileLists IsOf (s ∷ sources) (list ∷ lists)
+lists_first IsOf s sources list lists here h = record {
   size = ap suc h.size;
   each = by;
 }
   where
-    by : (i : ℕ) (d : FileView) → i < length (s ∷ sources) → AreFlashesOf (get_or (s ∷ sources) i d) (get_or (f ∷ flashes) i [])
+    by : (i : ℕ) (d : FileView) → i < length (s ∷ sources) → IsOf (get_or (s ∷ sources) i d) (get_or (list ∷ lists) i [])
     by zero d lt = here
     by (suc i) d lt = h.each i d (omega (arith, lt))

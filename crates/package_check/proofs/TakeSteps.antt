@@ -11,21 +11,21 @@ use Rattle.grid_units.specs.Spans.{LayerSpan}
 use Rattle.grid_units.specs.declared.fault.Fault.{Fault}
 use Rattle.grid_units.specs.declared.fault.Fail.{Fail}
 use Rattle.grid_units.specs.declared.fault.Fail.TheVariants as fails
-use Rattle.layer_image.specs.KeptFlashes.{keeps_flashes}
+use Rattle.layer_image.specs.KeptFlashes.{keeps_commands, keeps_flashes}
 use Rattle.layer_image.specs.Layers.{ReadingIsUnique}
-use Rattle.layer_image.specs.declared.flash.Flash.{Flash}
 use Rattle.layer_image.specs.declared.keep.Keep.{Keep}
 use Rattle.manifest.specs.declared.Role.{Role}
 use Rattle.package_check.specs.declared.PackageFault.{PackageFault}
 use Rattle.package_check.specs.declared.PackageFault.TheVariants as stop
 use Rattle.package_check.specs.declared.contents.Content.{Content}
 use Rattle.package_check.specs.declared.package_reader.PackageReader.{PackageReader}
+use Rattle.package_check.specs.declared.readers.Shown.{Shown}
 use Rattle.package_check.specs.declared.slots.Kept.{Kept}
 use Rattle.package_check.specs.Package.{FileView, HaveContents, IsFirstRefused, Reads, is_copper, unnamed_file}
-use Rattle.package_check.specs.Boards.{AreFileFlashes, BoardView, IsBoard, IsFlashedBoard, ReturnsBoard, ReturnsFlashedBoard, board_of}
-use Rattle.package_check.specs.Holding.{HasTaken, HasTakenAll, HoldsThose, IsKeptOf, IsPutAt, IsOutOfMemory, ReadsAt, ReadsInto, StoppedAmong, TakesFile, TakesThose, contents_in, flashes_in, is_kind, is_kind_at, is_kind_of, is_wanted, kept_at, next_stop}
+use Rattle.package_check.specs.Boards.{AreDrawnOf, AreFileLists, AreFlashesOf, BoardView, IsBoard, IsDrawnBoard, IsFlashedBoard, ReturnsBoard, ReturnsDrawnBoard, ReturnsFlashedBoard, board_of}
+use Rattle.package_check.specs.Holding.{HasTaken, HasTakenAll, HoldsThose, IsKeptOf, IsPutAt, IsOutOfMemory, ReadsAt, ReadsInto, StoppedAmong, TakesFile, TakesThose, all_drawn, all_flashes, contents_in, is_kind, is_kind_at, is_kind_of, is_wanted, kept_at, next_stop, shown_in}
 use Rattle.package_check.proofs.ContentIsReading.{content_read}
-use Rattle.package_check.proofs.FlashesByFile.{flashes_first, flashes_read, no_flashes}
+use Rattle.package_check.proofs.FlashesByFile.{drawn_read, flashes_read, flashes_too, lists_first, no_lists}
 use Rattle.package_check.proofs.GrowingLists.{any_name}
 
 -- ---- tests of what was taken
@@ -197,7 +197,7 @@ wanted_before (Some (stop.File r f)) i index lt h = let below = ltb-true index r
 -- what is read of a file does not depend on its name
 pub read_named : (keep : Keep) (index : ℕ) (q : Role) (name : List ℕ) (span : Option LayerSpan) (bytes : List ℕ) (n : ℕ) (before after : List (Option Kept)) (r : Result (Unit {0}) Fail)
     → ReadsAt keep index (unnamed_file q span n bytes) before after r → ReadsAt keep index (record { role = q; name = name; span = span; bytes = bytes; layers = n }) before after r
-read_named keep index q name span bytes n before after (Ok u) h = (h.0, record { content = any_name q name span bytes n (Ok h.0.content) h.1.content; flashes = h.1.flashes }, h.2)
+read_named keep index q name span bytes n before after (Ok u) h = (h.0, record { content = any_name q name span bytes n (Ok h.0.content) h.1.content; flashes = h.1.flashes; drawn = h.1.drawn }, h.2)
 read_named keep index q name span bytes n before after (Err fails.Memory) h = tt
 read_named keep index q name span bytes n before after (Err (fails.Refused f)) h = (any_name q name span bytes n (Err f) h.0, h.1)
 
@@ -308,18 +308,27 @@ module _ (keep : Keep) where
       let is : flat_map contents_in (x ∷ xs) ≡ one.0.content ∷ flat_map contents_in xs = flat_map-cons contents_in x xs ∙ ap (λ (o : Option Kept). contents_in o ++ flat_map contents_in xs) one.1 in
       subst (λ (cs : List Content). HaveContents (s ∷ ss) cs) (sym is) (content_read s one.0.content one.2.content, all_contents ss xs (omega (arith, le)) (λ i t at. each (suc i) t at))
 
-  -- and their flashes
-  pub all_flashes : ReadingIsUnique → keeps_flashes keep ≡ true → (sources : List FileView) (slots : List (Option Kept)) → length slots ≤ length sources
-      → ((i : ℕ) (s : FileView) → slice_get sources i ≡ Some s → KeptAt slots i s) → AreFileFlashes sources (flat_map flashes_in slots)
-  all_flashes once keeps [] [] le each = no_flashes
-  all_flashes once keeps [] (x ∷ xs) le each = absurd (omega (arith, le))
-  all_flashes once keeps (s ∷ ss) [] le each = let one = each 0 s refl in absurd (none-some one.0 one.1)
-  all_flashes once keeps (s ∷ ss) (x ∷ xs) le each =
+  -- and of what they have to be shown the list that is told of each file
+  pub all_lists : {X : Type 0} (IsOf : FileView → List X → Type 0) (list_of : Shown → List X) → ((s : FileView) (one : Kept) → IsKeptOf keep s one → IsOf s (list_of one.shown))
+      → (sources : List FileView) (slots : List (Option Kept)) → length slots ≤ length sources → ((i : ℕ) (s : FileView) → slice_get sources i ≡ Some s → KeptAt slots i s)
+      → AreFileLists IsOf sources (map list_of (flat_map shown_in slots))
+  all_lists IsOf list_of told [] [] le each = no_lists IsOf
+  all_lists IsOf list_of told [] (x ∷ xs) le each = absurd (omega (arith, le))
+  all_lists IsOf list_of told (s ∷ ss) [] le each = let one = each 0 s refl in absurd (none-some one.0 one.1)
+  all_lists IsOf list_of told (s ∷ ss) (x ∷ xs) le each =
       let one = each 0 s refl in
-      let is : flat_map flashes_in (x ∷ xs) ≡ one.0.flashes.items ∷ flat_map flashes_in xs = flat_map-cons flashes_in x xs ∙ ap (λ (o : Option Kept). flashes_in o ++ flat_map flashes_in xs) one.1 in
-      subst (λ (fs : List (List Flash)). AreFileFlashes (s ∷ ss) fs) (sym is)
-      (flashes_first s ss one.0.flashes.items (flat_map flashes_in xs) (λ copper. flashes_read once s s.bytes one.0.flashes.items refl (one.2.flashes keeps copper) copper)
-      (all_flashes once keeps ss xs (omega (arith, le)) (λ i t at. each (suc i) t at)))
+      let is : flat_map shown_in (x ∷ xs) ≡ one.0.shown ∷ flat_map shown_in xs = flat_map-cons shown_in x xs ∙ ap (λ (o : Option Kept). shown_in o ++ flat_map shown_in xs) one.1 in
+      subst (λ (all : List Shown). AreFileLists IsOf (s ∷ ss) (map list_of all)) (sym is)
+      (lists_first IsOf s ss (list_of one.0.shown) (map list_of (flat_map shown_in xs)) (told s one.0 one.2)
+      (all_lists IsOf list_of told ss xs (omega (arith, le)) (λ i t at. each (suc i) t at)))
+
+  -- the flashes of each file
+  pub flashes_told : ReadingIsUnique → keeps_flashes keep ≡ true → (s : FileView) (one : Kept) → IsKeptOf keep s one → AreFlashesOf s one.shown.flashes.items
+  flashes_told once keeps s one kept = λ copper. flashes_read once s s.bytes one.shown.flashes.items refl (kept.flashes keeps copper) copper
+
+  -- what each file draws
+  pub drawn_told : ReadingIsUnique → keeps_commands keep ≡ true → (s : FileView) (one : Kept) → IsKeptOf keep s one → AreDrawnOf s one.shown.drawn.items
+  drawn_told once keeps s one kept = λ copper. drawn_read once s s.bytes one.shown.drawn.items refl (kept.drawn keeps copper) copper
 
 -- the contents of the files before an index
 first_contents : (n : ℕ) (sources : List FileView) → n ≤ length sources → ((i : ℕ) (s : FileView) → i < n → slice_get sources i ≡ Some s → (one : Content) × Reads s (Ok one))
@@ -358,7 +367,12 @@ module _ (reader : PackageReader) (keep : Keep) (sources : List FileView) (all :
   flashed_stop_returned stop.Memory is = tt
   flashed_stop_returned (stop.File r f) is = refused_first r f is
 
-  module _ (none : reader.stopped ≡ None) (board : BoardView) (is : board ≡ board_of (flat_map contents_in reader.slots.items) (flat_map flashes_in reader.slots.items)) where
+  pub drawn_stop_returned : (fault : PackageFault) → reader.stopped ≡ Some fault → ReturnsDrawnBoard sources (Err fault)
+  drawn_stop_returned stop.Memory is = tt
+  drawn_stop_returned (stop.File r f) is = refused_first r f is
+
+  module _ (none : reader.stopped ≡ None) (board : BoardView)
+      (is : board ≡ board_of (flat_map contents_in reader.slots.items) (all_flashes (flat_map shown_in reader.slots.items)) (all_drawn (flat_map shown_in reader.slots.items))) where
     each_kept : (i : ℕ) (s : FileView) → slice_get sources i ≡ Some s → KeptAt keep reader.slots.items i s
     each_kept i s at = all.holds.kept i s refl at (subst (λ (st : Option PackageFault). is_wanted st i ≡ true) (sym none) refl)
 
@@ -366,11 +380,19 @@ module _ (reader : PackageReader) (keep : Keep) (sources : List FileView) (all :
     board_read = record {
       contents = flat_map contents_in reader.slots.items;
       read = all_contents keep sources reader.slots.items all.holds.inside each_kept;
-      is = is ∙ sym (ap (λ (b : BoardView). board_of (flat_map contents_in reader.slots.items) b.flashes) is);
+      is = is ∙ sym (ap (λ (b : BoardView). board_of (flat_map contents_in reader.slots.items) b.flashes b.drawn) is);
     }
 
     pub flashed_board_read : ReadingIsUnique → keeps_flashes keep ≡ true → IsFlashedBoard sources board
     flashed_board_read once keeps = record {
       is = board_read;
-      flashes = subst (AreFileFlashes sources) (sym (ap (λ (b : BoardView). b.flashes) is)) (all_flashes keep once keeps sources reader.slots.items all.holds.inside each_kept);
+      flashes = subst (AreFileLists AreFlashesOf sources) (sym (ap (λ (b : BoardView). b.flashes) is))
+          (all_lists keep AreFlashesOf (λ (one : Shown). one.flashes.items) (flashes_told keep once keeps) sources reader.slots.items all.holds.inside each_kept);
+    }
+
+    pub drawn_board_read : ReadingIsUnique → keeps_commands keep ≡ true → IsDrawnBoard sources board
+    drawn_board_read once keeps = record {
+      is = flashed_board_read once (flashes_too keep keeps);
+      drawn = subst (AreFileLists AreDrawnOf sources) (sym (ap (λ (b : BoardView). b.drawn) is))
+          (all_lists keep AreDrawnOf (λ (one : Shown). one.drawn.items) (drawn_told keep once keeps) sources reader.slots.items all.holds.inside each_kept);
     }

@@ -2,7 +2,10 @@
 use Rattle.std.specs.Prelude.{ℕ, ◌+◌, ◌<◌, ◌≡◌, ◌++◌, List, [], ◌∷◌, get_or, length, map, take, drop, true, Result, Ok, Err, ⊤}
 use Rattle.std.specs.List.{flat_map, enumerate_from, sum_by}
 use Rattle.grid_units.specs.Holes.{GridRules}
+use Rattle.gerber_text.specs.Writing.{without_places}
+use Rattle.layer_image.specs.Drawn.{drawn_of}
 use Rattle.layer_image.specs.Layers.{LayerImage, ReadsLayer}
+use Rattle.layer_image.specs.declared.drawn.Drawn.{Drawn}
 use Rattle.layer_image.specs.declared.flash.Flash.{Flash}
 use Rattle.pad_shapes.specs.declared.pad.Pad.{Pad}
 use Rattle.ring_rules.specs.declared.finding.Drilled.{Drilled}
@@ -17,29 +20,32 @@ use Rattle.package_check.specs.Reports.{ReportView}
 use Rattle.package_check.specs.SoundnessAsRead.{drilled_in}
 use Rattle.package_check.specs.Package.{FileView, HaveContents, IsFirstRefused, findings, is_copper, layer_indexes, layers, sum_of}
 
--- the board of a package: the counts of each file, the pads and the index of each copper file, the holes of all drill files in order, and what is kept of flashes
+-- the board of a package: the counts of each file, the pads and the index of each copper file, the holes of all drill files in order, and what is kept of flashes and of
+-- what is drawn
 pub record BoardView : Type 0 where
   pub files : List FileSum
   pub layers : List (List Pad)
   pub layer_indexes : List ℕ
   pub holes : List Drilled
   pub flashes : List (List Flash)
+  pub drawn : List (List Drawn)
 
--- the board of files with these contents and these flashes
-abbrev pub board_of : List Content → List (List Flash) → BoardView
-board_of contents flashes = record {
+-- the board of files with these contents and these flashes, which draw this
+abbrev pub board_of : List Content → List (List Flash) → List (List Drawn) → BoardView
+board_of contents flashes drawn = record {
   files = map sum_of contents;
   layers = layers contents;
   layer_indexes = layer_indexes contents;
   holes = flat_map drilled_in contents;
   flashes = flashes;
+  drawn = drawn;
 }
 
--- the board of a package whose files are all read; nothing is said of its flashes
+-- the board of a package whose files are all read; nothing is said of its flashes and of what is drawn
 pub record IsBoard (sources : List FileView) (board : BoardView) : Type 0 where
   pub contents : List Content
   pub read : HaveContents sources contents
-  pub is : board ≡ board_of contents board.flashes
+  pub is : board ≡ board_of contents board.flashes board.drawn
 
 -- the result is the board of the package, or the first file that is refused, running out of memory aside
 abbrev pub ReturnsBoard : List FileView → Result BoardView PackageFault → Type 0
@@ -51,10 +57,14 @@ ReturnsBoard sources (Err (stop.File index fault)) = IsFirstRefused sources inde
 abbrev pub AreFlashesOf : FileView → List Flash → Type 0
 AreFlashesOf source flashes = is_copper source.role ≡ true → (image : LayerImage) → ReadsLayer source.bytes (Ok image) → flashes ≡ image.flashes
 
+-- one list for each file of a package, of which the relation says what it has of the file
+pub record AreFileLists {X : Type 0} (IsOf : FileView → List X → Type 0) (sources : List FileView) (lists : List (List X)) : Type 0 where
+  pub size : length lists ≡ length sources
+  pub each : (i : ℕ) (s : FileView) → i < length sources → IsOf (get_or sources i s) (get_or lists i [])
+
 -- one list of flashes for each file of a package; that of a copper file has the flashes of its layer
-pub record AreFileFlashes (sources : List FileView) (flashes : List (List Flash)) : Type 0 where
-  pub size : length flashes ≡ length sources
-  pub each : (i : ℕ) (s : FileView) → i < length sources → AreFlashesOf (get_or sources i s) (get_or flashes i [])
+abbrev pub AreFileFlashes : List FileView → List (List Flash) → Type 0
+AreFileFlashes sources flashes = AreFileLists AreFlashesOf sources flashes
 
 -- the board of a package whose files are all read, with the flashes of each file
 pub record IsFlashedBoard (sources : List FileView) (board : BoardView) : Type 0 where
@@ -66,6 +76,21 @@ abbrev pub ReturnsFlashedBoard : List FileView → Result BoardView PackageFault
 ReturnsFlashedBoard sources (Ok board) = IsFlashedBoard sources board
 ReturnsFlashedBoard sources (Err stop.Memory) = ⊤
 ReturnsFlashedBoard sources (Err (stop.File index fault)) = IsFirstRefused sources index fault
+
+-- a copper file draws what the commands of the layer draw that its text reads as; of a drill file nothing is said (docs/FORMATS.md, Pictures)
+abbrev pub AreDrawnOf : FileView → List Drawn → Type 0
+AreDrawnOf source drawn = is_copper source.role ≡ true → (image : LayerImage) → ReadsLayer source.bytes (Ok image) → drawn ≡ drawn_of (without_places image.commands)
+
+-- the board of a package whose files are all read, with the flashes of each file and what it draws
+pub record IsDrawnBoard (sources : List FileView) (board : BoardView) : Type 0 where
+  pub is : IsFlashedBoard sources board
+  pub drawn : AreFileLists AreDrawnOf sources board.drawn
+
+-- the result is the board of the package with its flashes and what its files draw, or the first file that is refused, running out of memory aside
+abbrev pub ReturnsDrawnBoard : List FileView → Result BoardView PackageFault → Type 0
+ReturnsDrawnBoard sources (Ok board) = IsDrawnBoard sources board
+ReturnsDrawnBoard sources (Err stop.Memory) = ⊤
+ReturnsDrawnBoard sources (Err (stop.File index fault)) = IsFirstRefused sources index fault
 
 -- how many holes a file drills, slots among them; a copper file drills none
 abbrev pub hole_count : FileSum → ℕ

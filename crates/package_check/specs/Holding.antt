@@ -1,9 +1,10 @@
 -- What a reader of a package holds of the files that it has taken so far.
-use Rattle.std.specs.Prelude.{◌≡◌, ◌≢◌, ◌<◌, ◌≤◌, ◌==◌, ◌||◌, ◌∷◌, [], ℕ, Bool, true, false, not, List, length, get_or, slice_get, nat_lt, if◌then◌else◌, Option, None, Some, Result, Ok, Err, ⊤}
+use Rattle.std.specs.Prelude.{◌≡◌, ◌≢◌, ◌<◌, ◌≤◌, ◌==◌, ◌||◌, ◌∷◌, [], ℕ, Bool, true, false, not, List, length, get_or, slice_get, map, nat_lt, if◌then◌else◌, Option, None, Some, Result, Ok, Err, ⊤}
 use Rattle.grid_units.specs.declared.fault.Fail.{Fail}
 use Rattle.grid_units.specs.declared.fault.Fail.TheVariants as fails
-use Rattle.layer_image.specs.KeptFlashes.{keeps_flashes}
+use Rattle.layer_image.specs.KeptFlashes.{keeps_commands, keeps_flashes}
 use Rattle.layer_image.specs.Layers.{ReadsFlashes}
+use Rattle.layer_image.specs.declared.drawn.Drawn.{Drawn}
 use Rattle.layer_image.specs.declared.flash.Flash.{Flash}
 use Rattle.layer_image.specs.declared.keep.Keep.{Keep}
 use Rattle.manifest.specs.declared.Role.{Role}
@@ -11,7 +12,9 @@ use Rattle.package_check.specs.declared.PackageFault.{PackageFault}
 use Rattle.package_check.specs.declared.PackageFault.TheVariants as stop
 use Rattle.package_check.specs.declared.contents.Content.{Content}
 use Rattle.package_check.specs.declared.package_reader.PackageReader.{PackageReader}
+use Rattle.package_check.specs.declared.readers.Shown.{Shown}
 use Rattle.package_check.specs.declared.slots.Kept.{Kept}
+use Rattle.package_check.specs.FileTexts.{Draws}
 use Rattle.package_check.specs.Package.{FileView, Reads, is_copper}
 
 -- ---- slots
@@ -31,15 +34,24 @@ abbrev pub contents_in : Option Kept → List Content
 contents_in None = []
 contents_in (Some one) = one.content ∷ []
 
--- the flashes in a slot, as a list of one; none in an empty slot
-abbrev pub flashes_in : Option Kept → List (List Flash)
-flashes_in None = []
-flashes_in (Some one) = one.flashes.items ∷ []
+-- what a slot has to be shown, as a list of one; nothing in an empty slot
+abbrev pub shown_in : Option Kept → List Shown
+shown_in None = []
+shown_in (Some one) = one.shown ∷ []
 
--- what is kept of a file: its content, and of a copper file its flashes where they are kept
+-- the flashes of each file, of what is kept of the files to be shown
+abbrev pub all_flashes : List Shown → List (List Flash)
+all_flashes shown = map (λ one. one.flashes.items) shown
+
+-- what each file draws, of what is kept of the files to be shown
+abbrev pub all_drawn : List Shown → List (List Drawn)
+all_drawn shown = map (λ one. one.drawn.items) shown
+
+-- what is kept of a file: its content; of a copper file its flashes where they are kept, and what its commands draw where these are kept
 pub record IsKeptOf (keep : Keep) (source : FileView) (one : Kept) : Type 0 where
   pub content : Reads source (Ok one.content)
-  pub flashes : keeps_flashes keep ≡ true → is_copper source.role ≡ true → ReadsFlashes source.bytes (Ok one.flashes.items)
+  pub flashes : keeps_flashes keep ≡ true → is_copper source.role ≡ true → ReadsFlashes source.bytes (Ok one.shown.flashes.items)
+  pub drawn : keeps_commands keep ≡ true → is_copper source.role ≡ true → Draws source.bytes one.shown.drawn.items
 
 -- ---- where a reader stopped
 

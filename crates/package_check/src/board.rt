@@ -4,29 +4,30 @@ ghost use Rattle.std.specs.Prelude.{◌≡◌, ◌++◌, ◌∷◌, [], IfOk, On
 ghost use Rattle.std.specs.List.{flat_map};
 ghost use Rattle.grid_units.specs.Holes.{is_round};
 ghost use Rattle.package_check.specs.Boards.{CountsAddUp, board_findings, board_of, hole_count};
+ghost use Rattle.package_check.specs.Holding.{all_drawn, all_flashes};
 ghost use Rattle.package_check.specs.Package.{sum_of, layer_indexes, pads_of};
 ghost use Rattle.package_check.specs.SoundnessAsRead.{drilled_in};
 
 use crate::FileSum;
 use crate::contents::Content;
 use crate::lists::push;
-use crate::readers::Layer;
+use crate::readers::{Layer, Shown};
 use grid_units::{Hole, Rules};
-use layer_image::Flash;
+use layer_image::{Drawn, Flash};
 use pad_shapes::Pad;
 use ring_rules::{Drilled, Finding, Span, gap_findings, ring_findings};
 use std::alloc::{AllocError, Global};
 use std::marker::Model;
 
 /// The board of a package: the counts of each file, the pads of each copper file, and the holes of all drill files; also the flashes
-/// of each file, where they are kept.
+/// of each file and what it draws, where they are kept.
 #[derive(Drop)]
 pub struct Board {
     pub(crate) files: Vec<FileSum>,
     layers: Vec<Layer>,
     pub(crate) layer_indexes: Vec<usize>,
     pub(crate) holes: Vec<Drilled>,
-    flashes: Vec<Vec<Flash>>,
+    shown: Vec<Shown>,
 }
 
 impl Model for Board {
@@ -35,7 +36,7 @@ impl Model for Board {
 
     ghost Value = { BoardView };
 
-    ghost view = { λ b. record { files = b.files.items; layers = map (λ l. l.pads) b.layers.items; layer_indexes = b.layer_indexes.items; holes = b.holes.items; flashes = map (λ flashes. flashes.items) b.flashes.items } };
+    ghost view = { λ b. record { files = b.files.items; layers = map (λ l. l.pads) b.layers.items; layer_indexes = b.layer_indexes.items; holes = b.holes.items; flashes = map (λ one. one.flashes.items) b.shown.items; drawn = map (λ one. one.drawn.items) b.shown.items } };
 
     ghost invariant = { λ b. CountsAddUp b.files.items b.holes.items };
 }
@@ -78,8 +79,18 @@ impl Board {
     pub fn flashes_of(&self, file: usize) -> &[Flash]
         ensures { result.now ≡ get_or self.now.flashes file [] }
     {
-        match self.flashes.get(file) {
-            Some(flashes) => flashes,
+        match self.shown.get(file) {
+            Some(shown) => shown.flashes(),
+            None => &[],
+        }
+    }
+
+    /// What a file draws, by its index among all files: nothing where it is not kept, or where there is no such file.
+    pub fn drawn_of(&self, file: usize) -> &[Drawn]
+        ensures { result.now ≡ get_or self.now.drawn file [] }
+    {
+        match self.shown.get(file) {
+            Some(shown) => shown.drawn(),
             None => &[],
         }
     }
@@ -242,14 +253,14 @@ fn hole_total(contents: &[Content]) -> usize {
     hole_total
 }
 
-/// The board of files with these contents and these flashes.
+/// The board of files with these contents, and with what is kept of each to be shown.
 #[tactic(auto, using(crate::proofs::BoardsLemmas::all_counted))]
 pub(crate) fn board_of(
     alloc: Global,
     contents: Vec<Content>,
-    flashes: Vec<Vec<Flash>>,
+    shown: Vec<Shown>,
 ) -> Result<Board, AllocError>
-    ensures { IfOk result (λ board. board ≡ board_of contents.items (map (λ flashes. flashes.items) flashes.items)) }
+    ensures { IfOk result (λ board. board ≡ board_of contents.items (all_flashes shown.items) (all_drawn shown.items)) }
 {
     let files = sums(alloc, &contents)?;
     let layer_indexes = layer_indexes(alloc, &contents)?;
@@ -261,7 +272,7 @@ pub(crate) fn board_of(
         layers,
         layer_indexes,
         holes,
-        flashes,
+        shown,
     })
 }
 

@@ -3,16 +3,16 @@ ghost use Rattle.std.specs.Prelude.{◌≡◌, ℕ, List, Ok, OnOk, map, true};
 ghost use Rattle.std.specs.List.{concat};
 ghost use Rattle.grid_units.specs.Results.{Answers};
 ghost use Rattle.grid_units.specs.declared.fault.Fail.TheVariants as fails;
-ghost use Rattle.layer_image.specs.KeptFlashes.{keeps_flashes};
+ghost use Rattle.layer_image.specs.KeptFlashes.{keeps_commands, keeps_flashes};
 ghost use Rattle.layer_image.specs.Layers.{ReadsFlashes};
-ghost use Rattle.package_check.specs.FileTexts.{ReadsLayer};
+ghost use Rattle.package_check.specs.FileTexts.{Draws, ReadsLayer};
 ghost use Rattle.package_check.specs.Holding.{is_kind};
 ghost use Rattle.package_check.specs.Package.{Reads, ReadsCopper, ReadsHoles, bad_span, is_bad_span, is_copper, not_copper, unnamed_file};
 
 use crate::Role;
-use crate::readers::{Drill, Layer, read_holes, read_layer_view};
+use crate::readers::{Drill, Layer, Shown, read_holes, read_layer_view};
 use grid_units::{Fail, Fault, Reason};
-use layer_image::{Flash, Keep};
+use layer_image::Keep;
 use ring_rules::Span;
 use std::alloc::Global;
 
@@ -60,17 +60,18 @@ fn require_copper(layer: Layer) -> Result<Content, Fail>
     }
 }
 
-/// The content of a copper file, and its flashes where they are kept.
+/// The content of a copper file. What is kept of it to be shown is put into `shown`.
 fn read_copper(
     alloc: Global,
     keep: Keep,
-    flashes: &mut Vec<Flash>,
+    shown: &mut Shown,
     pieces: &[&[u8]],
 ) -> Result<Content, Fail>
     ensures copper { Answers (λ x. x) (ReadsCopper (concat (map (λ piece. piece.now) pieces.now))) result }
-    ensures flashes { keeps_flashes keep ≡ true → OnOk result (ReadsFlashes (concat (map (λ piece. piece.now) pieces.now)) (Ok flashes.new.items)) }
+    ensures flashes { keeps_flashes keep ≡ true → OnOk result (ReadsFlashes (concat (map (λ piece. piece.now) pieces.now)) (Ok shown.new.flashes.items)) }
+    ensures drawn { keeps_commands keep ≡ true → OnOk result (Draws (concat (map (λ piece. piece.now) pieces.now)) shown.new.drawn.items) }
 {
-    let layer = read_layer_view(alloc, keep, flashes, pieces)?;
+    let layer = read_layer_view(alloc, keep, shown, pieces)?;
     require_copper(layer)
 }
 
@@ -113,25 +114,26 @@ fn is_bad_span(role: Role, span: Option<Span>, layers: usize) -> bool
     }
 }
 
-/// The content of a file of this role and span, in a package of so many copper files, or its fault. Its bytes come in pieces. The
-/// flashes of a copper file are put into `flashes` where they are kept.
+/// The content of a file of this role and span, in a package of so many copper files, or its fault. Its bytes come in pieces. What is
+/// kept of a copper file to be shown is put into `shown`.
 pub(crate) fn read_file(
     alloc: Global,
     keep: Keep,
-    flashes: &mut Vec<Flash>,
+    shown: &mut Shown,
     role: Role,
     span: &Option<Span>,
     layers: usize,
     pieces: &[&[u8]],
 ) -> Result<Content, Fail>
     ensures content { Answers (λ x. x) (Reads (unnamed_file role span.now layers (concat (map (λ piece. piece.now) pieces.now)))) result }
-    ensures flashes { keeps_flashes keep ≡ true → is_copper role ≡ true → OnOk result (ReadsFlashes (concat (map (λ piece. piece.now) pieces.now)) (Ok flashes.new.items)) }
+    ensures flashes { keeps_flashes keep ≡ true → is_copper role ≡ true → OnOk result (ReadsFlashes (concat (map (λ piece. piece.now) pieces.now)) (Ok shown.new.flashes.items)) }
+    ensures drawn { keeps_commands keep ≡ true → is_copper role ≡ true → OnOk result (Draws (concat (map (λ piece. piece.now) pieces.now)) shown.new.drawn.items) }
 {
     if is_bad_span(role, *span, layers) {
         return Err(bad_span());
     }
     match role {
-        Role::Copper => read_copper(alloc, keep, flashes, pieces),
+        Role::Copper => read_copper(alloc, keep, shown, pieces),
         Role::Plated => read_drill_content(alloc, true, *span, pieces),
         Role::Unplated => read_drill_content(alloc, false, *span, pieces),
     }

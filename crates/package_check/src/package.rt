@@ -1,8 +1,8 @@
 // The check of a package.
 ghost use Rattle.std.specs.Prelude.{◌≡◌, ◌<◌, ℕ, [], true, Result, IfOk, OnOk};
 ghost use Rattle.grid_units.specs.declared.fault.Fault.{Fault as TheFault};
-ghost use Rattle.layer_image.specs.KeptFlashes.{keeps_flashes};
-ghost use Rattle.package_check.specs.Boards.{ReturnsBoard, ReturnsFlashedBoard};
+ghost use Rattle.layer_image.specs.KeptFlashes.{keeps_commands, keeps_flashes};
+ghost use Rattle.package_check.specs.Boards.{ReturnsBoard, ReturnsDrawnBoard, ReturnsFlashedBoard};
 ghost use Rattle.package_check.specs.Package.{ReturnsExactly, ReturnsReport, IsAnswer, NamesItsPlaces, layer_count, file_views};
 ghost use Rattle.package_check.specs.Reports.{ReportView};
 ghost use Rattle.package_check.specs.Soundness.{AreStraight, IsSound};
@@ -102,7 +102,7 @@ pub fn check_bytes(alloc: Global, files: &[File], rules: Rules) -> Result<Report
     report_of(alloc, files, rules)
 }
 
-/// The board of the files: what all of them say together, with the flashes of copper files where `keep` keeps them.
+/// The board of the files: what all of them say together, with the flashes of copper files and what these draw where `keep` keeps them.
 ///
 /// # Errors
 ///
@@ -110,6 +110,7 @@ pub fn check_bytes(alloc: Global, files: &[File], rules: Rules) -> Result<Report
 pub fn read_package(alloc: Global, files: &[File], keep: Keep) -> Result<Board, PackageFault>
     ensures exact { ReturnsBoard (file_views files.now) result }
     ensures flashes { keeps_flashes keep ≡ true → ReturnsFlashedBoard (file_views files.now) result }
+    ensures drawn { keeps_commands keep ≡ true → ReturnsDrawnBoard (file_views files.now) result }
 {
     match reader_of(alloc, files, keep) {
         Ok(reader) => reader.board(),

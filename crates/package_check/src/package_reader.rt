@@ -2,15 +2,16 @@
 
 ghost use Rattle.std.specs.Prelude.{◌≡◌, ℕ, List, true, false, Some, Err, OnOk, OnErr, alloc_error, map};
 ghost use Rattle.std.specs.List.{concat};
-ghost use Rattle.layer_image.specs.KeptFlashes.{keeps_flashes};
+ghost use Rattle.layer_image.specs.KeptFlashes.{keeps_commands, keeps_flashes};
 ghost use Rattle.layer_image.specs.declared.keep.Keep.{Keep as TheKeep};
 ghost use Rattle.layer_image.specs.declared.keep.Keep.TheVariants as keep;
-ghost use Rattle.package_check.specs.Boards.{ReturnsBoard, ReturnsFlashedBoard};
+ghost use Rattle.package_check.specs.Boards.{ReturnsBoard, ReturnsDrawnBoard, ReturnsFlashedBoard};
 ghost use Rattle.package_check.specs.Package.{FileView, unnamed_file};
 ghost use Rattle.package_check.specs.Holding.{ReadsAt, is_wanted, next_stop};
 ghost use Rattle.package_check.specs.declared.PackageFault.TheVariants as stop;
 
 use crate::contents::read_file;
+use crate::readers::Shown;
 use crate::slots::{Kept, board_of_slots, put};
 use crate::{Board, PackageFault, Role};
 use grid_units::Fail;
@@ -19,7 +20,7 @@ use ring_rules::Span;
 use std::alloc::{AllocError, Global};
 
 /// A reader of a package, which takes its files in any order, each by its index in the package. It keeps the pads of a layer and the holes
-/// of a drill file, flashes where they are asked for, and no text. After a file that is refused it reads only those before it.
+/// of a drill file, flashes and what is drawn where they are asked for, and no text. After a file that is refused it reads only those before it.
 #[derive(Drop)]
 pub struct PackageReader {
     pub(crate) alloc: Global,
@@ -33,7 +34,7 @@ pub struct PackageReader {
 impl PackageReader {
     ghost use Rattle.package_check.specs.Holding.{HasTaken, HasTakenAll, IsOutOfMemory, TakesFile, copper_files};
 
-    /// A reader that has taken no file, of a package with so many copper files. It keeps no flashes.
+    /// A reader that has taken no file, of a package with so many copper files. It keeps no flashes, and nothing that is drawn.
     pub fn new(alloc: Global, layers: usize) -> PackageReader
         ensures stands { (sources : List FileView) → HasTaken result keep.Pads sources (λ i. false) }
         ensures layers { copper_files result ≡ layers }
@@ -41,7 +42,8 @@ impl PackageReader {
         PackageReader::keeping(alloc, layers, Keep::Pads)
     }
 
-    /// A reader that has taken no file, of a package with so many copper files. It keeps the flashes of these where `keep` does.
+    /// A reader that has taken no file, of a package with so many copper files. It keeps the flashes of these where `keep` does. Where
+    /// `keep` keeps commands too, it keeps what these draw, and drops them as soon as their file is read.
     pub fn keeping(alloc: Global, layers: usize, keep: Keep) -> PackageReader
         ensures stands { (sources : List FileView) → HasTaken result keep sources (λ i. false) }
         ensures layers { copper_files result ≡ layers }
@@ -100,22 +102,22 @@ impl PackageReader {
         ensures keep { self.new.keep ≡ self.old.keep }
         ensures stopped { self.new.stopped ≡ self.old.stopped }
     {
-        let mut flashes = Vec::new(self.alloc);
+        let mut shown = Shown::nothing(self.alloc);
         let content = read_file(
             self.alloc,
             self.keep,
-            &mut flashes,
+            &mut shown,
             role,
             &span,
             self.layers,
             pieces,
         )?;
-        put(&mut self.slots, index, Kept { content, flashes })?;
+        put(&mut self.slots, index, Kept { content, shown })?;
         Ok(())
     }
 
     /// The board of the files that were taken, in the order of their indexes: what all of them say together, with the flashes of copper
-    /// files where they are kept. A drill file's own list of holes is freed as they are appended to the board's.
+    /// files and what these draw, where they are kept. A drill file's own list of holes is freed as they are appended to the board's.
     ///
     /// # Errors
     ///
@@ -123,6 +125,7 @@ impl PackageReader {
     pub fn board(self) -> Result<Board, PackageFault>
         ensures exact { (keep : TheKeep) (sources : List FileView) → HasTakenAll self keep sources → ReturnsBoard sources result }
         ensures flashes { (keep : TheKeep) (sources : List FileView) → HasTakenAll self keep sources → keeps_flashes keep ≡ true → ReturnsFlashedBoard sources result }
+        ensures drawn { (keep : TheKeep) (sources : List FileView) → HasTakenAll self keep sources → keeps_commands keep ≡ true → ReturnsDrawnBoard sources result }
         ensures failed { IsOutOfMemory self → result ≡ Err stop.Memory }
     {
         unique_reading();

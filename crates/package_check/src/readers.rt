@@ -9,16 +9,16 @@ ghost use Rattle.drill_text.specs.Outcome.{file_of};
 ghost use Rattle.drill_text.specs.Texts.{ReadsAs};
 ghost use Rattle.drill_text.specs.declared.kept.Keep.TheVariants as drill_keep;
 ghost use Rattle.layer_image.specs.Holding.{LayerStandsAfter, ShowsLayerFault};
-ghost use Rattle.layer_image.specs.KeptFlashes.{keeps_flashes};
+ghost use Rattle.layer_image.specs.KeptFlashes.{keeps_commands, keeps_flashes};
 ghost use Rattle.layer_image.specs.Layers.{ReadsFlashes, ReadsKept};
 ghost use Rattle.layer_image.specs.declared.keep.Keep.{Keep as TheKeep};
-ghost use Rattle.package_check.specs.FileTexts.{ReadsLayer, ReadsDrill, is_copper_function};
+ghost use Rattle.package_check.specs.FileTexts.{Draws, ReadsLayer, ReadsDrill, is_copper_function};
 
 use drill_text::DrillReader;
 use drill_text::laws::faults_stay;
 use grid_units::numbers::len_before;
 use grid_units::{Fail, Hole};
-use layer_image::{Flash, Keep, LayerReader, What, shown_faults};
+use layer_image::{Drawn, Flash, Keep, LayerReader, What, shown_faults};
 use pad_shapes::Pad;
 use std::alloc::{AllocError, Global};
 use std::marker::Model;
@@ -82,6 +82,38 @@ impl Drill {
         ensures { result.now ≡ self.now }
     {
         &self.holes
+    }
+}
+
+/// What is kept of a file to be shown: its flashes, and what its commands draw, each where it is asked for.
+#[derive(Drop)]
+pub(crate) struct Shown {
+    flashes: Vec<Flash>,
+    drawn: Vec<Drawn>,
+}
+
+impl Shown {
+    /// Nothing to be shown. This takes no memory.
+    pub(crate) fn nothing(alloc: Global) -> Shown
+        ensures flashes { result.flashes.items ≡ [] }
+        ensures drawn { result.drawn.items ≡ [] }
+    {
+        Shown {
+            flashes: Vec::new(alloc),
+            drawn: Vec::new(alloc),
+        }
+    }
+
+    pub(crate) fn flashes(&self) -> &[Flash]
+        ensures { result.now ≡ self.now.flashes.items }
+    {
+        &self.flashes
+    }
+
+    pub(crate) fn drawn(&self) -> &[Drawn]
+        ensures { result.now ≡ self.now.drawn.items }
+    {
+        &self.drawn
     }
 }
 
@@ -164,21 +196,22 @@ fn pads_among(alloc: Global, flashes: &[Flash], count: usize) -> Result<Vec<Pad>
     Ok(all)
 }
 
-/// What [`read_pads`] gives of a copper file, and its flashes.
-fn read_pads_and_flashes(
-    alloc: Global,
-    flashes: &mut Vec<Flash>,
-    pieces: &[&[u8]],
-) -> Result<Layer, Fail>
+/// What [`read_pads`] gives of a copper file, and its flashes; also what its commands draw, where these are kept. The commands are
+/// dropped then.
+fn read_shown(alloc: Global, keep: Keep, shown: &mut Shown, pieces: &[&[u8]]) -> Result<Layer, Fail>
+    requires { keeps_flashes keep ≡ true }
     ensures image { Answers (λ x. x) (ReadsLayer (concat (map (λ piece. piece.now) pieces.now))) result }
-    ensures flashes { OnOk result (ReadsFlashes (concat (map (λ piece. piece.now) pieces.now)) (Ok flashes.new.items)) }
+    ensures flashes { OnOk result (ReadsFlashes (concat (map (λ piece. piece.now) pieces.now)) (Ok shown.new.flashes.items)) }
+    ensures drawn { keeps_commands keep ≡ true → OnOk result (Draws (concat (map (λ piece. piece.now) pieces.now)) shown.new.drawn.items) }
 {
-    let layer = read_layer(alloc, Keep::Flashes, pieces)?;
+    let layer = read_layer(alloc, keep, pieces)?;
     let other = layer.other();
     let count = layer.flashes().len().saturating_sub(other);
     let pads = pads_among(alloc, layer.flashes(), count)?;
     let is_copper = is_copper_function(layer.file_function());
-    *flashes = layer.into_flashes();
+    let drawn = layer.drawn(alloc)?;
+    shown.drawn = drawn;
+    shown.flashes = layer.into_flashes();
     Ok(Layer {
         pads,
         other,
@@ -186,20 +219,20 @@ fn read_pads_and_flashes(
     })
 }
 
-/// What the check keeps of the copper file whose text comes in these pieces, or its fault. Its flashes are put into `flashes` where
-/// they are kept.
+/// What the check keeps of the copper file whose text comes in these pieces, or its fault. What is kept to be shown is put into `shown`.
 pub(crate) fn read_layer_view(
     alloc: Global,
     keep: Keep,
-    flashes: &mut Vec<Flash>,
+    shown: &mut Shown,
     pieces: &[&[u8]],
 ) -> Result<Layer, Fail>
     ensures image { Answers (λ x. x) (ReadsLayer (concat (map (λ piece. piece.now) pieces.now))) result }
-    ensures flashes { keeps_flashes keep ≡ true → OnOk result (ReadsFlashes (concat (map (λ piece. piece.now) pieces.now)) (Ok flashes.new.items)) }
+    ensures flashes { keeps_flashes keep ≡ true → OnOk result (ReadsFlashes (concat (map (λ piece. piece.now) pieces.now)) (Ok shown.new.flashes.items)) }
+    ensures drawn { keeps_commands keep ≡ true → OnOk result (Draws (concat (map (λ piece. piece.now) pieces.now)) shown.new.drawn.items) }
 {
     match keep {
         Keep::Pads => read_pads(alloc, pieces),
-        Keep::All | Keep::Flashes => read_pads_and_flashes(alloc, flashes, pieces),
+        Keep::All | Keep::Flashes => read_shown(alloc, keep, shown, pieces),
     }
 }
 

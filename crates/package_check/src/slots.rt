@@ -1,22 +1,22 @@
 //! What a reader keeps of the files of a package, each in a slot at its index.
 
-ghost use Rattle.std.specs.Prelude.{◌≡◌, ◌≤◌, ◌<◌, ◌++◌, ℕ, IfOk, OnErr, OnOk, length, map};
+ghost use Rattle.std.specs.Prelude.{◌≡◌, ◌≤◌, ◌<◌, ◌++◌, ℕ, IfOk, OnErr, OnOk, length};
 ghost use Rattle.std.specs.List.{flat_map};
 ghost use Rattle.package_check.specs.Boards.{board_of};
-ghost use Rattle.package_check.specs.Holding.{IsPutAt, contents_in, flashes_in, kept_at};
+ghost use Rattle.package_check.specs.Holding.{IsPutAt, all_drawn, all_flashes, contents_in, kept_at, shown_in};
 
 use crate::Board;
 use crate::board::board_of;
 use crate::contents::Content;
 use crate::lists::push;
-use layer_image::Flash;
+use crate::readers::Shown;
 use std::alloc::{AllocError, Global};
 
-/// What is kept of a file: its content, and its flashes where they are kept.
+/// What is kept of a file: its content, and what is kept of it to be shown.
 #[derive(Drop)]
 pub(crate) struct Kept {
     pub(crate) content: Content,
-    pub(crate) flashes: Vec<Flash>,
+    pub(crate) shown: Shown,
 }
 
 /// Appends empty slots until there is one at this index.
@@ -47,49 +47,49 @@ pub(crate) fn put<T: Drop>(
     Ok(())
 }
 
-/// Moves the content and the flashes in a slot to the lists of their kinds.
+/// Moves what is kept in a slot to the lists of its kinds.
 fn add_slot(
     contents: &mut Vec<Content>,
-    flashes: &mut Vec<Vec<Flash>>,
+    shown: &mut Vec<Shown>,
     slot: Option<Kept>,
 ) -> Result<(), AllocError>
     ensures contents { OnOk result (contents.new.items ≡ contents.old.items ++ contents_in slot) }
-    ensures flashes { OnOk result (map (λ f. f.items) flashes.new.items ≡ map (λ f. f.items) flashes.old.items ++ flashes_in slot) }
+    ensures shown { OnOk result (shown.new.items ≡ shown.old.items ++ shown_in slot) }
 {
     match slot {
         Some(kept) => {
             let Kept {
                 content,
-                flashes: own,
+                shown: own,
             } = kept;
             push(contents, content)?;
-            push(flashes, own)
+            push(shown, own)
         }
         None => Ok(()),
     }
 }
 
-/// Moves the contents and the flashes in the slots to the lists of their kinds, slot by slot.
+/// Moves what is kept in the slots to the lists of its kinds, slot by slot.
 fn add_slots(
     contents: &mut Vec<Content>,
-    flashes: &mut Vec<Vec<Flash>>,
+    shown: &mut Vec<Shown>,
     slots: Vec<Option<Kept>>,
 ) -> Result<(), AllocError>
     ensures contents { OnOk result (contents.new.items ≡ contents.old.items ++ flat_map contents_in slots.items) }
-    ensures flashes { OnOk result (map (λ f. f.items) flashes.new.items ≡ map (λ f. f.items) flashes.old.items ++ flat_map flashes_in slots.items) }
+    ensures shown { OnOk result (shown.new.items ≡ shown.old.items ++ flat_map shown_in slots.items) }
 {
     for slot in slots {
-        add_slot(contents, flashes, slot)?;
+        add_slot(contents, shown, slot)?;
     }
     Ok(())
 }
 
 /// The board of the files whose slots are filled, in the order of their indexes.
 pub(crate) fn board_of_slots(alloc: Global, slots: Vec<Option<Kept>>) -> Result<Board, AllocError>
-    ensures { IfOk result (λ board. board ≡ board_of (flat_map contents_in slots.items) (flat_map flashes_in slots.items)) }
+    ensures { IfOk result (λ board. board ≡ board_of (flat_map contents_in slots.items) (all_flashes (flat_map shown_in slots.items)) (all_drawn (flat_map shown_in slots.items))) }
 {
     let mut contents = Vec::with_capacity(alloc, slots.len())?;
-    let mut flashes = Vec::with_capacity(alloc, slots.len())?;
-    add_slots(&mut contents, &mut flashes, slots)?;
-    board_of(alloc, contents, flashes)
+    let mut shown = Vec::with_capacity(alloc, slots.len())?;
+    add_slots(&mut contents, &mut shown, slots)?;
+    board_of(alloc, contents, shown)
 }

@@ -6,7 +6,33 @@ use package_check::{
     Report, Role, Span, check_bytes, check_pieces, read_package, write_report,
 };
 use std::alloc::{AllocError, Global};
-use std::test::Fail as Failure;
+
+/// Why a row could not be tried.
+#[derive(Clone, Copy, Debug, PartialEq, Eq)]
+enum RowFail {
+    /// Memory ran out.
+    Memory,
+    /// The files, or the rules, are refused.
+    Refused,
+}
+
+impl From<AllocError> for RowFail {
+    fn from(_error: AllocError) -> RowFail {
+        RowFail::Memory
+    }
+}
+
+impl From<Reason> for RowFail {
+    fn from(_reason: Reason) -> RowFail {
+        RowFail::Refused
+    }
+}
+
+impl From<PackageFault> for RowFail {
+    fn from(_fault: PackageFault) -> RowFail {
+        RowFail::Refused
+    }
+}
 
 const LAYER: &[u8] = b"%FSLAX46Y46*%\n%MOMM*%\n%ADD10C,0.65*%\nD10*\nX0Y0D03*\nM02*\n";
 
@@ -57,27 +83,37 @@ fn file<'a>(row: FileRow<'a>) -> File<'a> {
     }
 }
 
-fn files_of<'a>(alloc: Global, rows: &[FileRow<'a>]) -> Result<Vec<File<'a>>, AllocError> {
-    let mut files = Vec::new(alloc);
+fn push_files<'a>(files: &mut Vec<File<'a>>, rows: &[FileRow<'a>]) -> Result<(), AllocError> {
     for row in rows {
         if files.push(file(*row)).is_err() {
             return Err(AllocError);
         }
     }
+    Ok(())
+}
+
+fn files_of<'a>(alloc: Global, rows: &[FileRow<'a>]) -> Result<Vec<File<'a>>, AllocError> {
+    let mut files = Vec::new(alloc);
+    push_files(&mut files, rows)?;
     Ok(files)
+}
+
+fn push_names<'a>(names: &mut Vec<&'a str>, rows: &[FileRow<'a>]) -> Result<(), AllocError> {
+    for row in rows {
+        names.push(row.1)?;
+    }
+    Ok(())
 }
 
 fn names_of<'a>(alloc: Global, rows: &[FileRow<'a>]) -> Result<Vec<&'a str>, AllocError> {
     let mut names = Vec::new(alloc);
-    for row in rows {
-        names.push(row.1)?;
-    }
+    push_names(&mut names, rows)?;
     Ok(names)
 }
 
 /// A ring of 0.125 mm and a gap of 0.25 mm.
-fn rules() -> Result<Rules, Failure> {
-    Ok(Rules::new(125_000_000, 250_000_000).ok().ok_or("rules")?)
+fn rules() -> Result<Rules, RowFail> {
+    Ok(Rules::new(125_000_000, 250_000_000)?)
 }
 
 /// The text of a report on files of these names.
@@ -89,19 +125,49 @@ fn text_of<'a>(
     format!(in alloc; "{}", CheckText { names, report })
 }
 
-/// Whether the report on the files has this text after its first line, written as bytes and printed by the names of the files.
-fn is_reported(alloc: Global, rows: &[FileRow], lines: &str) -> Result<bool, Failure> {
-    let (files, names) = (files_of(alloc, rows)?, names_of(alloc, rows)?);
-    let report = check_bytes(alloc, &files, rules()?).ok().ok_or("refused")?;
+/// Whether a report has this text after its first line, and these bytes.
+fn is_printed(
+    alloc: Global,
+    names: &[&str],
+    report: &Report,
+    lines: &str,
+    bytes: &[u8],
+) -> Result<bool, RowFail> {
+    let printed = text_of(alloc, names, report)?;
+    let is_text = printed.as_str().strip_prefix(RULES) == Some(lines);
+    Ok(is_text && printed.as_bytes() == bytes)
+}
+
+/// Whether a report on these files has this text after its first line, written as bytes and printed by their names.
+fn is_written(
+    alloc: Global,
+    files: &[File],
+    names: &[&str],
+    report: &Report,
+    lines: &str,
+) -> Result<bool, RowFail> {
     if report.files().len() != files.len() {
         return Ok(false);
     }
-    let written = write_report(alloc, &files, &report)?;
-    let printed = text_of(alloc, &names, &report)?;
-    Ok(
-        printed.as_str().strip_prefix(RULES) == Some(lines)
-            && written.as_slice() == printed.as_bytes(),
-    )
+    let written = write_report(alloc, files, report)?;
+    is_printed(alloc, names, report, lines, &written)
+}
+
+fn is_report_on(
+    alloc: Global,
+    files: &[File],
+    names: &[&str],
+    lines: &str,
+) -> Result<bool, RowFail> {
+    let report = check_bytes(alloc, files, rules()?)?;
+    is_written(alloc, files, names, &report, lines)
+}
+
+/// Whether the report on the files has this text after its first line, written as bytes and printed by the names of the files.
+fn is_reported(alloc: Global, rows: &[FileRow], lines: &str) -> Result<bool, RowFail> {
+    let files = files_of(alloc, rows)?;
+    let names = names_of(alloc, rows)?;
+    is_report_on(alloc, &files, &names, lines)
 }
 
 /// Files, and the report on them after its first line.
@@ -174,9 +240,16 @@ const REPORTS: [(&[FileRow], &str); 12] = [
 ];
 
 #[test]
-fn reports_are_printed(rt: HostRuntime) -> Result<(), Failure> {
+fn reports_are_printed(rt: HostRuntime) {
     for &(rows, lines) in &REPORTS {
-        assert!(rt; is_reported(rt.alloc(), rows, lines)?, "{lines}");
+        assert!(rt; is_reported(rt.alloc(), rows, lines) == Ok(true), "{lines}");
+    }
+}
+
+fn push_bytes<'a>(pieces: &mut Vec<&'a [u8]>, text: &'a [u8]) -> Result<(), AllocError> {
+    for piece in text.chunks(1) {
+        pieces.push(piece)?;
+        pieces.push(&text[..0])?;
     }
     Ok(())
 }
@@ -184,46 +257,70 @@ fn reports_are_printed(rt: HostRuntime) -> Result<(), Failure> {
 /// The text's bytes one by one, each followed by an empty piece.
 fn in_bytes<'a>(alloc: Global, text: &'a [u8]) -> Result<Vec<&'a [u8]>, AllocError> {
     let mut pieces = Vec::new(alloc);
-    for piece in text.chunks(1) {
-        pieces.push(piece)?;
-        pieces.push(&text[..0])?;
-    }
+    push_bytes(&mut pieces, text)?;
     Ok(pieces)
 }
 
-/// The report on a layer and a plated drill file in such pieces.
-fn report_in_bytes<'a>(alloc: Global, top: &'a [u8], pth: &'a [u8]) -> Result<Report, Failure> {
-    let (top_pieces, pth_pieces) = (in_bytes(alloc, top)?, in_bytes(alloc, pth)?);
+/// The report on a layer and a plated drill file in pieces.
+fn report_of_pieces<'a>(
+    alloc: Global,
+    top: &'a [&'a [u8]],
+    pth: &'a [&'a [u8]],
+) -> Result<Report, RowFail> {
     let files = [
         PiecedFile {
             role: Role::Copper,
             name: "top",
             span: None,
-            pieces: &top_pieces,
+            pieces: top,
         },
         PiecedFile {
             role: Role::Plated,
             name: "pth",
             span: None,
-            pieces: &pth_pieces,
+            pieces: pth,
         },
     ];
-    Ok(check_pieces(alloc, &files, rules()?).ok().ok_or("refused")?)
+    Ok(check_pieces(alloc, &files, rules()?)?)
+}
+
+/// The report on a layer and a plated drill file that come byte by byte.
+fn report_in_bytes(alloc: Global, top: &[u8], pth: &[u8]) -> Result<Report, RowFail> {
+    let top = in_bytes(alloc, top)?;
+    let pth = in_bytes(alloc, pth)?;
+    report_of_pieces(alloc, &top, &pth)
+}
+
+/// The text of the report on the whole files.
+fn text_of_whole(alloc: Global) -> Result<String, RowFail> {
+    let whole = check_bytes(alloc, &[file(TOP), file(PTH)], rules()?)?;
+    Ok(text_of(alloc, &["top", "pth"], &whole)?)
+}
+
+/// Whether a report on two files has this text.
+fn has_text(alloc: Global, report: &Report, text: &str) -> Result<bool, RowFail> {
+    let found = text_of(alloc, &["top", "pth"], report)?;
+    Ok(report.files().len() == 2 && found.as_str() == text)
+}
+
+/// Whether the report on the files that come byte by byte has this text.
+fn pieces_have_text(alloc: Global, text: &str) -> Result<bool, RowFail> {
+    let report = report_in_bytes(alloc, LAYER, DRILL)?;
+    has_text(alloc, &report, text)
+}
+
+fn are_pieces_alike(alloc: Global) -> Result<bool, RowFail> {
+    let wanted = text_of_whole(alloc)?;
+    pieces_have_text(alloc, wanted.as_str())
 }
 
 #[test]
-fn pieces_give_the_report_of_the_whole(rt: HostRuntime) -> Result<(), Failure> {
-    let report = report_in_bytes(rt.alloc(), LAYER, DRILL)?;
-    let whole = check_bytes(rt.alloc(), &[file(TOP), file(PTH)], rules()?);
-    let whole = whole.ok().ok_or("refused")?;
-    let wanted = text_of(rt.alloc(), &["top", "pth"], &whole)?;
-    let found = text_of(rt.alloc(), &["top", "pth"], &report)?;
-    assert!(rt; report.files().len() == 2 && found.as_str() == wanted.as_str());
-    Ok(())
+fn pieces_give_the_report_of_the_whole(rt: HostRuntime) {
+    assert!(rt; are_pieces_alike(rt.alloc()) == Ok(true));
 }
 
 /// A file's number, from 0, and the reason why the package is refused for it, in place of a report and of a board.
-fn is_refused(alloc: Global, rows: &[FileRow], fault: PackageFault) -> Result<bool, Failure> {
+fn is_refused(alloc: Global, rows: &[FileRow], fault: PackageFault) -> Result<bool, RowFail> {
     let files = files_of(alloc, rows)?;
     let report = check_bytes(alloc, &files, rules()?).err();
     Ok(report == Some(fault) && read_package(alloc, &files, Keep::Pads).err() == Some(fault))
@@ -250,12 +347,11 @@ const REFUSALS: [(&[FileRow], usize, Fault); 5] = [
 ];
 
 #[test]
-fn the_first_file_that_is_refused_counts(rt: HostRuntime) -> Result<(), Failure> {
+fn the_first_file_that_is_refused_counts(rt: HostRuntime) {
     for &(rows, index, fault) in &REFUSALS {
         let fault = PackageFault::File { index, fault };
-        assert!(rt; is_refused(rt.alloc(), rows, fault)?);
+        assert!(rt; is_refused(rt.alloc(), rows, fault) == Ok(true), "{index}");
     }
-    Ok(())
 }
 
 /// The files of a board with two layers, each between two drill files.
@@ -275,77 +371,115 @@ fn hole_of(board: &Board, place: usize) -> Option<Hole> {
     Some((drilled.plated, drilled.hole.is_round(), drilled.span))
 }
 
+/// The board of these files.
+fn board_of_four(alloc: Global) -> Result<Board, RowFail> {
+    let files = files_of(alloc, &FOUR)?;
+    Ok(read_package(alloc, &files, Keep::Pads)?)
+}
+
 /// The number of pads on each layer of a board.
 fn pad_counts(alloc: Global, board: &Board) -> Result<Vec<usize>, AllocError> {
     let layers = board.layers(alloc)?;
     layers.iter().map(|pads| pads.len()).collect(alloc)
 }
 
-#[test]
-fn a_board_has_the_layers_of_its_files(rt: HostRuntime) -> Result<(), Failure> {
-    let files = files_of(rt.alloc(), &FOUR)?;
-    let board = read_package(rt.alloc(), &files, Keep::Pads)
-        .ok()
-        .ok_or("no board")?;
-    let counts = pad_counts(rt.alloc(), &board)?;
-    assert!(rt;
-        board.layer_indexes() == [1, 3].as_slice() && counts.as_slice() == [1, 1].as_slice()
-    );
-    Ok(())
+/// What a board of four files has.
+#[derive(Clone, Copy)]
+enum Has<'a> {
+    /// Layers of these files, with so many pads.
+    Layers(&'a [usize], &'a [usize]),
+    /// This hole, or none, at a place.
+    Hole(usize, Option<Hole>),
+    /// These lines of its files.
+    Lines(&'a str),
+}
+
+fn has_layers(
+    alloc: Global,
+    board: &Board,
+    files: &[usize],
+    pads: &[usize],
+) -> Result<bool, AllocError> {
+    let counts = pad_counts(alloc, board)?;
+    Ok(board.layer_indexes() == files && counts.as_slice() == pads)
+}
+
+fn has_lines(alloc: Global, board: &Board, wanted: &str) -> Result<bool, AllocError> {
+    let lines = FileLines {
+        names: &["npth", "top", "pth", "bot"],
+        files: board.files(),
+    };
+    let text = format!(in alloc; "{lines}")?;
+    Ok(text.as_str() == wanted)
+}
+
+fn board_has(alloc: Global, board: &Board, what: &Has) -> Result<bool, AllocError> {
+    match what {
+        Has::Layers(files, pads) => has_layers(alloc, board, files, pads),
+        Has::Hole(place, hole) => Ok(hole_of(board, *place) == *hole),
+        Has::Lines(lines) => has_lines(alloc, board, lines),
+    }
+}
+
+/// Whether the board of four files has this.
+fn is_on_board(alloc: Global, what: &Has) -> bool {
+    match board_of_four(alloc) {
+        Ok(board) => matches!(board_has(alloc, &board, what), Ok(true)),
+        Err(_) => false,
+    }
 }
 
 #[test]
-fn a_board_has_the_holes_of_its_files(rt: HostRuntime) -> Result<(), Failure> {
-    let files = files_of(rt.alloc(), &FOUR)?;
-    let board = read_package(rt.alloc(), &files, Keep::Pads)
-        .ok()
-        .ok_or("no board")?;
+fn a_board_has_the_layers_of_its_files(rt: HostRuntime) {
+    assert!(rt; is_on_board(rt.alloc(), &Has::Layers(&[1, 3], &[1, 1])));
+}
+
+#[test]
+fn a_board_has_the_holes_of_its_files(rt: HostRuntime) {
     for (place, hole) in [
         (0, Some((false, true, None))),
         (1, Some((true, false, Span::new(1, 2)))),
         (2, None),
     ] {
-        assert!(rt; hole_of(&board, place) == hole, "at {place}");
+        assert!(rt;
+            is_on_board(rt.alloc(), &Has::Hole(place, hole)),
+            "at {place}"
+        );
     }
-    Ok(())
 }
 
 #[test]
-fn the_lines_of_files_are_printed_alone(rt: HostRuntime) -> Result<(), Failure> {
-    let files = files_of(rt.alloc(), &FOUR)?;
-    let board = read_package(rt.alloc(), &files, Keep::Pads)
-        .ok()
-        .ok_or("no board")?;
-    let lines = FileLines {
-        names: &["npth", "top", "pth", "bot"],
-        files: board.files(),
-    };
-    let text = format!(in rt.alloc(); "{lines}")?;
+fn the_lines_of_files_are_printed_alone(rt: HostRuntime) {
     let wanted =
         "file 1 drill plated=no round=1 slots=0 name=npth\nfile 2 layer pads=1 other=0 name=top\nfile 3 drill plated=yes round=0 slots=1 span=1-2 name=pth\nfile 4 layer pads=1 other=0 name=bot\n";
-    assert_eq!(rt; text.as_str(), wanted);
-    Ok(())
+    assert!(rt; is_on_board(rt.alloc(), &Has::Lines(wanted)));
+}
+
+/// Whether a board has the two findings of a report, the second of whose holes is the first of the third file.
+fn has_findings_of(alloc: Global, board: &Board, report: &Report) -> Result<bool, RowFail> {
+    let found = board.findings(alloc, rules()?)?;
+    let is_last = match report.hole(1) {
+        Some(last) => (last.file, last.number) == (2, 1),
+        None => false,
+    };
+    Ok(is_last && found.len() == 2 && found.as_slice() == report.findings())
+}
+
+/// Whether the board of some files has such findings of their report.
+fn reports_its_findings(alloc: Global, files: &[File]) -> Result<bool, RowFail> {
+    let board = read_package(alloc, files, Keep::Pads)?;
+    let report = check_bytes(alloc, files, rules()?)?;
+    has_findings_of(alloc, &board, &report)
 }
 
 #[test]
-fn a_board_has_the_findings_of_its_report(rt: HostRuntime) -> Result<(), Failure> {
-    let alloc = rt.alloc();
+fn a_board_has_the_findings_of_its_report(rt: HostRuntime) {
     let (top, npth) = (
         (Role::Copper, "top", None, MOVED),
         (Role::Unplated, "pth", None, DRILL),
     );
     let files = [file(top), file(PTH), file(npth)];
-    let board = read_package(alloc, &files, Keep::Pads)
-        .ok()
-        .ok_or("no board")?;
-    let report = check_bytes(alloc, &files, rules()?)
-        .ok()
-        .ok_or("no report")?;
-    let found = board.findings(alloc, rules()?)?;
-    let last = report.hole(1).ok_or("no hole")?;
-    assert!(rt; found.len() == 2 && found.as_slice() == report.findings());
-    assert!(rt; (last.file, last.number) == (2, 1));
-    Ok(())
+    assert!(rt; reports_its_findings(rt.alloc(), &files) == Ok(true));
 }
 
 /// Takes a layer in two pieces, a drill file, and a layer in one piece, in another order than theirs.
@@ -358,31 +492,63 @@ fn take_three(reader: &mut PackageReader) -> Result<(), AllocError> {
 
 const LAYER_OF_TWO: FileSum = FileSum::Layer { pads: 2, other: 0 };
 
-#[test]
-fn a_reader_gives_the_flashes_of_copper(rt: HostRuntime) -> Result<(), Failure> {
-    let alloc = rt.alloc();
+/// The board of these files, with the flashes of copper.
+fn board_of_three(alloc: Global) -> Result<Board, RowFail> {
     let mut reader = PackageReader::keeping(alloc, 2, Keep::Flashes);
     take_three(&mut reader)?;
-    let board = reader.board().ok().ok_or("no board")?;
-    let drill = FileSum::Drill {
-        plated: true,
-        span: None,
-        round: 1,
-        slots: 0,
-    };
-    let wanted = &[LAYER_OF_TWO, drill, LAYER_OF_TWO];
-    assert!(rt; board.files() == wanted.as_slice());
-    let counts = [0, 1, 2].map(|file| board.flashes_of(file).len());
-    assert!(rt; (counts, board.layers(alloc)?.len()) == ([2, 0, 2], 2));
-    Ok(())
+    Ok(reader.board()?)
+}
+
+/// Whether a board has these files, flashes of these numbers on each, and two layers.
+fn has_flashes(
+    alloc: Global,
+    board: &Board,
+    files: &[FileSum],
+    counts: [usize; 3],
+) -> Result<bool, RowFail> {
+    let layers = board.layers(alloc)?;
+    let found = [
+        board.flashes_of(0).len(),
+        board.flashes_of(1).len(),
+        board.flashes_of(2).len(),
+    ];
+    Ok(board.files() == files && found == counts && layers.len() == 2)
+}
+
+/// The sum of a plated drill file of one round hole.
+const DRILL_OF_ONE: FileSum = FileSum::Drill {
+    plated: true,
+    span: None,
+    round: 1,
+    slots: 0,
+};
+
+fn has_flashes_of_copper(alloc: Global) -> Result<bool, RowFail> {
+    let board = board_of_three(alloc)?;
+    let files = &[LAYER_OF_TWO, DRILL_OF_ONE, LAYER_OF_TWO];
+    has_flashes(alloc, &board, files, [2, 0, 2])
 }
 
 #[test]
-fn a_reader_with_flashes_keeps_the_first_refusal(rt: HostRuntime) -> Result<(), Failure> {
-    let mut reader = PackageReader::keeping(rt.alloc(), 2, Keep::Flashes);
+fn a_reader_gives_the_flashes_of_copper(rt: HostRuntime) {
+    assert!(rt; has_flashes_of_copper(rt.alloc()) == Ok(true));
+}
+
+/// Takes a layer that is a drill file, and after it a layer with a span.
+fn take_refused(reader: &mut PackageReader) -> Result<(), AllocError> {
     reader.take(1, Role::Copper, None, &[DRILL])?;
-    reader.take(0, Role::Copper, Span::new(1, 1), &[TWO])?;
+    reader.take(0, Role::Copper, Span::new(1, 1), &[TWO])
+}
+
+/// Whether such a package is refused for the layer with a span.
+fn is_first_kept(alloc: Global) -> Result<bool, RowFail> {
+    let mut reader = PackageReader::keeping(alloc, 2, Keep::Flashes);
+    take_refused(&mut reader)?;
     let (index, fault) = (0, FAULT);
-    assert!(rt; reader.board().err() == Some(PackageFault::File { index, fault }));
-    Ok(())
+    Ok(reader.board().err() == Some(PackageFault::File { index, fault }))
+}
+
+#[test]
+fn a_reader_with_flashes_keeps_the_first_refusal(rt: HostRuntime) {
+    assert!(rt; is_first_kept(rt.alloc()) == Ok(true));
 }

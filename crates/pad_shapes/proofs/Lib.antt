@@ -1,1 +1,3 @@
 pub mod ZonesLemmas
+pub mod EdgesLemmas
+pub mod PartsLemmas

@@ -1,1 +1,6 @@
 pub mod ShapeLaws
+pub mod Identities
+pub mod Means
+pub mod Fan
+pub mod RoundedLaws
+pub mod RoundedSets

@@ -1,6 +1,7 @@
 //! Laws of the shapes. Calling a law does nothing but give its clause.
 
 ghost use Rattle.pad_shapes.specs.Shapes.{ContainsCovered, ContainsCoveredSlots, CoveredIsBetween, HasExtent, RectIsTight};
+ghost use Rattle.pad_shapes.specs.Rounded.{HoldsObliqueSlots, OneCornerIsDisc, OneCornerCovers, GreaterRadiusHolds, CoversLess, PolygonIsLeftOfEdges, PointsAreCovered};
 
 use crate::shape::PadShape;
 
@@ -16,4 +17,36 @@ pub fn shape_laws<S: PadShape>()
 /// Where a rectangle does not cover a centre, it misses a point within the reach.
 pub fn rect_is_tight()
     ensures { RectIsTight }
+{}
+
+/// Where a rounded polygon covers both ends of a slot at any angle, it holds each point of the slot.
+pub fn rounded_holds_oblique_slots()
+    ensures { HoldsObliqueSlots }
+{}
+
+/// A rounded polygon of one corner is a disc, by its points and by what it covers.
+pub fn one_corner_is_disc()
+    ensures points { OneCornerIsDisc }
+    ensures covers { OneCornerCovers }
+{}
+
+/// Round the same corners a greater radius holds no less.
+pub fn greater_radius_holds()
+    ensures { GreaterRadiusHolds }
+{}
+
+/// A rounded polygon that covers a centre with one reach covers it with each lesser one.
+pub fn rounded_covers_less()
+    ensures { CoversLess }
+{}
+
+/// The points of a convex polygon are those that lie to the right of no edge.
+pub fn polygon_is_left_of_edges()
+    ensures { PolygonIsLeftOfEdges }
+{}
+
+/// The points of a rounded polygon are those that it covers with the reach 0: each of them lies in the polygon, or no further
+/// than the radius from a corner, or beside an edge.
+pub fn points_are_covered()
+    ensures { PointsAreCovered }
 {}

@@ -1,14 +1,17 @@
-//! Shapes of flashed pads: discs, rectangles and obrounds.
+//! Shapes of pads: discs, rectangles, obrounds, and rounded polygons.
 //!
 //! A shape is a set of points of the grid of whole picometres (pm). Whether it covers a centre with a reach is a
 //! test of distances; where it does, each point within the reach is a point of the shape.
 #![tactic(auto)]
 
 mod disc;
+mod edges;
 pub mod laws;
 mod obround;
 mod pad;
+mod polygon;
 mod rect;
+mod rounded;
 mod shape;
 mod zone;
 
@@ -16,5 +19,6 @@ pub use disc::Disc;
 pub use obround::Obround;
 pub use pad::Pad;
 pub use rect::Rect;
+pub use rounded::{MAX_CORNERS, Rounded};
 pub use shape::{MAX_HALF_SIDE, PadShape};
 pub use zone::Zone;

@@ -1,6 +1,6 @@
 //! Zones: boxes along the axes that say where a shape may cover a centre.
 
-ghost use Rattle.std.specs.Prelude.{◌≡◌, ◌+◌, ◌≤◌, ◌&&◌, nat_le};
+ghost use Rattle.std.specs.Prelude.{◌≡◌, ◌+◌, ◌≤◌, ◌&&◌, nat_le, true};
 ghost use Rattle.grid_units.specs.Points.{GridPoint, abs_diff, square};
 ghost use Rattle.pad_shapes.specs.Zones.{IsInZone, IsInset};
 
@@ -70,4 +70,20 @@ pub(crate) fn is_step_within(dx: u64, dy: u64, length: u64) -> bool
     ensures { result ≡ (nat_le dx length && (nat_le dy length && nat_le (square dx + square dy) (square length))) }
 {
     dx <= length && dy <= length && square_length(dx, dy) <= square(length)
+}
+
+/// Whether no point lies in both zones.
+pub(crate) fn are_apart(first: &Zone, second: &Zone) -> bool
+    ensures { result ≡ true → (p : GridPoint) → IsInZone first.now p → IsInZone second.now p → ⊥ }
+{
+    if first.right < second.left {
+        return true;
+    }
+    if second.right < first.left {
+        return true;
+    }
+    if first.top < second.bottom {
+        return true;
+    }
+    second.top < first.bottom
 }

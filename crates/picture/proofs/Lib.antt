@@ -1,5 +1,3 @@
 pub mod EscapesLemmas
 pub mod Gathered
-pub mod HoleGroupLemmas
-pub mod PadPathLemmas
 pub mod PadOrderLemmas

@@ -1,6 +1,6 @@
 -- The elements of a picture (docs/FORMATS.md, Pictures). Lengths are whole pm, printed in mm without zeros at the end; y grows downwards.
-use Rattle.std.specs.Prelude.{ℕ, ℤ, pos, neg_ℤ, ◌+◌, ◌-◌, ◌*◌, ◌/◌, ◌+ℤ◌, ◌-ℤ◌, int_div, min, max, ◌==◌, ◌&&◌, nat_le, not, Bool, false, List, [], ◌∷◌, ◌++◌, length, codes, decimal, Option, Some, None, if◌then◌else◌}
-use Rattle.std.specs.List.{flat_map}
+use Rattle.std.specs.Prelude.{ℕ, ℤ, pos, neg_ℤ, ◌+◌, ◌-◌, ◌*◌, ◌/◌, ◌%◌, ◌+ℤ◌, ◌-ℤ◌, int_div, min, max, ◌==◌, ◌&&◌, ◌||◌, nat_le, not, Bool, false, List, [], ◌++◌, length, slice_get, codes, decimal, Option, Some, if◌then◌else◌}
+use Rattle.std.specs.List.{enumerate_from, flat_map}
 use Rattle.grid_units.specs.Holes.{GridHole, is_round}
 use Rattle.grid_units.specs.Points.{GridPoint}
 use Rattle.pad_shapes.specs.Shapes.{GridRect, GridObround}
@@ -48,6 +48,29 @@ horizontal_line x y length = start x y ++ after (codes "h") length
 unfoldable pub vertical_line : ℤ → ℤ → ℤ → List ℕ
 vertical_line x y length = start x y ++ after (codes "v") length
 
+-- a half circle as a part of a path, by its radius and the way along x to its end: `a0.375 0.375 0 1 0 0.75 0`
+unfoldable pub half_circle : ℤ → ℤ → List ℕ
+half_circle radius along = after (codes "a") radius ++ (after (codes " ") radius ++ (after (codes " 0 1 0 ") along ++ codes " 0"))
+
+-- a circle as a part of a path: from its left side by two half circles to the right side and back: `M0.625 -2a0.375 0.375 0 1 0 0.75 0a0.375 0.375 0 1 0 -0.75 0z`
+unfoldable pub round_part : ℤ → ℤ → ℤ → ℤ → ℤ → List ℕ
+round_part left y radius there back = after (codes "M") left ++ (after (codes " ") y ++ (half_circle radius there ++ (half_circle radius back ++ codes "z")))
+
+-- the end of a path, with its title: `"><title>disc 0.6x0.6</title></path>`
+abbrev pub path_end : List ℕ → List ℕ
+path_end title = codes "\"><title>" ++ (title ++ codes "</title></path>\n")
+
+-- ---- neighbours in a list
+
+-- two elements are there, and alike
+abbrev pub both_alike : {X : Type 0} → (X → X → Bool) → Option X → Option X → Bool
+both_alike alike (Some a) (Some b) = alike a b
+both_alike alike _ _ = false
+
+-- the element at place i is like the one before it
+abbrev pub is_like_previous : {X : Type 0} → (X → X → Bool) → List X → ℕ → Bool
+is_like_previous alike xs i = both_alike alike (slice_get xs (i - 1)) (slice_get xs i)
+
 -- ---- pads
 
 -- half the width of an obround's line: its lesser half side
@@ -76,10 +99,10 @@ unfoldable pub lines_start : ℤ → List ℕ
 lines_start width = after (codes "<path class=\"line\" stroke-width=\"") width ++ codes "\" d=\""
 
 -- the start of the path for pads like this one
-abbrev pub path_start : Pad → List ℕ
-path_start (pads.Disc d) = lines_start (pos (2 * d.radius))
-path_start (pads.Rect r) = codes "<path class=\"pad\" d=\""
-path_start (pads.Obround o) = lines_start (pos (2 * half_width o))
+abbrev pub pads_start : Pad → List ℕ
+pads_start (pads.Disc d) = lines_start (pos (2 * d.radius))
+pads_start (pads.Rect r) = codes "<path class=\"pad\" d=\""
+pads_start (pads.Obround o) = lines_start (pos (2 * half_width o))
 
 -- the kind of some pads and their sides along x and y: `disc 0.6x0.6`
 unfoldable pub sized_words : List ℕ → ℤ → ℤ → List ℕ
@@ -91,10 +114,6 @@ pad_words (pads.Disc d) = sized_words (codes "disc ") (pos (2 * d.radius)) (pos 
 pad_words (pads.Rect r) = sized_words (codes "rect ") (pos (2 * r.half_x)) (pos (2 * r.half_y))
 pad_words (pads.Obround o) = sized_words (codes "obround ") (pos (2 * o.half_x)) (pos (2 * o.half_y))
 
--- the end of a path of pads like this one, with a title: `"><title>disc 0.6x0.6</title></path>`
-abbrev pub path_end : Pad → List ℕ
-path_end pad = codes "\"><title>" ++ (pad_words pad ++ codes "</title></path>\n")
-
 -- two pads of one kind and size
 abbrev pub are_alike : Pad → Pad → Bool
 are_alike (pads.Disc a) (pads.Disc b) = a.radius == b.radius
@@ -102,20 +121,29 @@ are_alike (pads.Rect a) (pads.Rect b) = (a.half_x == b.half_x) && (a.half_y == b
 are_alike (pads.Obround a) (pads.Obround b) = (a.half_x == b.half_x) && (a.half_y == b.half_y)
 are_alike _ _ = false
 
--- between the pad before, if there is one, and a pad: nothing between pads alike, else the start of a new path
-abbrev pub path_change : Option Pad → Pad → List ℕ
-path_change None pad = path_start pad
-path_change (Some before) pad = if are_alike before pad then [] else path_end before ++ path_start pad
+-- a path begins at place i of the pads: at the first, and where the pad before is not like the one there
+abbrev pub begins_pads : List Pad → ℕ → Bool
+begins_pads pads i = (i == 0) || not (is_like_previous are_alike pads i)
 
--- the end of the last path, if there is one
-abbrev pub last_end : Option Pad → List ℕ
-last_end None = []
-last_end (Some before) = path_end before
+-- a path ends after place i: it is the last, or a path begins at the next
+abbrev pub ends_pads : List Pad → ℕ → Bool
+ends_pads pads i = (i + 1 == length pads) || begins_pads pads (i + 1)
 
--- the paths of some pads that follow a pad, if there is one before: a path for each run of pads alike
-unfoldable pub paths_after : Option Pad → List Pad → List ℕ
-paths_after before [] = last_end before
-paths_after before (pad ∷ pads) = (path_change before pad ++ outline pad) ++ paths_after (Some pad) pads
+-- the start of the path that begins at place i, if one does
+abbrev pub pads_start_at : List Pad → ℕ × Pad → List ℕ
+pads_start_at pads (i, pad) = if begins_pads pads i then pads_start pad else []
+
+-- the end of the path that ends after place i, if one does
+abbrev pub pads_end_at : List Pad → ℕ × Pad → List ℕ
+pads_end_at pads (i, pad) = if ends_pads pads i then path_end (pad_words pad) else []
+
+-- a pad with its place: its outline, with the start and the end of a path where they belong
+unfoldable pub placed_pad : List Pad → ℕ × Pad → List ℕ
+placed_pad pads (i, pad) = pads_start_at pads (i, pad) ++ (outline pad ++ pads_end_at pads (i, pad))
+
+-- all pads: a path for each run of pads alike
+abbrev pub pad_paths : List Pad → List ℕ
+pad_paths pads = flat_map (placed_pad pads) (enumerate_from 0 pads)
 
 -- ---- crosses
 
@@ -165,42 +193,72 @@ hole_class plated = if plated then codes "plated" else codes "unplated"
 abbrev pub slot : List ℕ → GridHole → ℕ → List ℕ
 slot class h half = line class (pos (2 * half)) h.from.x (neg_ℤ h.from.y) h.to.x (neg_ℤ h.to.y)
 
--- a hole: a circle, or the two lines of a slot: `rim`, and the narrower `slot` on it
+-- a round hole as a part of a path
+abbrev pub round_hole : GridHole → List ℕ
+round_hole h = round_part (h.from.x -ℤ pos h.radius) (neg_ℤ h.from.y) (pos h.radius) (pos (2 * h.radius)) (neg_ℤ (pos (2 * h.radius)))
+
+-- a hole: a part of a path, or the two lines of a slot: `rim`, and the narrower `slot` on it
 unfoldable pub hole : Pen → Drilled → List ℕ
 hole pen d =
-    if is_round d.hole then circle (hole_class d.plated) d.hole.from.x (neg_ℤ d.hole.from.y) (pos d.hole.radius) (pos (rim pen d.hole.radius))
+    if is_round d.hole then round_hole d.hole
     else slot (codes "rim") d.hole d.hole.radius ++ slot (codes "slot") d.hole (d.hole.radius - rim pen d.hole.radius)
 
--- two holes of one diameter, both plated or both not
-abbrev pub are_alike_holes : Drilled → Drilled → Bool
-are_alike_holes a b = (a.hole.radius == b.hole.radius) && (if a.plated then b.plated else not b.plated)
+-- the class and the diameter of some holes in words: `plated hole, 0.75`
+unfoldable pub diameter_words : List ℕ → ℤ → List ℕ
+diameter_words class diameter = class ++ (codes " hole, " ++ short_millimetres diameter)
 
--- the start of a group of holes, with a title that has their diameter: `<g><title>plated hole, 0.75</title>`
-unfoldable pub holes_start : List ℕ → ℤ → List ℕ
-holes_start class diameter = codes "<g><title>" ++ (class ++ (codes " hole, " ++ (short_millimetres diameter ++ codes "</title>\n")))
+-- a hole in words: `plated hole, 0.75`
+abbrev pub hole_words : Drilled → List ℕ
+hole_words d = diameter_words (hole_class d.plated) (pos (2 * d.hole.radius))
 
--- the start of the group for holes like this one
-abbrev pub holes_like : Drilled → List ℕ
-holes_like d = holes_start (hole_class d.plated) (pos (2 * d.hole.radius))
+-- the start of a path of round holes, by their class and the width of the line round each: `<path class="plated" stroke-width="0.09375" d="`
+unfoldable pub round_start : List ℕ → ℤ → List ℕ
+round_start class width = codes "<path class=\"" ++ (class ++ (after (codes "\" stroke-width=\"") width ++ codes "\" d=\""))
+
+-- the start of a group of slots, with its title: `<g><title>plated hole, 0.75</title>`
+abbrev pub slots_start : List ℕ → List ℕ
+slots_start title = codes "<g><title>" ++ (title ++ codes "</title>\n")
 
 -- the end of a group
 abbrev pub group_end : List ℕ
 group_end = codes "</g>\n"
 
--- between the hole before, if there is one, and a hole: nothing between holes alike, else the start of a new group
-abbrev pub holes_change : Option Drilled → Drilled → List ℕ
-holes_change None d = holes_like d
-holes_change (Some before) d = if are_alike_holes before d then [] else group_end ++ holes_like d
+-- the start of the path for round holes like this one, or of the group for slots like it
+abbrev pub holes_start : Pen → Drilled → List ℕ
+holes_start pen d = if is_round d.hole then round_start (hole_class d.plated) (pos (rim pen d.hole.radius)) else slots_start (hole_words d)
 
--- the end of the last group, if there is one
-abbrev pub holes_end : Option Drilled → List ℕ
-holes_end None = []
-holes_end (Some before) = group_end
+-- the end of it: of a path with the title
+abbrev pub holes_end : Drilled → List ℕ
+holes_end d = if is_round d.hole then path_end (hole_words d) else group_end
 
--- some holes that follow a hole, if there is one before: a group for each run of holes alike
-unfoldable pub holes_after : Pen → Option Drilled → List Drilled → List ℕ
-holes_after pen before [] = holes_end before
-holes_after pen before (d ∷ ds) = (holes_change before d ++ hole pen d) ++ holes_after pen (Some d) ds
+-- two holes of one diameter, both plated or both not, both round or both slots
+abbrev pub are_alike_holes : Drilled → Drilled → Bool
+are_alike_holes a b =
+    (a.hole.radius == b.hole.radius) && ((if a.plated then b.plated else not b.plated) && (if is_round a.hole then is_round b.hole else not (is_round b.hole)))
+
+-- a path or a group begins at place i of the holes: at each 250th from the first, and where the hole before is not like the one there
+abbrev pub begins_holes : List Drilled → ℕ → Bool
+begins_holes holes i = (i % 250 == 0) || not (is_like_previous are_alike_holes holes i)
+
+-- a path or a group ends after place i: it is the last, or one begins at the next
+abbrev pub ends_holes : List Drilled → ℕ → Bool
+ends_holes holes i = (i + 1 == length holes) || begins_holes holes (i + 1)
+
+-- the start of the path or group that begins at place i, if one does
+abbrev pub holes_start_at : Pen → List Drilled → ℕ × Drilled → List ℕ
+holes_start_at pen holes (i, d) = if begins_holes holes i then holes_start pen d else []
+
+-- the end of the path or group that ends after place i, if one does
+abbrev pub holes_end_at : List Drilled → ℕ × Drilled → List ℕ
+holes_end_at holes (i, d) = if ends_holes holes i then holes_end d else []
+
+-- a hole with its place: its shape, with the start and the end of a path or group where they belong
+unfoldable pub placed_hole : Pen → List Drilled → ℕ × Drilled → List ℕ
+placed_hole pen holes (i, d) = holes_start_at pen holes (i, d) ++ (hole pen d ++ holes_end_at holes (i, d))
+
+-- all holes: for each run of holes alike paths of round holes, or groups of slots, with at most 250 in each
+abbrev pub hole_paths : Pen → List Drilled → List ℕ
+hole_paths pen holes = flat_map (placed_hole pen holes) (enumerate_from 0 holes)
 
 -- ---- findings
 

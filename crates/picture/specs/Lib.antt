@@ -1,4 +1,5 @@
 pub mod Elements
+pub mod Copper
 pub mod Escapes
 pub mod Panels
 pub mod Scenes

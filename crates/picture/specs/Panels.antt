@@ -1,7 +1,8 @@
 -- The text of a panel: its elements, in their order (docs/FORMATS.md, Pictures).
-use Rattle.std.specs.Prelude.{ℕ, ℤ, pos, neg_ℤ, ◌*◌, ◌/◌, ◌+ℤ◌, ◌==◌, Bool, true, false, List, [], ◌++◌, length, take, count_by, codes, decimal, None, if◌then◌else◌}
+use Rattle.std.specs.Prelude.{ℕ, ℤ, pos, neg_ℤ, ◌*◌, ◌/◌, ◌+ℤ◌, ◌==◌, Bool, true, false, List, [], ◌++◌, length, take, count_by, codes, decimal, if◌then◌else◌}
 use Rattle.std.specs.List.{flat_map}
 use Rattle.grid_units.specs.Points.{GridPoint}
+use Rattle.layer_image.specs.declared.drawn.Drawn.{Drawn}
 use Rattle.pad_shapes.specs.declared.pad.Pad.{Pad}
 use Rattle.ring_rules.specs.declared.finding.Drilled.{Drilled}
 use Rattle.picture.specs.declared.frame.Frame.{Frame}
@@ -10,8 +11,9 @@ use Rattle.picture.specs.declared.place.Place.{Place}
 use Rattle.picture.specs.declared.scene.DrawnFinding.{DrawnFinding}
 use Rattle.picture.specs.declared.scene.DrawnFinding.TheVariants.{Ring, Gap}
 use Rattle.picture.specs.declared.scene.Scene.{Scene}
+use Rattle.picture.specs.Copper.{copper}
 use Rattle.picture.specs.Escapes.{escaped}
-use Rattle.picture.specs.Elements.{after, crosses, finding_text, holes_after, mark, number, paths_after, text_start}
+use Rattle.picture.specs.Elements.{after, crosses, finding_text, hole_paths, mark, number, pad_paths, text_start}
 
 -- the place of a panel on the page: `" transform="translate(5.5 109.5)">`
 unfoldable pub translated : ℤ → ℤ → List ℕ
@@ -85,10 +87,10 @@ marks_text pen place lacks = flat_map (mark pen place) lacks ++ flat_map (number
 abbrev pub lacks_text : Pen → Place → List DrawnFinding → List ℕ
 lacks_text pen place lacks = flat_map (finding_text pen place) lacks ++ marks_text pen place (marked lacks)
 
--- the contents of a panel: pads, crosses, holes and findings
-abbrev pub scene_text : Pen → Place → List Pad → List GridPoint → List Drilled → List DrawnFinding → List ℕ
-scene_text pen place pads points holes lacks =
-    ((paths_after None pads ++ crosses pen points) ++ holes_after pen None holes) ++ lacks_text pen place lacks
+-- the contents of a panel: what is drawn, pads, crosses, holes and findings
+abbrev pub scene_text : Pen → Place → List Drawn → List Pad → List GridPoint → List Drilled → List DrawnFinding → List ℕ
+scene_text pen place drawn pads points holes lacks =
+    (((copper drawn ++ pad_paths pads) ++ crosses pen points) ++ hole_paths pen holes) ++ lacks_text pen place lacks
 
 -- the end of a panel
 abbrev pub panel_end : List ℕ
@@ -98,5 +100,5 @@ panel_end = codes "</g>\n"
 abbrev pub panel_text : Place → Frame → Pen → Scene → List ℕ
 panel_text place frame pen scene =
     ((((panel_start place ++ name_start pen frame) ++ escaped place.name.now) ++ after_name pen frame scene)
-    ++ scene_text pen place scene.pads.items scene.crosses.items scene.holes.now scene.lacks.items)
+    ++ scene_text pen place scene.drawn.now scene.pads.items scene.crosses.items scene.holes.now scene.lacks.items)
     ++ panel_end

@@ -1,11 +1,12 @@
--- The contents of a layer's panel: its pads, its other flashes, the holes, and the findings there (docs/FORMATS.md, Pictures).
-use Rattle.std.specs.Prelude.{◌≡◌, ℕ, ◌+◌, ◌≤◌, ◌<◌, ◌==◌, nat_lt, Bool, true, List, [], ◌∷◌, length, get_or, Option, Some, None, slice_get, if◌then◌else◌}
+-- The contents of a layer's panel: what it draws, its pads, its other flashes, the holes, and the findings there (docs/FORMATS.md, Pictures).
+use Rattle.std.specs.Prelude.{◌≡◌, ℕ, ◌+◌, ◌≤◌, ◌<◌, ◌==◌, ◌||◌, nat_lt, Bool, true, List, [], ◌∷◌, length, get_or, Option, Some, None, slice_get, if◌then◌else◌}
 use Rattle.std.specs.List.{cons_option, flat_map, enumerate_from}
 use Rattle.std.specs.List.Sorted.{IsSortedByKey}
 use Rattle.std.specs.Ordering.{nat_cmp, ordering_then}
 use Rattle.std.specs.declared.cmp.Ordering.{Ordering}
 use Rattle.grid_units.specs.Points.{GridPoint}
 use Rattle.layer_image.specs.Flashes.{is_other, pad_in}
+use Rattle.layer_image.specs.declared.drawn.Drawn.{Drawn}
 use Rattle.layer_image.specs.declared.flash.Flash.{Flash}
 use Rattle.pad_shapes.specs.declared.pad.Pad.{Pad}
 use Rattle.pad_shapes.specs.declared.pad.Pad.TheVariants as pads
@@ -23,6 +24,10 @@ is_crowded flashes holes = nat_lt 100000 (length flashes + length holes)
 -- the flashes or holes that are drawn: none of them in a crowded panel
 abbrev pub unless_crowded : {X : Type 0} → Bool → List X → List X
 unless_crowded crowded xs = if crowded then [] else xs
+
+-- what a panel shows of what its layer draws: nothing in a crowded panel, or above 100,000 parts
+abbrev pub shown_copper : Bool → List Drawn → List Drawn
+shown_copper crowded drawn = unless_crowded (crowded || nat_lt 100000 (length drawn)) drawn
 
 -- the pad of a flash, if it is one
 abbrev pub pad_of : Flash → List Pad

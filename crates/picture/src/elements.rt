@@ -1,7 +1,7 @@
 //! The forms of the elements of a picture. Lengths are in pm, printed in millimetres; in a picture y grows downwards.
 
 ghost use Rattle.std.specs.Prelude.{◌≡◌, ◌≤◌, ◌^◌, Some, neg_ℤ, unsigned_abs};
-ghost use Rattle.picture.specs.Elements.{horizontal_line, vertical_line, box, circle, line, text_start};
+ghost use Rattle.picture.specs.Elements.{box, circle, half_circle, horizontal_line, line, round_part, text_start, vertical_line};
 
 use crate::pen::Pen;
 use crate::widths::unit;
@@ -121,6 +121,54 @@ impl Display for Rectangle {
         let (width, height) = (ShortMillimetres(self.width), ShortMillimetres(self.height));
         let back = ShortMillimetres(self.back);
         write!(f, "M{x} {y}h{width}v{height}h{back}z")
+    }
+}
+
+/// A half circle as a part of a path, by its radius and the way along x to its end: `a0.375 0.375 0 1 0 0.75 0`.
+#[derive(Clone, Copy)]
+struct HalfCircle {
+    radius: i64,
+    along: i64,
+}
+
+impl Display for HalfCircle {
+    ghost output = { λ part. Some (half_circle part.radius part.along) };
+
+    #[tactic(auto, unfolding(crate::specs::Elements::half_circle))]
+    fn fmt<W: fmt::Write>(&self, f: &mut Formatter<W>) -> fmt::Result {
+        let (radius, along) = (ShortMillimetres(self.radius), ShortMillimetres(self.along));
+        write!(f, "a{radius} {radius} 0 1 0 {along} 0")
+    }
+}
+
+/// A circle as a part of a path, by its left side, its radius, and the ways along x to its right side and back.
+#[derive(Clone, Copy)]
+pub(crate) struct RoundPart {
+    pub(crate) left: i64,
+    pub(crate) y: i64,
+    pub(crate) radius: i64,
+    pub(crate) there: i64,
+    pub(crate) back: i64,
+}
+
+impl Display for RoundPart {
+    ghost output = { λ part. Some (round_part part.left part.y part.radius part.there part.back) };
+
+    fn fmt<W: fmt::Write>(&self, f: &mut Formatter<W>) -> fmt::Result {
+        let (left, y, radius) = (
+            ShortMillimetres(self.left),
+            ShortMillimetres(self.y),
+            self.radius,
+        );
+        let there = HalfCircle {
+            radius,
+            along: self.there,
+        };
+        let back = HalfCircle {
+            radius,
+            along: self.back,
+        };
+        write!(f, "M{left} {y}{there}{back}z")
     }
 }
 

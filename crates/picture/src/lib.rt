@@ -1,8 +1,9 @@
-//! The panel of a copper layer, as SVG: its pads, its other flashes, the holes, and the findings under the rules.
+//! The panel of a copper layer, as SVG: what it draws, its pads, its other flashes, the holes, and the findings under the rules.
 //!
 //! All lengths are whole picometres (pm), and are printed in millimetres.
 #![tactic(auto)]
 
+mod copper;
 mod elements;
 mod findings;
 mod frame;

@@ -1,8 +1,8 @@
 //! Pads in a picture: paths of rectangles and of lines with round ends.
 
-ghost use Rattle.std.specs.Prelude.{◌≡◌, ◌*◌, ◌-◌, ◌≤◌, ◌^◌, ◌+ℤ◌, ◌-ℤ◌, neg_ℤ, pos, nat_le, None, Some, unsigned_abs};
+ghost use Rattle.std.specs.Prelude.{◌≡◌, ◌*◌, ◌-◌, ◌≤◌, ◌<◌, ◌^◌, ◌+ℤ◌, ◌-ℤ◌, neg_ℤ, pos, nat_le, length, Some, unsigned_abs};
 ghost use Rattle.std.specs.Fmt.{DisplaysOnOk};
-ghost use Rattle.picture.specs.Elements.{are_alike, box, last_end, lines_start, obround_line, outline, pad_words, paths_after, path_end, path_start, rect_box, path_change, sized_words};
+ghost use Rattle.picture.specs.Elements.{are_alike, begins_pads, box, ends_pads, lines_start, obround_line, outline, pad_paths, pad_words, pads_end_at, pads_start, pads_start_at, rect_box, sized_words};
 
 use crate::elements::{Across, Along, Rectangle, down};
 use pad_shapes::{Obround, Pad, Rect};
@@ -134,10 +134,10 @@ fn write_lines_start<W: fmt::Write>(f: &mut Formatter<W>, width: i64) -> fmt::Re
 
 /// The start of the path for pads like this one.
 #[derive(Clone, Copy)]
-struct PathStart<'a>(&'a Pad);
+struct PadsStart<'a>(&'a Pad);
 
-impl Display for PathStart<'_> {
-    ghost output = { λ pad. Some (path_start pad.0.now) };
+impl Display for PadsStart<'_> {
+    ghost output = { λ pad. Some (pads_start pad.0.now) };
 
     fn fmt<W: fmt::Write>(&self, f: &mut Formatter<W>) -> fmt::Result {
         match self.0 {
@@ -182,40 +182,53 @@ impl Display for PadWords<'_> {
     }
 }
 
-/// The end of the path for pads like this one, with a title.
-#[derive(Clone, Copy)]
-struct PathEnd<'a>(&'a Pad);
+/// Whether a path begins at a place: at the first, and where the pad before is not like the one there.
+fn begins_at(pads: &[Pad], place: usize) -> bool
+    requires { place < length pads.now }
+    ensures { result ≡ begins_pads pads.now place }
+{
+    place == 0 || !are_alike(&pads[place - 1], &pads[place])
+}
 
-impl Display for PathEnd<'_> {
-    ghost output = { λ pad. Some (path_end pad.0.now) };
+/// Whether a path ends after a place: it is the last, or a path begins at the next.
+fn ends_at(pads: &[Pad], place: usize) -> bool
+    requires { place < length pads.now }
+    ensures { result ≡ ends_pads pads.now place }
+{
+    place + 1 == pads.len() || begins_at(pads, place + 1)
+}
 
-    fn fmt<W: fmt::Write>(&self, f: &mut Formatter<W>) -> fmt::Result {
-        write!(f, "\"><title>{}</title></path>\n", PadWords(self.0))
+/// Writes the start of the path that begins at the place of a pad, if one does.
+fn write_start<W: fmt::Write>(
+    f: &mut Formatter<W>,
+    pads: &[Pad],
+    place: usize,
+    pad: &Pad,
+) -> fmt::Result
+    requires { place < length pads.now }
+    ensures { DisplaysOnOk W.write_str_gives f.old result (Some (pads_start_at pads.now (place, pad.now))) f.new }
+{
+    if begins_at(pads, place) {
+        write!(f, "{}", PadsStart(pad))
+    } else {
+        Ok(())
     }
 }
 
-/// Writes what stands between the pad before, if there is one, and a pad: nothing, or the start of a new path.
-fn write_turn<W: fmt::Write>(f: &mut Formatter<W>, before: Option<Pad>, pad: &Pad) -> fmt::Result
-    ensures { DisplaysOnOk W.write_str_gives f.old result (Some (path_change before pad.now)) f.new }
+/// Writes the end of the path that ends after the place of a pad, if one does.
+fn write_end<W: fmt::Write>(
+    f: &mut Formatter<W>,
+    pads: &[Pad],
+    place: usize,
+    pad: &Pad,
+) -> fmt::Result
+    requires { place < length pads.now }
+    ensures { DisplaysOnOk W.write_str_gives f.old result (Some (pads_end_at pads.now (place, pad.now))) f.new }
 {
-    match before {
-        None => write!(f, "{}", PathStart(pad)),
-        Some(before) => {
-            if are_alike(&before, pad) {
-                return Ok(());
-            }
-            write!(f, "{}{}", PathEnd(&before), PathStart(pad))
-        }
-    }
-}
-
-/// Writes the end of the last path, if there is one.
-fn write_last_end<W: fmt::Write>(f: &mut Formatter<W>, before: Option<Pad>) -> fmt::Result
-    ensures { DisplaysOnOk W.write_str_gives f.old result (Some (last_end before)) f.new }
-{
-    match before {
-        Some(before) => write!(f, "{}", PathEnd(&before)),
-        None => Ok(()),
+    if ends_at(pads, place) {
+        write!(f, "\"><title>{}</title></path>\n", PadWords(pad))
+    } else {
+        Ok(())
     }
 }
 
@@ -224,15 +237,14 @@ fn write_last_end<W: fmt::Write>(f: &mut Formatter<W>, before: Option<Pad>) -> f
 pub(crate) struct Paths<'a>(pub(crate) &'a [Pad]);
 
 impl Display for Paths<'_> {
-    ghost output = { λ pads. Some (paths_after None pads.0.now) };
+    ghost output = { λ pads. Some (pad_paths pads.0.now) };
 
     fn fmt<W: fmt::Write>(&self, f: &mut Formatter<W>) -> fmt::Result {
-        let mut before = None;
-        for pad in self.0 {
-            write_turn(f, before, pad)?;
+        for (place, pad) in self.0.iter().enumerate() {
+            write_start(f, self.0, place, pad)?;
             write!(f, "{}", Outline(pad))?;
-            before = Some(*pad);
+            write_end(f, self.0, place, pad)?;
         }
-        write_last_end(f, before)
+        Ok(())
     }
 }

@@ -5,10 +5,11 @@ ghost use Rattle.std.specs.Fmt.{DisplaysOnOk};
 ghost use Rattle.picture.specs.Escapes.{escaped};
 ghost use Rattle.picture.specs.Panels.{after_name, board_box, drawn_words, lacking_words, name_start, note, panel_start, panel_text, ring_count, scene_text};
 
+use crate::copper::Copper;
 use crate::elements::{TextStart, down};
 use crate::findings::Findings;
 use crate::frame::Frame;
-use crate::holes::{Crosses, HoleGroups};
+use crate::holes::{Crosses, HolePaths};
 use crate::names::Escaped;
 use crate::pads::Paths;
 use crate::pen::Pen;
@@ -127,7 +128,7 @@ impl Display for Note<'_> {
     }
 }
 
-/// The contents of a panel: pads, crosses, holes and findings.
+/// The contents of a panel: what is drawn, pads, crosses, holes and findings.
 #[derive(Clone, Copy)]
 struct Contents<'a> {
     pen: &'a Pen,
@@ -136,16 +137,17 @@ struct Contents<'a> {
 }
 
 impl Display for Contents<'_> {
-    ghost output = { λ all. Some (scene_text all.pen.now all.place.now all.scene.now.pads.items all.scene.now.crosses.items all.scene.now.holes.now all.scene.now.lacks.items) };
+    ghost output = { λ all. Some (scene_text all.pen.now all.place.now all.scene.now.drawn.now all.scene.now.pads.items all.scene.now.crosses.items all.scene.now.holes.now all.scene.now.lacks.items) };
 
     fn fmt<W: fmt::Write>(&self, f: &mut Formatter<W>) -> fmt::Result {
         let (pen, scene) = (self.pen, self.scene);
+        let copper = Copper(scene.drawn);
         let pads = Paths(&scene.pads);
         let crosses = Crosses {
             pen,
             points: &scene.crosses,
         };
-        let holes = HoleGroups {
+        let holes = HolePaths {
             pen,
             holes: scene.holes,
         };
@@ -156,7 +158,7 @@ impl Display for Contents<'_> {
             },
             lacks: &scene.lacks,
         };
-        write!(f, "{pads}{crosses}{holes}{findings}")
+        write!(f, "{copper}{pads}{crosses}{holes}{findings}")
     }
 }
 
@@ -207,8 +209,8 @@ impl Display for AfterName<'_> {
     }
 }
 
-/// The panel of a layer, printed as an element `g` of SVG: its name, a note, the box of the board, and its pads, crosses, holes and
-/// findings. Lengths are printed in millimetres.
+/// The panel of a layer, printed as an element `g` of SVG: its name, a note, the box of the board, and what is drawn, pads, crosses,
+/// holes and findings. Lengths are printed in millimetres.
 #[derive(Clone, Copy)]
 pub struct Panel<'a> {
     /// The file, and the place of the panel on the page.

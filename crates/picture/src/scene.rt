@@ -2,15 +2,15 @@
 
 ghost use Rattle.std.specs.Prelude.{◌≡◌, ◌<◌, ◌^◌, ◌++◌, slice_get, IfOk, IsPermutation, OnOk};
 ghost use Rattle.layer_image.specs.Flashes.{pads_of};
-ghost use Rattle.picture.specs.Scenes.{AreSortedBySize, cross_of, crosses_of, drawn_gap, is_crowded, kind_of, drawn_finding, drawn_findings, pad_of, drawn_ring, unless_crowded};
+ghost use Rattle.picture.specs.Scenes.{AreSortedBySize, cross_of, crosses_of, drawn_gap, is_crowded, kind_of, drawn_finding, drawn_findings, pad_of, drawn_ring, shown_copper, unless_crowded};
 
 use grid_units::{Hole, Point};
-use layer_image::{Flash, What};
+use layer_image::{Drawn, Flash, What};
 use pad_shapes::Pad;
 use ring_rules::{Drilled, Finding};
 use std::alloc::{AllocError, Global};
 
-/// The most flashes and holes that a panel draws.
+/// The most flashes and holes that a panel draws, and the most parts of what its layer draws.
 const DRAWN_LIMIT: usize = 100_000;
 
 /// An insufficient ring or gap, with the number of its finding, from 1.
@@ -39,6 +39,8 @@ pub enum DrawnFinding {
 pub struct Scene<'a> {
     /// Whether there are more than 100,000 flashes and holes: then none of them is drawn.
     pub crowded: bool,
+    /// What the layer draws, in order; nothing in a crowded panel, or where it is more than 100,000 parts.
+    pub drawn: &'a [Drawn],
     /// The pads in order of kind and size, so that pads alike stand next to each other.
     pub pads: Vec<Pad>,
     /// The points of the flashes that are no pads.
@@ -71,6 +73,17 @@ fn drawn_holes(crowded: bool, holes: &[Drilled]) -> &[Drilled]
     ensures { result.now ≡ unless_crowded crowded holes.now }
 {
     if crowded { &[] } else { holes }
+}
+
+/// What a panel shows of what its layer draws: nothing in a crowded panel, or above the limit.
+fn shown_copper(crowded: bool, drawn: &[Drawn]) -> &[Drawn]
+    ensures { result.now ≡ shown_copper crowded drawn.now }
+{
+    if crowded || drawn.len() > DRAWN_LIMIT {
+        &[]
+    } else {
+        drawn
+    }
 }
 
 /// The kind of a pad (0 disc, 1 rectangle, 2 obround), and its half sides in pm.
@@ -234,9 +247,9 @@ fn drawn_findings(
     Ok(lacks)
 }
 
-/// The contents of a layer's panel, by the layer's place among the copper files, from 0: its pads in order of kind and size, its other
-/// flashes and all holes, or none of them where they are more than 100,000; and the insufficient rings and gaps, numbered from 1 in the
-/// order of the findings. A layer or a hole in a finding is a place in the lists that were checked.
+/// The contents of a layer's panel, by the layer's place among the copper files, from 0: what it draws, unless that is more than 100,000
+/// parts; its pads in order of kind and size, its other flashes and all holes, or none of all these where the flashes and holes are more
+/// than 100,000; and the insufficient rings and gaps, numbered from 1 in the order of the findings. A layer or a hole in a finding is a place in the lists that were checked.
 ///
 /// # Errors
 ///
@@ -245,10 +258,12 @@ pub fn scene_of<'a>(
     alloc: Global,
     layer: usize,
     flashes: &[Flash],
+    drawn: &'a [Drawn],
     holes: &'a [Drilled],
     findings: &[Finding],
 ) -> Result<Scene<'a>, AllocError>
     ensures crowded { IfOk result (λ scene. scene.crowded ≡ is_crowded flashes.now holes.now) }
+    ensures drawn { IfOk result (λ scene. scene.drawn.now ≡ shown_copper scene.crowded drawn.now) }
     ensures pads { IfOk result (λ scene. IsPermutation (pads_of (unless_crowded scene.crowded flashes.now)) scene.pads.items) }
     ensures order { IfOk result (λ scene. AreSortedBySize scene.pads.items) }
     ensures crosses { IfOk result (λ scene. scene.crosses.items ≡ crosses_of (unless_crowded scene.crowded flashes.now)) }
@@ -256,11 +271,12 @@ pub fn scene_of<'a>(
     ensures lacks { IfOk result (λ scene. scene.lacks.items ≡ drawn_findings layer holes.now findings.now) }
 {
     let crowded = is_crowded(flashes, holes);
-    let drawn = drawn_flashes(crowded, flashes);
+    let shown = drawn_flashes(crowded, flashes);
     Ok(Scene {
         crowded,
-        pads: sorted_pads(alloc, drawn)?,
-        crosses: crosses_of(alloc, drawn)?,
+        drawn: shown_copper(crowded, drawn),
+        pads: sorted_pads(alloc, shown)?,
+        crosses: crosses_of(alloc, shown)?,
         holes: drawn_holes(crowded, holes),
         lacks: drawn_findings(alloc, layer, holes, findings)?,
     })

@@ -187,7 +187,8 @@ picture_text names layers svg = TOOLS.now ++ (flat_map (layer_button names) laye
 -- the table, and the script that the page ends with
 abbrev pub table_text : List (List ℕ) → BoardReport → List (Option (Bor (List ℕ))) → List (Option (Bor (List ℕ))) → List ℕ
 table_text names report rings gaps =
-    CAPTION.now ++ (count_words (finding_count report) ++ (COLUMNS.now ++ (table_rows names report rings gaps ++ (BEFORE_SCRIPT.now ++ (SCRIPT.now ++ END.now)))))
+    (CAPTION.now ++ (count_words (finding_count report) ++ (COLUMNS.now ++ table_rows names report rings gaps)))
+    ++ (BEFORE_SCRIPT.now ++ (SCRIPT.now ++ END.now))
 
 -- the text of a page, by the element `svg` of its drawing; `names` are those of the package's files
 abbrev pub html_text : List (List ℕ) → BoardReport → Acceptances → List ℕ → List ℕ

@@ -41,6 +41,7 @@ pub const TOOLS: &str = "\
 <button type=\"button\" id=\"nearer\">zoom in</button>
 <button type=\"button\" id=\"further\">zoom out</button>
 <button type=\"button\" id=\"whole\">fit</button>
+<details><summary>keys</summary><p id=\"keys\">In the picture plus and minus zoom, 0 fits, and arrows move. Tab goes on to the markers of a layer: there arrows go from marker to marker, and Enter chooses a finding, or zooms in on findings that stand together. In the table arrows go from row to row.</p></details>
 </div>
 <div class=\"tools\" role=\"group\" aria-label=\"layers\">
 ";
@@ -48,12 +49,14 @@ pub const TOOLS: &str = "\
 /// From the buttons of the layers to the picture.
 pub const FIGURE: &str = "\
 </div>
-<figure id=\"picture\" tabindex=\"0\" aria-label=\"The board, a panel for each layer. Keys: plus and minus zoom, 0 fits, arrows move. The table has all findings.\">
+<figure id=\"picture\" tabindex=\"0\" aria-label=\"The board, a picture for each layer. The table has all findings.\" aria-describedby=\"keys\">
 ";
 
-/// From the picture to the number of findings.
+/// From the picture to the number of findings. The script takes a `sheet` for each layer.
 pub const CAPTION: &str = "\
 </figure>
+<template id=\"sheet\"><div class=\"sheet\"><h2><span></span> <small></small></h2><div class=\"sight\"><div class=\"markers\" role=\"group\"></div><div class=\"bar\" aria-hidden=\"true\"></div></div></div></template>
+<p id=\"told\" role=\"status\"></p>
 </section>
 <section aria-label=\"findings\">
 <p id=\"selected\" aria-live=\"polite\">No finding is selected.</p>

@@ -1,6 +1,6 @@
 //! Causes of worked examples, in pm.
 
-use crate::rows::{Form, pad_at, what_at};
+use crate::rows::{Form, RowFail, pad_at, what_at};
 use grid_units::{Hole, Point, Rules};
 use layer_image::{Flash, Why};
 use margins::best_pads;
@@ -8,7 +8,6 @@ use pad_shapes::Pad;
 use report::{RingCause, *};
 use ring_rules::Drilled;
 use std::alloc::Global;
-use std::test::Fail;
 
 /// What is flashed, and where.
 type FlashRow = (Form, i64, i64);
@@ -21,18 +20,26 @@ type CauseRow = (&'static str, usize, i64, i64);
 
 const NO_CAUSE: CauseRow = ("nothing", 0, 0, 0);
 
-fn flash(row: FlashRow) -> Option<Flash> {
+fn push_flash(flashes: &mut Vec<Flash>, row: FlashRow) -> Result<(), RowFail> {
     let (form, x, y) = row;
-    let at = Point::new(x, y)?;
-    let what = what_at(form, at)?;
-    Some(Flash { at, what })
+    let at = Point::new(x, y).ok_or(RowFail::Figures)?;
+    let what = what_at(form, at).ok_or(RowFail::Figures)?;
+    match flashes.push(Flash { at, what }) {
+        Ok(_) => Ok(()),
+        Err(_) => Err(RowFail::Memory),
+    }
 }
 
-fn flashes_of(alloc: Global, rows: &[FlashRow]) -> Result<Vec<Flash>, Fail> {
-    let mut flashes = Vec::new(alloc);
+fn push_flashes(flashes: &mut Vec<Flash>, rows: &[FlashRow]) -> Result<(), RowFail> {
     for row in rows {
-        flashes.push(flash(*row).ok_or("flash")?)?;
+        push_flash(flashes, *row)?;
     }
+    Ok(())
+}
+
+fn flashes_of(alloc: Global, rows: &[FlashRow]) -> Result<Vec<Flash>, RowFail> {
+    let mut flashes = Vec::new(alloc);
+    push_flashes(&mut flashes, rows)?;
     Ok(flashes)
 }
 
@@ -61,15 +68,25 @@ fn row_of(cause: RingCause) -> CauseRow {
 }
 
 /// The cause of a hole among some flashes, for a required ring.
-fn cause_of(alloc: Global, flashes: &[Flash], hole: HoleRow, ring: i64) -> Result<CauseRow, Fail> {
-    let rules = Rules::new(ring, 1).ok().ok_or("rules")?;
-    let holes = [drilled(hole).ok_or("hole")?];
+fn cause_of(
+    alloc: Global,
+    flashes: &[Flash],
+    hole: HoleRow,
+    ring: i64,
+) -> Result<CauseRow, RowFail> {
+    let rules = Rules::new(ring, 1)?;
+    let holes = [drilled(hole).ok_or(RowFail::Figures)?];
     let known = CauseFinder::new(alloc, flashes, &holes)?;
     Ok(row_of(known.cause(flashes, &holes, 0, rules)))
 }
 
 /// The cause of a hole among the flashes of some rows.
-fn cause_in(alloc: Global, rows: &[FlashRow], hole: HoleRow, ring: i64) -> Result<CauseRow, Fail> {
+fn cause_in(
+    alloc: Global,
+    rows: &[FlashRow],
+    hole: HoleRow,
+    ring: i64,
+) -> Result<CauseRow, RowFail> {
     let flashes = flashes_of(alloc, rows)?;
     cause_of(alloc, &flashes, hole, ring)
 }
@@ -182,25 +199,30 @@ const CAUSES: [(&[FlashRow], HoleRow, i64, CauseRow); 10] = [
 ];
 
 #[test]
-fn causes_of_holes(rt: HostRuntime) -> Result<(), Fail> {
+fn causes_of_holes(rt: HostRuntime) {
     for &(rows, hole, ring, cause) in &CAUSES {
         assert!(rt;
-            cause_in(rt.alloc(), rows, hole, ring)? == cause,
+            cause_in(rt.alloc(), rows, hole, ring) == Ok(cause),
             "{}",
             cause.0
         );
     }
+}
+
+/// Adds 40 macro flashes along x, a millimetre apart, from 39 mm down to 0.
+fn push_row_of_flashes(flashes: &mut Vec<Flash>) -> Result<(), RowFail> {
+    for place in (0..40_u8).rev() {
+        let x = i64::from(place) * 1_000_000_000;
+        push_flash(flashes, (Form::Other(Why::Macro), x, 0))?;
+    }
     Ok(())
 }
 
-/// 40 macro flashes along x, a millimetre apart, from 39 mm down to 0.
-fn flashes_in_a_row(alloc: Global) -> Result<Vec<Flash>, Fail> {
+/// The cause of a hole in a row of flashes, for a required ring of 0.1 mm.
+fn cause_in_a_row(alloc: Global, hole: HoleRow) -> Result<CauseRow, RowFail> {
     let mut flashes = Vec::new(alloc);
-    for place in (0..40_u8).rev() {
-        let x = i64::from(place) * 1_000_000_000;
-        flashes.push(flash((Form::Other(Why::Macro), x, 0)).ok_or("flash")?)?;
-    }
-    Ok(flashes)
+    push_row_of_flashes(&mut flashes)?;
+    cause_of(alloc, &flashes, hole, 100_000_000)
 }
 
 /// Holes over a row of flashes, and their causes. Those with one, some and all of the flashes in them, where the flashes from 30 mm to
@@ -215,32 +237,42 @@ const IN_A_ROW: [(i64, i64, i64, CauseRow); 6] = [
 ];
 
 #[test]
-fn holes_in_a_row_of_flashes(rt: HostRuntime) -> Result<(), Fail> {
-    let flashes = flashes_in_a_row(rt.alloc())?;
+fn holes_in_a_row_of_flashes(rt: HostRuntime) {
     for &(x, y, radius, cause) in &IN_A_ROW {
         let hole = ((x, y), (x, y), radius);
-        assert!(rt; cause_of(rt.alloc(), &flashes, hole, 100_000_000)? == cause);
+        assert!(rt;
+            cause_in_a_row(rt.alloc(), hole) == Ok(cause),
+            "{radius} at {x},{y}"
+        );
     }
-    Ok(())
 }
 
-/// The cause of a hole of 0.4 mm at the origin in a square 1 nm off it, for a ring of 0.125 mm, with its best pad given.
-fn cause_by_best(alloc: Global, pads: &[Pad]) -> Result<CauseRow, Fail> {
-    let rules = Rules::new(125_000_000, 1).ok().ok_or("rules")?;
-    let holes = [drilled(((0, 0), (0, 0), 200_000_000)).ok_or("hole")?];
+/// The cause of the first of these holes among some flashes, for a ring of 0.125 mm, with its best pad given.
+fn cause_by_pads(
+    alloc: Global,
+    flashes: &[Flash],
+    holes: &[Drilled; 1],
+    pads: &[Pad],
+) -> Result<CauseRow, RowFail> {
+    let rules = Rules::new(125_000_000, 1)?;
+    let bests = best_pads(alloc, pads, holes)?;
+    let known = CauseFinder::with_bests(alloc, flashes, holes, pads, &bests)?;
+    Ok(row_of(known.cause(flashes, holes, 0, rules)))
+}
+
+/// The cause of a hole of 0.4 mm at the origin in a square 1 nm off it, with its best pad given: this form round a point.
+fn cause_by_best(alloc: Global, form: Form, centre: (i64, i64)) -> Result<CauseRow, RowFail> {
+    let pad = pad_at(form, centre).ok_or(RowFail::Figures)?;
+    let hole = drilled(((0, 0), (0, 0), 200_000_000)).ok_or(RowFail::Figures)?;
     let flashes = flashes_of(alloc, &[MOVED])?;
-    let bests = best_pads(alloc, pads, &holes)?;
-    let known = CauseFinder::with_bests(alloc, &flashes, &holes, pads, &bests)?;
-    Ok(row_of(known.cause(&flashes, &holes, 0, rules)))
+    cause_by_pads(alloc, &flashes, &[hole], &[pad])
 }
 
 /// The best pad is that of the layer, or of another.
 #[test]
-fn best_pads_are_known(rt: HostRuntime) -> Result<(), Fail> {
+fn best_pads_are_known(rt: HostRuntime) {
     for &(form, x, y) in &[MOVED, (Form::Disc(1_000_000_000), 0, 0)] {
-        let pad = pad_at(form, (x, y)).ok_or("pad")?;
-        let cause = cause_by_best(rt.alloc(), &[pad])?;
-        assert!(rt; cause == ("off", 1, 124_999_000, 1_000));
+        let cause = cause_by_best(rt.alloc(), form, (x, y));
+        assert!(rt; cause == Ok(("off", 1, 124_999_000, 1_000)), "{x}");
     }
-    Ok(())
 }

@@ -2,8 +2,6 @@
 
 use print_text::*;
 use report::*;
-use std::alloc::AllocError;
-use std::test::Fail;
 
 /// The rings of 81 holes of 0.3 mm.
 const RING: RingLine = RingLine {
@@ -200,15 +198,17 @@ fn measure_of(row: MeasureRow) -> MeasureText<'static> {
 }
 
 /// Whether the measure of a row is printed as its text.
-fn is_printed(rt: HostRuntime, row: MeasureRow) -> Result<bool, AllocError> {
-    let written = format!(in rt.alloc(); "{}", measure_of(row))?;
-    Ok(written.as_str() == row.4)
+fn is_printed(rt: HostRuntime, row: MeasureRow) -> bool {
+    let measure = measure_of(row);
+    match format!(in rt.alloc(); "{measure}") {
+        Ok(written) => written.as_str() == row.4,
+        Err(_) => false,
+    }
 }
 
 #[test]
-fn measures_are_printed_in_order(rt: HostRuntime) -> Result<(), Fail> {
+fn measures_are_printed_in_order(rt: HostRuntime) {
     for row in &MEASURES {
-        assert!(rt; is_printed(rt, *row)?, "{}", row.4);
+        assert!(rt; is_printed(rt, *row), "{}", row.4);
     }
-    Ok(())
 }

@@ -1,22 +1,30 @@
 //! The JSON of worked examples.
 
-use crate::rows::{Form, in_pad, slot_at};
+use crate::rows::{CauseRow, Form, GapRow, HoleRow, ReportRow, RingRow, after, report_of};
 use board_report::measure_board;
-use grid_units::{Fault, Reason, Rules, Span};
+use grid_units::{Fault, Reason, Span};
 use layer_image::Why;
-use package_check::{File, FileSum, Keep, Role, read_package};
+use package_check::{Board, File, FileSum, Keep, Role, read_package};
 use print_json::*;
 use print_text::no_acceptances;
-use report::{
-    Acceptances, BoardReport, GapLack, LayerHead, Meets, Met, RingCause, RingInPad, RingLack,
-};
+use report::{Acceptances, BoardReport, LayerHead, Met};
 use std::alloc::{AllocError, Global};
-use std::test::Fail;
 
 /// Whether a refusal has this text.
-fn is_refused(rt: HostRuntime, stop: &InputError, text: &str) -> Result<bool, Fail> {
-    let written = format!(in rt.alloc(); "{stop}")?;
-    Ok(written.as_str() == text)
+fn is_refused(rt: HostRuntime, stop: &InputError, text: &str) -> bool {
+    match format!(in rt.alloc(); "{stop}") {
+        Ok(written) => written.as_str() == text,
+        Err(_) => false,
+    }
+}
+
+/// Whether the refusal of a file has these parts, one after another.
+fn is_made_of(rt: HostRuntime, name: &str, parts: &[&str]) -> bool {
+    let device = InputError::Device { index: 0, name };
+    match format!(in rt.alloc(); "{device}") {
+        Ok(written) => after(written.as_str(), parts) == Some(""),
+        Err(_) => false,
+    }
 }
 
 /// Why there is no report, and its JSON.
@@ -65,15 +73,14 @@ const STOPS: [(InputError, &str); 6] = [
 ];
 
 #[test]
-fn refusals_are_printed(rt: HostRuntime) -> Result<(), Fail> {
+fn refusals_are_printed(rt: HostRuntime) {
     for &(stop, text) in &STOPS {
-        assert!(rt; is_refused(rt, &stop, text)?, "{text}");
+        assert!(rt; is_refused(rt, &stop, text), "{text}");
     }
-    Ok(())
 }
 
 #[test]
-fn names_are_escaped(rt: HostRuntime) -> Result<(), Fail> {
+fn names_are_escaped(rt: HostRuntime) {
     for &(name, escaped) in &[
         ("a\"b", "a\\\"b"),
         ("a\\b", "a\\\\b"),
@@ -81,13 +88,13 @@ fn names_are_escaped(rt: HostRuntime) -> Result<(), Fail> {
         ("Lötstopp/€", "Lötstopp/€"),
         ("", ""),
     ] {
-        let device = InputError::Device { index: 0, name };
-        let text = format!(in rt.alloc();
-            "{{\"format\":\"ringcheck\",\"version\":2,\"result\":\"device\",\"file\":1,\"name\":\"{escaped}\"}}\n"
-        )?;
-        assert!(rt; is_refused(rt, &device, text.as_str())?);
+        let head =
+            "{\"format\":\"ringcheck\",\"version\":2,\"result\":\"device\",\"file\":1,\"name\":\"";
+        assert!(rt;
+            is_made_of(rt, name, &[head, escaped, "\"}\n"]),
+            "{escaped}"
+        );
     }
-    Ok(())
 }
 
 const SQUARE: &[u8] = b"%FSLAX46Y46*%\n%MOMM*%\n%ADD10R,0.65X0.65*%\nD10*\nX0Y0D03*\nM02*\n";
@@ -117,95 +124,99 @@ fn file<'a>(role: Role, name: &'a str, bytes: &'a [u8]) -> File<'a> {
     }
 }
 
+const MEASURED: &str = "{\"format\":\"ringcheck\",\"version\":2,\"result\":\"measured\",";
+
+fn is_printed_as(alloc: Global, json: &MeasureJson, text: &str) -> bool {
+    match format!(in alloc; "{json}") {
+        Ok(written) => after(written.as_str(), &[MEASURED, text]) == Some("}\n"),
+        Err(_) => false,
+    }
+}
+
+/// Whether the measure of a board has this JSON after its first members.
+fn is_measure(alloc: Global, board: &Board, text: &str) -> bool {
+    let Ok(measure) = measure_board(alloc, board) else {
+        return false;
+    };
+    let json = MeasureJson {
+        names: &["top", "pth"],
+        board,
+        measure: &measure,
+    };
+    is_printed_as(alloc, &json, text)
+}
+
 /// Whether the measure of a layer and a plated drill file has this JSON after its first members.
-fn is_measured(rt: HostRuntime, layer: &[u8], holes: &[u8], text: &str) -> Result<bool, Fail> {
-    let alloc = rt.alloc();
+fn is_measured(alloc: Global, layer: &[u8], holes: &[u8], text: &str) -> bool {
     let files = [
         file(Role::Copper, "top", layer),
         file(Role::Plated, "pth", holes),
     ];
-    let board = read_package(alloc, &files, Keep::Pads)
-        .ok()
-        .ok_or("no board")?;
-    let measure = measure_board(alloc, &board)?;
-    let json = MeasureJson {
-        names: &["top", "pth"],
-        board: &board,
-        measure: &measure,
-    };
-    let written = format!(in alloc; "{json}")?;
-    let wanted = format!(in alloc;
-        "{{\"format\":\"ringcheck\",\"version\":2,\"result\":\"measured\",{text}}}\n"
-    )?;
-    Ok(written.as_str() == wanted.as_str())
+    match read_package(alloc, &files, Keep::Pads) {
+        Ok(board) => is_measure(alloc, &board, text),
+        Err(_) => false,
+    }
 }
+
+/// A layer, a plated drill file, and the JSON of their measure after its first members.
+const MEASURES: [(&[u8], &[u8], &str); 5] = [
+    (
+        SQUARE,
+        HIT,
+        "\"meets\":{\"ring_pm\":125000000,\"gap_pm\":\"any\",\"held_pm\":125000000},\"files\":[{\"number\":1,\"role\":\"copper\",\"name\":\"top\",\"pads\":1,\"other\":0},{\"number\":2,\"role\":\"plated\",\"name\":\"pth\",\"round\":1,\"slots\":0,\"span\":null}],\"scales\":[],\"rings\":[{\"layer\":1,\"drill\":2,\"diameter_pm\":400000000,\"holes\":1,\"bare\":0,\"least_pm\":125000000,\"hole\":1}],\"gap\":null",
+    ),
+    (
+        SQUARE,
+        NO_HIT,
+        "\"meets\":{\"ring_pm\":\"any\",\"gap_pm\":\"any\",\"held_pm\":\"any\"},\"files\":[{\"number\":1,\"role\":\"copper\",\"name\":\"top\",\"pads\":1,\"other\":0},{\"number\":2,\"role\":\"plated\",\"name\":\"pth\",\"round\":0,\"slots\":0,\"span\":null}],\"scales\":[],\"rings\":[],\"gap\":null",
+    ),
+    (
+        PAIR,
+        HIT,
+        "\"meets\":{\"ring_pm\":0,\"gap_pm\":\"any\",\"held_pm\":0},\"files\":[{\"number\":1,\"role\":\"copper\",\"name\":\"top\",\"pads\":2,\"other\":0},{\"number\":2,\"role\":\"plated\",\"name\":\"pth\",\"round\":1,\"slots\":0,\"span\":null}],\"scales\":[],\"rings\":[{\"layer\":1,\"drill\":2,\"diameter_pm\":400000000,\"holes\":1,\"bare\":0,\"least_pm\":0,\"hole\":1}],\"gap\":null",
+    ),
+    (
+        DISC,
+        TWICE,
+        "\"meets\":{\"ring_pm\":125000000,\"gap_pm\":-400000000,\"held_pm\":125000000},\"files\":[{\"number\":1,\"role\":\"copper\",\"name\":\"top\",\"pads\":1,\"other\":0},{\"number\":2,\"role\":\"plated\",\"name\":\"pth\",\"round\":2,\"slots\":0,\"span\":null}],\"scales\":[],\"rings\":[{\"layer\":1,\"drill\":2,\"diameter_pm\":400000000,\"holes\":2,\"bare\":0,\"least_pm\":125000000,\"hole\":1}],\"gap\":{\"least_pm\":-400000000,\"at\":{\"drill\":2,\"hole\":1,\"from_pm\":[0,0],\"to_pm\":[0,0],\"diameter_pm\":400000000},\"and\":{\"drill\":2,\"hole\":2,\"from_pm\":[0,0],\"to_pm\":[0,0],\"diameter_pm\":400000000}}",
+    ),
+    (
+        DISCS,
+        TENTHS,
+        "\"meets\":{\"ring_pm\":\"none\",\"gap_pm\":600000000,\"held_pm\":\"none\"},\"files\":[{\"number\":1,\"role\":\"copper\",\"name\":\"top\",\"pads\":3,\"other\":0},{\"number\":2,\"role\":\"plated\",\"name\":\"pth\",\"round\":3,\"slots\":0,\"span\":null}],\"scales\":[{\"drill\":2,\"bare\":3,\"factor\":\"10\",\"then\":0}],\"rings\":[{\"layer\":1,\"drill\":2,\"diameter_pm\":400000000,\"holes\":3,\"bare\":3,\"least_pm\":null,\"hole\":null}],\"gap\":{\"least_pm\":600000000,\"at\":{\"drill\":2,\"hole\":1,\"from_pm\":[1000000000,0],\"to_pm\":[1000000000,0],\"diameter_pm\":400000000},\"and\":{\"drill\":2,\"hole\":2,\"from_pm\":[2000000000,0],\"to_pm\":[2000000000,0],\"diameter_pm\":400000000}}",
+    ),
+];
 
 #[test]
-fn measures_are_printed(rt: HostRuntime) -> Result<(), Fail> {
-    for &(layer, holes, text) in &[
-        (
-            SQUARE,
-            HIT,
-            "\"meets\":{\"ring_pm\":125000000,\"gap_pm\":\"any\",\"held_pm\":125000000},\"files\":[{\"number\":1,\"role\":\"copper\",\"name\":\"top\",\"pads\":1,\"other\":0},{\"number\":2,\"role\":\"plated\",\"name\":\"pth\",\"round\":1,\"slots\":0,\"span\":null}],\"scales\":[],\"rings\":[{\"layer\":1,\"drill\":2,\"diameter_pm\":400000000,\"holes\":1,\"bare\":0,\"least_pm\":125000000,\"hole\":1}],\"gap\":null",
-        ),
-        (
-            SQUARE,
-            NO_HIT,
-            "\"meets\":{\"ring_pm\":\"any\",\"gap_pm\":\"any\",\"held_pm\":\"any\"},\"files\":[{\"number\":1,\"role\":\"copper\",\"name\":\"top\",\"pads\":1,\"other\":0},{\"number\":2,\"role\":\"plated\",\"name\":\"pth\",\"round\":0,\"slots\":0,\"span\":null}],\"scales\":[],\"rings\":[],\"gap\":null",
-        ),
-        (
-            PAIR,
-            HIT,
-            "\"meets\":{\"ring_pm\":0,\"gap_pm\":\"any\",\"held_pm\":0},\"files\":[{\"number\":1,\"role\":\"copper\",\"name\":\"top\",\"pads\":2,\"other\":0},{\"number\":2,\"role\":\"plated\",\"name\":\"pth\",\"round\":1,\"slots\":0,\"span\":null}],\"scales\":[],\"rings\":[{\"layer\":1,\"drill\":2,\"diameter_pm\":400000000,\"holes\":1,\"bare\":0,\"least_pm\":0,\"hole\":1}],\"gap\":null",
-        ),
-        (
-            DISC,
-            TWICE,
-            "\"meets\":{\"ring_pm\":125000000,\"gap_pm\":-400000000,\"held_pm\":125000000},\"files\":[{\"number\":1,\"role\":\"copper\",\"name\":\"top\",\"pads\":1,\"other\":0},{\"number\":2,\"role\":\"plated\",\"name\":\"pth\",\"round\":2,\"slots\":0,\"span\":null}],\"scales\":[],\"rings\":[{\"layer\":1,\"drill\":2,\"diameter_pm\":400000000,\"holes\":2,\"bare\":0,\"least_pm\":125000000,\"hole\":1}],\"gap\":{\"least_pm\":-400000000,\"at\":{\"drill\":2,\"hole\":1,\"from_pm\":[0,0],\"to_pm\":[0,0],\"diameter_pm\":400000000},\"and\":{\"drill\":2,\"hole\":2,\"from_pm\":[0,0],\"to_pm\":[0,0],\"diameter_pm\":400000000}}",
-        ),
-        (
-            DISCS,
-            TENTHS,
-            "\"meets\":{\"ring_pm\":\"none\",\"gap_pm\":600000000,\"held_pm\":\"none\"},\"files\":[{\"number\":1,\"role\":\"copper\",\"name\":\"top\",\"pads\":3,\"other\":0},{\"number\":2,\"role\":\"plated\",\"name\":\"pth\",\"round\":3,\"slots\":0,\"span\":null}],\"scales\":[{\"drill\":2,\"bare\":3,\"factor\":\"10\",\"then\":0}],\"rings\":[{\"layer\":1,\"drill\":2,\"diameter_pm\":400000000,\"holes\":3,\"bare\":3,\"least_pm\":null,\"hole\":null}],\"gap\":{\"least_pm\":600000000,\"at\":{\"drill\":2,\"hole\":1,\"from_pm\":[1000000000,0],\"to_pm\":[1000000000,0],\"diameter_pm\":400000000},\"and\":{\"drill\":2,\"hole\":2,\"from_pm\":[2000000000,0],\"to_pm\":[2000000000,0],\"diameter_pm\":400000000}}",
-        ),
-    ] {
-        assert!(rt; is_measured(rt, layer, holes, text)?);
+fn measures_are_printed(rt: HostRuntime) {
+    for &(layer, holes, text) in &MEASURES {
+        assert!(rt; is_measured(rt.alloc(), layer, holes, text), "{text}");
     }
-    Ok(())
 }
 
-/// The report without findings on a package of one layer, which meets these rules.
-fn nothing(alloc: Global, ring: i64, gap: i64, meets: Meets) -> Result<BoardReport, Fail> {
-    let mut layers = Vec::new(alloc);
-    layers.push(LayerHead { file: 0, needed: 1 })?;
-    Ok(BoardReport {
-        rules: Rules::new(ring, gap)?,
-        layers,
-        rings: Vec::new(alloc),
-        gaps: Vec::new(alloc),
-        scales: Vec::new(alloc),
-        meets,
-    })
-}
-
-const NO_RING: Meets = Meets {
-    ring: Met::None,
-    gap: Met::UpTo(1_046_051_224),
-    in_pads: Met::UpTo(275_000_000),
+/// A report on a package of one layer, under a ring of 0.1 mm and a gap of 0.25 mm, on a board with a bare hole.
+const NOTHING: ReportRow = ReportRow {
+    rules: (100_000_000, 250_000_000),
+    layers: &[LayerHead { file: 0, needed: 1 }],
+    rings: &[],
+    gaps: &[],
+    scales: &[],
+    meets: (Met::None, Met::UpTo(1_046_051_224), Met::UpTo(275_000_000)),
 };
 
-/// The head of a report under a ring of 0.1 mm and a gap of 0.25 mm, on a board with a bare hole.
+/// What stands before the result of a report.
+const START: &str = "{\"format\":\"ringcheck\",\"version\":2,\"result\":\"";
+
+/// The head of such a report.
 const HEAD: &str =
     "\"rules\":{\"ring_pm\":100000000,\"gap_pm\":250000000},\"meets\":{\"ring_pm\":\"none\",\"gap_pm\":1046051224,\"held_pm\":275000000},\"files\":[{\"number\":1,\"role\":\"copper\",\"name\":\"top_layer\",\"pads\":242,\"other\":3}],\"scales\":[],\"findings\":[";
 
-/// Whether a report with waivers has this JSON: the result, and the findings after the head.
-fn is_waived_so<'a>(
-    rt: HostRuntime,
+/// The JSON of a report with waivers.
+fn json_of<'a>(
+    alloc: Global,
     report: &'a BoardReport,
     accepted: &'a Acceptances<'a>,
-    word: &str,
-    findings: &str,
-) -> Result<bool, AllocError> {
+) -> Result<String, AllocError> {
     let files = &[FileSum::Layer {
         pads: 242,
         other: 3,
@@ -216,54 +227,81 @@ fn is_waived_so<'a>(
         report,
         accepted,
     };
-    let written = format!(in rt.alloc(); "{json}")?;
-    let wanted = format!(in rt.alloc();
-        "{{\"format\":\"ringcheck\",\"version\":2,\"result\":\"{word}\",{HEAD}{findings}]}}\n"
-    )?;
-    Ok(written.as_str() == wanted.as_str())
+    format!(in alloc; "{json}")
 }
 
-/// Whether a report has this JSON: the result, and the findings after the head.
-fn is_printed(
-    rt: HostRuntime,
-    report: &BoardReport,
+/// Whether the JSON of a report has this result, and after the head these parts of the findings.
+fn tells(written: &str, word: &str, findings: &[&str]) -> bool {
+    match after(written, &[START, word, "\",", HEAD]) {
+        Some(rest) => after(rest, findings) == Some("]}\n"),
+        None => false,
+    }
+}
+
+fn has_findings<'a>(
+    alloc: Global,
+    report: &'a BoardReport,
+    accepted: &'a Acceptances<'a>,
     word: &str,
-    findings: &str,
-) -> Result<bool, AllocError> {
-    is_waived_so(rt, report, &no_acceptances(), word, findings)
+    findings: &[&str],
+) -> bool {
+    match json_of(alloc, report, accepted) {
+        Ok(written) => tells(written.as_str(), word, findings),
+        Err(_) => false,
+    }
 }
 
-/// Adds a bare hole in a macro flash to the report.
-fn tell_in_macro(report: &mut BoardReport) -> Result<(), Fail> {
-    let at = (142_240_000_000, -97_790_000_000);
-    report.rings.push(RingLack {
-        layer: 0,
-        at: slot_at(3, 7, at, at, 750_000_000)?,
-        cause: RingCause::Other {
-            why: Why::Macro,
-            flash: 156,
-        },
-    })?;
-    Ok(())
+/// Whether the report of a row has with waivers this JSON: the result, and the parts of the findings after the head.
+fn is_waived_so<'a>(
+    alloc: Global,
+    row: &ReportRow<'a>,
+    accepted: &Acceptances<'a>,
+    word: &str,
+    findings: &[&str],
+) -> bool {
+    match report_of(alloc, row) {
+        Ok(report) => has_findings(alloc, &report, accepted, word, findings),
+        Err(_) => false,
+    }
 }
+
+/// Whether the report of a row has this JSON: the result, and the parts of the findings after the head.
+fn is_printed(alloc: Global, row: &ReportRow, word: &str, findings: &[&str]) -> bool {
+    is_waived_so(alloc, row, &no_acceptances(), word, findings)
+}
+
+/// A bare hole in a macro flash.
+const BARE: RingRow = (
+    0,
+    (
+        3,
+        7,
+        (142_240_000_000, -97_790_000_000),
+        (142_240_000_000, -97_790_000_000),
+        750_000_000,
+    ),
+    CauseRow::Other(Why::Macro, 156),
+);
 
 /// The hole in a macro flash as JSON, after the number of its finding.
 const IN_MACRO: &str =
     ",\"layer\":1,\"at\":{\"drill\":4,\"hole\":7,\"from_pm\":[142240000000,-97790000000],\"to_pm\":[142240000000,-97790000000],\"diameter_pm\":750000000},\"has_pm\":null,\"lacks_pm\":null,\"cause\":\"macro\",\"flash\":156,\"waived\":null}";
 
-#[test]
-fn reports_are_printed(rt: HostRuntime) -> Result<(), Fail> {
-    let mut report = nothing(rt.alloc(), 100_000_000, 250_000_000, NO_RING)?;
-    assert!(rt; is_printed(rt, &report, "pass", "")?);
-    tell_in_macro(&mut report)?;
-    let finding = format!(in rt.alloc(); "{{\"kind\":\"ring\",\"number\":1{IN_MACRO}")?;
-    assert!(rt; is_printed(rt, &report, "findings", finding.as_str())?);
-    Ok(())
-}
+/// A report with a bare hole.
+const ONE_BARE: ReportRow = ReportRow {
+    rings: &[BARE],
+    ..NOTHING
+};
 
 #[test]
-fn a_span_is_printed(rt: HostRuntime) -> Result<(), Fail> {
-    let report = nothing(rt.alloc(), 100_000_000, 250_000_000, NO_RING)?;
+fn reports_are_printed(rt: HostRuntime) {
+    assert!(rt; is_printed(rt.alloc(), &NOTHING, "pass", &[]));
+    let finding = &["{\"kind\":\"ring\",\"number\":1", IN_MACRO];
+    assert!(rt; is_printed(rt.alloc(), &ONE_BARE, "findings", finding));
+}
+
+/// Whether the JSON of a report on a drill file that goes from layer 2 to layer 3 has this part.
+fn has_part(alloc: Global, report: &BoardReport, part: &str) -> bool {
     let files = &[FileSum::Drill {
         plated: true,
         span: Span::new(2, 3),
@@ -273,98 +311,139 @@ fn a_span_is_printed(rt: HostRuntime) -> Result<(), Fail> {
     let json = ReportJson {
         names: &["blind"],
         files,
-        report: &report,
+        report,
         accepted: &no_acceptances(),
     };
-    let written = format!(in rt.alloc(); "{json}")?;
+    match format!(in alloc; "{json}") {
+        Ok(written) => written.as_str().contains(part),
+        Err(_) => false,
+    }
+}
+
+/// Whether the JSON of a report without findings on such a file has this part.
+fn nothing_has_part(alloc: Global, part: &str) -> bool {
+    match report_of(alloc, &NOTHING) {
+        Ok(report) => has_part(alloc, &report, part),
+        Err(_) => false,
+    }
+}
+
+#[test]
+fn a_span_is_printed(rt: HostRuntime) {
     let part =
         "{\"number\":1,\"role\":\"plated\",\"name\":\"blind\",\"round\":1,\"slots\":0,\"span\":[2,3]}";
-    assert!(rt; written.as_str().contains(part));
-    Ok(())
+    assert!(rt; nothing_has_part(rt.alloc(), part));
 }
+
+const ROUND: HoleRow = (1, 1, (0, 0), (0, 0), 400_000_000);
+
+const SLOT: HoleRow = (1, 2, (0, 0), (1_000_000, 2_000_000), 400_000_000);
 
 /// A disc at the origin in which a hole has a ring of exactly 0.
-fn in_disc() -> Result<RingInPad, Fail> {
-    in_pad(1, Form::Disc(200_000_000), (0, 0), 0, 100_000_000)
+const DISC_FORM: Form = Form::Disc(200_000_000);
+
+/// A hole that lacks its ring, and what is printed after the number of its drill file.
+const CAUSES: [(HoleRow, CauseRow, &str); 4] = [
+    (
+        ROUND,
+        CauseRow::TooSmall(1, DISC_FORM, (0, 0), 0, 100_000_000),
+        "1,\"from_pm\":[0,0],\"to_pm\":[0,0],\"diameter_pm\":400000000},\"has_pm\":0,\"lacks_pm\":100000000,\"cause\":\"small\",\"flash\":1",
+    ),
+    (
+        ROUND,
+        CauseRow::OffCentre(1, DISC_FORM, (0, 0), 0, 100_000_000),
+        "1,\"from_pm\":[0,0],\"to_pm\":[0,0],\"diameter_pm\":400000000},\"has_pm\":0,\"lacks_pm\":100000000,\"cause\":\"off\",\"flash\":1",
+    ),
+    (
+        ROUND,
+        CauseRow::NoFlash,
+        "1,\"from_pm\":[0,0],\"to_pm\":[0,0],\"diameter_pm\":400000000},\"has_pm\":null,\"lacks_pm\":null,\"cause\":\"none\",\"flash\":null",
+    ),
+    (
+        SLOT,
+        CauseRow::Oblique,
+        "2,\"from_pm\":[0,0],\"to_pm\":[1000000,2000000],\"diameter_pm\":400000000},\"has_pm\":null,\"lacks_pm\":null,\"cause\":\"oblique\",\"flash\":null",
+    ),
+];
+
+/// Whether the report on a single hole that lacks its ring has this text after the number of its drill file.
+fn is_cause_printed(alloc: Global, hole: HoleRow, cause: CauseRow, text: &str) -> bool {
+    let row = ReportRow {
+        rings: &[(0, hole, cause)],
+        ..NOTHING
+    };
+    let before = "{\"kind\":\"ring\",\"number\":1,\"layer\":1,\"at\":{\"drill\":2,\"hole\":";
+    let finding = &[before, text, ",\"waived\":null}"];
+    is_printed(alloc, &row, "findings", finding)
 }
 
 #[test]
-fn nothing_is_no_zero(rt: HostRuntime) -> Result<(), Fail> {
-    let round = slot_at(1, 1, (0, 0), (0, 0), 400_000_000)?;
-    let slot = slot_at(1, 2, (0, 0), (1_000_000, 2_000_000), 400_000_000)?;
-    for (at, cause, text) in [
-        (
-            round,
-            RingCause::TooSmall(in_disc()?),
-            "\"from_pm\":[0,0],\"to_pm\":[0,0],\"diameter_pm\":400000000},\"has_pm\":0,\"lacks_pm\":100000000,\"cause\":\"small\",\"flash\":1",
-        ),
-        (
-            round,
-            RingCause::OffCentre(in_disc()?),
-            "\"from_pm\":[0,0],\"to_pm\":[0,0],\"diameter_pm\":400000000},\"has_pm\":0,\"lacks_pm\":100000000,\"cause\":\"off\",\"flash\":1",
-        ),
-        (
-            round,
-            RingCause::NoFlash,
-            "\"from_pm\":[0,0],\"to_pm\":[0,0],\"diameter_pm\":400000000},\"has_pm\":null,\"lacks_pm\":null,\"cause\":\"none\",\"flash\":null",
-        ),
-        (
-            slot,
-            RingCause::Oblique,
-            "\"from_pm\":[0,0],\"to_pm\":[1000000,2000000],\"diameter_pm\":400000000},\"has_pm\":null,\"lacks_pm\":null,\"cause\":\"oblique\",\"flash\":null",
-        ),
-    ] {
-        let mut report = nothing(rt.alloc(), 100_000_000, 250_000_000, NO_RING)?;
-        report.rings.push(RingLack {
-            layer: 0,
-            at,
-            cause,
-        })?;
-        let number = at.place.number;
-        let finding = format!(in rt.alloc();
-            "{{\"kind\":\"ring\",\"number\":1,\"layer\":1,\"at\":{{\"drill\":2,\"hole\":{number},{text},\"waived\":null}}"
-        )?;
-        assert!(rt; is_printed(rt, &report, "findings", finding.as_str())?);
+fn nothing_is_no_zero(rt: HostRuntime) {
+    for &(hole, cause, text) in &CAUSES {
+        assert!(rt; is_cause_printed(rt.alloc(), hole, cause, text), "{text}");
     }
-    Ok(())
 }
 
-#[test]
-fn a_long_report_is_printed(rt: HostRuntime) -> Result<(), Fail> {
-    let alloc = rt.alloc();
-    let mut report = nothing(alloc, 100_000_000, 250_000_000, NO_RING)?;
-    let mut findings = String::new(alloc);
-    for number in 1..=40 {
-        tell_in_macro(&mut report)?;
-        let finding = format!(in alloc; "{{\"kind\":\"ring\",\"number\":{number}{IN_MACRO},")?;
-        findings.push_str(finding.as_str())?;
-    }
-    let (here, there) = (
+/// Two holes whose gap is 1 pm too small.
+const CLOSE: GapRow = (
+    (
+        2,
+        213,
         (50_546_000_000, 67_310_000_000),
+        (50_546_000_000, 67_310_000_000),
+        609_600_000,
+    ),
+    (
+        2,
+        214,
         (51_181_000_000, 66_548_000_000),
-    );
-    report.gaps.push(GapLack {
-        first: slot_at(2, 213, here, here, 609_600_000)?,
-        second: slot_at(2, 214, there, there, 609_600_000)?,
-        gap: 382_301_708,
-        lack: 1,
-    })?;
+        (51_181_000_000, 66_548_000_000),
+        609_600_000,
+    ),
+    382_301_708,
+    1,
+);
+
+/// A report with 40 bare holes, and a gap.
+const LONG: ReportRow = ReportRow {
+    rings: &[BARE; 40],
+    gaps: &[CLOSE],
+    ..NOTHING
+};
+
+fn push_bare(alloc: Global, findings: &mut String, number: i32) -> Result<(), AllocError> {
+    let finding = format!(in alloc; "{{\"kind\":\"ring\",\"number\":{number}{IN_MACRO},")?;
+    findings.push_str(finding.as_str())
+}
+
+fn push_all_bare(alloc: Global, findings: &mut String) -> Result<(), AllocError> {
+    for number in 1..=40 {
+        push_bare(alloc, findings, number)?;
+    }
     findings.push_str(
         "{\"kind\":\"gap\",\"number\":41,\"at\":{\"drill\":3,\"hole\":213,\"from_pm\":[50546000000,67310000000],\"to_pm\":[50546000000,67310000000],\"diameter_pm\":609600000},\"and\":{\"drill\":3,\"hole\":214,\"from_pm\":[51181000000,66548000000],\"to_pm\":[51181000000,66548000000],\"diameter_pm\":609600000},\"has_pm\":382301708,\"lacks_pm\":1,\"waived\":null}",
-    )?;
-    assert!(rt; is_printed(rt, &report, "findings", findings.as_str())?);
-    Ok(())
+    )
 }
 
-/// Two holes that lack their gap.
-fn close_pair() -> Result<GapLack, Fail> {
-    Ok(GapLack {
-        first: slot_at(1, 1, (0, 0), (0, 0), 400_000_000)?,
-        second: slot_at(1, 2, (0, 0), (0, 0), 400_000_000)?,
-        gap: -400_000_000,
-        lack: 650_000_000,
-    })
+/// Whether the report with 40 bare holes and a gap has their JSON.
+fn is_long_printed(alloc: Global) -> bool {
+    let mut findings = String::new(alloc);
+    let is_whole = push_all_bare(alloc, &mut findings).is_ok();
+    is_whole && is_printed(alloc, &LONG, "findings", &[findings.as_str()])
 }
+
+#[test]
+fn a_long_report_is_printed(rt: HostRuntime) {
+    assert!(rt; is_long_printed(rt.alloc()));
+}
+
+/// A hole that is hit twice.
+const TWICE_HIT: GapRow = (
+    (1, 1, (0, 0), (0, 0), 400_000_000),
+    (1, 2, (0, 0), (0, 0), 400_000_000),
+    -400_000_000,
+    650_000_000,
+);
 
 /// A ring and a gap that are lacking, as JSON up to their reasons.
 const RING: &str =
@@ -374,52 +453,63 @@ const GAP: &str =
     "{\"kind\":\"gap\",\"number\":2,\"at\":{\"drill\":2,\"hole\":1,\"from_pm\":[0,0],\"to_pm\":[0,0],\"diameter_pm\":400000000},\"and\":{\"drill\":2,\"hole\":2,\"from_pm\":[0,0],\"to_pm\":[0,0],\"diameter_pm\":400000000},\"has_pm\":-400000000,\"lacks_pm\":650000000,\"waived\":";
 
 #[test]
-fn a_waiver_of_nothing_leaves_a_pass(rt: HostRuntime) -> Result<(), Fail> {
-    let report = nothing(rt.alloc(), 100_000_000, 250_000_000, NO_RING)?;
+fn a_waiver_of_nothing_leaves_a_pass(rt: HostRuntime) {
     let accepted = Acceptances {
         rings: &[Some("milled \"by hand\"")],
         gaps: &[Some("slot")],
         idle: &[8],
     };
-    assert!(rt; is_waived_so(rt, &report, &accepted, "pass", "")?);
-    Ok(())
+    assert!(rt; is_waived_so(rt.alloc(), &NOTHING, &accepted, "pass", &[]));
 }
 
+/// A report with a bare hole, and one that is hit twice.
+const ONE_OF_EACH: ReportRow = ReportRow {
+    rings: &[BARE],
+    gaps: &[TWICE_HIT],
+    ..NOTHING
+};
+
+/// Reasons, the result, and the reasons that are printed for the ring and for the gap.
+const WAIVED: [(Acceptances<'static>, &str, &str, &str); 3] = [
+    (
+        Acceptances {
+            rings: &[Some("milled \"by hand\"")],
+            gaps: &[Some("slot")],
+            idle: &[8],
+        },
+        "waived",
+        "\"milled \\\"by hand\\\"\"",
+        "\"slot\"",
+    ),
+    (
+        Acceptances {
+            rings: &[Some("milled \"by hand\"")],
+            gaps: &[],
+            idle: &[],
+        },
+        "findings",
+        "\"milled \\\"by hand\\\"\"",
+        "null",
+    ),
+    (
+        Acceptances {
+            rings: &[None, Some("more than there are")],
+            gaps: &[Some("slot")],
+            idle: &[],
+        },
+        "findings",
+        "null",
+        "\"slot\"",
+    ),
+];
+
 #[test]
-fn waivers_are_printed(rt: HostRuntime) -> Result<(), Fail> {
-    let mut report = nothing(rt.alloc(), 100_000_000, 250_000_000, NO_RING)?;
-    tell_in_macro(&mut report)?;
-    report.gaps.push(close_pair()?)?;
-    let milled = Some("milled \"by hand\"");
-    for (rings, gaps, idle, word, ring, gap) in [
-        (
-            [milled].as_slice(),
-            [Some("slot")].as_slice(),
-            [8].as_slice(),
-            "waived",
-            "\"milled \\\"by hand\\\"\"",
-            "\"slot\"",
-        ),
-        (
-            [milled].as_slice(),
-            &[],
-            &[],
-            "findings",
-            "\"milled \\\"by hand\\\"\"",
-            "null",
-        ),
-        (
-            [None, Some("more than there are")].as_slice(),
-            [Some("slot")].as_slice(),
-            &[],
-            "findings",
-            "null",
-            "\"slot\"",
-        ),
-    ] {
-        let findings = format!(in rt.alloc(); "{RING}{ring}}},{GAP}{gap}}}")?;
-        let accepted = Acceptances { rings, gaps, idle };
-        assert!(rt; is_waived_so(rt, &report, &accepted, word, findings.as_str())?);
+fn waivers_are_printed(rt: HostRuntime) {
+    for (accepted, word, ring, gap) in &WAIVED {
+        let findings = &[RING, *ring, "},", GAP, *gap, "}"];
+        assert!(rt;
+            is_waived_so(rt.alloc(), &ONE_OF_EACH, accepted, word, findings),
+            "{ring} {gap}"
+        );
     }
-    Ok(())
 }

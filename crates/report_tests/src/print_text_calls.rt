@@ -1,131 +1,172 @@
 //! Reports with the figures of the worked examples.
 
-use crate::rows::{Form, hole_at, in_pad, slot_at};
-use grid_units::Rules;
+use crate::rows::{
+    CauseRow, Form, GapRow, HoleRow, ReportRow, RingRow, RowFail, add_ring, after, report_of,
+};
 use layer_image::Why;
 use print_text::*;
-use report::{Meets, Met, UnitFactor, UnitMistake, *};
+use report::{UnitFactor, UnitMistake, *};
 use std::alloc::{AllocError, Global};
 use std::fmt;
 use std::fmt::Write;
-use std::test::Fail;
 
-/// The report without findings on a package without layers, which meets these rules.
-fn nothing(alloc: Global, ring: i64, gap: i64, meets: Meets) -> Result<BoardReport, Fail> {
-    Ok(BoardReport {
-        rules: Rules::new(ring, gap)?,
-        layers: Vec::new(alloc),
-        rings: Vec::new(alloc),
-        gaps: Vec::new(alloc),
-        scales: Vec::new(alloc),
-        meets,
-    })
-}
-
-/// The rules of a package that meets a ring and a gap.
-fn meets(ring: i64, gap: i64) -> Meets {
-    Meets {
-        ring: Met::UpTo(ring),
-        gap: Met::UpTo(gap),
-        in_pads: Met::UpTo(ring),
-    }
-}
+/// A report without layers and findings, on a package that meets its rules.
+const NOTHING: ReportRow = ReportRow {
+    rules: (0, 1),
+    layers: &[],
+    rings: &[],
+    gaps: &[],
+    scales: &[],
+    meets: (Met::UpTo(0), Met::UpTo(1), Met::UpTo(0)),
+};
 
 /// The text of a report on files of these names.
 fn text_of(
-    rt: HostRuntime,
+    alloc: Global,
     names: &[&str],
     report: &BoardReport,
     limit: Option<usize>,
     accepted: &Acceptances,
 ) -> Result<String, AllocError> {
-    let text = ReportText::new(rt.alloc(), names, report, limit, accepted)?;
-    format!(in rt.alloc(); "{text}")
+    let text = ReportText::new(alloc, names, report, limit, accepted)?;
+    format!(in alloc; "{text}")
 }
 
 /// Whether a report on files of these names has this text.
-fn is_printed(
-    rt: HostRuntime,
+fn has_text(
+    alloc: Global,
     names: &[&str],
     report: &BoardReport,
     limit: Option<usize>,
     text: &str,
-) -> Result<bool, AllocError> {
-    let written = text_of(rt, names, report, limit, &no_acceptances())?;
-    Ok(written.as_str() == text)
+) -> bool {
+    match text_of(alloc, names, report, limit, &no_acceptances()) {
+        Ok(written) => written.as_str() == text,
+        Err(_) => false,
+    }
+}
+
+/// Whether the report of a row, on files of these names, has this text.
+fn is_printed(
+    alloc: Global,
+    names: &[&str],
+    row: &ReportRow,
+    limit: Option<usize>,
+    text: &str,
+) -> bool {
+    match report_of(alloc, row) {
+        Ok(report) => has_text(alloc, names, &report, limit, text),
+        Err(_) => false,
+    }
 }
 
 const STICK: [&str; 4] = ["F_Cu", "B_Cu", "StickHub-NPTH", "StickHub-PTH"];
 
-/// The figures of a hole of 0.3 mm that lacks its ring, off the centre of a disc of 0.5 mm.
-#[derive(Clone, Copy)]
-struct Figures {
-    number: usize,
-    at: (i64, i64),
-    flash: usize,
-    centre: (i64, i64),
-    ring: i64,
-    lack: i64,
+/// A hole of 0.3 mm that lacks its ring, and why.
+type OffCentre = (HoleRow, CauseRow);
+
+/// The first two holes of the worked example, off the centre of a disc of 0.5 mm; the least lack, and the greatest.
+const FIRST: OffCentre = (
+    (
+        3,
+        10,
+        (143_745_000_000, -99_547_000_000),
+        (143_745_000_000, -99_547_000_000),
+        300_000_000,
+    ),
+    CauseRow::OffCentre(
+        150,
+        Form::Disc(250_000_000),
+        (143_745_010_000, -99_546_626_000),
+        99_625_866,
+        374_134,
+    ),
+);
+
+const SECOND: OffCentre = (
+    (
+        3,
+        22,
+        (146_180_000_000, -93_072_000_000),
+        (146_180_000_000, -93_072_000_000),
+        300_000_000,
+    ),
+    CauseRow::OffCentre(
+        121,
+        Form::Disc(250_000_000),
+        (146_180_031_000, -93_072_237_000),
+        99_760_981,
+        239_019,
+    ),
+);
+
+const LEAST: OffCentre = (
+    (3, 24, (0, 0), (0, 0), 300_000_000),
+    CauseRow::OffCentre(2, Form::Disc(250_000_000), (0, 0), 99_998_585, 1_415),
+);
+
+const GREATEST: OffCentre = (
+    (3, 24, (0, 0), (0, 0), 300_000_000),
+    CauseRow::OffCentre(2, Form::Disc(250_000_000), (0, 0), 99_394_596, 605_404),
+);
+
+/// One of a layer's 24 holes: the first two, the least lack, and the greatest of all others.
+fn off_centre(index: usize) -> OffCentre {
+    match index {
+        0 => FIRST,
+        1 => SECOND,
+        2 => LEAST,
+        _ => GREATEST,
+    }
 }
 
-/// The figures of one of a layer's 24 holes: the first two of the worked example, the least lack, and the greatest.
-fn figures_of(index: usize) -> Figures {
-    let greatest = Figures {
-        number: 24,
-        at: (0, 0),
-        flash: 2,
-        centre: (0, 0),
-        ring: 99_394_596,
-        lack: 605_404,
-    };
-    match index {
-        0 => Figures {
-            number: 10,
-            at: (143_745_000_000, -99_547_000_000),
-            flash: 150,
-            centre: (143_745_010_000, -99_546_626_000),
-            ring: 99_625_866,
-            lack: 374_134,
+/// Adds the 24 holes of each of two layers.
+fn add_two_layers(report: &mut BoardReport) -> Result<(), RowFail> {
+    for index in 0..48 {
+        let (hole, cause) = off_centre(index % 24);
+        add_ring(report, (index / 24, hole, cause))?;
+    }
+    Ok(())
+}
+
+/// A report on two layers of 87 holes each.
+const TWO_LAYERS: ReportRow = ReportRow {
+    rules: (100_000_000, 250_000_000),
+    layers: &[
+        LayerHead {
+            file: 0,
+            needed: 87,
         },
-        1 => Figures {
-            number: 22,
-            at: (146_180_000_000, -93_072_000_000),
-            flash: 121,
-            centre: (146_180_031_000, -93_072_237_000),
-            ring: 99_760_981,
-            lack: 239_019,
+        LayerHead {
+            file: 1,
+            needed: 87,
         },
-        2 => Figures {
-            ring: 99_998_585,
-            lack: 1_415,
-            ..greatest
-        },
-        _ => greatest,
+    ],
+    meets: (
+        Met::UpTo(99_394_596),
+        Met::UpTo(300_000_000),
+        Met::UpTo(99_394_596),
+    ),
+    ..NOTHING
+};
+
+/// The report on these layers with their holes.
+fn limited_report(alloc: Global) -> Result<BoardReport, RowFail> {
+    let mut report = report_of(alloc, &TWO_LAYERS)?;
+    add_two_layers(&mut report)?;
+    Ok(report)
+}
+
+/// Whether the first two findings of each of these layers are printed so.
+fn is_limited_so(alloc: Global, text: &str) -> bool {
+    match limited_report(alloc) {
+        Ok(report) => has_text(alloc, &STICK, &report, Some(2), text),
+        Err(_) => false,
     }
 }
 
 #[test]
-fn a_limited_report_is_printed(rt: HostRuntime) -> Result<(), Fail> {
-    let board = meets(99_394_596, 300_000_000);
-    let mut report = nothing(rt.alloc(), 100_000_000, 250_000_000, board)?;
-    report.layers.push(LayerHead {
-        file: 0,
-        needed: 87,
-    })?;
-    report.layers.push(LayerHead {
-        file: 1,
-        needed: 87,
-    })?;
-    for index in 0..48 {
-        let it = figures_of(index % 24);
-        let disc = Form::Disc(250_000_000);
-        let place = in_pad(it.flash, disc, it.centre, it.ring, it.lack)?;
-        report.rings.push(RingLack {
-            layer: index / 24,
-            at: hole_at(3, it.number, it.at, 300_000_000)?,
-            cause: RingCause::OffCentre(place),
-        })?;
-    }
+fn a_limited_report_is_printed(rt: HostRuntime) {
     let text = "rules: annular ring 0.1 mm, hole to hole 0.25 mm\n\
         annular ring on F_Cu: 24 of 87 holes below the rule\n  \
         #1 hole 10 of StickHub-PTH, 0.3 at 143.745,-99.547: annular ring 0.099625866 (rule 0.1), off centre: flash 150, disc 0.5x0.5, hole off by -0.00001,-0.000374\n  \
@@ -140,57 +181,32 @@ fn a_limited_report_is_printed(rt: HostRuntime) -> Result<(), Fail> {
         smallest ring 0.099394596 (rule 0.1)\n\
         this board meets annular ring 0.099394596, hole to hole 0.3\n\
         FINDINGS 48\n";
-    assert!(rt; is_printed(rt, &STICK, &report, Some(2), text)?);
-    Ok(())
+    assert!(rt; is_limited_so(rt.alloc(), text));
 }
 
-/// Whether a report on files of these names begins with some lines, and another.
-fn begins_with(
-    rt: HostRuntime,
-    names: &[&str],
-    report: &BoardReport,
-    first: &str,
-    line: &str,
-) -> Result<bool, AllocError> {
-    let written = text_of(rt, names, report, None, &no_acceptances())?;
-    match written.as_str().strip_prefix(first) {
-        Some(rest) => Ok(rest.starts_with(line)),
-        None => Ok(false),
+fn text_begins_with(alloc: Global, names: &[&str], report: &BoardReport, parts: &[&str]) -> bool {
+    match text_of(alloc, names, report, None, &no_acceptances()) {
+        Ok(written) => after(written.as_str(), parts).is_some(),
+        Err(_) => false,
     }
 }
 
-/// Why a hole lacks its ring. For a hole in a pad: the number of its flash, its form and centre, the ring and the lack.
-#[derive(Clone, Copy)]
-enum CauseRow {
-    TooSmall(usize, Form, (i64, i64), i64, i64),
-    OffCentre(usize, Form, (i64, i64), i64, i64),
-    Other(Why, usize),
-    NoFlash,
-    Oblique,
-}
-
-fn cause_of(row: CauseRow) -> Result<RingCause, Fail> {
-    match row {
-        CauseRow::TooSmall(flash, form, centre, ring, lack) => {
-            Ok(RingCause::TooSmall(in_pad(flash, form, centre, ring, lack)?))
-        }
-        CauseRow::OffCentre(flash, form, centre, ring, lack) => {
-            Ok(RingCause::OffCentre(in_pad(flash, form, centre, ring, lack)?))
-        }
-        CauseRow::Other(why, flash) => Ok(RingCause::Other { why, flash }),
-        CauseRow::NoFlash => Ok(RingCause::NoFlash),
-        CauseRow::Oblique => Ok(RingCause::Oblique),
+/// Whether the report of a row, on files of these names, begins with these parts.
+fn begins_with(alloc: Global, names: &[&str], row: &ReportRow, parts: &[&str]) -> bool {
+    match report_of(alloc, row) {
+        Ok(report) => text_begins_with(alloc, names, &report, parts),
+        Err(_) => false,
     }
 }
 
 /// A hole: the name of its file, its number there, its ends and its diameter.
-type HoleRow = (&'static str, usize, (i64, i64), (i64, i64), i64);
+type NamedHole = (&'static str, usize, (i64, i64), (i64, i64), i64);
 
 /// A slot of 0.5 mm from 0,0 to 2,0.
-const SLOT: HoleRow = ("pth", 1, (0, 0), (2_000_000_000, 0), 500_000_000);
+const SLOT: NamedHole = ("pth", 1, (0, 0), (2_000_000_000, 0), 500_000_000);
 
 /// A slot of 0.5 mm that lies along no axis.
-const OBLIQUE: HoleRow = (
+const OBLIQUE: NamedHole = (
     "pth",
     3,
     (0, 0),
@@ -199,7 +215,7 @@ const OBLIQUE: HoleRow = (
 );
 
 /// Holes that lack their ring, why, and their lines. A slot is off by its middle.
-const LINES: [(HoleRow, CauseRow, &str); 11] = [
+const LINES: [(NamedHole, CauseRow, &str); 11] = [
     (
         (
             "drill",
@@ -293,77 +309,80 @@ const LINES: [(HoleRow, CauseRow, &str); 11] = [
     ),
 ];
 
+const ONE_RING: &str =
+    "rules: annular ring 0 mm, hole to hole 0.000000001 mm\nannular ring on top: 1 of 1 holes below the rule\n";
+
 /// Whether the line of a single hole that lacks its ring is this one.
-fn is_ring_line(rt: HostRuntime, hole: HoleRow, cause: CauseRow, text: &str) -> Result<bool, Fail> {
+fn is_ring_line(alloc: Global, hole: NamedHole, cause: CauseRow, text: &str) -> bool {
     let (drill, number, from, to, diameter) = hole;
-    let mut report = nothing(rt.alloc(), 0, 1, meets(0, 1))?;
-    report.layers.push(LayerHead { file: 0, needed: 1 })?;
-    report.rings.push(RingLack {
-        layer: 0,
-        at: slot_at(1, number, from, to, diameter)?,
-        cause: cause_of(cause)?,
-    })?;
-    let first =
-        "rules: annular ring 0 mm, hole to hole 0.000000001 mm\nannular ring on top: 1 of 1 holes below the rule\n";
-    Ok(begins_with(rt, &["top", drill], &report, first, text)?)
+    let row = ReportRow {
+        layers: &[LayerHead { file: 0, needed: 1 }],
+        rings: &[(0, (1, number, from, to, diameter), cause)],
+        ..NOTHING
+    };
+    begins_with(alloc, &["top", drill], &row, &[ONE_RING, text])
 }
 
 #[test]
-fn lines_of_rings_have_their_cause(rt: HostRuntime) -> Result<(), Fail> {
+fn lines_of_rings_have_their_cause(rt: HostRuntime) {
     for &(hole, cause, text) in &LINES {
-        assert!(rt; is_ring_line(rt, hole, cause, text)?, "{text}");
+        assert!(rt; is_ring_line(rt.alloc(), hole, cause, text), "{text}");
     }
-    Ok(())
 }
 
 /// Whether the line of a drill file whose coordinates are off by a factor is this one.
-fn is_scale_line(rt: HostRuntime, factor: UnitFactor, text: &str) -> Result<bool, Fail> {
-    let line = UnitMistake { factor, ..TENTH };
-    let mut report = nothing(rt.alloc(), 0, 1, meets(0, 1))?;
-    report.scales.push(line)?;
-    let after = "rules: annular ring 0 mm, hole to hole 0.000000001 mm\n";
-    Ok(begins_with(rt, &["top", "pth"], &report, text, after)?)
+fn is_scale_line(alloc: Global, factor: UnitFactor, text: &str) -> bool {
+    let row = ReportRow {
+        scales: &[UnitMistake { factor, ..TENTH }],
+        ..NOTHING
+    };
+    let rules = "rules: annular ring 0 mm, hole to hole 0.000000001 mm\n";
+    begins_with(alloc, &["top", "pth"], &row, &[text, rules])
 }
 
+/// A factor, and the line of a drill file whose coordinates are off by it.
+const FACTORS: [(UnitFactor, &str); 3] = [
+    (
+        UnitFactor::Tenth,
+        "pth: coordinates look 10 times too large: 3 holes have no pad; with coordinates times 0.1 it would be 0\n",
+    ),
+    (
+        UnitFactor::Inch,
+        "pth: coordinates look 25.4 times too small: 3 holes have no pad; with coordinates times 25.4 it would be 0\n",
+    ),
+    (
+        UnitFactor::PerInch,
+        "pth: coordinates look 25.4 times too large: 3 holes have no pad; with coordinates times 1/25.4 it would be 0\n",
+    ),
+];
+
 #[test]
-fn factors_are_printed(rt: HostRuntime) -> Result<(), Fail> {
-    for &(factor, text) in &[
-        (
-            UnitFactor::Tenth,
-            "pth: coordinates look 10 times too large: 3 holes have no pad; with coordinates times 0.1 it would be 0\n",
-        ),
-        (
-            UnitFactor::Inch,
-            "pth: coordinates look 25.4 times too small: 3 holes have no pad; with coordinates times 25.4 it would be 0\n",
-        ),
-        (
-            UnitFactor::PerInch,
-            "pth: coordinates look 25.4 times too large: 3 holes have no pad; with coordinates times 1/25.4 it would be 0\n",
-        ),
-    ] {
-        assert!(rt; is_scale_line(rt, factor, text)?, "{text}");
+fn factors_are_printed(rt: HostRuntime) {
+    for &(factor, text) in &FACTORS {
+        assert!(rt; is_scale_line(rt.alloc(), factor, text), "{text}");
     }
-    Ok(())
 }
 
 /// Two layers; every other ring is on the second.
-fn mixed_layers(alloc: Global) -> Result<BoardReport, Fail> {
-    let mut report = nothing(alloc, 100_000_000, 250_000_000, meets(0, 250_000_000))?;
-    report.layers.push(LayerHead { file: 0, needed: 9 })?;
-    report.layers.push(LayerHead { file: 1, needed: 8 })?;
-    for number in 1..6 {
-        report.rings.push(RingLack {
-            layer: number % 2,
-            at: hole_at(3, number, (0, 0), 300_000_000)?,
-            cause: RingCause::NoFlash,
-        })?;
-    }
-    Ok(report)
-}
+const MIXED: ReportRow = ReportRow {
+    rules: (100_000_000, 250_000_000),
+    layers: &[
+        LayerHead { file: 0, needed: 9 },
+        LayerHead { file: 1, needed: 8 },
+    ],
+    rings: &[
+        (1, (3, 1, (0, 0), (0, 0), 300_000_000), CauseRow::NoFlash),
+        (0, (3, 2, (0, 0), (0, 0), 300_000_000), CauseRow::NoFlash),
+        (1, (3, 3, (0, 0), (0, 0), 300_000_000), CauseRow::NoFlash),
+        (0, (3, 4, (0, 0), (0, 0), 300_000_000), CauseRow::NoFlash),
+        (1, (3, 5, (0, 0), (0, 0), 300_000_000), CauseRow::NoFlash),
+    ],
+    meets: (Met::UpTo(0), Met::UpTo(250_000_000), Met::UpTo(0)),
+    ..NOTHING
+};
 
 #[test]
-fn mixed_layers_are_printed_one_by_one(rt: HostRuntime) -> Result<(), Fail> {
-    let report = mixed_layers(rt.alloc())?;
+fn mixed_layers_are_printed_one_by_one(rt: HostRuntime) {
     let text = "rules: annular ring 0.1 mm, hole to hole 0.25 mm\n\
         annular ring on F_Cu: 2 of 9 holes below the rule\n  \
         #2 hole 2 of StickHub-PTH, 0.3 at 0,0: no pad at the hole\n  \
@@ -376,25 +395,29 @@ fn mixed_layers_are_printed_one_by_one(rt: HostRuntime) -> Result<(), Fail> {
         5 no pad at the hole: none was flashed here, or its copper is drawn or of a shape that is not judged, or origin or format differ: see `ringcheck explain none`\n\
         this board meets annular ring 0, hole to hole 0.25\n\
         FINDINGS 5\n";
-    assert!(rt; is_printed(rt, &STICK, &report, Some(4), text)?);
-    Ok(())
+    assert!(rt; is_printed(rt.alloc(), &STICK, &MIXED, Some(4), text));
 }
 
+/// A hole that is hit twice.
+const HIT_TWICE: ReportRow = ReportRow {
+    rules: (125_000_000, 250_000_000),
+    layers: &[LayerHead { file: 0, needed: 2 }],
+    gaps: &[(
+        (1, 1, (0, 0), (0, 0), 400_000_000),
+        (1, 2, (0, 0), (0, 0), 400_000_000),
+        -400_000_000,
+        650_000_000,
+    )],
+    meets: (
+        Met::UpTo(125_000_000),
+        Met::UpTo(-400_000_000),
+        Met::UpTo(125_000_000),
+    ),
+    ..NOTHING
+};
+
 #[test]
-fn a_hole_hit_twice_is_printed(rt: HostRuntime) -> Result<(), Fail> {
-    let mut report = nothing(
-        rt.alloc(),
-        125_000_000,
-        250_000_000,
-        meets(125_000_000, -400_000_000),
-    )?;
-    report.layers.push(LayerHead { file: 0, needed: 2 })?;
-    report.gaps.push(GapLack {
-        first: hole_at(1, 1, (0, 0), 400_000_000)?,
-        second: hole_at(1, 2, (0, 0), 400_000_000)?,
-        gap: -400_000_000,
-        lack: 650_000_000,
-    })?;
+fn a_hole_hit_twice_is_printed(rt: HostRuntime) {
     let text = "rules: annular ring 0.125 mm, hole to hole 0.25 mm\n\
         annular ring on top: 0 of 2 holes below the rule\n\
         hole to hole: 1 gap too small\n  \
@@ -402,32 +425,24 @@ fn a_hole_hit_twice_is_printed(rt: HostRuntime) -> Result<(), Fail> {
         smallest gap -0.4 (rule 0.25)\n\
         this board meets annular ring 0.125, hole to hole -0.4\n\
         FINDINGS 1\n";
-    assert!(rt; is_printed(rt, &["top", "pth"], &report, None, text)?);
-    Ok(())
+    assert!(rt; is_printed(rt.alloc(), &["top", "pth"], &HIT_TWICE, None, text));
 }
+
+/// A package that meets any rules.
+const ANY: ReportRow = ReportRow {
+    meets: (Met::Any, Met::Any, Met::Any),
+    ..NOTHING
+};
 
 #[test]
-fn a_package_that_passes_is_printed(rt: HostRuntime) -> Result<(), Fail> {
-    let any = Meets {
-        ring: Met::Any,
-        gap: Met::Any,
-        in_pads: Met::Any,
-    };
-    let report = nothing(rt.alloc(), 0, 1, any)?;
+fn a_package_that_passes_is_printed(rt: HostRuntime) {
     let text =
         "rules: annular ring 0 mm, hole to hole 0.000000001 mm\nhole to hole: 0 gaps too small\nthis board meets annular ring any, hole to hole any\nPASS\n";
-    assert!(rt; is_printed(rt, &[], &report, Some(0), text)?);
-    Ok(())
+    assert!(rt; is_printed(rt.alloc(), &[], &ANY, Some(0), text));
 }
 
-/// A hole that lacks its ring on a layer without a head.
-fn unseen(cause: RingCause) -> Result<RingLack, Fail> {
-    Ok(RingLack {
-        layer: 9,
-        at: hole_at(1, 1, (0, 0), 400_000_000)?,
-        cause,
-    })
-}
+/// A hole that lacks its ring.
+const UNSEEN: HoleRow = (1, 1, (0, 0), (0, 0), 400_000_000);
 
 /// A drill file whose coordinates are a tenth of the right ones.
 const TENTH: UnitMistake = UnitMistake {
@@ -437,42 +452,36 @@ const TENTH: UnitMistake = UnitMistake {
     then: 0,
 };
 
-/// Adds a hole for each cause, and two for a macro flash.
-fn tell_each_cause(report: &mut BoardReport) -> Result<(), Fail> {
-    for &why in &[
-        Why::Turned,
-        Why::Scaled,
-        Why::Holed,
-        Why::Polygon,
-        Why::Macro,
-        Why::Macro,
-    ] {
-        report
-            .rings
-            .push(unseen(RingCause::Other { why, flash: 1 })?)?;
-    }
-    let disc = Form::Disc(250_000_000);
-    for cause in [
-        RingCause::Oblique,
-        RingCause::NoFlash,
-        RingCause::OffCentre(in_pad(1, disc, (0, 0), 100_000_000, 50_000_000)?),
-        RingCause::TooSmall(in_pad(1, disc, (0, 0), 99_394_596, 50_605_404)?),
-    ] {
-        report.rings.push(unseen(cause)?)?;
-    }
-    Ok(())
-}
+/// A hole for each cause, and two for a macro flash, on a layer without a head.
+const EACH_CAUSE: ReportRow = ReportRow {
+    rules: (150_000_000, 250_000_000),
+    rings: &[
+        (9, UNSEEN, CauseRow::Other(Why::Turned, 1)),
+        (9, UNSEEN, CauseRow::Other(Why::Scaled, 1)),
+        (9, UNSEEN, CauseRow::Other(Why::Holed, 1)),
+        (9, UNSEEN, CauseRow::Other(Why::Polygon, 1)),
+        (9, UNSEEN, CauseRow::Other(Why::Macro, 1)),
+        (9, UNSEEN, CauseRow::Other(Why::Macro, 1)),
+        (9, UNSEEN, CauseRow::Oblique),
+        (9, UNSEEN, CauseRow::NoFlash),
+        (
+            9,
+            UNSEEN,
+            CauseRow::OffCentre(1, Form::Disc(250_000_000), (0, 0), 100_000_000, 50_000_000),
+        ),
+        (
+            9,
+            UNSEEN,
+            CauseRow::TooSmall(1, Form::Disc(250_000_000), (0, 0), 99_394_596, 50_605_404),
+        ),
+    ],
+    scales: &[TENTH],
+    meets: (Met::None, Met::UpTo(1_046_051_224), Met::UpTo(275_000_000)),
+    ..NOTHING
+};
 
 #[test]
-fn causes_and_scales_are_printed(rt: HostRuntime) -> Result<(), Fail> {
-    let board = Meets {
-        ring: Met::None,
-        gap: Met::UpTo(1_046_051_224),
-        in_pads: Met::UpTo(275_000_000),
-    };
-    let mut report = nothing(rt.alloc(), 150_000_000, 250_000_000, board)?;
-    tell_each_cause(&mut report)?;
-    report.scales.push(TENTH)?;
+fn causes_and_scales_are_printed(rt: HostRuntime) {
     let text =
         "pth: coordinates look 10 times too small: 3 holes have no pad; with coordinates times 10 it would be 0\n\
         rules: annular ring 0.15 mm, hole to hole 0.25 mm\n\
@@ -489,8 +498,7 @@ fn causes_and_scales_are_printed(rt: HostRuntime) -> Result<(), Fail> {
         smallest ring 0.099394596 (rule 0.15)\n\
         this board meets annular ring none, hole to hole 1.046051224; where a pad is, annular ring 0.275\n\
         FINDINGS 10\n";
-    assert!(rt; is_printed(rt, &["top", "pth"], &report, None, text)?);
-    Ok(())
+    assert!(rt; is_printed(rt.alloc(), &["top", "pth"], &EACH_CAUSE, None, text));
 }
 
 const HOLED: [&str; 2] = ["top_layer", "pth"];
@@ -500,35 +508,37 @@ const RINGS: [Option<&str>; 3] = [Some("milled"), Some("milled"), Some("by hand"
 
 const GAPS: [Option<&str>; 3] = [Some("drilled \"twice\""), Some("x"), Some("y")];
 
-/// Adds a hole that lies in no pad, and is drilled twice.
-fn tell_twice_hit(report: &mut BoardReport, number: usize) -> Result<(), Fail> {
-    report.rings.push(RingLack {
-        layer: 0,
-        at: hole_at(1, number, (0, 0), 400_000_000)?,
-        cause: RingCause::NoFlash,
-    })?;
-    report.gaps.push(GapLack {
-        first: hole_at(1, number, (0, 0), 400_000_000)?,
-        second: hole_at(1, number, (0, 0), 400_000_000)?,
-        gap: -400_000_000,
-        lack: 650_000_000,
-    })?;
-    Ok(())
-}
+/// A hole that lies in no pad, and is drilled twice.
+const FIRST_HOLE: HoleRow = (1, 1, (0, 0), (0, 0), 400_000_000);
+
+const SECOND_HOLE: HoleRow = (1, 2, (0, 0), (0, 0), 400_000_000);
+
+const THIRD_HOLE: HoleRow = (1, 3, (0, 0), (0, 0), 400_000_000);
 
 /// Three holes that lack their ring and three pairs that lack their gap.
-fn three_of_each(alloc: Global) -> Result<BoardReport, Fail> {
-    let board = meets(100_000_000, -400_000_000);
-    let mut report = nothing(alloc, 100_000_000, 250_000_000, board)?;
-    report.layers.push(LayerHead {
+const THREE_OF_EACH: ReportRow = ReportRow {
+    rules: (100_000_000, 250_000_000),
+    layers: &[LayerHead {
         file: 0,
         needed: 245,
-    })?;
-    for number in 1..4 {
-        tell_twice_hit(&mut report, number)?;
-    }
-    Ok(report)
-}
+    }],
+    rings: &[
+        (0, FIRST_HOLE, CauseRow::NoFlash),
+        (0, SECOND_HOLE, CauseRow::NoFlash),
+        (0, THIRD_HOLE, CauseRow::NoFlash),
+    ],
+    gaps: &[
+        (FIRST_HOLE, FIRST_HOLE, -400_000_000, 650_000_000),
+        (SECOND_HOLE, SECOND_HOLE, -400_000_000, 650_000_000),
+        (THIRD_HOLE, THIRD_HOLE, -400_000_000, 650_000_000),
+    ],
+    meets: (
+        Met::UpTo(100_000_000),
+        Met::UpTo(-400_000_000),
+        Met::UpTo(100_000_000),
+    ),
+    ..NOTHING
+};
 
 /// Reasons for rings and for gaps, the waivers that waive nothing, a limit, how many findings are waived, and the text.
 type WaivedRow = (Acceptances<'static>, Option<usize>, u128, &'static str);
@@ -622,41 +632,44 @@ const WAIVED: [WaivedRow; 4] = [
     ),
 ];
 
-/// Whether a report with waivers has the text and the count of a row.
-fn is_waived_so(
-    rt: HostRuntime,
-    report: &BoardReport,
-    row: &WaivedRow,
-) -> Result<bool, AllocError> {
+fn has_waived(alloc: Global, report: &BoardReport, row: &WaivedRow) -> bool {
     let (accepted, limit, waived, text) = row;
-    let written = text_of(rt, &HOLED, report, *limit, accepted)?;
-    Ok(written.as_str() == *text && count_waived(report, accepted) == *waived)
-}
-
-#[test]
-fn reasons_stand_in_the_lines_of_waived_findings(rt: HostRuntime) -> Result<(), Fail> {
-    let report = three_of_each(rt.alloc())?;
-    for row in &WAIVED {
-        assert!(rt; is_waived_so(rt, &report, row)?, "{}", row.3);
+    match text_of(alloc, &HOLED, report, *limit, accepted) {
+        Ok(written) => written.as_str() == *text && count_waived(report, accepted) == *waived,
+        Err(_) => false,
     }
-    Ok(())
+}
+
+/// Whether a report has with waivers the text and the count of a row.
+fn is_waived_so(alloc: Global, findings: &ReportRow, row: &WaivedRow) -> bool {
+    match report_of(alloc, findings) {
+        Ok(report) => has_waived(alloc, &report, row),
+        Err(_) => false,
+    }
 }
 
 #[test]
-fn a_waiver_that_waives_nothing_leaves_a_pass(rt: HostRuntime) -> Result<(), Fail> {
-    let report = nothing(rt.alloc(), 0, 1, meets(0, 1))?;
-    let row = &(
-        Acceptances {
-            rings: &RINGS,
-            gaps: &[],
-            idle: &[2],
-        },
-        None,
-        0,
-        "rules: annular ring 0 mm, hole to hole 0.000000001 mm\nhole to hole: 0 gaps too small\nthis board meets annular ring 0, hole to hole 0.000000001\nwaiver 2 waives nothing\nPASS\n",
-    );
-    assert!(rt; is_waived_so(rt, &report, row)?);
-    Ok(())
+fn reasons_stand_in_the_lines_of_waived_findings(rt: HostRuntime) {
+    for row in &WAIVED {
+        assert!(rt; is_waived_so(rt.alloc(), &THREE_OF_EACH, row), "{}", row.3);
+    }
+}
+
+/// A waiver that waives nothing.
+const IDLE: WaivedRow = (
+    Acceptances {
+        rings: &RINGS,
+        gaps: &[],
+        idle: &[2],
+    },
+    None,
+    0,
+    "rules: annular ring 0 mm, hole to hole 0.000000001 mm\nhole to hole: 0 gaps too small\nthis board meets annular ring 0, hole to hole 0.000000001\nwaiver 2 waives nothing\nPASS\n",
+);
+
+#[test]
+fn a_waiver_that_waives_nothing_leaves_a_pass(rt: HostRuntime) {
+    assert!(rt; is_waived_so(rt.alloc(), &NOTHING, &IDLE));
 }
 
 /// A writer that fails at one call, and takes what comes before and after it.
@@ -676,33 +689,33 @@ impl Write for Failing {
     }
 }
 
-/// Whether a report on files of these names is cut where a writer fails at this call, and nothing is written after it.
-fn is_cut_at(
-    rt: HostRuntime,
-    names: &[&str],
-    report: &BoardReport,
-    accepted: &Acceptances,
-    fails_at: usize,
-) -> Result<bool, AllocError> {
-    let text = ReportText::new(rt.alloc(), names, report, None, accepted)?;
+/// The reasons for all findings, and a waiver that waives nothing.
+const ALL: Acceptances<'static> = Acceptances {
+    rings: &RINGS,
+    gaps: &GAPS,
+    idle: &[8],
+};
+
+/// Whether a text is cut where a writer fails at this call, and nothing is written after it.
+fn is_text_cut_at(text: &ReportText, fails_at: usize) -> bool {
     let mut out = Failing { calls: 0, fails_at };
     let is_cut = write!(out, "{text}").is_err();
-    Ok(is_cut && out.calls == fails_at)
+    is_cut && out.calls == fails_at
+}
+
+/// Whether the text of a report is so.
+fn is_cut_at(alloc: Global, report: &BoardReport, fails_at: usize) -> bool {
+    match ReportText::new(alloc, &HOLED, report, None, &ALL) {
+        Ok(text) => is_text_cut_at(&text, fails_at),
+        Err(_) => false,
+    }
 }
 
 #[test]
-fn nothing_is_printed_after_a_write_that_fails(rt: HostRuntime) -> Result<(), Fail> {
-    let report = three_of_each(rt.alloc())?;
-    let accepted = &Acceptances {
-        rings: &RINGS,
-        gaps: &GAPS,
-        idle: &[8],
-    };
+fn nothing_is_printed_after_a_write_that_fails(rt: HostRuntime) -> Result<(), RowFail> {
+    let report = report_of(rt.alloc(), &THREE_OF_EACH)?;
     for fails_at in 1..=100 {
-        assert!(rt;
-            is_cut_at(rt, &HOLED, &report, accepted, fails_at)?,
-            "at {fails_at}"
-        );
+        assert!(rt; is_cut_at(rt.alloc(), &report, fails_at), "at {fails_at}");
     }
     Ok(())
 }

@@ -1,10 +1,34 @@
-//! Flashes and holes as rows of figures, in pm.
+//! Flashes, holes and reports as rows of figures, in pm.
 
-use grid_units::{Hole, Point};
+use grid_units::{Hole, Point, Reason, Rules};
 use layer_image::{What, Why};
 use pad_shapes::{Disc, Obround, Pad, Rect};
-use report::{HolePlace, PlacedHole, RingInPad};
-use std::test::Fail;
+use report::{
+    BoardReport, GapLack, HolePlace, LayerHead, Meets, Met, PlacedHole, RingCause, RingInPad,
+    RingLack, UnitMistake,
+};
+use std::alloc::{AllocError, Global};
+
+/// Why a row could not be tried.
+#[derive(Clone, Copy, Debug, PartialEq, Eq)]
+pub(crate) enum RowFail {
+    /// Memory ran out.
+    Memory,
+    /// Its figures are those of no point, pad, hole or rule.
+    Figures,
+}
+
+impl From<AllocError> for RowFail {
+    fn from(_error: AllocError) -> RowFail {
+        RowFail::Memory
+    }
+}
+
+impl From<Reason> for RowFail {
+    fn from(_reason: Reason) -> RowFail {
+        RowFail::Figures
+    }
+}
 
 /// What is flashed: a disc of a radius, a pad of two half sides, or what is no pad.
 #[derive(Clone, Copy)]
@@ -32,44 +56,139 @@ pub(crate) fn pad_at(form: Form, centre: (i64, i64)) -> Option<Pad> {
     }
 }
 
+/// Why a hole lacks its ring. For a hole in a pad: the number of its flash, its form and centre, the ring and the lack.
+#[derive(Clone, Copy)]
+pub(crate) enum CauseRow {
+    TooSmall(usize, Form, (i64, i64), i64, i64),
+    OffCentre(usize, Form, (i64, i64), i64, i64),
+    Other(Why, usize),
+    NoFlash,
+    Oblique,
+}
+
 /// A hole in the pad of a flash, with its ring and what that lacks.
-pub(crate) fn in_pad(
-    flash: usize,
-    form: Form,
-    centre: (i64, i64),
-    ring: i64,
-    lack: i64,
-) -> Result<RingInPad, Fail> {
-    Ok(RingInPad {
+fn in_pad(flash: usize, pad: Option<Pad>, ring: i64, lack: i64) -> Option<RingInPad> {
+    Some(RingInPad {
         flash,
-        pad: pad_at(form, centre).ok_or("pad")?,
+        pad: pad?,
         ring,
         lack,
     })
 }
 
-/// A hole between two points, with the index of its drill file and its number there.
-pub(crate) fn slot_at(
-    drill: usize,
-    number: usize,
-    from: (i64, i64),
-    to: (i64, i64),
-    diameter: i64,
-) -> Result<PlacedHole, Fail> {
-    let from = Point::new(from.0, from.1).ok_or("point")?;
-    let to = Point::new(to.0, to.1).ok_or("point")?;
-    Ok(PlacedHole {
+fn cause_of(row: CauseRow) -> Option<RingCause> {
+    match row {
+        CauseRow::TooSmall(flash, form, centre, ring, lack) => {
+            Some(RingCause::TooSmall(in_pad(flash, pad_at(form, centre), ring, lack)?))
+        }
+        CauseRow::OffCentre(flash, form, centre, ring, lack) => {
+            Some(RingCause::OffCentre(in_pad(flash, pad_at(form, centre), ring, lack)?))
+        }
+        CauseRow::Other(why, flash) => Some(RingCause::Other { why, flash }),
+        CauseRow::NoFlash => Some(RingCause::NoFlash),
+        CauseRow::Oblique => Some(RingCause::Oblique),
+    }
+}
+
+/// A hole: the index of its drill file, its number there, its two ends, and its diameter.
+pub(crate) type HoleRow = (usize, usize, (i64, i64), (i64, i64), i64);
+
+fn hole_of(row: HoleRow) -> Option<PlacedHole> {
+    let (drill, number, from, to, diameter) = row;
+    let (from, to) = (Point::new(from.0, from.1)?, Point::new(to.0, to.1)?);
+    Some(PlacedHole {
         place: HolePlace { drill, number },
-        hole: Hole::new(from, to, diameter / 2).ok_or("hole")?,
+        hole: Hole::new(from, to, diameter / 2)?,
     })
 }
 
-/// A round hole, with the index of its drill file and its number there.
-pub(crate) fn hole_at(
-    drill: usize,
-    number: usize,
-    at: (i64, i64),
-    diameter: i64,
-) -> Result<PlacedHole, Fail> {
-    slot_at(drill, number, at, at, diameter)
+/// A hole that lacks its ring: the layer, the hole, and why.
+pub(crate) type RingRow = (usize, HoleRow, CauseRow);
+
+/// Two holes that lack their gap, the gap, and the lack.
+pub(crate) type GapRow = (HoleRow, HoleRow, i64, i64);
+
+fn gap_of(row: GapRow) -> Option<GapLack> {
+    let (first, second, gap, lack) = row;
+    Some(GapLack {
+        first: hole_of(first)?,
+        second: hole_of(second)?,
+        gap,
+        lack,
+    })
+}
+
+/// A report: the required ring and gap, the layers, the findings, and the ring, the gap and the ring of holes in pads that the
+/// package meets.
+#[derive(Clone, Copy)]
+pub(crate) struct ReportRow<'a> {
+    pub(crate) rules: (i64, i64),
+    pub(crate) layers: &'a [LayerHead],
+    pub(crate) rings: &'a [RingRow],
+    pub(crate) gaps: &'a [GapRow],
+    pub(crate) scales: &'a [UnitMistake],
+    pub(crate) meets: (Met, Met, Met),
+}
+
+/// A report of these rules, without layers and findings.
+fn report_under(alloc: Global, rules: Rules, (ring, gap, in_pads): (Met, Met, Met)) -> BoardReport {
+    BoardReport {
+        rules,
+        layers: Vec::new(alloc),
+        rings: Vec::new(alloc),
+        gaps: Vec::new(alloc),
+        scales: Vec::new(alloc),
+        meets: Meets { ring, gap, in_pads },
+    }
+}
+
+pub(crate) fn add_ring(report: &mut BoardReport, row: RingRow) -> Result<(), RowFail> {
+    let (layer, hole, cause) = row;
+    let at = hole_of(hole).ok_or(RowFail::Figures)?;
+    let cause = cause_of(cause).ok_or(RowFail::Figures)?;
+    match report.rings.push(RingLack { layer, at, cause }) {
+        Ok(_) => Ok(()),
+        Err(_) => Err(RowFail::Memory),
+    }
+}
+
+fn add_gap(report: &mut BoardReport, row: GapRow) -> Result<(), RowFail> {
+    let gap = gap_of(row).ok_or(RowFail::Figures)?;
+    match report.gaps.push(gap) {
+        Ok(_) => Ok(()),
+        Err(_) => Err(RowFail::Memory),
+    }
+}
+
+fn add_findings(report: &mut BoardReport, row: &ReportRow) -> Result<(), RowFail> {
+    for ring in row.rings {
+        add_ring(report, *ring)?;
+    }
+    for gap in row.gaps {
+        add_gap(report, *gap)?;
+    }
+    Ok(())
+}
+
+fn fill(report: &mut BoardReport, row: &ReportRow) -> Result<(), RowFail> {
+    report.layers.extend_from_slice(row.layers)?;
+    report.scales.extend_from_slice(row.scales)?;
+    add_findings(report, row)
+}
+
+/// The report of a row.
+pub(crate) fn report_of(alloc: Global, row: &ReportRow) -> Result<BoardReport, RowFail> {
+    let rules = Rules::new(row.rules.0, row.rules.1)?;
+    let mut report = report_under(alloc, rules, row.meets);
+    fill(&mut report, row)?;
+    Ok(report)
+}
+
+/// What stands in a text after these parts, if it begins with them.
+pub(crate) fn after<'a>(text: &'a str, parts: &[&str]) -> Option<&'a str> {
+    let mut rest = text;
+    for part in parts {
+        rest = rest.strip_prefix(*part)?;
+    }
+    Some(rest)
 }

@@ -1,13 +1,12 @@
 //! Files of waivers, and findings with the figures of the worked examples.
 
-use crate::rows::{Form, hole_at, in_pad, slot_at};
-use grid_units::{Fail, Reason, Rules};
+use crate::rows::{CauseRow, Form, GapRow, HoleRow, ReportRow, RingRow, report_of};
+use grid_units::{Fail, Reason};
 use manifest::Name;
 use manifest::rows::read_records;
-use report::{BoardReport, GapLack, LayerHead, Meets, Met, PlacedHole, RingCause, RingLack};
+use report::{BoardReport, LayerHead, Met};
 use std::alloc::{AllocError, Global};
 use std::io::Write;
-use std::test::Fail as Failed;
 use waivers::*;
 
 /// The place, the byte and the reason of a refusal.
@@ -38,32 +37,38 @@ fn are_waivers(read: &[Waiver], all: &[[&str; 6]]) -> bool {
     read.len() == all.len()
 }
 
+/// Whether a file has just these waivers, in order.
+fn is_read(rt: HostRuntime, text: &str, all: &[[&str; 6]]) -> bool {
+    match read_waivers(rt.alloc(), text.as_bytes()) {
+        Ok(read) => are_waivers(&read, all),
+        Err(_) => false,
+    }
+}
+
+const RING: [&str; 6] = [
+    "ring",
+    "top_layer",
+    "pic_programmer-PTH, 0.75 at 142.24,-97.79",
+    "",
+    "none",
+    "rounded pin 1; seen by eye",
+];
+
+const GAP: [&str; 6] = [
+    "gap",
+    "",
+    "drill, 0.6096 at 50.546,67.31",
+    "drill, 0.6096 at 51.181,66.548",
+    "0.382301708",
+    "as drawn",
+];
+
 #[test]
-fn waivers_are_read_in_order(rt: HostRuntime) -> Result<(), Failed> {
+fn waivers_are_read_in_order(rt: HostRuntime) {
     let text = "kind,layer,hole,and,has,why\n\
         ring,top_layer,\"pic_programmer-PTH, 0.75 at 142.24,-97.79\",,none,rounded pin 1; seen by eye\n\
         gap,,\"drill, 0.6096 at 50.546,67.31\",\"drill, 0.6096 at 51.181,66.548\",0.382301708,as drawn\n";
-    let Ok(read) = read_waivers(rt.alloc(), text.as_bytes()) else {
-        return Err("refused".into());
-    };
-    let ring = [
-        "ring",
-        "top_layer",
-        "pic_programmer-PTH, 0.75 at 142.24,-97.79",
-        "",
-        "none",
-        "rounded pin 1; seen by eye",
-    ];
-    let gap = [
-        "gap",
-        "",
-        "drill, 0.6096 at 50.546,67.31",
-        "drill, 0.6096 at 51.181,66.548",
-        "0.382301708",
-        "as drawn",
-    ];
-    assert!(rt; are_waivers(&read, &[ring, gap]));
-    Ok(())
+    assert!(rt; is_read(rt, text, &[RING, GAP]));
 }
 
 /// Files that break a rule, with the number of the record and the reason.
@@ -156,39 +161,74 @@ fn files_that_break_a_rule_are_refused(rt: HostRuntime) {
 /// Two records; the reason of the second is this letter, `count` times, in quotes.
 fn with_letters(rt: HostRuntime, letter: &str, count: usize) -> Result<String, AllocError> {
     let reason = letter.repeat(rt.alloc(), count)?;
-    let mut text = String::from_str(rt.alloc(), "kind,layer,hole,and,has,why\n")?;
-    text.push_str("ring,top,h,,none,seen\nring,top,h,,none,\"")?;
-    text.push_str(reason.as_str())?;
-    text.push_str("\"\n")?;
-    Ok(text)
+    format!(in rt.alloc();
+        "kind,layer,hole,and,has,why\nring,top,h,,none,seen\nring,top,h,,none,\"{reason}\"\n"
+    )
 }
+
+/// Whether such records are read, or the second is refused as too long.
+fn are_letters_read(rt: HostRuntime, letter: &str, count: usize, are_read: bool) -> bool {
+    let answer = if are_read {
+        None
+    } else {
+        Some((3, 0, Reason::TooLong))
+    };
+    match with_letters(rt, letter, count) {
+        Ok(text) => refusal(rt, text.as_bytes()) == answer,
+        Err(_) => false,
+    }
+}
+
+/// A letter, how often it stands, and whether that is read as a reason.
+const LETTERS: [(&str, usize, bool); 7] = [
+    ("a", 1_000, true),
+    ("a", 1_001, false),
+    ("\u{E9}", 500, true),
+    ("\u{E9}", 501, false),
+    ("\"\"", 1_000, true),
+    ("\"\"", 1_001, false),
+    ("a", 100_000, false),
+];
 
 #[test]
-fn reasons_have_at_most_1000_bytes(rt: HostRuntime) -> Result<(), Failed> {
-    let long = Some((3, 0, Reason::TooLong));
-    for (letter, count, answer) in [
-        ("a", 1_000, None),
-        ("a", 1_001, long),
-        ("\u{E9}", 500, None),
-        ("\u{E9}", 501, long),
-        ("\"\"", 1_000, None),
-        ("\"\"", 1_001, long),
-        ("a", 100_000, long),
-    ] {
-        let text = with_letters(rt, letter, count)?;
-        assert!(rt; refusal(rt, text.as_bytes()) == answer, "of {count}");
+fn reasons_have_at_most_1000_bytes(rt: HostRuntime) {
+    for &(letter, count, are_read) in &LETTERS {
+        assert!(rt; are_letters_read(rt, letter, count, are_read), "of {count}");
     }
-    Ok(())
 }
 
-/// Six records; those before one, counted from 0, have a reason, the others none.
-fn six_records(rt: HostRuntime, wrong: usize) -> Result<String, AllocError> {
-    let mut text = String::from_str(rt.alloc(), "kind,layer,hole,and,has,why\n\n")?;
+/// Adds six records; those before one, counted from 0, have a reason, the others none.
+fn push_records(text: &mut String, wrong: usize) -> Result<(), AllocError> {
     for index in 0..6 {
         text.push_str("ring,top,h,,none,")?;
         text.push_str(if index < wrong { "seen\n" } else { "\n" })?;
     }
+    Ok(())
+}
+
+/// A file of such records.
+fn six_records(rt: HostRuntime, wrong: usize) -> Result<String, AllocError> {
+    let mut text = String::from_str(rt.alloc(), "kind,layer,hole,and,has,why\n\n")?;
+    push_records(&mut text, wrong)?;
     Ok(text)
+}
+
+/// Whether it is refused at the record of this number, or so many of its records are read.
+fn are_read_up_to(rt: HostRuntime, wrong: usize, place: Option<u64>, count: Option<usize>) -> bool {
+    match six_records(rt, wrong) {
+        Ok(text) => {
+            refuses_name(rt, text.as_bytes(), place) && count_read(rt, text.as_bytes()) == count
+        }
+        Err(_) => false,
+    }
+}
+
+/// Whether a record is refused for its empty reason, or none.
+fn refuses_name(rt: HostRuntime, text: &[u8], place: Option<u64>) -> bool {
+    match (refusal(rt, text), place) {
+        (Some(found), Some(place)) => found == (place, 0, Reason::EmptyName),
+        (found, wanted) => found.is_none() && wanted.is_none(),
+    }
 }
 
 /// How many of six records have a reason, the number of the record that is refused, and how many are read where none is.
@@ -203,17 +243,10 @@ const NUMBERS: [(usize, Option<u64>, Option<usize>); 7] = [
 ];
 
 #[test]
-fn a_refusal_has_the_number_of_its_record(rt: HostRuntime) -> Result<(), Failed> {
+fn a_refusal_has_the_number_of_its_record(rt: HostRuntime) {
     for &(wrong, place, count) in &NUMBERS {
-        let text = six_records(rt, wrong)?;
-        let refused = match place {
-            Some(place) => Some((place, 0, Reason::EmptyName)),
-            None => None,
-        };
-        let bytes = text.as_bytes();
-        assert!(rt; refusal(rt, bytes) == refused && count_read(rt, bytes) == count);
+        assert!(rt; are_read_up_to(rt, wrong, place, count), "{wrong}");
     }
-    Ok(())
 }
 
 /// The number of waivers of a text.
@@ -242,99 +275,99 @@ fn files_are_read_as_manifests_are(rt: HostRuntime) {
     }
 }
 
-/// Adds a hole that lies in no pad of a layer.
-fn tell_bare(told: &mut BoardReport, layer: usize, at: PlacedHole) -> Result<(), Failed> {
-    told.rings.push(RingLack {
-        layer,
-        at,
-        cause: RingCause::NoFlash,
-    })?;
-    Ok(())
-}
+/// A hole that lies in no pad, one off the centre of a disc, and one in a disc that is too small for it.
+const BARE: HoleRow = (
+    2,
+    1,
+    (142_240_000_000, -97_790_000_000),
+    (142_240_000_000, -97_790_000_000),
+    750_000_000,
+);
 
-/// Adds a hole that has this ring in a disc.
-fn tell_in_disc(
-    told: &mut BoardReport,
-    layer: usize,
-    at: PlacedHole,
-    ring: i64,
-) -> Result<(), Failed> {
-    let centre = at.hole.from();
-    let place = in_pad(
+const OFF: HoleRow = (2, 1, (0, 0), (0, 0), 1_000_000_000);
+
+const BELOW: HoleRow = (3, 1, (1, -1), (1, -1), 609_600_000);
+
+const OFF_CENTRE: CauseRow = CauseRow::OffCentre(1, Form::Disc(250_000_000), (0, 0), 99_625_866, 1);
+
+const BELOW_ZERO: CauseRow = CauseRow::OffCentre(
+    1,
+    Form::Disc(250_000_000),
+    (1, -1),
+    -101_600_000,
+    1,
+);
+
+/// Two holes that lack their gap.
+const CLOSE: GapRow = (
+    (
+        3,
         1,
-        Form::Disc(250_000_000),
-        (centre.x(), centre.y()),
-        ring,
+        (50_546_000_000, 67_310_000_000),
+        (50_546_000_000, 67_310_000_000),
+        609_600_000,
+    ),
+    (
+        3,
         1,
-    )?;
-    told.rings.push(RingLack {
-        layer,
-        at,
-        cause: RingCause::OffCentre(place),
-    })?;
-    Ok(())
-}
-
-/// Adds three rings on a layer.
-fn tell_layer(told: &mut BoardReport, layer: usize) -> Result<(), Failed> {
-    let first = hole_at(2, 1, (142_240_000_000, -97_790_000_000), 750_000_000)?;
-    tell_bare(told, layer, first)?;
-    let second = hole_at(2, 1, (0, 0), 1_000_000_000)?;
-    tell_in_disc(told, layer, second, 99_625_866)?;
-    let third = hole_at(3, 1, (1, -1), 609_600_000)?;
-    tell_in_disc(told, layer, third, -101_600_000)
-}
-
-/// Adds two holes that lack their gap.
-fn tell_gap(told: &mut BoardReport) -> Result<(), Failed> {
-    told.gaps.push(GapLack {
-        first: hole_at(3, 1, (50_546_000_000, 67_310_000_000), 609_600_000)?,
-        second: hole_at(3, 1, (51_181_000_000, 66_548_000_000), 609_600_000)?,
-        gap: 382_301_708,
-        lack: 1,
-    })?;
-    Ok(())
-}
+        (51_181_000_000, 66_548_000_000),
+        (51_181_000_000, 66_548_000_000),
+        609_600_000,
+    ),
+    382_301_708,
+    1,
+);
 
 const NAMES: [&str; 4] = ["top_layer", "bottom_layer", "pic_programmer-PTH", "drill"];
 
 /// A report of two layers without findings.
-fn no_findings(rt: HostRuntime) -> Result<BoardReport, Failed> {
-    let mut told = BoardReport {
-        rules: Rules::new(100_000_000, 250_000_000)?,
-        layers: Vec::new(rt.alloc()),
-        rings: Vec::new(rt.alloc()),
-        gaps: Vec::new(rt.alloc()),
-        scales: Vec::new(rt.alloc()),
-        meets: Meets {
-            ring: Met::None,
-            gap: Met::Any,
-            in_pads: Met::Any,
+const NOTHING: ReportRow = ReportRow {
+    rules: (100_000_000, 250_000_000),
+    layers: &[
+        LayerHead {
+            file: 0,
+            needed: 245,
         },
-    };
-    told.layers.push(LayerHead {
-        file: 0,
-        needed: 245,
-    })?;
-    told.layers.push(LayerHead {
-        file: 1,
-        needed: 245,
-    })?;
-    Ok(told)
-}
+        LayerHead {
+            file: 1,
+            needed: 245,
+        },
+    ],
+    rings: &[],
+    gaps: &[],
+    scales: &[],
+    meets: (Met::None, Met::Any, Met::Any),
+};
 
 /// A report with six rings on two layers and with one gap.
-fn seven_findings(rt: HostRuntime) -> Result<BoardReport, Failed> {
-    let mut told = no_findings(rt)?;
-    tell_layer(&mut told, 0)?;
-    tell_layer(&mut told, 1)?;
-    tell_gap(&mut told)?;
-    Ok(told)
+const SEVEN_FINDINGS: ReportRow = ReportRow {
+    rings: &[
+        (0, BARE, CauseRow::NoFlash),
+        (0, OFF, OFF_CENTRE),
+        (0, BELOW, BELOW_ZERO),
+        (1, BARE, CauseRow::NoFlash),
+        (1, OFF, OFF_CENTRE),
+        (1, BELOW, BELOW_ZERO),
+    ],
+    gaps: &[CLOSE],
+    ..NOTHING
+};
+
+/// Whether this file of waivers is printed for a report on files of these names.
+fn has_text(rt: HostRuntime, names: &[&str], report: &BoardReport, text: &str) -> bool {
+    let waivers = WaiverText { names, report };
+    match format!(in rt.alloc(); "{waivers}") {
+        Ok(written) => written.as_str() == text,
+        Err(_) => false,
+    }
 }
 
-/// The file of waivers that is printed for a report.
-fn printed(rt: HostRuntime, names: &[&str], report: &BoardReport) -> Result<String, AllocError> {
-    format!(in rt.alloc(); "{}", WaiverText { names, report })
+/// Whether this file of waivers is printed for the report of a row, on files of these names.
+fn is_printed(rt: HostRuntime, names: &[&str], row: &ReportRow, text: &str) -> bool {
+    match report_of(rt.alloc(), row) {
+        Ok(report) => has_text(rt, names, &report, text),
+        Err(_) => false,
+    }
 }
 
 const SEVEN: &str = "kind,layer,hole,and,has,why
@@ -348,18 +381,14 @@ gap,,\"drill, 0.6096 at 50.546,67.31\",\"drill, 0.6096 at 51.181,66.548\",0.3823
 ";
 
 #[test]
-fn findings_are_printed_with_empty_reasons(rt: HostRuntime) -> Result<(), Failed> {
-    let text = printed(rt, &NAMES, &seven_findings(rt)?)?;
-    let refused = refusal(rt, text.as_bytes());
-    let head = printed(rt, &[], &no_findings(rt)?)?;
-    let are_printed = text.as_str() == SEVEN && head.as_str() == "kind,layer,hole,and,has,why\n";
-    assert!(rt; are_printed && refused == Some((2, 0, Reason::EmptyName)));
-    Ok(())
+fn findings_are_printed_with_empty_reasons(rt: HostRuntime) {
+    assert!(rt; is_printed(rt, &NAMES, &SEVEN_FINDINGS, SEVEN));
+    assert!(rt; is_printed(rt, &[], &NOTHING, "kind,layer,hole,and,has,why\n"));
+    assert!(rt; refuses_name(rt, SEVEN.as_bytes(), Some(2)));
 }
 
-#[test]
-fn a_writer_without_room_cuts_the_text(rt: HostRuntime) -> Result<(), Failed> {
-    let report = &seven_findings(rt)?;
+/// Whether the text of a report is cut by a writer that has room for less.
+fn is_cut(report: &BoardReport) -> bool {
     let mut room = [0; 40];
     let mut out = room.as_mut_slice();
     let text = WaiverText {
@@ -367,98 +396,173 @@ fn a_writer_without_room_cuts_the_text(rt: HostRuntime) -> Result<(), Failed> {
         report,
     };
     let is_cut = write!(out, "{text}").is_err();
-    assert!(rt; is_cut && SEVEN.as_bytes().starts_with(&room));
-    Ok(())
+    is_cut && SEVEN.as_bytes().starts_with(&room)
+}
+
+/// Whether the text of the seven findings is.
+fn are_findings_cut(rt: HostRuntime) -> bool {
+    match report_of(rt.alloc(), &SEVEN_FINDINGS) {
+        Ok(report) => is_cut(&report),
+        Err(_) => false,
+    }
 }
 
 #[test]
-fn slots_and_names_are_printed_as_they_are(rt: HostRuntime) -> Result<(), Failed> {
-    let mut told = no_findings(rt)?;
-    let at = slot_at(1, 3, (0, 0), (2_000_000_000, 1_000_000_000), 500_000_000)?;
-    told.rings.push(RingLack {
-        layer: 0,
-        at,
-        cause: RingCause::Oblique,
-    })?;
-    tell_bare(&mut told, 9, hole_at(9, 1, (0, 0), 400_000_000)?)?;
-    let text = printed(rt, &["\"top\"", "p,th"], &told)?;
+fn a_writer_without_room_cuts_the_text(rt: HostRuntime) {
+    assert!(rt; are_findings_cut(rt));
+}
+
+/// A slot that lies along no axis, and a hole of no file on a layer without a head.
+const SLOT_AND_UNSEEN: ReportRow = ReportRow {
+    rings: &[
+        (
+            0,
+            (1, 3, (0, 0), (2_000_000_000, 1_000_000_000), 500_000_000),
+            CauseRow::Oblique,
+        ),
+        (9, (9, 1, (0, 0), (0, 0), 400_000_000), CauseRow::NoFlash),
+    ],
+    ..NOTHING
+};
+
+#[test]
+fn slots_and_names_are_printed_as_they_are(rt: HostRuntime) {
     let expected = "kind,layer,hole,and,has,why\n\
         ring,\"\"\"top\"\"\",\"p,th, 0.5 at 0,0 to 2,1\",,none,\n\
         ring,,\", 0.4 at 0,0\",,none,\n";
-    assert!(rt; text.as_str() == expected);
-    Ok(())
+    assert!(rt; is_printed(rt, &["\"top\"", "p,th"], &SLOT_AND_UNSEEN, expected));
 }
 
-/// The text of the seven findings, each with a reason, and records after them.
-fn with_reasons(rt: HostRuntime, behind: &str) -> Result<String, AllocError> {
-    let mut text = String::new(rt.alloc());
+/// Adds the text of the seven findings, each with a reason.
+fn push_with_reasons(text: &mut String) -> Result<(), AllocError> {
     for (index, line) in SEVEN.lines().enumerate() {
         text.push_str(line)?;
         text.push_str(if index > 0 { "seen by eye\n" } else { "\n" })?;
     }
+    Ok(())
+}
+
+/// What the waivers of a file do for a report: the waivers of the rings and of the gaps, and the numbers of those that waive
+/// nothing; or the reasons of the rings and of the gaps.
+#[derive(Clone, Copy)]
+enum Waives<'a> {
+    ByNumber(&'a [Option<usize>], &'a [Option<usize>], &'a [usize]),
+    WithReasons(&'a [Option<&'a str>], &'a [Option<&'a str>]),
+}
+
+/// Whether just the waivers of these numbers waive nothing.
+fn are_idle(rt: HostRuntime, read: &[Waiver], waived: &Waived, numbers: &[usize]) -> bool {
+    match idle(rt.alloc(), waived, read) {
+        Ok(found) => found.as_slice() == numbers,
+        Err(_) => false,
+    }
+}
+
+/// Whether the waivers at these places have these reasons.
+fn are_reasons(
+    rt: HostRuntime,
+    read: &[Waiver],
+    places: &[Option<usize>],
+    wanted: &[Option<&str>],
+) -> bool {
+    match reasons(rt.alloc(), read, places) {
+        Ok(found) => found.as_slice() == wanted,
+        Err(_) => false,
+    }
+}
+
+fn is_waived_so(rt: HostRuntime, read: &[Waiver], waived: &Waived, wanted: Waives) -> bool {
+    let (found_rings, found_gaps) = (waived.rings.as_slice(), waived.gaps.as_slice());
+    match wanted {
+        Waives::ByNumber(rings, gaps, idles) => {
+            found_rings == rings && found_gaps == gaps && are_idle(rt, read, waived, idles)
+        }
+        Waives::WithReasons(rings, gaps) => {
+            are_reasons(rt, read, found_rings, rings) && are_reasons(rt, read, found_gaps, gaps)
+        }
+    }
+}
+
+/// Whether these waivers do this for a report, and waive all of its findings or not.
+fn do_waive(
+    rt: HostRuntime,
+    report: &BoardReport,
+    read: &[Waiver],
+    wanted: Waives,
+    waives_all: bool,
+) -> bool {
+    match waive(rt.alloc(), &NAMES, report, read) {
+        Ok(waived) => { is_waived_so(rt, read, &waived, wanted) && waived.all() == waives_all }
+        Err(_) => false,
+    }
+}
+
+fn text_waives(
+    rt: HostRuntime,
+    report: &BoardReport,
+    text: &str,
+    wanted: Waives,
+    waives_all: bool,
+) -> bool {
+    match read_waivers(rt.alloc(), text.as_bytes()) {
+        Ok(read) => do_waive(rt, report, &read, wanted, waives_all),
+        Err(_) => false,
+    }
+}
+
+/// Whether the waivers of a file do this for the report of a row, and waive all of its findings or not.
+fn are_waived_by(
+    rt: HostRuntime,
+    row: &ReportRow,
+    text: &str,
+    wanted: Waives,
+    waives_all: bool,
+) -> bool {
+    match report_of(rt.alloc(), row) {
+        Ok(report) => text_waives(rt, &report, text, wanted, waives_all),
+        Err(_) => false,
+    }
+}
+
+/// A record whose finding has another ring, and one whose finding an earlier record waives.
+const STALE: &str = "ring,top_layer,\"pic_programmer-PTH, 0.75 at 142.24,-97.79\",,0.05,seen\n\
+    gap,,\"drill, 0.6096 at 50.546,67.31\",\"drill, 0.6096 at 51.181,66.548\",0.382301708,again\n";
+
+/// The text of the seven findings, each with a reason, and these records after them.
+fn with_reasons(rt: HostRuntime, behind: &str) -> Result<String, AllocError> {
+    let mut text = String::new(rt.alloc());
+    push_with_reasons(&mut text)?;
     text.push_str(behind)?;
     Ok(text)
 }
 
-/// The waivers of a file, and which of them waive the findings of a report.
-fn waived_in(
-    rt: HostRuntime,
-    told: &BoardReport,
-    text: &str,
-) -> Result<(Vec<Waiver>, Waived), Failed> {
-    let Ok(read) = read_waivers(rt.alloc(), text.as_bytes()) else {
-        return Err("refused".into());
-    };
-    let waived = waive(rt.alloc(), &NAMES, told, read.as_slice())?;
-    Ok((read, waived))
-}
-
-/// The waivers of a file, and which of them waive the seven findings.
-fn waived_by(rt: HostRuntime, text: &str) -> Result<(Vec<Waiver>, Waived), Failed> {
-    waived_in(rt, &seven_findings(rt)?, text)
-}
-
-/// Whether the rings and gaps have these waivers, and just the waivers of these numbers waive nothing.
-fn is_waived_so(
-    rt: HostRuntime,
-    read: &[Waiver],
-    waived: &Waived,
-    rings: &[Option<usize>],
-    gaps: &[Option<usize>],
-    idles: &[usize],
-) -> Result<bool, AllocError> {
-    let found = idle(rt.alloc(), waived, read)?;
-    Ok(
-        waived.rings.as_slice() == rings
-            && waived.gaps.as_slice() == gaps
-            && found.as_slice() == idles,
-    )
+/// Whether such a file waives all of the seven findings, and does this.
+fn reasons_waive(rt: HostRuntime, behind: &str, wanted: Waives) -> bool {
+    match with_reasons(rt, behind) {
+        Ok(text) => are_waived_by(rt, &SEVEN_FINDINGS, text.as_str(), wanted, true),
+        Err(_) => false,
+    }
 }
 
 #[test]
-fn the_first_waiver_of_a_finding_is_told(rt: HostRuntime) -> Result<(), Failed> {
-    let stale = "ring,top_layer,\"pic_programmer-PTH, 0.75 at 142.24,-97.79\",,0.05,seen\n\
-        gap,,\"drill, 0.6096 at 50.546,67.31\",\"drill, 0.6096 at 51.181,66.548\",0.382301708,again\n";
-    let text = with_reasons(rt, stale)?;
-    let (read, waived) = waived_by(rt, text.as_str())?;
+fn the_first_waiver_of_a_finding_is_told(rt: HostRuntime) {
     let rings = &[Some(0), Some(1), Some(2), Some(3), Some(4), Some(5)];
-    let is_so = is_waived_so(rt, &read, &waived, rings, &[Some(6)], &[9])?;
-    assert!(rt; is_so && waived.all());
-    Ok(())
+    let wanted = Waives::ByNumber(rings, &[Some(6)], &[9]);
+    assert!(rt; reasons_waive(rt, STALE, wanted));
 }
+
+/// A bare hole that two records waive.
+const ALIKE: RingRow = (0, (2, 1, (0, 0), (0, 0), 750_000_000), CauseRow::NoFlash);
 
 /// A report with two equal rings and two equal gaps.
-fn two_of_each(rt: HostRuntime) -> Result<BoardReport, Failed> {
-    let mut told = no_findings(rt)?;
-    for _ in 0..2 {
-        tell_bare(&mut told, 0, hole_at(2, 1, (0, 0), 750_000_000)?)?;
-        tell_gap(&mut told)?;
-    }
-    Ok(told)
-}
+const TWO_OF_EACH: ReportRow = ReportRow {
+    rings: &[ALIKE, ALIKE],
+    gaps: &[CLOSE, CLOSE],
+    ..NOTHING
+};
 
 #[test]
-fn a_file_of_findings_that_are_alike_has_no_idle_waiver(rt: HostRuntime) -> Result<(), Failed> {
+fn a_file_of_findings_that_are_alike_has_no_idle_waiver(rt: HostRuntime) {
     let records = "kind,layer,hole,and,has,why\n\
         ring,top_layer,\"pic_programmer-PTH, 0.75 at 0,0\",,none,first\n\
         ring,top_layer,\"pic_programmer-PTH, 0.75 at 0,0\",,none,second\n\
@@ -466,29 +570,32 @@ fn a_file_of_findings_that_are_alike_has_no_idle_waiver(rt: HostRuntime) -> Resu
         gap,,\"drill, 0.6096 at 50.546,67.31\",\"drill, 0.6096 at 51.181,66.548\",0.382301708,third\n\
         gap,,\"drill, 0.6096 at 50.546,67.31\",\"drill, 0.6096 at 51.181,66.548\",0.382301708,third\n\
         ring,top_layer,\"pic_programmer-PTH, 0.75 at 0,0\",,0,stale\n";
-    let (read, waived) = waived_in(rt, &two_of_each(rt)?, records)?;
-    let (rings, gaps) = (&[Some(0), Some(0)], &[Some(3), Some(3)]);
-    let is_so = is_waived_so(rt, &read, &waived, rings, gaps, &[4, 7])?;
-    assert!(rt; is_so && waived.all());
-    Ok(())
+    let wanted = Waives::ByNumber(&[Some(0), Some(0)], &[Some(3), Some(3)], &[4, 7]);
+    assert!(rt; are_waived_by(rt, &TWO_OF_EACH, records, wanted, true));
 }
 
 #[test]
-fn a_finding_has_the_reason_of_its_waiver(rt: HostRuntime) -> Result<(), Failed> {
+fn a_finding_has_the_reason_of_its_waiver(rt: HostRuntime) {
     let records = "kind,layer,hole,and,has,why\n\
         gap,,\"drill, 0.6096 at 50.546,67.31\",\"drill, 0.6096 at 51.181,66.548\",0.382301708,as drawn\n\
         ring,top_layer,\"pic_programmer-PTH, 0.75 at 142.24,-97.79\",,none,rounded pin 1; seen by eye\n";
-    let (read, waived) = waived_by(rt, records)?;
-    let rings = reasons(rt.alloc(), read.as_slice(), waived.rings.as_slice())?;
-    let gaps = reasons(rt.alloc(), read.as_slice(), waived.gaps.as_slice())?;
     let first = Some("rounded pin 1; seen by eye");
-    let are_rings = rings.as_slice() == [first, None, None, None, None, None].as_slice();
-    assert!(rt; are_rings && gaps.as_slice() == [Some("as drawn")].as_slice());
-    Ok(())
+    let rings = &[first, None, None, None, None, None];
+    let wanted = Waives::WithReasons(rings, &[Some("as drawn")]);
+    assert!(rt; are_waived_by(rt, &SEVEN_FINDINGS, records, wanted, false));
+}
+
+/// Whether a file with this record alone waives nothing.
+fn waives_nothing(rt: HostRuntime, record: &str) -> bool {
+    let wanted = Waives::ByNumber(&[None; 6], &[None], &[2]);
+    match format!(in rt.alloc(); "kind,layer,hole,and,has,why\n{record}") {
+        Ok(text) => are_waived_by(rt, &SEVEN_FINDINGS, text.as_str(), wanted, false),
+        Err(_) => false,
+    }
 }
 
 #[test]
-fn every_field_but_the_reason_is_compared(rt: HostRuntime) -> Result<(), Failed> {
+fn every_field_but_the_reason_is_compared(rt: HostRuntime) {
     for &record in &[
         "gap,top_layer,\"pic_programmer-PTH, 0.75 at 142.24,-97.79\",,none,seen\n",
         "ring,bottom,\"pic_programmer-PTH, 0.75 at 142.24,-97.79\",,none,seen\n",
@@ -496,17 +603,19 @@ fn every_field_but_the_reason_is_compared(rt: HostRuntime) -> Result<(), Failed>
         "ring,top_layer,\"pic_programmer-PTH, 0.75 at 142.24,-97.79\",-,none,seen\n",
         "ring,top_layer,\"pic_programmer-PTH, 0.75 at 142.24,-97.79\",,0,seen\n",
     ] {
-        let text = format!(in rt.alloc(); "kind,layer,hole,and,has,why\n{record}")?;
-        let (read, waived) = waived_by(rt, text.as_str())?;
-        let is_so = is_waived_so(rt, &read, &waived, &[None; 6], &[None], &[2])?;
-        assert!(rt; is_so && !waived.all(), "of {record}");
+        assert!(rt; waives_nothing(rt, record), "of {record}");
     }
-    Ok(())
+}
+
+/// Whether no waivers waive all of a report without findings, and none is idle.
+fn is_nothing_waived(rt: HostRuntime) -> bool {
+    match report_of(rt.alloc(), &NOTHING) {
+        Ok(report) => do_waive(rt, &report, &[], Waives::ByNumber(&[], &[], &[]), true),
+        Err(_) => false,
+    }
 }
 
 #[test]
-fn a_report_without_findings_is_waived(rt: HostRuntime) -> Result<(), Failed> {
-    let waived = waive(rt.alloc(), &NAMES, &no_findings(rt)?, &[])?;
-    assert!(rt; waived.all() && idle(rt.alloc(), &waived, &[])?.is_empty());
-    Ok(())
+fn a_report_without_findings_is_waived(rt: HostRuntime) {
+    assert!(rt; is_nothing_waived(rt));
 }

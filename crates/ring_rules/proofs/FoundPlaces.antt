@@ -8,7 +8,7 @@ use Rattle.grid_units.specs.Holes.{GridHole}
 use Rattle.pad_shapes.specs.Zones.{IsInZone}
 use Rattle.pad_shapes.specs.declared.zone.Zone.{Zone}
 use Rattle.ring_rules.specs.Places.{entry_at}
-use Rattle.ring_rules.specs.Spots.{default_spot, spot_at, point_at, AreSpotsOf}
+use Rattle.ring_rules.specs.Spots.{spot_at, point_at, AreSpotsOf}
 use Rattle.ring_rules.specs.Cells.{row_of}
 use Rattle.ring_rules.specs.Inner.Regions.{IsInRegion}
 use Rattle.ring_rules.specs.Index.{IsEntryInZone}
@@ -86,15 +86,15 @@ module _ (spots : List Spot) (zone : Zone) where
         subst (IsEntryInZone holes zone) (sym (named n early)) (record { listed = of_list.listed; within = subst (λ (g : GridHole). IsInZone zone g.from) of_list.same goes.within }))
 
 -- one index more that is replaced by its place
-module _ (spots : List Spot) (initial found : List ℕ) (n : ℕ) (d : Spot) (inside : n < length found) (spot : get_or initial n 0 < length spots) (rest : (m : ℕ) → n ≤ m → get_or found m 0 ≡ get_or initial m 0) where
-  place_is : (get_or spots (get_or found n 0) d).place ≡ (spot_at spots (get_or initial n 0)).place
-  place_is = ap (λ (i : ℕ). (get_or spots i d).place) (rest n (omega arith)) ∙ ap (λ (s : Spot). s.place) (get_or_default spots (get_or initial n 0) d default_spot spot)
+module _ (spots : List Spot) (initial found : List ℕ) (n place : ℕ) (is : place ≡ (spot_at spots (get_or found n 0)).place) (inside : n < length found) (rest : (m : ℕ) → n ≤ m → get_or found m 0 ≡ get_or initial m 0) where
+  place_is : place ≡ (spot_at spots (get_or initial n 0)).place
+  place_is = is ∙ ap (λ (i : ℕ). (spot_at spots i).place) (rest n (omega arith))
 
-  pub named_more : ((m : ℕ) → m < n → get_or found m 0 ≡ (spot_at spots (get_or initial m 0)).place) → (m : ℕ) → m < n + 1 → get_or (set found n (get_or spots (get_or found n 0) d).place) m 0 ≡ (spot_at spots (get_or initial m 0)).place
+  pub named_more : ((m : ℕ) → m < n → get_or found m 0 ≡ (spot_at spots (get_or initial m 0)).place) → (m : ℕ) → m < n + 1 → get_or (set found n place) m 0 ≡ (spot_at spots (get_or initial m 0)).place
   named_more named m h = elim (cases_eq m n) [
-    | inl is ↦ ap (λ (k : ℕ). get_or (set found n (get_or spots (get_or found n 0) d).place) k 0) is ∙ (get_or-set_same found n (get_or spots (get_or found n 0) d).place 0 inside ∙ (place_is ∙ ap (λ (k : ℕ). (spot_at spots (get_or initial k 0)).place) (sym is)))
-    | inr differs ↦ get_or-set_other found n m (get_or spots (get_or found n 0) d).place 0 differs ∙ named m (omega (arith, h, differs))
+    | inl same ↦ ap (λ (k : ℕ). get_or (set found n place) k 0) same ∙ (get_or-set_same found n place 0 inside ∙ (place_is ∙ ap (λ (k : ℕ). (spot_at spots (get_or initial k 0)).place) (sym same)))
+    | inr differs ↦ get_or-set_other found n m place 0 differs ∙ named m (omega (arith, h, differs))
   ]
 
-  pub rest_less : (m : ℕ) → n + 1 ≤ m → get_or (set found n (get_or spots (get_or found n 0) d).place) m 0 ≡ get_or initial m 0
-  rest_less m h = get_or-set_other found n m (get_or spots (get_or found n 0) d).place 0 (λ is. omega (arith, is, h)) ∙ rest m (omega (arith, h))
+  pub rest_less : (m : ℕ) → n + 1 ≤ m → get_or (set found n place) m 0 ≡ get_or initial m 0
+  rest_less m h = get_or-set_other found n m place 0 (λ same. omega (arith, same, h)) ∙ rest m (omega (arith, h))

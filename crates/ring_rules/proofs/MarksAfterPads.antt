@@ -11,7 +11,7 @@ use Rattle.grid_units.specs.Holes.{GridHole}
 use Rattle.grid_units.specs.Spans.{is_in_span}
 use Rattle.ring_rules.specs.Findings.{is_ring_finding}
 use Rattle.ring_rules.specs.Places.{default_hole}
-use Rattle.ring_rules.specs.Spots.{default_spot, spot_at, AreSpotsOf}
+use Rattle.ring_rules.specs.Spots.{spot_at, AreSpotsOf}
 use Rattle.ring_rules.specs.Search.{drilled_at}
 use Rattle.ring_rules.specs.Inner.Marks.{is_marked, gives_ring}
 use Rattle.ring_rules.specs.Inner.Trees.{AreClosedUnmarked}
@@ -79,25 +79,23 @@ pub all_open : (x y : Axis) (spots : List Spot) (nodes : List Node) (marks : Lis
 all_open x y spots nodes marks i h closed = absurd (let e : true ≡ false = sym (get_or-replicate (length nodes) i true false h) ∙ closed in cc)
 
 -- one spot more that puts its mark at its place
-pub put_more : (spots : List Spot) (own marks : List Bool) (n : ℕ) (d : Spot) → n < length spots → (spot_at spots n).place < length marks → (test : ℕ → Bool) → is_marked own n ≡ test (spot_at spots n).place
+pub put_more : (spots : List Spot) (own marks : List Bool) (n place : ℕ) → place ≡ (spot_at spots n).place → place < length marks → (test : ℕ → Bool) → is_marked own n ≡ test (spot_at spots n).place
     → ((i : ℕ) → i < n → is_marked marks (spot_at spots i).place ≡ test (spot_at spots i).place)
-    → (i : ℕ) → i < n + 1 → is_marked (set marks (get_or spots n d).place (get_or own n false)) (spot_at spots i).place ≡ test (spot_at spots i).place
-put_more spots own marks n d h inside test stands done i below = elim (cases_eq (spot_at spots i).place (get_or spots n d).place) [
-  | inl same ↦ ap (is_marked (set marks (get_or spots n d).place (get_or own n false))) same ∙ (get_or-set_same marks (get_or spots n d).place (get_or own n false) false (omega (arith, inside, is)) ∙ (stands ∙ ap test (sym (same ∙ is))))
+    → (i : ℕ) → i < n + 1 → is_marked (set marks place (get_or own n false)) (spot_at spots i).place ≡ test (spot_at spots i).place
+put_more spots own marks n place is inside test stands done i below = elim (cases_eq (spot_at spots i).place place) [
+  | inl same ↦ ap (is_marked (set marks place (get_or own n false))) same ∙ (get_or-set_same marks place (get_or own n false) false inside ∙ (stands ∙ ap test (sym (same ∙ is))))
   | inr differs ↦ elim (cases_lt i n) [
-    | inl less ↦ get_or-set_other marks (get_or spots n d).place (spot_at spots i).place (get_or own n false) false differs ∙ done i less
+    | inl less ↦ get_or-set_other marks place (spot_at spots i).place (get_or own n false) false differs ∙ done i less
     | inr more ↦ absurd (differs (ap (λ (m : ℕ). (spot_at spots m).place) (let e : i ≡ n = omega (arith, below, more) in e) ∙ sym is))
   ]
-] where
-  is : (get_or spots n d).place ≡ (spot_at spots n).place
-  is = ap (λ (s : Spot). s.place) (get_or_default spots n d default_spot h)
+]
 
 -- one spot more that takes the mark of its place
-pub own_more : (spots : List Spot) (marks own : List Bool) (n : ℕ) (s : Spot) → n < length spots → s ≡ get_or spots n s → length own ≡ n → ((i : ℕ) → i < n → is_marked own i ≡ is_marked marks (spot_at spots i).place)
-    → (i : ℕ) → i < n + 1 → is_marked (own ++ get_or marks s.place false ∷ []) i ≡ is_marked marks (spot_at spots i).place
-own_more spots marks own n s h is size same i below = elim (cases_lt i n) [
-  | inl less ↦ get_or_append_left own (get_or marks s.place false ∷ []) false i (omega (arith, less, size)) ∙ same i less
+pub own_more : (spots : List Spot) (marks own : List Bool) (n place : ℕ) → place ≡ (spot_at spots n).place → length own ≡ n → ((i : ℕ) → i < n → is_marked own i ≡ is_marked marks (spot_at spots i).place)
+    → (i : ℕ) → i < n + 1 → is_marked (own ++ get_or marks place false ∷ []) i ≡ is_marked marks (spot_at spots i).place
+own_more spots marks own n place is size same i below = elim (cases_lt i n) [
+  | inl less ↦ get_or_append_left own (get_or marks place false ∷ []) false i (omega (arith, less, size)) ∙ same i less
   | inr more ↦
       let e : i ≡ n = omega (arith, below, more) in
-      get_or_push own (get_or marks s.place false) false i (omega (arith, e, size)) ∙ (ap (λ (t : Spot). is_marked marks t.place) (is ∙ get_or_default spots n s default_spot h) ∙ ap (λ (m : ℕ). is_marked marks (spot_at spots m).place) (sym e))
+      get_or_push own (get_or marks place false) false i (omega (arith, e, size)) ∙ (ap (is_marked marks) is ∙ ap (λ (m : ℕ). is_marked marks (spot_at spots m).place) (sym e))
 ]

@@ -1,14 +1,9 @@
 -- Marks that are removed spot by spot.
 use Rattle.std.proofs.Common.{◌≡◌, ◌≢◌, ℕ, ◌+◌, ◌<◌, inl, inr, Bool, true, false, List, length, set, refl, sym, ap, ◌∙◌, arith}
 use Rattle.std.specs.Prelude.{◌&&◌, ◌||◌, not}
-use Rattle.std.proofs.lemmas.Bool.{cases_eq, cases_lt}
+use Rattle.std.proofs.lemmas.Bool.{cases_eq}
 use Rattle.std.proofs.lemmas.List.{get_or-set_same, get_or-set_other, length-set}
-use Rattle.ring_rules.specs.Spots.{point_at}
-use Rattle.ring_rules.specs.Cells.{row_of}
 use Rattle.ring_rules.specs.Inner.Marks.{is_marked, RemovesMarks, NoMarkPassesFrom, HasNoMarkFrom}
-use Rattle.ring_rules.specs.Inner.Regions.{NoMarkPassesIn}
-use Rattle.ring_rules.specs.declared.axis.Axis.{Axis}
-use Rattle.ring_rules.specs.declared.spots.Spot.{Spot}
 use Rattle.grid_units.proofs.BoolLemmas.{or_is_false, either}
 
 -- both parts of what holds of a mark that stays
@@ -71,11 +66,3 @@ module _ (test : ℕ → Bool) (before marks : List Bool) (p : ℕ) (inside : p 
     | inl is ↦ ap (is_marked (set marks p keeps_mark)) is ∙ (at_place ∙ (or_is_false is_left keeps_mark left).1)
     | inr differs ↦ at_other k differs ∙ none (or_is_false is_left keeps_mark left).0 k from (omega (arith, below, differs))
   ]
-
--- one row more
-pub tried_rows : (test : ℕ → Bool) (x y : Axis) (spots : List Spot) (top row left right : ℕ) (a b : List Bool) → RemovesMarks test a b → NoMarkPassesIn test x y spots top row left right a
-    → NoMarkPassesIn test x y spots row (row + 1) left right b → NoMarkPassesIn test x y spots top (row + 1) left right b
-tried_rows test x y spots top row left right a b removes tried here i h inside marked = elim (cases_lt (row_of y (point_at spots i)) row) [
-  | inl less ↦ tried i h (record { row_from = inside.row_from; row_below = less; column_from = inside.column_from; column_below = inside.column_below }) (removes.kept i marked)
-  | inr more ↦ here i h (record { row_from = more; row_below = inside.row_below; column_from = inside.column_from; column_below = inside.column_below }) marked
-]

@@ -1,7 +1,7 @@
 pub mod FoundPlaces
-pub mod Blocks
 pub mod Marks
 pub mod ClashingPairs
 pub mod Regions
+pub mod Forms
 pub mod SpotLists
 pub mod Trees

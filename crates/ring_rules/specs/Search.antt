@@ -13,21 +13,21 @@ use Rattle.ring_rules.specs.declared.layer_search.LayerSearch.{LayerSearch}
 
 -- an index in order: its spots stand in their cells, its tree holds all cells, and no hole asks for less than its least reach, in pm
 pub record IsRingIndex (index : RingIndex) : Type 0 where
-  pub grid : IsHoleGrid index.cells.x index.cells.y index.cells.starts.items index.cells.spots.items index.rules.ring index.least
+  pub grid : IsHoleGrid index.cells.x index.cells.y index.cells.starts.items index.cells.spots index.rules.ring index.least
   pub tree : IsTreeOfGrid index.cells.x index.cells.y index.nodes.items
   pub least : index.least ≤ 15000000000000
 
 -- an index of just these holes
 pub record IsRingIndexOf (holes : List Drilled) (index : RingIndex) : Type 0 where
   pub ready : IsRingIndex index
-  pub listed : AreSpotsOf holes index.cells.spots.items
+  pub listed : AreSpotsOf holes index.cells.spots
 
 -- a search over an index: it has a mark for each spot, and no mark is left in a node that is closed
 pub record IsSearchOver (index : RingIndex) (search : LayerSearch) : Type 0 where
   pub ready : IsRingIndex index
-  pub size : length search.marks.items ≡ length index.cells.spots.items
+  pub size : length search.marks.items ≡ length index.cells.spots
   pub open_nodes : length search.open_nodes.items ≡ length index.nodes.items
-  pub closed : AreClosedUnmarked index.cells.x index.cells.y index.cells.spots.items index.nodes.items search.open_nodes.items search.marks.items
+  pub closed : AreClosedUnmarked index.cells.x index.cells.y index.cells.spots index.nodes.items search.open_nodes.items search.marks.items
 
 -- the hole at a place of a list, with its plating and span
 abbrev pub drilled_at : List Drilled → ℕ → Drilled
@@ -36,7 +36,7 @@ drilled_at holes k = get_or holes k default_hole
 -- a spot is marked just where a test passes for the hole at its place
 abbrev pub AreMarkedBy : (Drilled → Bool) → List Drilled → RingIndex → List Bool → Type 0
 AreMarkedBy test holes index marks =
-    (i : ℕ) → i < length index.cells.spots.items → is_marked marks i ≡ test (drilled_at holes (spot_at index.cells.spots.items i).place)
+    (i : ℕ) → i < length index.cells.spots → is_marked marks i ≡ test (drilled_at holes (spot_at index.cells.spots i).place)
 
 -- A search over the index of some holes stands for just these pads of a layer: it marks the holes that are a finding among them.
 pub record HasTried {S : Type 0} (covers : S → GridPoint → ℕ → Bool) (holes : List Drilled) (layer : ℕ) (pads : List S) (index : RingIndex) (search : LayerSearch) : Type 0 where

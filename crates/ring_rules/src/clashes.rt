@@ -5,7 +5,7 @@ ghost use Rattle.std.specs.List.{All, Contains};
 ghost use Rattle.ring_rules.specs.Inner.ClashingPairs.{in_order, AddsClashes, ListsClash};
 
 use crate::cores::are_clear;
-use crate::spots::Spot;
+use crate::spot_list::SpotList;
 use grid_units::Rules;
 use std::alloc::AllocError;
 
@@ -18,7 +18,7 @@ fn in_order(a: usize, b: usize) -> (usize, usize)
 
 /// Appends the places of two spots, where their holes are not clear.
 fn add_pair(
-    spots: &[Spot],
+    spots: &SpotList,
     rules: Rules,
     i: usize,
     j: usize,
@@ -29,8 +29,9 @@ fn add_pair(
     ensures adds { OnOk result (AddsClashes rules.gap spots.now pairs.old.items pairs.new.items) }
     ensures found { OnOk result (ListsClash rules.gap spots.now i j pairs.new.items) }
 {
-    let (place, other) = (spots[i].place, spots[j].place);
-    if other != place && !are_clear(&spots[j].hole, &spots[i].hole, rules) {
+    let place = spots.place(i);
+    let other = spots.place(j);
+    if other != place && !are_clear(&spots.at(j).hole, &spots.at(i).hole, rules) {
         pairs.push(in_order(other, place))?;
     }
     Ok(())
@@ -38,7 +39,7 @@ fn add_pair(
 
 /// Appends the places of a spot with each of some others, where their holes are not clear.
 pub(crate) fn add_pairs(
-    spots: &[Spot],
+    spots: &SpotList,
     rules: Rules,
     i: usize,
     others: &[usize],

@@ -12,7 +12,8 @@ ghost use Rattle.ring_rules.specs.Inner.FoundPlaces.{IsSpotInZone, AddsFound, Li
 use crate::finding::Drilled;
 use crate::layout::fitting_cells;
 use crate::regions::{Region, region_of};
-use crate::spots::{Cells, Run, Spot};
+use crate::spot_list::SpotList;
+use crate::spots::{Cells, Run};
 use grid_units::Point;
 use pad_shapes::Zone;
 use std::alloc::{AllocError, Global};
@@ -49,19 +50,29 @@ fn is_in_zone(zone: &Zone, at: Point) -> bool
 }
 
 /// Appends the index of a spot, where its entry point lies in the zone.
-fn add_spot(spots: &[Spot], zone: &Zone, i: usize, found: &mut Vec<usize>) -> Result<(), AllocError>
+fn add_spot(
+    spots: &SpotList,
+    zone: &Zone,
+    i: usize,
+    found: &mut Vec<usize>,
+) -> Result<(), AllocError>
     requires { i < length spots.now }
     ensures adds { OnOk result (AddsFound spots.now zone.now found.old.items found.new.items) }
     ensures listed { OnOk result (ListsFound spots.now zone.now i found.new.items) }
 {
-    if is_in_zone(zone, spots[i].hole.from()) {
+    if is_in_zone(zone, spots.point(i)) {
         found.push(i)?;
     }
     Ok(())
 }
 
 /// Appends the indices of the spots of a run with their entry point in the zone.
-fn add_run(spots: &[Spot], zone: &Zone, run: Run, found: &mut Vec<usize>) -> Result<(), AllocError>
+fn add_run(
+    spots: &SpotList,
+    zone: &Zone,
+    run: Run,
+    found: &mut Vec<usize>,
+) -> Result<(), AllocError>
     requires { run.end ≤ length spots.now }
     ensures adds { OnOk result (AddsFound spots.now zone.now found.old.items found.new.items) }
     ensures listed { OnOk result ((i : ℕ) → run.start ≤ i → i < run.end → ListsFound spots.now zone.now i found.new.items) }
@@ -79,12 +90,12 @@ fn add_rows(
     region: Region,
     found: &mut Vec<usize>,
 ) -> Result<(), AllocError>
-    requires cells { AreInCells cells.now.x cells.now.y cells.now.starts.items cells.now.spots.items }
+    requires cells { AreInCells cells.now.x cells.now.y cells.now.starts.items cells.now.spots }
     requires bottom { region.bottom ≤ cells.now.y.last + 1 }
     requires left { region.left ≤ cells.now.x.last + 1 }
     requires right { region.right ≤ cells.now.x.last + 1 }
-    ensures adds { OnOk result (AddsFound cells.now.spots.items zone.now found.old.items found.new.items) }
-    ensures listed { OnOk result ((i : ℕ) → i < length cells.now.spots.items → IsInRegion cells.now.x cells.now.y region.top region.bottom region.left region.right (point_at cells.now.spots.items i) → ListsFound cells.now.spots.items zone.now i found.new.items) }
+    ensures adds { OnOk result (AddsFound cells.now.spots zone.now found.old.items found.new.items) }
+    ensures listed { OnOk result ((i : ℕ) → i < length cells.now.spots → IsInRegion cells.now.x cells.now.y region.top region.bottom region.left region.right (point_at cells.now.spots i) → ListsFound cells.now.spots zone.now i found.new.items) }
 {
     for row in region.top..region.bottom {
         let run = cells.run(row, region.left, region.right);
@@ -94,21 +105,21 @@ fn add_rows(
 }
 
 /// Replaces each index of a spot by its place.
-fn name_places(spots: &[Spot], found: &mut [usize])
+fn name_places(spots: &SpotList, found: &mut [usize])
     requires { All (λ i. i < length spots.now) found.old }
     ensures { (n : ℕ) → n < length found.old → get_or found.new n 0 ≡ (spot_at spots.now (get_or found.old n 0)).place }
 {
     for n in 0..found.len() {
-        found[n] = spots[found[n]].place;
+        found[n] = spots.place(found[n]);
     }
 }
 
 impl Cells {
     /// Replaces `found` by the indices of the spots with their entry point in a zone.
     pub(crate) fn find(&self, zone: &Zone, found: &mut Vec<usize>) -> Result<(), AllocError>
-        requires { AreInCells self.now.x self.now.y self.now.starts.items self.now.spots.items }
-        ensures all { OnOk result ((i : ℕ) → i < length self.now.spots.items → IsInZone zone.now (point_at self.now.spots.items i) → Contains found.new.items i) }
-        ensures found { OnOk result (All (IsSpotInZone self.now.spots.items zone.now) found.new.items) }
+        requires { AreInCells self.now.x self.now.y self.now.starts.items self.now.spots }
+        ensures all { OnOk result ((i : ℕ) → i < length self.now.spots → IsInZone zone.now (point_at self.now.spots i) → Contains found.new.items i) }
+        ensures found { OnOk result (All (IsSpotInZone self.now.spots zone.now) found.new.items) }
     {
         found.clear();
         let region = region_of(&self.x, &self.y, zone);
@@ -153,5 +164,13 @@ impl HoleIndex {
         self.cells.find(zone, places)?;
         name_places(&self.cells.spots, places);
         Ok(())
+    }
+
+    /// How many cells `find` looks through for a zone. Any answer is right: it only says how long that takes.
+    pub fn cells_in(&self, zone: &Zone) -> usize {
+        let region = region_of(&self.cells.x, &self.cells.y, zone);
+        let rows = region.bottom.saturating_sub(region.top);
+        let columns = region.right.saturating_sub(region.left);
+        rows.saturating_mul(columns)
     }
 }

@@ -12,7 +12,7 @@ use crate::finding::{Drilled, Finding};
 use crate::pads::try_pads;
 use crate::ring_index::RingIndex;
 use crate::rings::layer_findings;
-use crate::spots::Spot;
+use crate::spot_list::SpotList;
 use grid_units::is_in_span;
 use pad_shapes::PadShape;
 use std::alloc::{AllocError, Global};
@@ -37,26 +37,26 @@ fn first_marks(alloc: Global, layer: usize, holes: &[Drilled]) -> Result<Vec<boo
 }
 
 /// The marks of the spots, given those of the holes in the order of the list.
-fn marks_of_spots(alloc: Global, spots: &[Spot], marks: &[bool]) -> Result<Vec<bool>, AllocError>
+fn marks_of_spots(alloc: Global, spots: &SpotList, marks: &[bool]) -> Result<Vec<bool>, AllocError>
     requires { (i : ℕ) → i < length spots.now → (spot_at spots.now i).place < length marks.now }
     ensures size { IfOk result (λ v. length v.items ≡ length spots.now) }
     ensures marks { IfOk result (λ v. (i : ℕ) → i < length spots.now → is_marked v.items i ≡ is_marked marks.now (spot_at spots.now i).place) }
 {
     let mut own = Vec::with_capacity(alloc, spots.len())?;
-    for spot in spots {
-        own.push(marks[spot.place])?;
+    for i in 0..spots.len() {
+        own.push(marks[spots.place(i)])?;
     }
     Ok(own)
 }
 
 /// Puts the marks of the spots at the places of their holes.
-fn put_marks(spots: &[Spot], own: &[bool], marks: &mut [bool])
+fn put_marks(spots: &SpotList, own: &[bool], marks: &mut [bool])
     requires size { length own.now ≡ length spots.now }
     requires places { (i : ℕ) → i < length spots.now → (spot_at spots.now i).place < length marks.old }
     ensures { (test : ℕ → Bool) → ((i : ℕ) → i < length spots.now → is_marked own.now i ≡ test (spot_at spots.now i).place) → (i : ℕ) → i < length spots.now → is_marked marks.new (spot_at spots.now i).place ≡ test (spot_at spots.now i).place }
 {
     for i in 0..spots.len() {
-        marks[spots[i].place] = own[i];
+        marks[spots.place(i)] = own[i];
     }
 }
 
@@ -68,7 +68,7 @@ fn lacking(
     marks: &[bool],
 ) -> Result<Vec<bool>, AllocError>
     requires index { IsRingIndexOf holes.now index.now }
-    requires size { length marks.now ≡ length index.now.cells.spots.items }
+    requires size { length marks.now ≡ length index.now.cells.spots }
     ensures size { IfOk result (λ lacking. length lacking.items ≡ length holes.now) }
     ensures marks { IfOk result (λ lacking. (test : Drilled → Bool) → AreMarkedBy test holes.now index.now marks.now → lacking.items ≡ map test holes.now) }
 {

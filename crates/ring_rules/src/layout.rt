@@ -1,7 +1,6 @@
 //! Cells that suit the holes of a board and the zones that are looked for.
 
 ghost use Rattle.std.specs.Prelude.{◌≡◌, ℕ, ◌+◌, ◌*◌, ◌^◌, ◌<◌, ◌≤◌, true, IfOk, IfSome, length};
-ghost use Rattle.std.specs.List.{All, Contains};
 ghost use Rattle.grid_units.specs.Points.{GridPoint};
 ghost use Rattle.pad_shapes.specs.Zones.{IsInZone};
 ghost use Rattle.ring_rules.specs.Places.{entry_at};
@@ -48,18 +47,6 @@ fn bounds(holes: &[Drilled]) -> Zone
     let mut zone = no_zone();
     for drilled in holes {
         zone = joined(zone, drilled.hole.from());
-    }
-    zone
-}
-
-/// A zone that contains the entry points of the holes at some places.
-pub(crate) fn bounds_at(holes: &[Drilled], places: &[usize]) -> Zone
-    requires { All (λ k. k < length holes.now) places.now }
-    ensures { (k : ℕ) → Contains places.now k → IsInZone result (entry_at holes.now k) }
-{
-    let mut zone = no_zone();
-    for place in places {
-        zone = joined(zone, holes[*place].hole.from());
     }
     zone
 }
@@ -151,7 +138,7 @@ fn even_cells(
     height: u64,
 ) -> Result<Option<Cells>, AllocError>
     requires { (k : ℕ) → k < length holes.now → IsInZone zone.now (entry_at holes.now k) }
-    ensures { IfOk result (λ cells. IfSome cells (λ cells. IsSpotted cells.x cells.y cells.starts.items cells.spots.items holes.now)) }
+    ensures { IfOk result (λ cells. IfSome cells (λ cells. IsSpotted cells.x cells.y cells.starts.items cells.spots holes.now)) }
 {
     let spread_x = spread_x(alloc, holes)?;
     let spread_y = spread_y(alloc, holes)?;
@@ -174,7 +161,7 @@ pub(crate) fn fitting_cells(
     width: u64,
     height: u64,
 ) -> Result<Cells, AllocError>
-    ensures { IfOk result (λ cells. IsSpotted cells.x cells.y cells.starts.items cells.spots.items holes.now) }
+    ensures { IfOk result (λ cells. IsSpotted cells.x cells.y cells.starts.items cells.spots holes.now) }
 {
     let zone = bounds(holes);
     if let Some(cells) = even_cells(alloc, holes, &zone, width, height)? {

@@ -4,8 +4,6 @@
 #![tactic(auto)]
 
 mod axis;
-mod block_division;
-mod blocks;
 mod cell_size;
 mod cells;
 mod clashes;
@@ -24,11 +22,11 @@ mod places;
 mod regions;
 mod ring_index;
 mod rings;
+mod spot_list;
 mod spots;
 mod tree;
 mod tree_search;
 mod uneven_axes;
-mod zones;
 
 pub use cores::{clear_of, core_distance_x, core_distance_y};
 pub use finding::{Drilled, Finding, is_oblique};

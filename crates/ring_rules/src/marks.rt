@@ -1,12 +1,13 @@
 //! Marks of the holes that no pad has covered so far. They stand in the order of the spots.
 
-ghost use Rattle.std.specs.Prelude.{◌≡◌, ◌≤◌, ◌&&◌, false, not, length};
+ghost use Rattle.std.specs.Prelude.{◌≡◌, ◌<◌, ◌≤◌, ◌&&◌, false, not, length};
 ghost use Rattle.pad_shapes.specs.Shapes.{IsAxisAligned};
 ghost use Rattle.ring_rules.specs.Findings.{covers_hole};
 ghost use Rattle.ring_rules.specs.Inner.Marks.{gives_ring, gives_ring_at, RemovesMarks, NoMarkPassesFrom, HasNoMarkFrom};
 
 use crate::finding::is_oblique;
-use crate::spots::{Run, Spot};
+use crate::spot_list::SpotList;
+use crate::spots::Run;
 use grid_units::{Hole, Rules};
 use pad_shapes::PadShape;
 
@@ -28,16 +29,17 @@ fn gives_ring<S: PadShape>(pad: &S, hole: &Hole, rules: Rules) -> bool
     !is_oblique(hole) && covers_hole(pad, hole, rules)
 }
 
-/// Whether a hole keeps its mark after a pad was tried.
-fn keeps_mark<S: PadShape>(pad: &S, hole: &Hole, rules: Rules, mark: bool) -> bool
-    ensures { result ≡ (mark && not (gives_ring S.covers rules.ring hole.now pad.now)) }
+/// Whether a spot keeps its mark after a pad was tried.
+fn keeps_mark<S: PadShape>(spots: &SpotList, rules: Rules, pad: &S, i: usize, mark: bool) -> bool
+    requires { i < length spots.now }
+    ensures { result ≡ (mark && not (gives_ring_at S.covers rules.ring spots.now pad.now i)) }
 {
-    mark && !gives_ring(pad, hole, rules)
+    mark && !gives_ring(pad, &spots.at(i).hole, rules)
 }
 
 /// Removes the marks of the spots of a run to whose holes the pad gives their ring, and returns whether a mark is left.
 pub(crate) fn try_run<S: PadShape>(
-    spots: &[Spot],
+    spots: &SpotList,
     rules: Rules,
     pad: &S,
     run: Run,
@@ -51,7 +53,7 @@ pub(crate) fn try_run<S: PadShape>(
 {
     let mut is_left = false;
     for i in run.start..run.end {
-        let keeps_mark = keeps_mark(pad, &spots[i].hole, rules, marks[i]);
+        let keeps_mark = keeps_mark(spots, rules, pad, i, marks[i]);
         marks[i] = keeps_mark;
         is_left = is_left | keeps_mark;
     }

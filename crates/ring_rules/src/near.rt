@@ -199,13 +199,13 @@ fn add_near(
     near: &mut Vec<usize>,
     pairs: &mut Vec<(usize, usize)>,
 ) -> Result<(), AllocError>
-    requires cells { AreInCells cells.now.x cells.now.y cells.now.starts.items cells.now.spots.items }
-    requires limits { AreSpotsWithin limits cells.now.spots.items }
-    requires inside { i < length cells.now.spots.items }
-    ensures adds { OnOk result (AddsClashes rules.gap cells.now.spots.items pairs.old.items pairs.new.items) }
-    ensures found { OnOk result (ListsClashes rules.gap cells.now.spots.items i pairs.new.items) }
+    requires cells { AreInCells cells.now.x cells.now.y cells.now.starts.items cells.now.spots }
+    requires limits { AreSpotsWithin limits cells.now.spots }
+    requires inside { i < length cells.now.spots }
+    ensures adds { OnOk result (AddsClashes rules.gap cells.now.spots pairs.old.items pairs.new.items) }
+    ensures found { OnOk result (ListsClashes rules.gap cells.now.spots i pairs.new.items) }
 {
-    let zone = near_zone(&cells.spots[i].hole, rules.gap(), limits);
+    let zone = near_zone(&cells.spots.at(i).hole, rules.gap(), limits);
     cells.find(&zone, near)?;
     add_pairs(&cells.spots, rules, i, near, pairs)?;
     Ok(())
@@ -219,10 +219,10 @@ fn add_all_pairs(
     near: &mut Vec<usize>,
     pairs: &mut Vec<(usize, usize)>,
 ) -> Result<(), AllocError>
-    requires cells { AreInCells cells.now.x cells.now.y cells.now.starts.items cells.now.spots.items }
-    requires limits { AreSpotsWithin limits cells.now.spots.items }
-    ensures adds { OnOk result (AddsClashes rules.gap cells.now.spots.items pairs.old.items pairs.new.items) }
-    ensures found { OnOk result ((i : ℕ) → i < length cells.now.spots.items → ListsClashes rules.gap cells.now.spots.items i pairs.new.items) }
+    requires cells { AreInCells cells.now.x cells.now.y cells.now.starts.items cells.now.spots }
+    requires limits { AreSpotsWithin limits cells.now.spots }
+    ensures adds { OnOk result (AddsClashes rules.gap cells.now.spots pairs.old.items pairs.new.items) }
+    ensures found { OnOk result ((i : ℕ) → i < length cells.now.spots → ListsClashes rules.gap cells.now.spots i pairs.new.items) }
 {
     for i in 0..cells.spots.len() {
         add_near(cells, rules, limits, i, near, pairs)?;
@@ -252,7 +252,7 @@ fn near_cells(
     rules: Rules,
     limits: Limits,
 ) -> Result<Cells, AllocError>
-    ensures { IfOk result (λ cells. IsSpotted cells.x cells.y cells.starts.items cells.spots.items holes.now) }
+    ensures { IfOk result (λ cells. IsSpotted cells.x cells.y cells.starts.items cells.spots holes.now) }
 {
     let width = mean_zone_length(holes, rules, limits.radius, limits.x);
     let height = mean_zone_length(holes, rules, limits.radius, limits.y);
@@ -267,8 +267,8 @@ pub(crate) fn clashes_in(
     rules: Rules,
     limits: Limits,
 ) -> Result<Vec<(usize, usize)>, AllocError>
-    requires cells { AreInCells cells.now.x cells.now.y cells.now.starts.items cells.now.spots.items }
-    requires listed { AreSpotsOf holes.now cells.now.spots.items }
+    requires cells { AreInCells cells.now.x cells.now.y cells.now.starts.items cells.now.spots }
+    requires listed { AreSpotsOf holes.now cells.now.spots }
     requires limits { AreLimits holes.now limits }
     ensures sound { IfOk result (λ v. (p : ℕ × ℕ) → Contains v.items p → IsClash rules.gap holes.now p) }
     ensures complete { IfOk result (λ v. (p : ℕ × ℕ) → IsClash rules.gap holes.now p → Contains v.items p) }
@@ -295,7 +295,7 @@ pub(crate) fn clashes(
 
 /// How many rows a region has, and how many spots stand in the first 64 of them.
 fn looks_in(cells: &Cells, region: Region) -> usize
-    requires cells { AreInCells cells.now.x cells.now.y cells.now.starts.items cells.now.spots.items }
+    requires cells { AreInCells cells.now.x cells.now.y cells.now.starts.items cells.now.spots }
     requires bottom { region.bottom ≤ cells.now.y.last + 1 }
     requires left { region.left ≤ cells.now.x.last + 1 }
     requires right { region.right ≤ cells.now.x.last + 1 }
@@ -311,13 +311,14 @@ fn looks_in(cells: &Cells, region: Region) -> usize
 /// Whether holes find their neighbours quickly in cells that were made for pads: a sample of them looks at few rows and
 /// spots. Any answer is right: only the time depends on it.
 pub(crate) fn suits_gaps(cells: &Cells, rules: Rules, limits: Limits) -> bool
-    requires { AreInCells cells.now.x cells.now.y cells.now.starts.items cells.now.spots.items }
+    requires { AreInCells cells.now.x cells.now.y cells.now.starts.items cells.now.spots }
 {
     let draws = (cells.spots.len() as u64).min(256);
     let mut looks: usize = 0;
     for draw in 0..draws {
-        if let Some(spot) = cells.spots.get(sample_index(draw, cells.spots.len())) {
-            let zone = near_zone(&spot.hole, rules.gap(), limits);
+        let i = sample_index(draw, cells.spots.len());
+        if i < cells.spots.len() {
+            let zone = near_zone(&cells.spots.at(i).hole, rules.gap(), limits);
             let region = region_of(&cells.x, &cells.y, &zone);
             looks = looks.saturating_add(looks_in(cells, region));
         }

@@ -63,30 +63,30 @@ fn try_range<S: PadShape>(
     requires bottom { range.region.bottom ≤ index.now.cells.y.last + 1 }
     requires left { range.region.left ≤ index.now.cells.x.last + 1 }
     requires right { range.region.right ≤ index.now.cells.x.last + 1 }
-    requires size { length marks.old ≡ length index.now.cells.spots.items }
+    requires size { length marks.old ≡ length index.now.cells.spots }
     requires open_nodes { length open_nodes.now ≡ length index.now.nodes.items }
-    requires closed { AreClosedUnmarked index.now.cells.x index.now.cells.y index.now.cells.spots.items index.now.nodes.items open_nodes.now marks.old }
-    ensures removes { RemovesMarks (gives_ring_at S.covers index.now.rules.ring index.now.cells.spots.items pad.now) marks.old marks.new }
-    ensures closed { AreClosedUnmarked index.now.cells.x index.now.cells.y index.now.cells.spots.items index.now.nodes.items open_nodes.now marks.new }
-    ensures tried { (i : ℕ) → i < length index.now.cells.spots.items → is_marked marks.new i ≡ true → gives_ring_at S.covers index.now.rules.ring index.now.cells.spots.items pad.now i ≡ false }
+    requires closed { AreClosedUnmarked index.now.cells.x index.now.cells.y index.now.cells.spots index.now.nodes.items open_nodes.now marks.old }
+    ensures removes { RemovesMarks (gives_ring_at S.covers index.now.rules.ring index.now.cells.spots pad.now) marks.old marks.new }
+    ensures closed { AreClosedUnmarked index.now.cells.x index.now.cells.y index.now.cells.spots index.now.nodes.items open_nodes.now marks.new }
+    ensures tried { (i : ℕ) → i < length index.now.cells.spots → is_marked marks.new i ≡ true → gives_ring_at S.covers index.now.rules.ring index.now.cells.spots pad.now i ≡ false }
 {
     let search = RingSearch {
         cells: &index.cells,
         rules: index.rules,
         least: index.least,
     };
-    search.try_runs(pad, range.region, marks);
+    let _ = search.try_rows(pad, range.region, marks);
 }
 
 /// Removes the marks of all holes to which a pad gives their ring, down the tree.
 fn try_all<S: PadShape>(index: &RingIndex, pad: &S, open_nodes: &mut [bool], marks: &mut [bool])
     requires ready { IsRingIndex index.now }
-    requires size { length marks.old ≡ length index.now.cells.spots.items }
+    requires size { length marks.old ≡ length index.now.cells.spots }
     requires open_nodes { length open_nodes.old ≡ length index.now.nodes.items }
-    requires closed { AreClosedUnmarked index.now.cells.x index.now.cells.y index.now.cells.spots.items index.now.nodes.items open_nodes.old marks.old }
-    ensures removes { RemovesMarks (gives_ring_at S.covers index.now.rules.ring index.now.cells.spots.items pad.now) marks.old marks.new }
-    ensures closed { AreClosedUnmarked index.now.cells.x index.now.cells.y index.now.cells.spots.items index.now.nodes.items open_nodes.new marks.new }
-    ensures tried { (i : ℕ) → i < length index.now.cells.spots.items → is_marked marks.new i ≡ true → gives_ring_at S.covers index.now.rules.ring index.now.cells.spots.items pad.now i ≡ false }
+    requires closed { AreClosedUnmarked index.now.cells.x index.now.cells.y index.now.cells.spots index.now.nodes.items open_nodes.old marks.old }
+    ensures removes { RemovesMarks (gives_ring_at S.covers index.now.rules.ring index.now.cells.spots pad.now) marks.old marks.new }
+    ensures closed { AreClosedUnmarked index.now.cells.x index.now.cells.y index.now.cells.spots index.now.nodes.items open_nodes.new marks.new }
+    ensures tried { (i : ℕ) → i < length index.now.cells.spots → is_marked marks.new i ≡ true → gives_ring_at S.covers index.now.rules.ring index.now.cells.spots pad.now i ≡ false }
 {
     let search = RingSearch {
         cells: &index.cells,
@@ -107,12 +107,12 @@ fn is_small(range: CellRange) -> bool {
 /// Removes the marks of the holes to which a pad gives their ring.
 fn try_pad<S: PadShape>(index: &RingIndex, pad: &S, open_nodes: &mut [bool], marks: &mut [bool])
     requires ready { IsRingIndex index.now }
-    requires size { length marks.old ≡ length index.now.cells.spots.items }
+    requires size { length marks.old ≡ length index.now.cells.spots }
     requires open_nodes { length open_nodes.old ≡ length index.now.nodes.items }
-    requires closed { AreClosedUnmarked index.now.cells.x index.now.cells.y index.now.cells.spots.items index.now.nodes.items open_nodes.old marks.old }
-    ensures removes { RemovesMarks (gives_ring_at S.covers index.now.rules.ring index.now.cells.spots.items pad.now) marks.old marks.new }
-    ensures closed { AreClosedUnmarked index.now.cells.x index.now.cells.y index.now.cells.spots.items index.now.nodes.items open_nodes.new marks.new }
-    ensures tried { (i : ℕ) → i < length index.now.cells.spots.items → is_marked marks.new i ≡ true → gives_ring_at S.covers index.now.rules.ring index.now.cells.spots.items pad.now i ≡ false }
+    requires closed { AreClosedUnmarked index.now.cells.x index.now.cells.y index.now.cells.spots index.now.nodes.items open_nodes.old marks.old }
+    ensures removes { RemovesMarks (gives_ring_at S.covers index.now.rules.ring index.now.cells.spots pad.now) marks.old marks.new }
+    ensures closed { AreClosedUnmarked index.now.cells.x index.now.cells.y index.now.cells.spots index.now.nodes.items open_nodes.new marks.new }
+    ensures tried { (i : ℕ) → i < length index.now.cells.spots → is_marked marks.new i ≡ true → gives_ring_at S.covers index.now.rules.ring index.now.cells.spots pad.now i ≡ false }
 {
     let range = range_of(&index.cells.x, &index.cells.y, pad, index.least);
     if is_small(range) {
@@ -130,11 +130,11 @@ pub(crate) fn try_pads<S: PadShape>(
     marks: &mut [bool],
 )
     requires ready { IsRingIndex index.now }
-    requires size { length marks.old ≡ length index.now.cells.spots.items }
+    requires size { length marks.old ≡ length index.now.cells.spots }
     requires open_nodes { length open_nodes.old ≡ length index.now.nodes.items }
-    requires closed { AreClosedUnmarked index.now.cells.x index.now.cells.y index.now.cells.spots.items index.now.nodes.items open_nodes.old marks.old }
-    ensures closed { AreClosedUnmarked index.now.cells.x index.now.cells.y index.now.cells.spots.items index.now.nodes.items open_nodes.new marks.new }
-    ensures marked { (i : ℕ) → i < length index.now.cells.spots.items → is_marked marks.new i ≡ (is_marked marks.old i && not (list_any (gives_ring S.covers index.now.rules.ring (spot_at index.now.cells.spots.items i).hole) pads.now)) }
+    requires closed { AreClosedUnmarked index.now.cells.x index.now.cells.y index.now.cells.spots index.now.nodes.items open_nodes.old marks.old }
+    ensures closed { AreClosedUnmarked index.now.cells.x index.now.cells.y index.now.cells.spots index.now.nodes.items open_nodes.new marks.new }
+    ensures marked { (i : ℕ) → i < length index.now.cells.spots → is_marked marks.new i ≡ (is_marked marks.old i && not (list_any (gives_ring S.covers index.now.rules.ring (spot_at index.now.cells.spots i).hole) pads.now)) }
 {
     for pad in pads {
         try_pad(index, pad, open_nodes, marks);

@@ -73,13 +73,13 @@ impl RingSearch<'_> {
         column: usize,
         marks: &mut [bool],
     ) -> bool
-        requires ready { IsHoleGrid self.now.cells.now.x self.now.cells.now.y self.now.cells.now.starts.items self.now.cells.now.spots.items self.now.rules.ring self.now.least }
-        requires size { length marks.old ≡ length self.now.cells.now.spots.items }
+        requires ready { IsHoleGrid self.now.cells.now.x self.now.cells.now.y self.now.cells.now.starts.items self.now.cells.now.spots self.now.rules.ring self.now.least }
+        requires size { length marks.old ≡ length self.now.cells.now.spots }
         requires row { row ≤ self.now.cells.now.y.last }
         requires column { column ≤ self.now.cells.now.x.last }
-        ensures removes { RemovesMarks (gives_ring_at S.covers self.now.rules.ring self.now.cells.now.spots.items pad.now) marks.old marks.new }
-        ensures tried { NoMarkPassesIn (gives_ring_at S.covers self.now.rules.ring self.now.cells.now.spots.items pad.now) self.now.cells.now.x self.now.cells.now.y self.now.cells.now.spots.items row (row + 1) column (column + 1) marks.new }
-        ensures none { result ≡ false → HasNoMarkIn self.now.cells.now.x self.now.cells.now.y self.now.cells.now.spots.items row (row + 1) column (column + 1) marks.new }
+        ensures removes { RemovesMarks (gives_ring_at S.covers self.now.rules.ring self.now.cells.now.spots pad.now) marks.old marks.new }
+        ensures tried { NoMarkPassesIn (gives_ring_at S.covers self.now.rules.ring self.now.cells.now.spots pad.now) self.now.cells.now.x self.now.cells.now.y self.now.cells.now.spots row (row + 1) column (column + 1) marks.new }
+        ensures none { result ≡ false → HasNoMarkIn self.now.cells.now.x self.now.cells.now.y self.now.cells.now.spots row (row + 1) column (column + 1) marks.new }
     {
         let run = self.cells.run(row, column, column + 1);
         if run.end <= run.start {
@@ -106,13 +106,13 @@ impl RingSearch<'_> {
         right: usize,
         marks: &mut [bool],
     ) -> bool
-        requires ready { IsHoleGrid self.now.cells.now.x self.now.cells.now.y self.now.cells.now.starts.items self.now.cells.now.spots.items self.now.rules.ring self.now.least }
-        requires size { length marks.old ≡ length self.now.cells.now.spots.items }
+        requires ready { IsHoleGrid self.now.cells.now.x self.now.cells.now.y self.now.cells.now.starts.items self.now.cells.now.spots self.now.rules.ring self.now.least }
+        requires size { length marks.old ≡ length self.now.cells.now.spots }
         requires row { row ≤ self.now.cells.now.y.last }
         requires right { right ≤ self.now.cells.now.x.last + 1 }
-        ensures removes { RemovesMarks (gives_ring_at S.covers self.now.rules.ring self.now.cells.now.spots.items pad.now) marks.old marks.new }
-        ensures tried { NoMarkPassesIn (gives_ring_at S.covers self.now.rules.ring self.now.cells.now.spots.items pad.now) self.now.cells.now.x self.now.cells.now.y self.now.cells.now.spots.items row (row + 1) left right marks.new }
-        ensures none { result ≡ false → HasNoMarkIn self.now.cells.now.x self.now.cells.now.y self.now.cells.now.spots.items row (row + 1) left right marks.new }
+        ensures removes { RemovesMarks (gives_ring_at S.covers self.now.rules.ring self.now.cells.now.spots pad.now) marks.old marks.new }
+        ensures tried { NoMarkPassesIn (gives_ring_at S.covers self.now.rules.ring self.now.cells.now.spots pad.now) self.now.cells.now.x self.now.cells.now.y self.now.cells.now.spots row (row + 1) left right marks.new }
+        ensures none { result ≡ false → HasNoMarkIn self.now.cells.now.x self.now.cells.now.y self.now.cells.now.spots row (row + 1) left right marks.new }
     {
         let mut is_left = false;
         for column in left..right {
@@ -131,14 +131,14 @@ impl RingSearch<'_> {
         right: usize,
         marks: &mut [bool],
     ) -> bool
-        requires ready { IsHoleGrid self.now.cells.now.x self.now.cells.now.y self.now.cells.now.starts.items self.now.cells.now.spots.items self.now.rules.ring self.now.least }
-        requires size { length marks.old ≡ length self.now.cells.now.spots.items }
+        requires ready { IsHoleGrid self.now.cells.now.x self.now.cells.now.y self.now.cells.now.starts.items self.now.cells.now.spots self.now.rules.ring self.now.least }
+        requires size { length marks.old ≡ length self.now.cells.now.spots }
         requires row { row ≤ self.now.cells.now.y.last }
         requires left { left ≤ self.now.cells.now.x.last + 1 }
         requires right { right ≤ self.now.cells.now.x.last + 1 }
-        ensures removes { RemovesMarks (gives_ring_at S.covers self.now.rules.ring self.now.cells.now.spots.items pad.now) marks.old marks.new }
-        ensures tried { NoMarkPassesIn (gives_ring_at S.covers self.now.rules.ring self.now.cells.now.spots.items pad.now) self.now.cells.now.x self.now.cells.now.y self.now.cells.now.spots.items row (row + 1) left right marks.new }
-        ensures none { result ≡ false → HasNoMarkIn self.now.cells.now.x self.now.cells.now.y self.now.cells.now.spots.items row (row + 1) left right marks.new }
+        ensures removes { RemovesMarks (gives_ring_at S.covers self.now.rules.ring self.now.cells.now.spots pad.now) marks.old marks.new }
+        ensures tried { NoMarkPassesIn (gives_ring_at S.covers self.now.rules.ring self.now.cells.now.spots pad.now) self.now.cells.now.x self.now.cells.now.y self.now.cells.now.spots row (row + 1) left right marks.new }
+        ensures none { result ≡ false → HasNoMarkIn self.now.cells.now.x self.now.cells.now.y self.now.cells.now.spots row (row + 1) left right marks.new }
     {
         let run = self.cells.run(row, left, right);
         if FEW_SPOTS < run.end.saturating_sub(run.start) {
@@ -149,14 +149,14 @@ impl RingSearch<'_> {
 
     /// Tries a pad at the holes of a region row by row. Returns whether a mark may be left there.
     pub(crate) fn try_rows<S: PadShape>(&self, pad: &S, region: Region, marks: &mut [bool]) -> bool
-        requires ready { IsHoleGrid self.now.cells.now.x self.now.cells.now.y self.now.cells.now.starts.items self.now.cells.now.spots.items self.now.rules.ring self.now.least }
-        requires size { length marks.old ≡ length self.now.cells.now.spots.items }
+        requires ready { IsHoleGrid self.now.cells.now.x self.now.cells.now.y self.now.cells.now.starts.items self.now.cells.now.spots self.now.rules.ring self.now.least }
+        requires size { length marks.old ≡ length self.now.cells.now.spots }
         requires bottom { region.bottom ≤ self.now.cells.now.y.last + 1 }
         requires left { region.left ≤ self.now.cells.now.x.last + 1 }
         requires right { region.right ≤ self.now.cells.now.x.last + 1 }
-        ensures removes { RemovesMarks (gives_ring_at S.covers self.now.rules.ring self.now.cells.now.spots.items pad.now) marks.old marks.new }
-        ensures tried { NoMarkPassesIn (gives_ring_at S.covers self.now.rules.ring self.now.cells.now.spots.items pad.now) self.now.cells.now.x self.now.cells.now.y self.now.cells.now.spots.items region.top region.bottom region.left region.right marks.new }
-        ensures none { result ≡ false → HasNoMarkIn self.now.cells.now.x self.now.cells.now.y self.now.cells.now.spots.items region.top region.bottom region.left region.right marks.new }
+        ensures removes { RemovesMarks (gives_ring_at S.covers self.now.rules.ring self.now.cells.now.spots pad.now) marks.old marks.new }
+        ensures tried { NoMarkPassesIn (gives_ring_at S.covers self.now.rules.ring self.now.cells.now.spots pad.now) self.now.cells.now.x self.now.cells.now.y self.now.cells.now.spots region.top region.bottom region.left region.right marks.new }
+        ensures none { result ≡ false → HasNoMarkIn self.now.cells.now.x self.now.cells.now.y self.now.cells.now.spots region.top region.bottom region.left region.right marks.new }
     {
         let mut is_left = false;
         for row in region.top..region.bottom {
@@ -164,21 +164,5 @@ impl RingSearch<'_> {
             is_left = is_left | rest;
         }
         is_left
-    }
-
-    /// Tries a pad at all holes of a region, row by row.
-    pub(crate) fn try_runs<S: PadShape>(&self, pad: &S, region: Region, marks: &mut [bool])
-        requires ready { IsHoleGrid self.now.cells.now.x self.now.cells.now.y self.now.cells.now.starts.items self.now.cells.now.spots.items self.now.rules.ring self.now.least }
-        requires size { length marks.old ≡ length self.now.cells.now.spots.items }
-        requires bottom { region.bottom ≤ self.now.cells.now.y.last + 1 }
-        requires left { region.left ≤ self.now.cells.now.x.last + 1 }
-        requires right { region.right ≤ self.now.cells.now.x.last + 1 }
-        ensures removes { RemovesMarks (gives_ring_at S.covers self.now.rules.ring self.now.cells.now.spots.items pad.now) marks.old marks.new }
-        ensures tried { NoMarkPassesIn (gives_ring_at S.covers self.now.rules.ring self.now.cells.now.spots.items pad.now) self.now.cells.now.x self.now.cells.now.y self.now.cells.now.spots.items region.top region.bottom region.left region.right marks.new }
-    {
-        for row in region.top..region.bottom {
-            let run = self.cells.run(row, region.left, region.right);
-            let _ = try_run(&self.cells.spots, self.rules, pad, run, marks);
-        }
     }
 }

@@ -6,8 +6,9 @@ ghost use Rattle.ring_rules.specs.Search.{IsRingIndexOf};
 
 use crate::finding::Drilled;
 use crate::layout::fitting_cells;
-use crate::spots::{Cells, Spot};
-use crate::tree::{Node, tree_of};
+use crate::spot_list::SpotList;
+use crate::spots::Cells;
+use crate::tree::{LEAF_CELLS, Node, tree_of};
 use grid_units::{Hole, Rules};
 use std::alloc::{AllocError, Global};
 
@@ -30,13 +31,13 @@ fn reach(hole: &Hole, rules: Rules) -> u64
 }
 
 /// A reach that each hole asks for at least, in pm.
-fn least_reach(spots: &[Spot], rules: Rules) -> u64
+fn least_reach(spots: &SpotList, rules: Rules) -> u64
     ensures least { (i : ℕ) → i < length spots.now → result ≤ (spot_at spots.now i).hole.radius + rules.ring }
     ensures bound { result ≤ 15000000000000 }
 {
     let mut least = 15_000_000_000_000;
-    for spot in spots {
-        least = reach(&spot.hole, rules).min(least);
+    for i in 0..spots.len() {
+        least = reach(&spots.at(i).hole, rules).min(least);
     }
     least
 }
@@ -59,7 +60,7 @@ impl RingIndex {
         ensures rules { IfOk result (λ index. index.rules ≡ rules) }
     {
         let cells = fitting_cells(alloc, holes, width, height)?;
-        let nodes = tree_of(alloc, &cells.x, &cells.y)?;
+        let nodes = tree_of(alloc, &cells.x, &cells.y, LEAF_CELLS)?;
         let least = least_reach(&cells.spots, rules);
         Ok(RingIndex {
             cells,

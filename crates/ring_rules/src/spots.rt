@@ -10,6 +10,7 @@ ghost use Rattle.ring_rules.specs.Inner.SpotLists.{AddsSpots, AreSpotted, IsSpot
 use crate::axis::Axis;
 use crate::cells::{Chains, link_at, narrow};
 use crate::finding::Drilled;
+use crate::spot_list::SpotList;
 use grid_units::Hole;
 use std::alloc::{AllocError, Global};
 
@@ -26,7 +27,7 @@ pub(crate) struct Cells {
     pub x: Axis,
     pub y: Axis,
     pub starts: Vec<u32>,
-    pub spots: Vec<Spot>,
+    pub spots: SpotList,
 }
 
 /// Spots that follow each other, from `start` to `end`, the end excluded.
@@ -39,12 +40,12 @@ pub(crate) struct Run {
 impl Cells {
     /// The spots of a row, in columns from `left` to `right`, end excluded.
     pub(crate) fn run(&self, row: usize, left: usize, right: usize) -> Run
-        requires cells { AreInCells self.now.x self.now.y self.now.starts.items self.now.spots.items }
+        requires cells { AreInCells self.now.x self.now.y self.now.starts.items self.now.spots }
         requires row { row ≤ self.now.y.last }
         requires left { left ≤ self.now.x.last + 1 }
         requires right { right ≤ self.now.x.last + 1 }
-        ensures within { result.end ≤ length self.now.spots.items }
-        ensures holds { (i : ℕ) → i < length self.now.spots.items → IsInRegion self.now.x self.now.y row (row + 1) left right (point_at self.now.spots.items i) → (result.start ≤ i) × (i < result.end) }
+        ensures within { result.end ≤ length self.now.spots }
+        ensures holds { (i : ℕ) → i < length self.now.spots → IsInRegion self.now.x self.now.y row (row + 1) left right (point_at self.now.spots i) → (result.start ≤ i) × (i < result.end) }
     {
         let first = row * (self.x.last + 1);
         Run {
@@ -59,11 +60,11 @@ fn push_cell(
     chains: &Chains,
     holes: &[Drilled],
     cell: usize,
-    spots: &mut Vec<Spot>,
+    spots: &mut SpotList,
 ) -> Result<(), AllocError>
     requires { IsChained (cell_at chains.now.x chains.now.y holes.now) (length holes.now) chains.now.head.items chains.now.next.items }
-    ensures adds { OnOk result (AddsSpots (cell_of chains.now.x chains.now.y) holes.now cell spots.old.items spots.new.items) }
-    ensures all { OnOk result ((k : ℕ) → k < length holes.now → cell_at chains.now.x chains.now.y holes.now k ≡ cell → HasSpot spots.new.items k) }
+    ensures adds { OnOk result (AddsSpots (cell_of chains.now.x chains.now.y) holes.now cell spots.old spots.new) }
+    ensures all { OnOk result ((k : ℕ) → k < length holes.now → cell_at chains.now.x chains.now.y holes.now k ≡ cell → HasSpot spots.new k) }
 {
     let mut link = link_at(&chains.head, cell);
     while link > 0 {
@@ -80,12 +81,12 @@ fn push_cells(
     chains: &Chains,
     holes: &[Drilled],
     starts: &mut Vec<u32>,
-    spots: &mut Vec<Spot>,
+    spots: &mut SpotList,
 ) -> Result<(), AllocError>
     requires chained { IsChained (cell_at chains.now.x chains.now.y holes.now) (length holes.now) chains.now.head.items chains.now.next.items }
     requires starts { starts.old.items ≡ 0 ∷ [] }
-    requires spots { spots.old.items ≡ [] }
-    ensures { OnOk result (AreSpotted (cell_of chains.now.x chains.now.y) holes.now (length chains.now.head.items) starts.new.items spots.new.items) }
+    requires spots { spots.old ≡ [] }
+    ensures { OnOk result (AreSpotted (cell_of chains.now.x chains.now.y) holes.now (length chains.now.head.items) starts.new.items spots.new) }
 {
     for cell in 0..chains.head.len() {
         push_cell(chains, holes, cell, spots)?;
@@ -98,10 +99,10 @@ fn push_cells(
 /// The holes of chains in the order of their cells.
 pub(crate) fn spotted(alloc: Global, chains: Chains, holes: &[Drilled]) -> Result<Cells, AllocError>
     requires { IsLaidOut chains.x chains.y chains.head.items chains.next.items holes.now }
-    ensures { IfOk result (λ cells. IsSpotted cells.x cells.y cells.starts.items cells.spots.items holes.now) }
+    ensures { IfOk result (λ cells. IsSpotted cells.x cells.y cells.starts.items cells.spots holes.now) }
 {
     let mut starts = Vec::with_capacity(alloc, chains.head.len() + 1)?;
-    let mut spots = Vec::with_capacity(alloc, holes.len())?;
+    let mut spots = SpotList::with_capacity(alloc, holes.len())?;
     starts.push(0)?;
     push_cells(&chains, holes, &mut starts, &mut spots)?;
     Ok(Cells {

@@ -8,8 +8,8 @@ use crate::axis::Axis;
 use crate::regions::Region;
 use std::alloc::{AllocError, Global};
 
-/// The most cells of a region that is not halved.
-const LEAF_CELLS: usize = 32;
+/// The most cells of a leaf where pads go down a tree.
+pub(crate) const LEAF_CELLS: usize = 32;
 
 /// A region, and the index after the last of its parts, which follow it in the list. A leaf has none.
 #[derive(Clone, Copy)]
@@ -62,15 +62,15 @@ fn halves_by_column(region: Region) -> (Region, Region)
     (first, second)
 }
 
-/// The halves of a region across its longer side, if it has more than a few cells.
-fn halves(region: Region) -> Option<(Region, Region)>
+/// The halves of a region across its longer side, if it has more cells than a leaf may have.
+fn halves(region: Region, leaf_cells: usize) -> Option<(Region, Region)>
     requires rows { region.top < region.bottom }
     requires columns { region.left < region.right }
     ensures { IfSome result (AreHalves region) }
 {
     let rows = region.bottom - region.top;
     let columns = region.right - region.left;
-    if rows.saturating_mul(columns) <= LEAF_CELLS {
+    if rows.saturating_mul(columns) <= leaf_cells {
         None
     } else if rows < columns {
         Some(halves_by_column(region))
@@ -98,7 +98,7 @@ pub(crate) fn region_at(nodes: &[Node], i: usize) -> Region
 }
 
 /// Appends the tree of a region.
-fn push_tree(nodes: &mut Vec<Node>, region: Region) -> Result<(), AllocError>
+fn push_tree(nodes: &mut Vec<Node>, region: Region, leaf_cells: usize) -> Result<(), AllocError>
     requires rows { region.top < region.bottom }
     requires columns { region.left < region.right }
     ensures longer { OnOk result (length nodes.old.items < length nodes.new.items) }
@@ -110,18 +110,23 @@ fn push_tree(nodes: &mut Vec<Node>, region: Region) -> Result<(), AllocError>
         region,
         end: at + 1,
     })?;
-    let Some(parts) = halves(region) else {
+    let Some(parts) = halves(region, leaf_cells) else {
         return Ok(());
     };
-    push_tree(nodes, parts.0)?;
-    push_tree(nodes, parts.1)?;
+    push_tree(nodes, parts.0, leaf_cells)?;
+    push_tree(nodes, parts.1, leaf_cells)?;
     let end = nodes.len();
     nodes[at] = Node { region, end };
     Ok(())
 }
 
-/// The tree of a whole grid.
-pub(crate) fn tree_of(alloc: Global, x: &Axis, y: &Axis) -> Result<Vec<Node>, AllocError>
+/// The tree of a whole grid, with leaves of at most so many cells, or of a single one.
+pub(crate) fn tree_of(
+    alloc: Global,
+    x: &Axis,
+    y: &Axis,
+    leaf_cells: usize,
+) -> Result<Vec<Node>, AllocError>
     ensures { IfOk result (λ nodes. IsTreeOfGrid x.now y.now nodes.items) }
 {
     let mut nodes = Vec::new(alloc);
@@ -131,6 +136,6 @@ pub(crate) fn tree_of(alloc: Global, x: &Axis, y: &Axis) -> Result<Vec<Node>, Al
         left: 0,
         right: x.last + 1,
     };
-    push_tree(&mut nodes, whole)?;
+    push_tree(&mut nodes, whole, leaf_cells)?;
     Ok(nodes)
 }

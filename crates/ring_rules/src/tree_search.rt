@@ -15,7 +15,7 @@ impl RingSearch<'_> {
         requires tree { IsTreeOfGrid self.now.cells.now.x self.now.cells.now.y nodes.now }
         requires open_nodes { length open_nodes.now ≡ length nodes.now }
         requires end { end ≤ length nodes.now }
-        ensures { result ≡ false → (marks : List Bool) → AreClosedUnmarked self.now.cells.now.x self.now.cells.now.y self.now.cells.now.spots.items nodes.now open_nodes.now marks → HasNoMarkInLeaves self.now.cells.now.x self.now.cells.now.y self.now.cells.now.spots.items nodes.now start end marks }
+        ensures { result ≡ false → (marks : List Bool) → AreClosedUnmarked self.now.cells.now.x self.now.cells.now.y self.now.cells.now.spots nodes.now open_nodes.now marks → HasNoMarkInLeaves self.now.cells.now.x self.now.cells.now.y self.now.cells.now.spots nodes.now start end marks }
     {
         let mut i = start;
         while i < end {
@@ -35,11 +35,11 @@ impl RingSearch<'_> {
         i: usize,
         open_nodes: &[bool],
     ) -> bool
-        requires ready { IsHoleGrid self.now.cells.now.x self.now.cells.now.y self.now.cells.now.starts.items self.now.cells.now.spots.items self.now.rules.ring self.now.least }
+        requires ready { IsHoleGrid self.now.cells.now.x self.now.cells.now.y self.now.cells.now.starts.items self.now.cells.now.spots self.now.rules.ring self.now.least }
         requires tree { IsTreeOfGrid self.now.cells.now.x self.now.cells.now.y nodes.now }
         requires open_nodes { length open_nodes.now ≡ length nodes.now }
         requires inside { i < length nodes.now }
-        ensures { result ≡ true → (marks : List Bool) → AreClosedUnmarked self.now.cells.now.x self.now.cells.now.y self.now.cells.now.spots.items nodes.now open_nodes.now marks → NoMarkPassesIn (gives_ring_at S.covers self.now.rules.ring self.now.cells.now.spots.items pad.now) self.now.cells.now.x self.now.cells.now.y self.now.cells.now.spots.items (node_at nodes.now i).region.top (node_at nodes.now i).region.bottom (node_at nodes.now i).region.left (node_at nodes.now i).region.right marks }
+        ensures { result ≡ true → (marks : List Bool) → AreClosedUnmarked self.now.cells.now.x self.now.cells.now.y self.now.cells.now.spots nodes.now open_nodes.now marks → NoMarkPassesIn (gives_ring_at S.covers self.now.rules.ring self.now.cells.now.spots pad.now) self.now.cells.now.x self.now.cells.now.y self.now.cells.now.spots (node_at nodes.now i).region.top (node_at nodes.now i).region.bottom (node_at nodes.now i).region.left (node_at nodes.now i).region.right marks }
     {
         if !open_nodes[i] {
             return true;
@@ -58,15 +58,15 @@ impl RingSearch<'_> {
         open_nodes: &mut [bool],
         marks: &mut [bool],
     )
-        requires ready { IsHoleGrid self.now.cells.now.x self.now.cells.now.y self.now.cells.now.starts.items self.now.cells.now.spots.items self.now.rules.ring self.now.least }
+        requires ready { IsHoleGrid self.now.cells.now.x self.now.cells.now.y self.now.cells.now.starts.items self.now.cells.now.spots self.now.rules.ring self.now.least }
         requires tree { IsTreeOfGrid self.now.cells.now.x self.now.cells.now.y nodes.now }
-        requires size { length marks.old ≡ length self.now.cells.now.spots.items }
+        requires size { length marks.old ≡ length self.now.cells.now.spots }
         requires open_nodes { length open_nodes.old ≡ length nodes.now }
         requires inside { i < length nodes.now }
-        requires closed { AreClosedUnmarked self.now.cells.now.x self.now.cells.now.y self.now.cells.now.spots.items nodes.now open_nodes.old marks.old }
-        ensures removes { RemovesMarks (gives_ring_at S.covers self.now.rules.ring self.now.cells.now.spots.items pad.now) marks.old marks.new }
-        ensures closed { AreClosedUnmarked self.now.cells.now.x self.now.cells.now.y self.now.cells.now.spots.items nodes.now open_nodes.new marks.new }
-        ensures tried { NoMarkPassesIn (gives_ring_at S.covers self.now.rules.ring self.now.cells.now.spots.items pad.now) self.now.cells.now.x self.now.cells.now.y self.now.cells.now.spots.items (node_at nodes.now i).region.top (node_at nodes.now i).region.bottom (node_at nodes.now i).region.left (node_at nodes.now i).region.right marks.new }
+        requires closed { AreClosedUnmarked self.now.cells.now.x self.now.cells.now.y self.now.cells.now.spots nodes.now open_nodes.old marks.old }
+        ensures removes { RemovesMarks (gives_ring_at S.covers self.now.rules.ring self.now.cells.now.spots pad.now) marks.old marks.new }
+        ensures closed { AreClosedUnmarked self.now.cells.now.x self.now.cells.now.y self.now.cells.now.spots nodes.now open_nodes.new marks.new }
+        ensures tried { NoMarkPassesIn (gives_ring_at S.covers self.now.rules.ring self.now.cells.now.spots pad.now) self.now.cells.now.x self.now.cells.now.y self.now.cells.now.spots (node_at nodes.now i).region.top (node_at nodes.now i).region.bottom (node_at nodes.now i).region.left (node_at nodes.now i).region.right marks.new }
     {
         let region = region_at(nodes, i);
         let is_left = self.try_rows(pad, region, marks);
@@ -82,17 +82,17 @@ impl RingSearch<'_> {
         open_nodes: &mut [bool],
         marks: &mut [bool],
     ) -> usize
-        requires ready { IsHoleGrid self.now.cells.now.x self.now.cells.now.y self.now.cells.now.starts.items self.now.cells.now.spots.items self.now.rules.ring self.now.least }
+        requires ready { IsHoleGrid self.now.cells.now.x self.now.cells.now.y self.now.cells.now.starts.items self.now.cells.now.spots self.now.rules.ring self.now.least }
         requires tree { IsTreeOfGrid self.now.cells.now.x self.now.cells.now.y nodes.now }
-        requires size { length marks.old ≡ length self.now.cells.now.spots.items }
+        requires size { length marks.old ≡ length self.now.cells.now.spots }
         requires open_nodes { length open_nodes.old ≡ length nodes.now }
         requires inside { i < length nodes.now }
-        requires closed { AreClosedUnmarked self.now.cells.now.x self.now.cells.now.y self.now.cells.now.spots.items nodes.now open_nodes.old marks.old }
+        requires closed { AreClosedUnmarked self.now.cells.now.x self.now.cells.now.y self.now.cells.now.spots nodes.now open_nodes.old marks.old }
         ensures more { i < result }
         ensures within { result ≤ length nodes.now }
-        ensures removes { RemovesMarks (gives_ring_at S.covers self.now.rules.ring self.now.cells.now.spots.items pad.now) marks.old marks.new }
-        ensures closed { AreClosedUnmarked self.now.cells.now.x self.now.cells.now.y self.now.cells.now.spots.items nodes.now open_nodes.new marks.new }
-        ensures tried { NoMarkPassesInLeaves (gives_ring_at S.covers self.now.rules.ring self.now.cells.now.spots.items pad.now) self.now.cells.now.x self.now.cells.now.y self.now.cells.now.spots.items nodes.now i result marks.new }
+        ensures removes { RemovesMarks (gives_ring_at S.covers self.now.rules.ring self.now.cells.now.spots pad.now) marks.old marks.new }
+        ensures closed { AreClosedUnmarked self.now.cells.now.x self.now.cells.now.y self.now.cells.now.spots nodes.now open_nodes.new marks.new }
+        ensures tried { NoMarkPassesInLeaves (gives_ring_at S.covers self.now.rules.ring self.now.cells.now.spots pad.now) self.now.cells.now.x self.now.cells.now.y self.now.cells.now.spots nodes.now i result marks.new }
     {
         let end = end_at(nodes, i);
         if self.passes_over(pad, nodes, i, open_nodes) {
@@ -115,14 +115,14 @@ impl RingSearch<'_> {
         open_nodes: &mut [bool],
         marks: &mut [bool],
     )
-        requires ready { IsHoleGrid self.now.cells.now.x self.now.cells.now.y self.now.cells.now.starts.items self.now.cells.now.spots.items self.now.rules.ring self.now.least }
+        requires ready { IsHoleGrid self.now.cells.now.x self.now.cells.now.y self.now.cells.now.starts.items self.now.cells.now.spots self.now.rules.ring self.now.least }
         requires tree { IsTreeOfGrid self.now.cells.now.x self.now.cells.now.y nodes.now }
-        requires size { length marks.old ≡ length self.now.cells.now.spots.items }
+        requires size { length marks.old ≡ length self.now.cells.now.spots }
         requires open_nodes { length open_nodes.old ≡ length nodes.now }
-        requires closed { AreClosedUnmarked self.now.cells.now.x self.now.cells.now.y self.now.cells.now.spots.items nodes.now open_nodes.old marks.old }
-        ensures removes { RemovesMarks (gives_ring_at S.covers self.now.rules.ring self.now.cells.now.spots.items pad.now) marks.old marks.new }
-        ensures closed { AreClosedUnmarked self.now.cells.now.x self.now.cells.now.y self.now.cells.now.spots.items nodes.now open_nodes.new marks.new }
-        ensures tried { NoMarkPassesInLeaves (gives_ring_at S.covers self.now.rules.ring self.now.cells.now.spots.items pad.now) self.now.cells.now.x self.now.cells.now.y self.now.cells.now.spots.items nodes.now 0 (length nodes.now) marks.new }
+        requires closed { AreClosedUnmarked self.now.cells.now.x self.now.cells.now.y self.now.cells.now.spots nodes.now open_nodes.old marks.old }
+        ensures removes { RemovesMarks (gives_ring_at S.covers self.now.rules.ring self.now.cells.now.spots pad.now) marks.old marks.new }
+        ensures closed { AreClosedUnmarked self.now.cells.now.x self.now.cells.now.y self.now.cells.now.spots nodes.now open_nodes.new marks.new }
+        ensures tried { NoMarkPassesInLeaves (gives_ring_at S.covers self.now.rules.ring self.now.cells.now.spots pad.now) self.now.cells.now.x self.now.cells.now.y self.now.cells.now.spots nodes.now 0 (length nodes.now) marks.new }
     {
         let mut i = 0;
         while i < nodes.len() {

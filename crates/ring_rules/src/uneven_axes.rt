@@ -41,10 +41,10 @@ pub(crate) fn is_crowded(chains: &Chains, holes: &[Drilled]) -> bool
     sum > draws * 8
 }
 
-/// A power of two near the square root of a number.
+/// A power of two whose square is above a number, by a factor of four at most.
 fn root_of(count: usize) -> usize {
     let bits = 64 - (count as u64).leading_zeros();
-    1 << (bits / 2)
+    1 << ((bits + 1) / 2)
 }
 
 /// Each so many-th of the sorted values, without repetitions.

@@ -4,7 +4,7 @@ use Rattle.std.specs.Io.KnownBytes.{Appends}
 use Rattle.grid_units.specs.Holes.{GridRules}
 use Rattle.grid_units.specs.declared.fault.Reason.{Reason}
 use Rattle.drawing.specs.Drawings.{IsDrawn}
-use Rattle.package_check.specs.Boards.{BoardView, IsFlashedBoard, board_findings}
+use Rattle.package_check.specs.Boards.{BoardView, IsDrawnBoard, board_findings}
 use Rattle.package_check.specs.Package.{FileView}
 use Rattle.package_check.specs.Soundness.{IsSound}
 use Rattle.ringcheck_files.specs.declared.Status.{Status}
@@ -13,10 +13,11 @@ use Rattle.ringcheck.specs.CheckStatus.{SaysPackage}
 use Rattle.ringcheck_files.specs.LoaderRelation.{Relation}
 use Rattle.ringcheck_files.specs.Words.{IsUsageStatus}
 
--- the writer got just the picture of the files' board, with what is found under the rules, if there are any; without findings the files are sound
+-- the writer got just the picture of the files' board, with what the copper files draw, and what is found under the rules, if there are any; without
+-- findings the files are sound
 pub record PrintsPicture (rules : Option GridRules) (before after : Option (List ℕ)) (passes : Bool) (all : List FileView) : Type 0 where
   pub board : BoardView
-  pub read : IsFlashedBoard all board
+  pub read : IsDrawnBoard all board
   pub text : List ℕ
   pub is : IsDrawn (map (λ source. source.name) all) board rules text
   pub written : Appends before after text

@@ -5,7 +5,9 @@ use Rattle.grid_units.specs.Holes.{GridRules}
 use Rattle.grid_units.specs.declared.fault.Reason.{Reason}
 use Rattle.package_check.specs.Package.{FileView}
 use Rattle.package_check.specs.Soundness.{IsSound}
-use Rattle.package_check.specs.Boards.{BoardView}
+use Rattle.layer_image.specs.declared.keep.Keep.{Keep}
+use Rattle.layer_image.specs.declared.keep.Keep.TheVariants as keep
+use Rattle.package_check.specs.Boards.{BoardView, IsDrawnBoard}
 use Rattle.print_json.specs.Packages.{waived_report_value}
 use Rattle.print_json.specs.Values.{json_text}
 use Rattle.print_text.specs.Texts.{waived_report_text}
@@ -51,11 +53,19 @@ abbrev pub Judges : Option (List Waiver) → List (List ℕ) → BoardReport →
 Judges None names report passes accepted = (passes ≡ has_none report) × (accepted.rings.now ≡ []) × (accepted.gaps.now ≡ []) × (accepted.idle.now ≡ [])
 Judges (Some waivers) names report passes accepted = (waived : Waived) × (passes ≡ are_all_waived waived) × IsWaived waivers names report waived × AreReasons waivers waived accepted
 
+-- what is kept of the files for a report in a format: for a page, whose picture shows it, also what they draw
+abbrev pub kept_for : ReportFormat → Keep
+kept_for format.Text = keep.Flashes
+kept_for format.Html = keep.All
+kept_for format.Json = keep.Flashes
+kept_for format.Waivers = keep.Flashes
+
 -- the writer got just the report of the files under the rules, in a format, judged with the waivers of a file, if there is one; its findings
--- are those of the check of them, one for one, and without a finding they are sound
+-- are those of the check of them, one for one, and without a finding they are sound; a page shows what the copper files draw
 pub record Reports (rules : GridRules) (limit : Option ℕ) (form : ReportFormat) (waivers : Option (List Waiver)) (before after : Option (List ℕ)) (passes : Bool) (all : List FileView) : Type 0 where
   pub report : BoardReport
   pub is : IsBoardReportOf all rules report
+  pub drawn : form ≡ format.Html → IsDrawnBoard all is.board
   pub as_check : AgreesWithCheck all rules report
   pub sound : has_none report ≡ true → IsSound all rules
   pub accepted : Acceptances

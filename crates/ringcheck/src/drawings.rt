@@ -16,7 +16,8 @@ use ringcheck_files::Failure;
 use std::alloc::Global;
 use std::io::Write;
 
-/// Prints the picture of the files of these names, which a reader has taken, with what is found under the rules, if there are any.
+/// Prints the picture of the files of these names, which a reader has taken, with what its copper files draw and what is found under the
+/// rules, if there are any.
 pub(crate) fn draw<'a, W: Write>(
     alloc: Global,
     reader: PackageReader,
@@ -24,7 +25,7 @@ pub(crate) fn draw<'a, W: Write>(
     rules: Option<Rules>,
     out: &mut W,
 ) -> Result<Result<bool, Halt<'a>>, Failure>
-    ensures answers { (all : List FileView) → map (λ name. name.now) names.now ≡ map (λ source. source.name) all → HasTakenAll reader keep.Flashes all
+    ensures answers { (all : List FileView) → map (λ name. name.now) names.now ≡ map (λ source. source.name) all → HasTakenAll reader keep.All all
         → IfOk result (OfTaken (PrintsPicture rules (W.contents out.old) (W.contents out.new)) all) }
     ensures silent { IfOk result (λ done. IfErr done (λ halt. W.contents out.new ≡ W.contents out.old)) }
 {

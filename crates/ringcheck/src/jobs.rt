@@ -3,15 +3,16 @@
 ghost use Rattle.std.specs.Prelude.{◌≡◌};
 ghost use Rattle.ringcheck.specs.Inner.Jobs.{job_style};
 ghost use Rattle.ringcheck.specs.MeasureStatus.{measure_style};
-ghost use Rattle.ringcheck.specs.ReportStatus.{report_style};
+ghost use Rattle.ringcheck.specs.ReportStatus.{kept_for, report_style};
 
 use crate::parsed_words::{MeasureFormat, ReportFormat};
 use crate::refusals::RefusalStyle;
 use grid_units::Rules;
+use package_check::Keep;
 use waivers::Waiver;
 
 /// What a report is asked for.
-#[derive(Debug, Drop)]
+#[derive(Drop)]
 pub(crate) struct Order {
     /// The ring and the gap to check, in pm.
     pub(crate) rules: Rules,
@@ -23,7 +24,7 @@ pub(crate) struct Order {
 }
 
 /// What is done with a package.
-#[derive(Debug, Drop)]
+#[derive(Drop)]
 pub(crate) enum Job {
     /// It is checked under these rules.
     Check(Rules),
@@ -53,6 +54,16 @@ pub(crate) fn report_style(format: ReportFormat) -> RefusalStyle
         ReportFormat::Text => RefusalStyle::Page,
         ReportFormat::Json => RefusalStyle::Json,
         ReportFormat::Html | ReportFormat::Waivers => RefusalStyle::Line,
+    }
+}
+
+/// What is kept of the files for a report in this format.
+pub(crate) fn kept_for(format: ReportFormat) -> Keep
+    ensures { result ≡ kept_for format }
+{
+    match format {
+        ReportFormat::Html => Keep::All,
+        ReportFormat::Text | ReportFormat::Json | ReportFormat::Waivers => Keep::Flashes,
     }
 }
 

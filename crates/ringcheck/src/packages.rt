@@ -14,7 +14,7 @@ ghost use Rattle.ringcheck.specs.CheckStatus.{IsLegalStatus, IsParsedCheckStatus
 ghost use Rattle.ringcheck.specs.Sentences.{below_measure, below_report};
 ghost use Rattle.ringcheck_files.specs.Words.{usage_line};
 
-use crate::jobs::{Job, Order, report_style};
+use crate::jobs::{Job, Order, kept_for, report_style};
 use crate::load_package::{check_files, load_table, take_files};
 use crate::parsed_words::{ReportWords, parse_draw, parse_format, parse_report, parse_rules};
 use crate::refusals::{Halt, Subject, print_halt};
@@ -60,11 +60,14 @@ fn answer<'a, L: Loader, W: Write>(
             Ok(reader) => measures::measure(alloc, reader, names, *format, out),
             Err(halt) => Ok(Err(halt)),
         },
-        Job::Report(options) => match take_files(alloc, Keep::Flashes, loader, entries)? {
-            Ok(reader) => reports::report(alloc, reader, names, options, out),
-            Err(halt) => Ok(Err(halt)),
-        },
-        Job::Draw(rules) => match take_files(alloc, Keep::Flashes, loader, entries)? {
+        Job::Report(options) => {
+            let keep = kept_for(options.format);
+            match take_files(alloc, keep, loader, entries)? {
+                Ok(reader) => reports::report(alloc, reader, names, options, out),
+                Err(halt) => Ok(Err(halt)),
+            }
+        }
+        Job::Draw(rules) => match take_files(alloc, Keep::All, loader, entries)? {
             Ok(reader) => drawings::draw(alloc, reader, names, *rules, out),
             Err(halt) => Ok(Err(halt)),
         },

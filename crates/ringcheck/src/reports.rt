@@ -1,13 +1,12 @@
 //! Reports on a package: each finding under the rules, what is lacking, why, and whether it is waived.
 
 ghost use Rattle.std.specs.Prelude.{◌≡◌, ◌==◌, ◌&&◌, Bool, List, IfErr, IfOk, OnOk, length, map};
-ghost use Rattle.layer_image.specs.declared.keep.Keep.TheVariants as keep;
 ghost use Rattle.package_check.specs.Holding.{HasTakenAll};
 ghost use Rattle.package_check.specs.Package.{FileView};
 ghost use Rattle.report.specs.declared.Acceptances.{Acceptances as TheAcceptances};
 ghost use Rattle.ringcheck.specs.Inner.Halting.{OfTaken};
 ghost use Rattle.ringcheck.specs.Inner.Jobs.{given};
-ghost use Rattle.ringcheck.specs.ReportStatus.{Judges, PrintsPage, PrintsReport, Reports, has_none};
+ghost use Rattle.ringcheck.specs.ReportStatus.{Judges, PrintsPage, PrintsReport, Reports, has_none, kept_for};
 
 use crate::jobs::Order;
 use crate::parsed_words::ReportFormat;
@@ -150,7 +149,7 @@ pub(crate) fn report<'a, W: Write>(
     options: &Order,
     out: &mut W,
 ) -> Result<Result<bool, Halt<'a>>, Failure>
-    ensures answers { (all : List FileView) → map (λ name. name.now) names.now ≡ map (λ source. source.name) all → HasTakenAll reader keep.Flashes all
+    ensures answers { (all : List FileView) → map (λ name. name.now) names.now ≡ map (λ source. source.name) all → HasTakenAll reader (kept_for options.now.format) all
         → IfOk result (OfTaken (Reports options.now.rules options.now.limit options.now.format (given options.now.waivers) (W.contents out.old) (W.contents out.new)) all) }
     ensures silent { IfOk result (λ done. IfErr done (λ halt. W.contents out.new ≡ W.contents out.old)) }
 {

@@ -1,5 +1,5 @@
 -- Files that were loaded one by one, by their names.
-use Rattle.std.proofs.Common.{◌≡◌, ◌∙◌, ◌<◌, ◌≤◌, ◌+◌, ◌++◌, ◌&&◌, inl, inr, ℕ, zero, suc, Bool, true, false, cond, List, [], ◌∷◌, length, map, take, get_or, Bor, Option, Some, arith, refl, ap, sym, subst}
+use Rattle.std.proofs.Common.{◌≡◌, ◌∙◌, ◌<◌, ◌≤◌, ◌+◌, ◌++◌, ◌&&◌, inl, inr, ℕ, zero, suc, Bool, true, false, cond, List, [], ◌∷◌, length, map, take, get_or, Bor, Option, Some, None, arith, refl, ap, sym, subst}
 use Rattle.std.specs.Io.KnownBytes.{Appends}
 use Rattle.std.specs.Prelude.{slice_get}
 use Rattle.std.specs.List.{list_all}
@@ -11,7 +11,7 @@ use Rattle.ringcheck_files.specs.declared.Status.{Status}
 use Rattle.ringcheck_files.specs.declared.Status.TheVariants as status
 use Rattle.ringcheck_files.specs.declared.proposed_manifest.LoadedFile.{LoadedFile}
 use Rattle.ringcheck_files.specs.Outcomes.{HasRisen}
-use Rattle.ringcheck_files.specs.ManifestStatus.{HasLoaded, HasAllLoaded, IsHeldStatus, IsManifestStatus, IsProposalText, LoadedView, PrintsProposal, HasRisenBy, bytes, unread, folder, long, is_container, is_entry_name, count_unread, first_said, loaded_view, is_unread, loaded_file, loaded_files, said_of}
+use Rattle.ringcheck_files.specs.ManifestStatus.{HasLoaded, HasAllLoaded, IsHeldStatus, IsManifestStatus, IsProposalText, LoadedView, PrintsProposal, HasRisenBy, bytes, unread, folder, long, is_container, are_containers, is_entry_name, count_unread, first_said, loaded_view, is_unread, loaded_file, loaded_files, said_of}
 
 -- the names
 abbrev pub texts : List (Bor (List ℕ)) → List (List ℕ)
@@ -89,13 +89,14 @@ all_of_map (x ∷ xs) = ap (λ b. is_entry_name x.now && b) (all_of_map xs)
 
 -- a manifest or a table of files that are at hand was printed
 pub proposed : (why : Bool) (has : List ℕ → List ℕ → Type 0) (failed_before failed_after : ℕ) (names : List (Bor (List ℕ))) (all : List LoadedFile) (before after : Option (List ℕ)) (files : List InputFile) (text : List ℕ)
-    → length names ≡ length all → map loaded_file files ≡ loaded_files names all → HasAllLoaded has (loaded_files names all) → HasRisenBy (count_unread (loaded_files names all)) failed_before failed_after
+    → are_containers (loaded_files names all) ≡ false → length names ≡ length all → map loaded_file files ≡ loaded_files names all → HasAllLoaded has (loaded_files names all) → HasRisenBy (count_unread (loaded_files names all)) failed_before failed_after
     → IsProposalText why files text → Appends before after text → PrintsProposal why has failed_before failed_after (texts names) before after
-proposed why has failed_before failed_after names all before after files text many same loaded rose is written = record {
+proposed why has failed_before failed_after names all before after files text some many same loaded rose is written = record {
   files = files;
   named = sym (names_of_files files) ∙ ap (map (λ (p : List ℕ × LoadedView). p.0)) same ∙ names_of_loaded names all many;
   loaded = subst (λ ps. HasAllLoaded has ps) (sym same) loaded;
   failed = subst (λ ps. HasRisenBy (count_unread ps) failed_before failed_after) (sym same) rose;
+  proposes = ap are_containers same ∙ some;
   text = text;
   is = is;
   written = written;
@@ -115,13 +116,43 @@ both_true : (a b : Bool) → (a && b) ≡ true → (a ≡ true) × (b ≡ true)
 both_true true b is = (refl, is)
 both_true false b is = absurd (false≢true is)
 
--- where each of the loaded files is one, each file by its name is
-pub all_hold : (names : List (Bor (List ℕ))) (all : List LoadedFile) → list_all (λ one. is_container (loaded_view one)) all ≡ true → list_all (λ (p : List ℕ × LoadedView). is_container p.1) (loaded_files names all) ≡ true
-all_hold [] all is = refl
-all_hold (y ∷ ys) [] is = refl
-all_hold (y ∷ ys) (x ∷ xs) is =
-    let (one, rest) = both_true (is_container (loaded_view x)) (list_all (λ one. is_container (loaded_view one)) xs) is in
-    rw one (all_hold ys xs rest)
+-- each of the loaded files is one just where each file by its name is
+pub all_hold : (names : List (Bor (List ℕ))) (all : List LoadedFile) → length names ≡ length all → list_all (λ (p : List ℕ × LoadedView). is_container p.1) (loaded_files names all) ≡ list_all (λ one. is_container (loaded_view one)) all
+all_hold [] [] n = refl
+all_hold [] (x ∷ xs) n = absurd (omega (arith, n))
+all_hold (y ∷ ys) [] n = absurd (omega (arith, n))
+all_hold (y ∷ ys) (x ∷ xs) n = ap (λ b. is_container (loaded_view x) && b) (all_hold ys xs (omega (arith, n)))
+
+-- where not each of the loaded files is one, there is something to propose
+pub not_all : (names : List (Bor (List ℕ))) (all : List LoadedFile) → length names ≡ length all → list_all (λ one. is_container (loaded_view one)) all ≡ false → are_containers (loaded_files names all) ≡ false
+not_all [] [] n is = refl
+not_all [] (x ∷ xs) n is = absurd (omega (arith, n))
+not_all (y ∷ ys) [] n is = absurd (omega (arith, n))
+not_all (y ∷ ys) (x ∷ xs) n is = all_hold (y ∷ ys) (x ∷ xs) n ∙ is
+
+-- of no files there are none
+pub no_names : (names : List (Bor (List ℕ))) (all : List LoadedFile) → slice_get names 0 ≡ None → are_containers (loaded_files names all) ≡ false
+no_names [] all at = refl
+no_names (y ∷ ys) all at = absurd cc
+
+pub no_files : (names : List (Bor (List ℕ))) (all : List LoadedFile) → slice_get all 0 ≡ None → are_containers (loaded_files names all) ≡ false
+no_files [] [] at = refl
+no_files (y ∷ ys) [] at = refl
+no_files names (x ∷ xs) at = absurd cc
+
+-- where each of the loaded files is one, the first is
+pub first_is : (all : List LoadedFile) (one : LoadedFile) → slice_get all 0 ≡ Some one → list_all (λ one. is_container (loaded_view one)) all ≡ true → is_container (loaded_view one) ≡ true
+first_is [] one at is = absurd cc
+first_is (x ∷ xs) one at is =
+    let same : x ≡ one = cc in
+    rw (← same) (both_true (is_container (loaded_view x)) (list_all (λ one. is_container (loaded_view one)) xs) is).0
+
+-- where there are some, and each of the loaded files is one, each file by its name is
+pub all_are : (names : List (Bor (List ℕ))) (all : List LoadedFile) (one : LoadedFile) → length names ≡ length all → slice_get all 0 ≡ Some one → list_all (λ one. is_container (loaded_view one)) all ≡ true → are_containers (loaded_files names all) ≡ true
+all_are [] [] one n at is = absurd cc
+all_are [] (x ∷ xs) one n at is = absurd (omega (arith, n))
+all_are (y ∷ ys) [] one n at is = absurd cc
+all_are (y ∷ ys) (x ∷ xs) one n at is = all_hold (y ∷ ys) (x ∷ xs) n ∙ is
 
 -- what is said of the first file
 pub said_first : (names : List (Bor (List ℕ))) (all : List LoadedFile) (name : Bor (List ℕ)) (one : LoadedFile) → slice_get names 0 ≡ Some name → slice_get all 0 ≡ Some one
@@ -137,7 +168,7 @@ said_first (y ∷ ys) (x ∷ xs) name one at at2 =
 module _ (why : Bool) (has : List ℕ → List ℕ → Type 0) (failed_before failed_after : ℕ) (names : List (Bor (List ℕ))) (all : List LoadedFile) (before after : Option (List ℕ)) where
   pub held_status : length names ≡ length all → list_all is_entry_name (texts names) ≡ true → HasAllLoaded has (loaded_files names all) → HasRisenBy (count_unread (loaded_files names all)) failed_before failed_after
       → (s : Status) → IsHeldStatus why (loaded_files names all) before after s → IsManifestStatus why has failed_before failed_after (texts names) before after s
-  held_status many entries loaded rose status.Pass (held, same, text, is, written) = (entries, proposed why has failed_before failed_after names all before after held text many same loaded rose is written)
+  held_status many entries loaded rose status.Pass (some, (held, same, text, is, written)) = (entries, proposed why has failed_before failed_after names all before after held text some many same loaded rose is written)
   held_status many entries loaded rose status.Findings h = absurd h
   held_status many entries loaded rose status.Refused h = absurd h
   held_status many entries loaded rose status.Usage (hold, written) = inr (record {

@@ -94,22 +94,29 @@ abbrev pub IsProposalText : Bool → List InputFile → List ℕ → Type 0
 IsProposalText true files text = text ≡ reasons_text (proposals files)
 IsProposalText false files text = IsManifestOf (proposals files) text
 
--- the writer got just the manifest or the table of files with these names, as the loader has them; a load failed for each that cannot be read
-pub record PrintsProposal (why : Bool) (has : Relation) (failed_before failed_after : ℕ) (names : List (List ℕ)) (before after : Option (List ℕ)) : Type 0 where
-  pub files : List InputFile
-  pub named : map name_of files ≡ names
-  pub loaded : HasAllLoaded has (map loaded_file files)
-  pub failed : HasRisenBy (count_unread (map loaded_file files)) failed_before failed_after
-  pub text : List ℕ
-  pub is : IsProposalText why files text
-  pub written : Appends before after text
-
 -- whether a file is a folder, as its loader says, or a zip archive by its bytes
 abbrev pub is_container : LoadedView → Bool
 is_container (bytes text) = is_archive text
 is_container unread = false
 is_container folder = true
 is_container long = false
+
+-- whether there are files, and each of them is a folder or a zip archive, so that there is nothing to propose
+abbrev pub are_containers : List (List ℕ × LoadedView) → Bool
+are_containers [] = false
+are_containers (file ∷ files) = is_container file.1 && list_all (λ p. is_container p.1) files
+
+-- the writer got just the manifest or the table of files with these names, as the loader has them, of which not all are folders or zip
+-- archives; a load failed for each that cannot be read
+pub record PrintsProposal (why : Bool) (has : Relation) (failed_before failed_after : ℕ) (names : List (List ℕ)) (before after : Option (List ℕ)) : Type 0 where
+  pub files : List InputFile
+  pub named : map name_of files ≡ names
+  pub loaded : HasAllLoaded has (map loaded_file files)
+  pub failed : HasRisenBy (count_unread (map loaded_file files)) failed_before failed_after
+  pub proposes : are_containers (map loaded_file files) ≡ false
+  pub text : List ℕ
+  pub is : IsProposalText why files text
+  pub written : Appends before after text
 
 -- what is said of a file that is a zip archive or a folder
 abbrev pub said_of : List ℕ × LoadedView → List ℕ
@@ -123,14 +130,14 @@ abbrev pub first_said : List (List ℕ × LoadedView) → List ℕ
 first_said [] = []
 first_said (file ∷ rest) = said_of file
 
--- each file of these names is a folder, as its loader says, or a zip archive; the writer got just the line of words that are refused, and
--- what is said of the first
+-- there are files of these names, and each is a folder, as its loader says, or a zip archive; the writer got just the line of words that
+-- are refused, and what is said of the first
 pub record PrintsContainers (has : Relation) (failed_before failed_after : ℕ) (names : List (List ℕ)) (before after : Option (List ℕ)) : Type 0 where
   pub all : List (List ℕ × LoadedView)
   pub named : map (λ p. p.0) all ≡ names
   pub loaded : HasAllLoaded has all
   pub failed : HasRisenBy (count_unread all) failed_before failed_after
-  pub hold : list_all (λ p. is_container p.1) all ≡ true
+  pub hold : are_containers all ≡ true
   pub written : Appends before after (usage_line BadManifest ++ sentence_line (first_said all))
 
 -- what a status says of a manifest of files with these names; `failed_before` and `failed_after` count the loader's failures
@@ -144,12 +151,12 @@ IsManifestStatus why has failed_before failed_after names before after status.De
 
 -- ---- files that are at hand
 
--- what a status says of the manifest or the table of files that are at hand: it was written, or each of them is a folder or a zip archive
+-- what a status says of the manifest or the table of files that are at hand: it was written, or there are some and each is a folder or a zip archive
 abbrev pub IsHeldStatus : Bool → List (List ℕ × LoadedView) → Option (List ℕ) → Option (List ℕ) → Status → Type 0
-IsHeldStatus why all before after status.Pass = (files : List InputFile) × (map loaded_file files ≡ all) × (text : List ℕ) × IsProposalText why files text × Appends before after text
+IsHeldStatus why all before after status.Pass = (are_containers all ≡ false) × ((files : List InputFile) × (map loaded_file files ≡ all) × (text : List ℕ) × IsProposalText why files text × Appends before after text)
 IsHeldStatus why all before after status.Findings = ⊥
 IsHeldStatus why all before after status.Refused = ⊥
-IsHeldStatus why all before after status.Usage = (list_all (λ p. is_container p.1) all ≡ true) × Appends before after (usage_line BadManifest ++ sentence_line (first_said all))
+IsHeldStatus why all before after status.Usage = (are_containers all ≡ true) × Appends before after (usage_line BadManifest ++ sentence_line (first_said all))
 IsHeldStatus why all before after status.Device = ⊥
 
 -- ---- explanations

@@ -1,12 +1,12 @@
 //! Prints a manifest of files from a loader, or what each of them is, and why.
 
-ghost use Rattle.std.specs.Prelude.{◌≡◌, ◌≤◌, ◌↔◌, ℕ, List, IfOk, IfSome, length, map, true};
+ghost use Rattle.std.specs.Prelude.{◌≡◌, ◌≤◌, ◌↔◌, ℕ, List, None, IfOk, IfSome, length, map, true, false};
 ghost use Rattle.std.specs.List.{list_all, list_any};
 ghost use Rattle.manifest.specs.Manifest.{is_control};
 ghost use Rattle.ringcheck_files.specs.Containers.{container_sentence};
 ghost use Rattle.ringcheck_files.specs.Outcomes.{HasCause, HasRisen};
 ghost use Rattle.ringcheck_files.specs.ManifestStatus as folders;
-ghost use Rattle.ringcheck_files.specs.ManifestStatus.{HasLoaded, HasAllLoaded, IsHeldStatus, IsProposalText, HasRisenBy, IsManifestStatus, count_unread, first_said, loaded_view, is_container, is_unread, loaded_file, loaded_files, said_of};
+ghost use Rattle.ringcheck_files.specs.ManifestStatus.{HasLoaded, HasAllLoaded, IsHeldStatus, IsProposalText, HasRisenBy, IsManifestStatus, count_unread, first_said, loaded_view, is_container, are_containers, is_unread, loaded_file, loaded_files, said_of};
 ghost use Rattle.proposals.specs.declared.model.InputFile.{InputFile as TheNamed};
 
 use crate::containers::Container;
@@ -164,7 +164,8 @@ fn are_containers(all: &[LoadedFile]) -> bool
 
 /// A folder or a zip archive by its name; none where there is neither.
 fn container_of<'a>(name: &'a str, loaded: &LoadedFile) -> Option<Container<'a>>
-    ensures { IfSome result (λ one. said_of (name.now, loaded_view loaded.now) ≡ container_sentence one) }
+    ensures none { result ≡ None → is_container (loaded_view loaded.now) ≡ false }
+    ensures one { IfSome result (λ one. said_of (name.now, loaded_view loaded.now) ≡ container_sentence one) }
 {
     match loaded {
         LoadedFile::Bytes(_) => Some(Container::Archive(name)),
@@ -173,10 +174,11 @@ fn container_of<'a>(name: &'a str, loaded: &LoadedFile) -> Option<Container<'a>>
     }
 }
 
-/// The first of some files as a folder or a zip archive, where each of them is one.
+/// The first of some files as a folder or a zip archive, where there are some and each of them is one.
 fn first_container<'a>(names: &[&'a str], loaded: &[LoadedFile]) -> Option<Container<'a>>
     requires { length names.now ≡ length loaded.now }
-    ensures { IfSome result (λ first. (list_all (λ file. is_container file.1) (loaded_files names.now loaded.now) ≡ true) × (first_said (loaded_files names.now loaded.now) ≡ container_sentence first)) }
+    ensures one { IfSome result (λ first. (are_containers (loaded_files names.now loaded.now) ≡ true) × (first_said (loaded_files names.now loaded.now) ≡ container_sentence first)) }
+    ensures none { result ≡ None → are_containers (loaded_files names.now loaded.now) ≡ false }
 {
     if !are_containers(loaded) {
         return None;

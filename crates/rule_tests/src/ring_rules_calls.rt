@@ -106,8 +106,9 @@ const LARGE: PadRow = (Shape::Rect, 0, 0, 50 * MM, 50 * MM);
 const RING: Finding = Finding::Ring { layer: 0, hole: 0 };
 
 /// Pads of a layer, holes, and the findings. Discs, obrounds and rectangles hold up to equality. Two pads together
-/// hold nothing. A wide pad holds a hole far from its centre. A slot along an axis needs one pad at both ends.
-const RINGS: [(&[PadRow], &[HoleRow], &[Finding]); 16] = [
+/// hold nothing. A wide pad holds a hole far from its centre. A slot along an axis needs one pad at both ends, from
+/// whichever of them it is drilled.
+const RINGS: [(&[PadRow], &[HoleRow], &[Finding]); 17] = [
     (&[(Shape::Disc, 0, 0, 325_000_000, 0)], &[HOLE], &[]),
     (&[(Shape::Disc, 1_000, 0, 325_000_000, 0)], &[HOLE], &[RING]),
     (
@@ -191,6 +192,18 @@ const RINGS: [(&[PadRow], &[HoleRow], &[Finding]); 16] = [
         ],
         &[SLOT],
         &[RING],
+    ),
+    (
+        &[
+            (Shape::Obround, MM, 0, 1_375_000_000, 375_000_000),
+            (Shape::Obround, 21 * MM, 0, 1_375_000_000, 375_000_000),
+        ],
+        &[
+            SLOT,
+            ((10 * MM, 0), (12 * MM, 0), 250_000_000),
+            ((22 * MM, 0), (20 * MM, 0), 250_000_000),
+        ],
+        &[Finding::Ring { layer: 0, hole: 1 }],
     ),
     (
         &[LARGE],

@@ -1,4 +1,4 @@
-use Rattle.std.proofs.Common.{◌≡◌, List, ℕ, subst, ap, map, ◌∙◌}
+use Rattle.std.proofs.Common.{◌≡◌, List, ℕ, subst, map}
 use Rattle.std.specs.List.{AllZip, enumerate_from}
 use Rattle.ring_rules.proofs.EnumeratedLists.{enumerated_all}
 use Rattle.drawing.specs.Drawings.{IsPanel}

@@ -1,9 +1,31 @@
+use Rattle.std.proofs.Common.{inl, ℕ, List, Err}
+use Rattle.std.proofs.lemmas.Result.{err_from_is_err_and}
+use Rattle.grid_units.specs.Results.{Answers}
+use Rattle.grid_units.specs.declared.fault.Fail.{Fail}
+use Rattle.grid_units.specs.declared.fault.Fail.TheVariants as fails
+use Rattle.package_check.specs.FileTexts.{ReadsLayer}
+use Rattle.package_check.specs.LayerViews.{LayerView}
+use Rattle.package_check.specs.Package.{ReadsCopper}
+use Rattle.package_check.specs.declared.contents.Content.{Content}
 use Rattle.package_check.proofs.FlashReadingLemmas.{held}
 use Rattle.package_check.proofs.PiecesLemmas.{joined}
 use Rattle.package_check.proofs.contents.read_copper.Goals as goal
+
+-- the fault of a layer's text is one of a copper file
+copper_fault : (bytes : List ℕ) (why : Fail) → Answers {T = LayerView} (λ x. x) (ReadsLayer bytes) (Err why) → Answers {T = Content} (λ x. x) (ReadsCopper bytes) (Err why)
+copper_fault bytes fails.Memory h = tt
+copper_fault bytes (fails.Refused fault) h = inl h
+
+pub returns-in_err-layer-clause-copper : goal.returns-in_err-layer-clause-copper
+returns-in_err-layer-clause-copper c =
+    let p = err_from_is_err_and c.from_residual.result c.from_residual.ensures.1 in
+    rw (p.1, p.2) (copper_fault (joined c.args.pieces.now) c.in_err-layer.field-0.0 c.in_err-layer.ensures.image)
 
 pub returns-clause-copper : goal.returns-clause-copper
 returns-clause-copper c = c.require_copper.ensures (joined c.args.pieces.now) c.in_ok-layer.ensures.image
 
 pub returns-clause-flashes : goal.returns-clause-flashes
 returns-clause-flashes c = λ keeps. held c.require_copper.result _ (c.in_ok-layer.ensures.flashes keeps)
+
+pub returns-clause-drawn : goal.returns-clause-drawn
+returns-clause-drawn c = λ keeps. held c.require_copper.result _ (c.in_ok-layer.ensures.drawn keeps)

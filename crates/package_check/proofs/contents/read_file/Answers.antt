@@ -25,3 +25,6 @@ returns-in-Copper-clause-content c =
 
 pub returns-in-Copper-clause-flashes : goal.returns-in-Copper-clause-flashes
 returns-in-Copper-clause-flashes c = λ keeps _. c.read_copper.ensures.flashes keeps
+
+pub returns-in-Copper-clause-drawn : goal.returns-in-Copper-clause-drawn
+returns-in-Copper-clause-drawn c = λ keeps _. c.read_copper.ensures.drawn keeps

@@ -1,16 +1,12 @@
-use Rattle.std.proofs.Common.{◌≡◌, ℕ, List, sym, ap, subst, ◌∙◌}
-use Rattle.std.proofs.lemmas.List.{get_or_default}
+use Rattle.std.proofs.Common.{ℕ, List, sym, subst}
 use Rattle.pad_shapes.specs.Zones.{IsInZone}
-use Rattle.ring_rules.specs.Spots.{default_spot, point_at}
-use Rattle.ring_rules.specs.declared.spots.Spot.{Spot}
+use Rattle.ring_rules.specs.Spots.{point_at}
 use Rattle.ring_rules.specs.Inner.FoundPlaces.{AddsFound}
 use Rattle.ring_rules.proofs.FoundPlaces.{found_one}
 use Rattle.ring_rules.proofs.index.add_spot.Goals as goal
 
 pub returns-in_ok-push-clause-adds : goal.returns-in_ok-push-clause-adds
 returns-in_ok-push-clause-adds c =
-    let here : c.from.result ≡ point_at c.args.spots.now c.args.i =
-    c.from.ensures ∙ ap (λ (s : Spot). s.hole.from) (get_or_default c.args.spots.now c.args.i c.index-spots-i.result default_spot c.requires) in
-    let within : IsInZone c.args.zone.now (point_at c.args.spots.now c.args.i) = subst (IsInZone c.args.zone.now) here (c.is_in_zone.ensures.inside c.if-is_in_zone.true) in
+    let within : IsInZone c.args.zone.now (point_at c.args.spots.now c.args.i) = subst (IsInZone c.args.zone.now) c.point.ensures (c.is_in_zone.ensures.inside c.if-is_in_zone.true) in
     subst (λ (xs : List ℕ). AddsFound c.args.spots.now c.args.zone.now c.args.found.now.items xs) (sym c.in_ok-push.ensures.items)
     (found_one c.args.spots.now c.args.zone.now c.args.found.now.items c.args.i (record { inside = c.requires; within = within }))

@@ -1,8 +1,6 @@
-use Rattle.std.proofs.Common.{◌≡◌, ℕ, ◌<◌, List, Bool, length, drop, subst, ◌∙◌}
+use Rattle.std.proofs.Common.{◌≡◌, List, Bool, length, drop, ◌∙◌}
 use Rattle.std.proofs.lemmas.List.{take_at}
-use Rattle.ring_rules.specs.Spots.{spot_at}
 use Rattle.ring_rules.specs.Search.{drilled_at}
-use Rattle.ring_rules.specs.Inner.Marks.{is_marked}
 use Rattle.ring_rules.specs.declared.finding.Drilled.{Drilled}
 use Rattle.ring_rules.specs.declared.spots.Spot.{Spot}
 use Rattle.ring_rules.proofs.MarksAfterPads.{marked_places}
@@ -10,10 +8,9 @@ use Rattle.ring_rules.proofs.layer_search.lacking.Goals as goal
 
 pub returns-clause-marks : goal.returns-clause-marks
 returns-clause-marks c = λ test marked.
-    let spots : List Spot = c.args.index.now.cells.spots.items in
+    let spots : List Spot = c.args.index.now.cells.spots in
     let holes : List Drilled = c.args.holes.now in
     let put : List Bool = c.put_marks.new.marks in
-    let puts = subst (λ (ss : List Spot). (test : ℕ → Bool) → ((i : ℕ) → i < length ss → is_marked c.args.marks.now i ≡ test (spot_at ss i).place) → (i : ℕ) → i < length ss → is_marked put (spot_at ss i).place ≡ test (spot_at ss i).place) c.deref.ensures.value c.put_marks.ensures in
     let size : length c.put_marks.new.marks ≡ length c.args.holes.now = c.put_marks.auto.marks ∙ (c.deref_mut.ensures.len ∙ c.in_ok-lacking.ensures.len) in
     take_at c.put_marks.new.marks (drop (length c.put_marks.new.marks) c.in_ok-lacking.lacking.items) c.in_ok-lacking.lacking.len (c.put_marks.auto.marks ∙ c.deref_mut.ensures.len)
-    ∙ marked_places test holes spots c.requires.index.listed put size (puts (λ k. test (drilled_at holes k)) marked)
+    ∙ marked_places test holes spots c.requires.index.listed put size (c.put_marks.ensures (λ k. test (drilled_at holes k)) marked)

@@ -1,9 +1,6 @@
-use Rattle.std.proofs.Common.{◌≡◌, ℕ, ◌<◌, Bool, List, length, ap, ◌∙◌, arith}
+use Rattle.std.proofs.Common.{◌≡◌, ℕ, ◌<◌, Bool, List, length, arith}
 use Rattle.std.specs.Prelude.{◌&&◌, not}
-use Rattle.std.proofs.lemmas.List.{get_or_default}
-use Rattle.ring_rules.specs.Spots.{default_spot}
-use Rattle.ring_rules.specs.Inner.Marks.{gives_ring, gives_ring_at, is_marked}
-use Rattle.ring_rules.specs.declared.spots.Spot.{Spot}
+use Rattle.ring_rules.specs.Inner.Marks.{gives_ring_at, is_marked}
 use Rattle.ring_rules.proofs.MarksLemmas.{removes_more, tried_more, none_more}
 use Rattle.ring_rules.proofs.marks.try_run.Goals as goal
 
@@ -14,9 +11,7 @@ loop-i-preserved g c =
     let test : ℕ → Bool = gives_ring_at g.S.PadShape.covers c.args.rules.ring c.args.spots.now c.args.pad.now in
     let listed : c.loop-i.i < length c.args.spots.now = omega (arith, c.loop-i-test.true, c.requires.within) in
     let inside : c.loop-i.i < length c.loop-i.marks = omega (arith, listed, c.loop-i.invariant.removes.size, c.requires.size) in
-    let same : c.keeps_mark-keeps_mark.result ≡ (is_marked c.loop-i.marks c.loop-i.i && not (test c.loop-i.i)) =
-    c.keeps_mark-keeps_mark.ensures ∙ ap (λ (s : Spot). is_marked c.loop-i.marks c.loop-i.i && not (gives_ring g.S.PadShape.covers c.args.rules.ring s.hole c.args.pad.now))
-    (get_or_default c.args.spots.now c.loop-i.i c.index-spots-i.result default_spot listed) in
+    let same : c.keeps_mark-keeps_mark.result ≡ (is_marked c.loop-i.marks c.loop-i.i && not (test c.loop-i.i)) = c.keeps_mark-keeps_mark.ensures in
     record {
       removes = removes_more test c.args.marks.now marks p inside c.keeps_mark-keeps_mark.result same c.loop-i.invariant.removes;
       tried = tried_more test c.args.marks.now marks p inside c.keeps_mark-keeps_mark.result same c.args.run.start c.loop-i.invariant.tried;

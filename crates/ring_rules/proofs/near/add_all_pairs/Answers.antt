@@ -5,14 +5,14 @@ use Rattle.ring_rules.proofs.near.add_all_pairs.Goals as goal
 
 pub loop-i-init : goal.loop-i-init
 loop-i-init c = record {
-  adds = adds_none c.args.rules.gap c.args.cells.now.spots.items c.args.pairs.now.items;
+  adds = adds_none c.args.rules.gap c.args.cells.now.spots c.args.pairs.now.items;
   found = λ j h. absurd (omega (arith, h));
 }
 
 pub loop-i-preserved : goal.loop-i-preserved
 loop-i-preserved c =
     let now : List (ℕ × ℕ) = c.add_near.new.pairs.items in
-    let spots : List Spot = c.args.cells.now.spots.items in
+    let spots : List Spot = c.args.cells.now.spots in
     record {
       adds = adds_both c.args.rules.gap spots c.args.pairs.now.items c.loop-i.pairs.items now c.loop-i.invariant.adds c.in_ok-add_near.ensures.adds;
       found = lists_clashes_more c.args.rules.gap spots c.loop-i.i c.loop-i.pairs.items now c.in_ok-add_near.ensures.adds c.loop-i.invariant.found c.in_ok-add_near.ensures.found;

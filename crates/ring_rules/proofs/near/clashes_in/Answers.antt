@@ -12,9 +12,9 @@ add_all_pairs-requires-clause-limits c = λ i h.
 pub returns-clause-sound : goal.returns-clause-sound
 returns-clause-sound c =
     let now : List (ℕ × ℕ) = c.add_all_pairs.new.pairs.items in
-    let adds = subst (λ (xs : List (ℕ × ℕ)). AddsClashes c.args.rules.gap c.args.cells.now.spots.items xs now) c.new-pairs.ensures.items c.in_ok-add_all_pairs.ensures.adds in
-    all_clashes c.args.rules.gap c.args.holes.now c.args.cells.now.spots.items c.requires.listed now adds
+    let adds = subst (λ (xs : List (ℕ × ℕ)). AddsClashes c.args.rules.gap c.args.cells.now.spots xs now) c.new-pairs.ensures.items c.in_ok-add_all_pairs.ensures.adds in
+    all_clashes c.args.rules.gap c.args.holes.now c.args.cells.now.spots c.requires.listed now adds
 
 pub returns-clause-complete : goal.returns-clause-complete
 returns-clause-complete c p clash =
-    clash_found c.args.rules.gap c.args.holes.now c.args.cells.now.spots.items c.requires.listed c.add_all_pairs.new.pairs.items p clash c.in_ok-add_all_pairs.ensures.found
+    clash_found c.args.rules.gap c.args.holes.now c.args.cells.now.spots c.requires.listed c.add_all_pairs.new.pairs.items p clash c.in_ok-add_all_pairs.ensures.found

@@ -7,9 +7,9 @@ use Rattle.ring_rules.proofs.spots.push_cell.Given as goal
 -- the link is one of the cell, and the places passed so far have spots
 abbrev pub invariant-loop-link : goal.invariant-loop-link
 invariant-loop-link l = record {
-  adds : AddsSpots (cell_of l.chains.x l.chains.y) l.holes l.cell l.initial.spots.items l.spots.items;
+  adds : AddsSpots (cell_of l.chains.x l.chains.y) l.holes l.cell l.initial.spots l.spots;
   at : (m : ℕ) → l.link ≡ m + 1 → (m < length l.holes) × (cell_at l.chains.x l.chains.y l.holes m ≡ l.cell);
-  found : (k : ℕ) → k < length l.holes → cell_at l.chains.x l.chains.y l.holes k ≡ l.cell → l.link ≤ k → HasSpot l.spots.items k;
+  found : (k : ℕ) → k < length l.holes → cell_at l.chains.x l.chains.y l.holes k ≡ l.cell → l.link ≤ k → HasSpot l.spots k;
 }
 
 abbrev pub decreases-loop-link : goal.decreases-loop-link

@@ -10,16 +10,16 @@ pub returns-clause-answers : goal.returns-clause-answers
 returns-clause-answers g c all named stands =
     let board = c.in-Ok.board in
     let text = drawing_text c.in_ok-drawing.drawing in
-    let read = c.in-Ok.ensures.flashes keep.Flashes all stands refl in
+    let read = c.in-Ok.ensures.drawn keep.All all stands refl in
     record {
       board = board;
       read = read;
       text = text;
       is = subst (λ (ns : List (List ℕ)). IsDrawn ns board c.args.rules text) named c.in_ok-drawing.ensures;
       written = c.in_ok-write.ensures.bytes;
-      sound = λ required under none. c.passing_is_sound.ensures all required (reported required board) (reported_on all required board (reported required board) read.is refl) none;
+      sound = λ required under none. c.passing_is_sound.ensures all required (reported required board) (reported_on all required board (reported required board) read.is.is refl) none;
       passed = refl;
     }
 
 pub returns-in-Err-File-clause-answers : goal.returns-in-Err-File-clause-answers
-returns-in-Err-File-clause-answers g c all named stands = c.refused.ensures all named (rw c.in-Err-File.field-0-is (subst (λ (f : PackageFault). ReturnsBoard all (Err f)) c.in-Err-File.field-0-is (c.in-Err-File.ensures.exact keep.Flashes all stands)))
+returns-in-Err-File-clause-answers g c all named stands = c.refused.ensures all named (rw c.in-Err-File.field-0-is (subst (λ (f : PackageFault). ReturnsBoard all (Err f)) c.in-Err-File.field-0-is (c.in-Err-File.ensures.exact keep.All all stands)))

@@ -4,6 +4,7 @@ use Rattle.package_check.specs.Checking.{HasJudgedAll}
 use Rattle.package_check.specs.Holding.{HasTakenAll}
 use Rattle.ringcheck.specs.declared.jobs.Job.TheVariants as job
 use Rattle.ringcheck.specs.Inner.Jobs.{Holds}
+use Rattle.ringcheck.specs.ReportStatus.{kept_for}
 use Rattle.ringcheck.proofs.Outcomes.{done_with}
 use Rattle.ringcheck.proofs.packages.answer.Goals as goal
 
@@ -25,12 +26,12 @@ pub returns-in-Ok-3-clause-answers : goal.returns-in-Ok-3-clause-answers
 returns-in-Ok-3-clause-answers g c =
     let contents = g.W.Write.contents in
     rw c.in-Report.is (done_with (g.L.Loader.has c.args.loader.now) c.args.entries.now (HasRisen (g.L.Loader.failed c.args.loader.now) (g.L.Loader.failed c.take_files-in-Report.new.loader))
-    (Holds (job.Report c.in-Report.options) (contents c.args.out.now) (contents c.report.new.out)) (λ reader. HasTakenAll reader keep.Flashes) c.in-Ok-3.reader c.as_slice-names.result.now
-    (rw c.as_slice-names.ensures.value c.in_ok-names.ensures) (rw c.in-Ok-3.is at c.in_ok-reader-in-Report.ensures) c.report.result c.report.ensures.answers)
+    (Holds (job.Report c.in-Report.options) (contents c.args.out.now) (contents c.report.new.out)) (λ reader. HasTakenAll reader (kept_for c.in-Report.options.format)) c.in-Ok-3.reader c.as_slice-names.result.now
+    (rw c.as_slice-names.ensures.value c.in_ok-names.ensures) (rw (c.in-Ok-3.is, c.kept_for-keep.ensures) at c.in_ok-reader-in-Report.ensures) c.report.result c.report.ensures.answers)
 
 pub returns-in-Ok-4-clause-answers : goal.returns-in-Ok-4-clause-answers
 returns-in-Ok-4-clause-answers g c =
     let contents = g.W.Write.contents in
     rw c.in-Draw.is (done_with (g.L.Loader.has c.args.loader.now) c.args.entries.now (HasRisen (g.L.Loader.failed c.args.loader.now) (g.L.Loader.failed c.take_files-in-Draw.new.loader))
-    (Holds (job.Draw c.in-Draw.rules) (contents c.args.out.now) (contents c.draw.new.out)) (λ reader. HasTakenAll reader keep.Flashes) c.in-Ok-4.reader c.as_slice-names.result.now
+    (Holds (job.Draw c.in-Draw.rules) (contents c.args.out.now) (contents c.draw.new.out)) (λ reader. HasTakenAll reader keep.All) c.in-Ok-4.reader c.as_slice-names.result.now
     (rw c.as_slice-names.ensures.value c.in_ok-names.ensures) (rw c.in-Ok-4.is at c.in_ok-reader-in-Draw.ensures) c.draw.result c.draw.ensures.answers)

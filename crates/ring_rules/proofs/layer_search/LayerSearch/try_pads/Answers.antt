@@ -16,7 +16,7 @@ pub returns-clause-tried : goal.returns-clause-tried
 returns-clause-tried g c = λ holes layer pads was.
     let index = c.args.index.now in
     let cells = c.args.index.now.cells in
-    let spots : List Spot = c.args.index.now.cells.spots.items in
+    let spots : List Spot = c.args.index.now.cells.spots in
     let covers = g.S.PadShape.covers in
     let ring : ℕ = c.args.index.now.rules.ring in
     let more = c.args.more.now in
@@ -32,8 +32,8 @@ returns-clause-tried g c = λ holes layer pads was.
         ready = c.requires.ready;
         size = ap length marks ∙ (c.try_pads.auto.marks ∙ (ap length c.deref_mut-2.ensures.value ∙ c.requires.size));
         open_nodes = ap length opened ∙ (c.try_pads.auto.open_nodes ∙ (ap length c.deref_mut.ensures.value ∙ c.requires.open_nodes));
-        closed = subst (λ (ms : List Bool). AreClosedUnmarked cells.x cells.y cells.spots.items index.nodes.items (with_items c.args.self.now.open_nodes c.try_pads.new.open_nodes).items ms) (sym marks)
-            (subst (λ (os : List Bool). AreClosedUnmarked cells.x cells.y cells.spots.items index.nodes.items os now) (sym opened) c.try_pads.ensures.closed);
+        closed = subst (λ (ms : List Bool). AreClosedUnmarked cells.x cells.y cells.spots index.nodes.items (with_items c.args.self.now.open_nodes c.try_pads.new.open_nodes).items ms) (sym marks)
+            (subst (λ (os : List Bool). AreClosedUnmarked cells.x cells.y cells.spots index.nodes.items os now) (sym opened) c.try_pads.ensures.closed);
       };
       same_layer = was.same_layer;
       marks = subst (λ (ms : List Bool). AreMarkedBy (is_ring_finding g.S.PadShape.covers c.args.index.now.rules.ring layer (pads ++ c.args.more.now)) holes index ms) (sym marks)

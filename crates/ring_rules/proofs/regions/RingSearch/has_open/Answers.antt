@@ -13,10 +13,10 @@ pub loop-i-preserved : goal.loop-i-preserved
 loop-i-preserved c = λ marks closed.
     let x = c.args.self.now.cells.now.x in
     let y = c.args.self.now.cells.now.y in
-    let spots : List Spot = c.args.self.now.cells.now.spots.items in
+    let spots : List Spot = c.args.self.now.cells.now.spots in
     let nodes = c.args.nodes.now in
     let inside : c.loop-i.i < length c.args.nodes.now = omega (arith, c.loop-i-test.true, c.requires.end) in
-    subst (λ (end : ℕ). HasNoMarkInLeaves c.args.self.now.cells.now.x c.args.self.now.cells.now.y c.args.self.now.cells.now.spots.items c.args.nodes.now c.args.start end marks) (sym c.end_at-i.ensures)
+    subst (λ (end : ℕ). HasNoMarkInLeaves c.args.self.now.cells.now.x c.args.self.now.cells.now.y c.args.self.now.cells.now.spots c.args.nodes.now c.args.start end marks) (sym c.end_at-i.ensures)
     (none_in_more x y spots nodes c.requires.tree.trees c.args.start c.loop-i.i marks inside (c.loop-i.invariant marks closed) (closed c.loop-i.i inside c.if-open_nodes-i.false))
 
 pub loop-i-smaller : goal.loop-i-smaller
@@ -27,4 +27,4 @@ loop-i-smaller c =
 
 pub returns : goal.returns
 returns c = λ e marks closed k h leaf.
-    c.loop-i.invariant marks closed k h (in_wider c.args.self.now.cells.now.x c.args.self.now.cells.now.y c.args.nodes.now c.args.start c.args.end c.args.start c.loop-i.i (point_at c.args.self.now.cells.now.spots.items k) (omega arith) (omega (arith, c.loop-i-test.false)) leaf)
+    c.loop-i.invariant marks closed k h (in_wider c.args.self.now.cells.now.x c.args.self.now.cells.now.y c.args.nodes.now c.args.start c.args.end c.args.start c.loop-i.i (point_at c.args.self.now.cells.now.spots k) (omega arith) (omega (arith, c.loop-i-test.false)) leaf)

@@ -18,7 +18,7 @@ pub returns-then-passes_over-clause-tried : goal.returns-then-passes_over-clause
 returns-then-passes_over-clause-tried g c =
     let x = c.args.self.now.cells.now.x in
     let y = c.args.self.now.cells.now.y in
-    let spots : List Spot = c.args.self.now.cells.now.spots.items in
+    let spots : List Spot = c.args.self.now.cells.now.spots in
     let test : ℕ → Bool = gives_ring_at g.S.PadShape.covers c.args.self.now.rules.ring spots c.args.pad.now in
     subst (λ (end : ℕ). NoMarkPassesInLeaves test c.args.self.now.cells.now.x c.args.self.now.cells.now.y spots c.args.nodes.now c.args.i end c.args.marks.now) (sym c.end_at-end.ensures)
     (passes_in_leaves x y spots c.args.nodes.now c.requires.tree.trees test c.args.i c.args.marks.now c.requires.inside (c.passes_over.ensures c.if-passes_over.true c.args.marks.now c.requires.closed))
@@ -27,7 +27,7 @@ pub returns-then-end-i-clause-tried : goal.returns-then-end-i-clause-tried
 returns-then-end-i-clause-tried g c =
     let x = c.args.self.now.cells.now.x in
     let y = c.args.self.now.cells.now.y in
-    let spots : List Spot = c.args.self.now.cells.now.spots.items in
+    let spots : List Spot = c.args.self.now.cells.now.spots in
     let test : ℕ → Bool = gives_ring_at g.S.PadShape.covers c.args.self.now.rules.ring spots c.args.pad.now in
     subst (λ (end : ℕ). NoMarkPassesInLeaves test c.args.self.now.cells.now.x c.args.self.now.cells.now.y spots c.args.nodes.now c.args.i end c.try_leaf.new.marks) (sym c.end_at-end.ensures)
     (passes_in_leaves x y spots c.args.nodes.now c.requires.tree.trees test c.args.i c.try_leaf.new.marks c.requires.inside c.try_leaf.ensures.tried)
@@ -36,7 +36,7 @@ pub returns-clause-closed : goal.returns-clause-closed
 returns-clause-closed g c =
     let x = c.args.self.now.cells.now.x in
     let y = c.args.self.now.cells.now.y in
-    let spots : List Spot = c.args.self.now.cells.now.spots.items in
+    let spots : List Spot = c.args.self.now.cells.now.spots in
     let nodes = c.args.nodes.now in
     let inside : c.args.i < length c.args.open_nodes.now = omega (arith, c.requires.inside, c.requires.open_nodes) in
     let inner : (node_at c.args.nodes.now c.args.i).end ≢ c.args.i + 1 = λ q. absurd (omega (arith, q, c.end_at-end.ensures)) in
@@ -46,7 +46,7 @@ returns-clause-closed g c =
 
 pub returns-clause-tried : goal.returns-clause-tried
 returns-clause-tried g c =
-    let spots : List Spot = c.args.self.now.cells.now.spots.items in
+    let spots : List Spot = c.args.self.now.cells.now.spots in
     let test : ℕ → Bool = gives_ring_at g.S.PadShape.covers c.args.self.now.rules.ring spots c.args.pad.now in
     let inner : (node_at c.args.nodes.now c.args.i).end ≢ c.args.i + 1 = λ q. absurd (omega (arith, q, c.end_at-end.ensures)) in
     passes_in_no_leaf c.args.self.now.cells.now.x c.args.self.now.cells.now.y spots c.args.nodes.now test c.args.i c.args.marks.now inner

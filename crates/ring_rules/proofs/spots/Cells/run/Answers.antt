@@ -22,6 +22,6 @@ returns-clause-holds c = λ i h inside.
     c.index.ensures ∙ get_or_default c.args.self.now.starts.items (c.args.row * (c.args.self.now.x.last + 1) + c.args.left) c.index.result.now 0 before in
     let end : c.index-2.result.now ≡ get_or c.args.self.now.starts.items (c.args.row * (c.args.self.now.x.last + 1) + c.args.right) 0 =
     c.index-2.ensures ∙ get_or_default c.args.self.now.starts.items (c.args.row * (c.args.self.now.x.last + 1) + c.args.right) c.index-2.result.now 0 after in
-    let from = run_begins x y starts c.args.self.now.spots.items c.requires.cells c.args.row c.args.left c.args.right c.requires.row c.requires.right i h inside in
-    let to = run_ends x y starts c.args.self.now.spots.items c.requires.cells c.args.row c.args.left c.args.right c.requires.row c.requires.right i h inside in
+    let from = run_begins x y starts c.args.self.now.spots c.requires.cells c.args.row c.args.left c.args.right c.requires.row c.requires.right i h inside in
+    let to = run_ends x y starts c.args.self.now.spots c.requires.cells c.args.row c.args.left c.args.right c.requires.row c.requires.right i h inside in
     (omega (arith, start, from), omega (arith, end, to))

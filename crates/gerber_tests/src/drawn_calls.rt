@@ -1,0 +1,246 @@
+//! What layers draw: lines and arcs, and the contours of regions.
+
+use layer_image::{Drawn, read_layer};
+use std::alloc::Global;
+
+/// A part of what is drawn, with its points and its width in pm.
+#[derive(Clone, Copy, Debug, PartialEq, Eq)]
+enum Part {
+    /// A line: the x and y of its ends, and its width.
+    Line(i64, i64, i64, i64, i64),
+    /// An arc: the x and y of its ends and of its centre, its width, and whether it goes clockwise.
+    Arc(i64, i64, i64, i64, i64, i64, i64, bool),
+    /// The first corner of a contour.
+    Contour(i64, i64),
+    /// The next corner.
+    Corner(i64, i64),
+    /// The next part, an arc: the x and y of its ends and of its centre, and whether it goes clockwise.
+    Bend(i64, i64, i64, i64, i64, i64, bool),
+}
+
+/// A part with its points as numbers.
+fn part_of(drawn: &Drawn) -> Part {
+    match drawn {
+        Drawn::Line { from, to, width } => Part::Line(from.x(), from.y(), to.x(), to.y(), *width),
+        Drawn::Arc {
+            from,
+            to,
+            centre,
+            width,
+            clockwise,
+        } => Part::Arc(
+            from.x(),
+            from.y(),
+            to.x(),
+            to.y(),
+            centre.x(),
+            centre.y(),
+            *width,
+            *clockwise,
+        ),
+        Drawn::Contour(at) => Part::Contour(at.x(), at.y()),
+        Drawn::Corner(at) => Part::Corner(at.x(), at.y()),
+        Drawn::Bend {
+            from,
+            to,
+            centre,
+            clockwise,
+        } => Part::Bend(
+            from.x(),
+            from.y(),
+            to.x(),
+            to.y(),
+            centre.x(),
+            centre.y(),
+            *clockwise,
+        ),
+    }
+}
+
+/// Whether these parts are drawn, in this order.
+fn are_parts(drawn: &[Drawn], expected: &[Part]) -> bool {
+    if drawn.len() != expected.len() {
+        return false;
+    }
+    for i in 0..drawn.len() {
+        if part_of(&drawn[i]) != expected[i] {
+            return false;
+        }
+    }
+    true
+}
+
+/// Whether the layer of a text draws these parts.
+fn draws(alloc: Global, text: &[u8], expected: &[Part]) -> bool {
+    match read_layer(alloc, text) {
+        Ok(layer) => match layer.drawn(alloc) {
+            Ok(drawn) => are_parts(&drawn, expected),
+            Err(_) => false,
+        },
+        Err(_) => false,
+    }
+}
+
+/// Texts, and what they draw. In most of them a step is 1 nm, so 1,000,000 is 1 mm, which is 1,000,000,000 pm.
+const DRAWN: [(&[u8], &[Part]); 19] = [
+    // Lines from point to point: a coordinate that is left out is the last one.
+    (
+        b"%FSLAX46Y46*%\n%MOMM*%\n%ADD10C,0.2*%\nD10*\nG01*\nX0Y0D02*\nX1000000Y0D01*\nY2000000D01*\nM02*\n",
+        &[
+            Part::Line(0, 0, 1_000_000_000, 0, 200_000_000),
+            Part::Line(1_000_000_000, 0, 1_000_000_000, 2_000_000_000, 200_000_000),
+        ],
+    ),
+    // Without a plot state they are straight. The first begins at the origin.
+    (
+        b"%FSLAX24Y24*%\n%MOIN*%\n%ADD10C,0.01*%\nD10*\nX10000Y-20000D01*\nM02*\n",
+        &[Part::Line(0, 0, 25_400_000_000, -50_800_000_000, 254_000_000)],
+    ),
+    // No rectangle and no disc with a hole draws a line.
+    (
+        b"%FSLAX46Y46*%\n%MOMM*%\n%ADD10R,1X2*%\n%ADD11C,0.5X0.2*%\nD10*\nX1000000Y0D01*\nD11*\nX0D01*\nM02*\n",
+        &[],
+    ),
+    // A scaled disc draws none.
+    (
+        b"%FSLAX46Y46*%\n%MOMM*%\n%ADD10C,0.2*%\nD10*\n%LS2*%\nX1000000Y0D01*\n%LS1*%\nX0D01*\nM02*\n",
+        &[Part::Line(1_000_000_000, 0, 0, 0, 200_000_000)],
+    ),
+    // A turned disc is the same disc.
+    (
+        b"%FSLAX46Y46*%\n%MOMM*%\n%ADD10C,0.2*%\nD10*\n%LR45*%\nX1000000Y0D01*\nM02*\n",
+        &[Part::Line(0, 0, 1_000_000_000, 0, 200_000_000)],
+    ),
+    // An arc clockwise: its centre is half a millimetre right of its start. Then a line.
+    (
+        b"%FSLAX46Y46*%\n%MOMM*%\n%ADD10C,0.2*%\nD10*\nG75*\nG02*\nX1000000Y0I500000J0D01*\nG01*\nX0D01*\nM02*\n",
+        &[
+            Part::Arc(0, 0, 1_000_000_000, 0, 500_000_000, 0, 200_000_000, true),
+            Part::Line(1_000_000_000, 0, 0, 0, 200_000_000),
+        ],
+    ),
+    // An arc counterclockwise, a quarter of a circle round the origin.
+    (
+        b"%FSLAX46Y46*%\n%MOMM*%\n%ADD10C,0.2*%\nD10*\nX1000000Y0D02*\nG75*\nG03*\nX0Y1000000I-1000000J0D01*\nM02*\n",
+        &[Part::Arc(1_000_000_000, 0, 0, 1_000_000_000, 0, 0, 200_000_000, false)],
+    ),
+    // An arc in inches: a step is 2,540,000 pm. Its centre is an inch above its start.
+    (
+        b"%FSLAX24Y24*%\n%MOIN*%\n%ADD10C,0.01*%\nD10*\nG75*\nG03*\nX10000Y10000I0J10000D01*\nM02*\n",
+        &[Part::Arc(
+            0,
+            0,
+            25_400_000_000,
+            25_400_000_000,
+            0,
+            25_400_000_000,
+            254_000_000,
+            false,
+        )],
+    ),
+    // An offset that is left out is 0: J of the first arc, I of the second.
+    (
+        b"%FSLAX46Y46*%\n%MOMM*%\n%ADD10C,0.2*%\nD10*\nG75*\nG02*\nX2000000Y0I1000000D01*\nG03*\nY2000000J1000000D01*\nM02*\n",
+        &[
+            Part::Arc(0, 0, 2_000_000_000, 0, 1_000_000_000, 0, 200_000_000, true),
+            Part::Arc(
+                2_000_000_000,
+                0,
+                2_000_000_000,
+                2_000_000_000,
+                2_000_000_000,
+                1_000_000_000,
+                200_000_000,
+                false,
+            ),
+        ],
+    ),
+    // A full circle ends where it begins.
+    (
+        b"%FSLAX46Y46*%\n%MOMM*%\n%ADD10C,0.2*%\nD10*\nX1000000Y0D02*\nG75*\nG03*\nX1000000Y0I-1000000J0D01*\nM02*\n",
+        &[Part::Arc(1_000_000_000, 0, 1_000_000_000, 0, 0, 0, 200_000_000, false)],
+    ),
+    // In a single quadrant, and where no mode is named, no arc is told. Lines are.
+    (
+        b"%FSLAX46Y46*%\n%MOMM*%\n%ADD10C,0.2*%\nD10*\nG02*\nX1000000Y1000000I1000000J0D01*\nG74*\nX2000000Y0I0J1000000D01*\nG01*\nX0D01*\nM02*\n",
+        &[Part::Line(2_000_000_000, 0, 0, 0, 200_000_000)],
+    ),
+    // A centre may be as far as 10 m, and an arc round one a nanometre farther is not told.
+    (
+        b"%FSLAX46Y46*%\n%MOMM*%\n%ADD10C,0.2*%\nD10*\nX1Y0D02*\nG75*\nG02*\nX2I9999999999D01*\nX0I9999999999D01*\nM02*\n",
+        &[Part::Arc(1_000, 0, 2_000, 0, 10_000_000_000_000, 0, 200_000_000, true)],
+    ),
+    // Moves and flashes draw nothing.
+    (
+        b"%FSLAX46Y46*%\n%MOMM*%\n%ADD10C,0.2*%\nD10*\nX1000000Y0D02*\nX0D03*\nM02*\n",
+        &[],
+    ),
+    // A contour for each move in a region, and one where the region begins.
+    (
+        b"%FSLAX46Y46*%\n%MOMM*%\nX9000000Y0D02*\nG36*\nX0D02*\nX1000000D01*\nY1000000D01*\nX0Y0D01*\nX5000000D02*\nX6000000D01*\nG37*\nM02*\n",
+        &[
+            Part::Contour(9_000_000_000, 0),
+            Part::Contour(0, 0),
+            Part::Corner(1_000_000_000, 0),
+            Part::Corner(1_000_000_000, 1_000_000_000),
+            Part::Corner(0, 0),
+            Part::Contour(5_000_000_000, 0),
+            Part::Corner(6_000_000_000, 0),
+        ],
+    ),
+    // A region without a move has its contour from the current point on.
+    (
+        b"%FSLAX46Y46*%\n%MOMM*%\nX5000000Y0D02*\nG36*\nX6000000D01*\nY1000000D01*\nX5000000Y0D01*\nG37*\nM02*\n",
+        &[
+            Part::Contour(5_000_000_000, 0),
+            Part::Corner(6_000_000_000, 0),
+            Part::Corner(6_000_000_000, 1_000_000_000),
+            Part::Corner(5_000_000_000, 0),
+        ],
+    ),
+    // An arc of a contour, and after a region a plot is a line again.
+    (
+        b"%FSLAX46Y46*%\n%MOMM*%\n%ADD10C,0.2*%\nD10*\nG36*\nX0Y0D02*\nG75*\nG03*\nX1000000I500000J0D01*\nG37*\nG01*\nX0D01*\nM02*\n",
+        &[
+            Part::Contour(0, 0),
+            Part::Contour(0, 0),
+            Part::Bend(0, 0, 1_000_000_000, 0, 500_000_000, 0, false),
+            Part::Line(1_000_000_000, 0, 0, 0, 200_000_000),
+        ],
+    ),
+    // An arc of a contour is told by its ends in a single quadrant, and where its centre is beyond 10 m.
+    (
+        b"%FSLAX46Y46*%\n%MOMM*%\nG36*\nG74*\nG02*\nX1000000Y1000000I1000000J0D01*\nG75*\nX2000000Y0I0J-1000000D01*\nX0I9999999999D01*\nG37*\nM02*\n",
+        &[
+            Part::Contour(0, 0),
+            Part::Corner(1_000_000_000, 1_000_000_000),
+            Part::Bend(
+                1_000_000_000,
+                1_000_000_000,
+                2_000_000_000,
+                0,
+                1_000_000_000,
+                0,
+                true,
+            ),
+            Part::Corner(0, 0),
+        ],
+    ),
+    // The copies of a block are not told.
+    (
+        b"%FSLAX46Y46*%\n%MOMM*%\n%ADD10C,0.2*%\nD10*\n%SRX2Y3I5J5*%\nX0Y0D02*\nX1000000D01*\n%SR*%\nM02*\n",
+        &[Part::Line(0, 0, 1_000_000_000, 0, 200_000_000)],
+    ),
+    // A line wider than 10 m is not told; one of no width is.
+    (
+        b"%FSLAX46Y46*%\n%MOMM*%\n%ADD10C,10000.1*%\n%ADD11C,0*%\nD10*\nX1000000Y0D01*\nD11*\nX0D01*\nM02*\n",
+        &[Part::Line(1_000_000_000, 0, 0, 0, 0)],
+    ),
+];
+
+#[test]
+fn layers_draw_lines_arcs_and_contours(rt: HostRuntime) {
+    for (place, &(text, expected)) in DRAWN.iter().enumerate() {
+        assert!(rt; draws(rt.alloc(), text, expected), "at {place}");
+    }
+}

@@ -1,0 +1,199 @@
+-- What the commands of a layer draw: lines and arcs, and the contours of regions (docs/FORMATS.md, Pictures).
+use Rattle.std.specs.Prelude.{ℕ, ℤ, pos, ◌+ℤ◌, Bool, true, false, ◌==◌, List, Option, None, Some, unwrap_or, if◌then◌else◌}
+use Rattle.std.specs.Option.{option_and_then, option_map}
+use Rattle.std.specs.Ordering.{int_eq}
+use Rattle.std.specs.List.{filter_map}
+use Rattle.grid_units.specs.Lists.{last_set, with_prefixes}
+use Rattle.grid_units.specs.Points.{GridPoint}
+use Rattle.grid_units.specs.Numbers.{is_too_far, picometres}
+use Rattle.grid_units.specs.declared.lengths.Unit.{Unit as Units}
+use Rattle.grid_units.specs.declared.lengths.Unit.TheVariants.{Millimetre}
+use Rattle.gerber_commands.specs.declared.command.Action.{Action}
+use Rattle.gerber_commands.specs.declared.command.Action.TheVariants as action
+use Rattle.gerber_commands.specs.declared.command.Interpolation.{Interpolation}
+use Rattle.gerber_commands.specs.declared.command.Interpolation.TheVariants as interpolation
+use Rattle.gerber_commands.specs.declared.command.QuadrantMode.{QuadrantMode}
+use Rattle.gerber_commands.specs.declared.command.QuadrantMode.TheVariants as quadrant
+use Rattle.gerber_commands.specs.declared.command.Standard.TheVariants as standard
+use Rattle.gerber_commands.specs.declared.command.Template.{Template}
+use Rattle.gerber_commands.specs.declared.command.Template.TheVariants as template
+use Rattle.gerber_commands.specs.declared.command.Command.{Command}
+use Rattle.gerber_commands.specs.declared.command.Command.TheVariants as command
+use Rattle.gerber_extended.specs.Pieces.{unit_scale}
+use Rattle.layer_image.specs.Lookback.{aperture_selected, has_hole, region_set, scale_set, size_at, unit_set, x_set, y_set}
+use Rattle.layer_image.specs.Numbers.{dec_length}
+use Rattle.layer_image.specs.declared.drawn.Drawn.{Drawn}
+use Rattle.layer_image.specs.declared.drawn.Drawn.TheVariants as drawn
+use Rattle.layer_image.specs.declared.line_apertures.LineAperture.{LineAperture}
+use Rattle.layer_image.specs.declared.line_apertures.LineAperture.TheVariants as line_aperture
+
+-- ---- what one command names
+
+-- how draws go from point to point: along a line by `G01*`, along an arc by `G02*` or `G03*` (Gerber format, Plot state G01, G02, G03)
+abbrev pub mode_set : Command → Option Interpolation
+mode_set (command.Mode mode) = Some mode
+mode_set _ = None
+
+-- how the centre of an arc is found: in several quadrants by `G75*`, in a single one by `G74*` (Gerber format, G75 and G74)
+abbrev pub quadrant_set : Command → Option QuadrantMode
+quadrant_set (command.Quadrant mode) = Some mode
+quadrant_set _ = None
+
+-- the decimals of coordinates: 6 by `%FSLAX46Y46*%` (Gerber format, Format specification FS)
+abbrev pub decimals_set : Command → Option ℕ
+decimals_set (command.FormatIs format) = Some format.decimals
+decimals_set _ = None
+
+-- what a line needs of an aperture: the diameter of a disc without a hole, in units of 10^-8; no other aperture draws one (Gerber format, Circle)
+abbrev pub line_aperture_of : Template → LineAperture
+line_aperture_of (template.Standard standard.Circle sizes) = if has_hole sizes 1 then line_aperture.Other else line_aperture.Round (size_at sizes 0)
+line_aperture_of _ = line_aperture.Other
+
+-- the aperture that a command gives this number: `%ADD10C,0.5*%` gives one to 10 (Gerber format, Aperture definition AD)
+abbrev pub line_aperture_set : ℕ → Command → Option LineAperture
+line_aperture_set number (command.Define other template) = if number == other then Some (line_aperture_of template) else None
+line_aperture_set number _ = None
+
+-- ---- the state that a draw meets
+
+-- the state that a draw meets: `x` and `y` in steps of the format, `scale` in units of 10^-8
+pub record DrawState : Type 0 where
+  pub unit : Units
+  pub decimals : ℕ
+  pub in_region : Bool
+  pub mode : Interpolation
+  pub quadrant : Option QuadrantMode
+  pub aperture : ℕ → Option LineAperture
+  pub selected : Option ℕ
+  pub x : ℤ
+  pub y : ℤ
+  pub scale : ℤ
+
+-- Each field is as the last command that names it says. At the start: straight lines, no mode of quadrants, no aperture, the point (0, 0),
+-- scale 1. No draw is legal before a unit and a format are named.
+abbrev pub draw_state_after : List Command → DrawState
+draw_state_after before = record {
+  unit = unwrap_or (last_set unit_set before) Millimetre;
+  decimals = unwrap_or (last_set decimals_set before) 0;
+  in_region = unwrap_or (last_set region_set before) false;
+  mode = unwrap_or (last_set mode_set before) interpolation.Linear;
+  quadrant = last_set quadrant_set before;
+  aperture = λ number. last_set (line_aperture_set number) before;
+  selected = last_set aperture_selected before;
+  x = unwrap_or (last_set x_set before) (pos 0);
+  y = unwrap_or (last_set y_set before) (pos 0);
+  scale = unwrap_or (last_set scale_set before) unit_scale;
+}
+
+-- ---- points and widths
+
+-- a length in pm, unless it is above 10 m
+abbrev pub near : ℤ → Option ℤ
+near length = if is_too_far length then None else Some length
+
+-- the point of two coordinates, where there are both
+abbrev pub point_at : Option ℤ → Option ℤ → Option GridPoint
+point_at (Some x) (Some y) = Some (record { x = x; y = y })
+point_at _ _ = None
+
+-- the point of two coordinates in steps of the format, in pm; none more than 10 m from zero along an axis, where no draw of a legal list goes
+abbrev pub point_of : DrawState → ℤ → ℤ → Option GridPoint
+point_of s x y = point_at (near (picometres s.unit s.decimals x)) (near (picometres s.unit s.decimals y))
+
+-- the current point: that of the last operation (Gerber format, Current point)
+abbrev pub current_point : DrawState → Option GridPoint
+current_point s = point_of s s.x s.y
+
+-- the point of an operation; a coordinate left out is the last one (Gerber format, Coordinate data)
+abbrev pub operation_point : DrawState → Option ℤ → Option ℤ → Option GridPoint
+operation_point s x y = point_of s (unwrap_or x s.x) (unwrap_or y s.y)
+
+-- a coordinate moved by an offset; an offset left out is 0 (Gerber format, G75 and G74)
+abbrev pub moved : ℤ → Option ℤ → ℤ
+moved n offset = n +ℤ unwrap_or offset (pos 0)
+
+-- the centre of an arc in several quadrants: the current point moved by I and J (Gerber format, G75 and G74)
+abbrev pub moved_point : DrawState → Option ℤ → Option ℤ → Option GridPoint
+moved_point s i j = point_of s (moved s.x i) (moved s.y j)
+
+-- the centre of an arc in this mode of quadrants, told under `G75*` alone (Gerber format, G75 and G74)
+abbrev pub centre_in : Option QuadrantMode → DrawState → Option ℤ → Option ℤ → Option GridPoint
+centre_in (Some quadrant.Multi) s i j = moved_point s i j
+centre_in _ s i j = None
+
+-- the centre of an operation, if it draws an arc (Gerber format, G75 and G74)
+abbrev pub arc_centre : DrawState → Option ℤ → Option ℤ → Option GridPoint
+arc_centre s i j = centre_in s.quadrant s i j
+
+-- the width of a line: the diameter of a round aperture, in pm, at most 10 m (Gerber format, Circle)
+abbrev pub width_of : Units → LineAperture → Option ℤ
+width_of unit (line_aperture.Round diameter) = near (dec_length unit diameter)
+width_of unit line_aperture.Other = None
+
+-- the width of lines that are drawn with the selected aperture; none while apertures are scaled (Gerber format, Load scaling LS)
+abbrev pub line_width : DrawState → Option ℤ
+line_width s = if int_eq s.scale unit_scale then option_and_then (width_of s.unit) (option_and_then s.aperture s.selected) else None
+
+-- ---- what is drawn
+
+-- a line from one point to another, where both are near and it has a width
+abbrev pub line_between : Option GridPoint → Option GridPoint → Option ℤ → Option Drawn
+line_between (Some from) (Some to) (Some width) = Some (drawn.Line from to width)
+line_between _ _ _ = None
+
+-- an arc round a centre from one point to another, where all three are near and it has a width
+abbrev pub arc_between : Bool → Option GridPoint → Option GridPoint → Option GridPoint → Option ℤ → Option Drawn
+arc_between clockwise (Some from) (Some to) (Some centre) (Some width) = Some (drawn.Arc from to centre width clockwise)
+arc_between _ _ _ _ _ = None
+
+-- the operation is a plot (`D01`), and no move or flash (Gerber format, Operations D01, D02, D03)
+abbrev pub is_plot : Action → Bool
+is_plot action.Plot = true
+is_plot _ = false
+
+-- a plot draws from the current point: a line by `G01`, an arc by `G02` (clockwise) or `G03` (Gerber format, Plot state G01, G02, G03)
+abbrev pub plotted : DrawState → Interpolation → Option GridPoint → Option GridPoint → Option Drawn
+plotted s interpolation.Linear to centre = line_between (current_point s) to (line_width s)
+plotted s interpolation.Clockwise to centre = arc_between true (current_point s) to centre (line_width s)
+plotted s interpolation.Counterclockwise to centre = arc_between false (current_point s) to centre (line_width s)
+
+-- outside of regions `D01` draws a line or an arc to its point (Gerber format, Operations D01, D02, D03)
+abbrev pub outside_region : DrawState → Action → Option GridPoint → Option GridPoint → Option Drawn
+outside_region s action to centre = if is_plot action then plotted s s.mode to centre else None
+
+-- the next part of a contour along an arc: round its centre from the current point, where both are near, else straight to its end
+abbrev pub bend_between : Bool → Option GridPoint → GridPoint → Option GridPoint → Drawn
+bend_between clockwise (Some from) to (Some centre) = drawn.Bend from to centre clockwise
+bend_between _ _ to _ = drawn.Corner to
+
+-- a contour goes on straight by `G01`, along an arc by `G02` (clockwise) or `G03` (Gerber format, Plot state G01, G02, G03)
+abbrev pub next_part : DrawState → Interpolation → GridPoint → Option GridPoint → Drawn
+next_part s interpolation.Linear to centre = drawn.Corner to
+next_part s interpolation.Clockwise to centre = bend_between true (current_point s) to centre
+next_part s interpolation.Counterclockwise to centre = bend_between false (current_point s) to centre
+
+-- inside a region `D02` begins a contour at its point, and `D01` goes on to its own (Gerber format, Region statement G36/G37)
+abbrev pub contour_part : DrawState → Action → GridPoint → Option GridPoint → Option Drawn
+contour_part s action.Move to centre = Some (drawn.Contour to)
+contour_part s action.Plot to centre = Some (next_part s s.mode to centre)
+contour_part s action.Flash to centre = None
+
+-- what an operation inside a region draws, where its point is near
+abbrev pub inside_region : DrawState → Action → Option GridPoint → Option GridPoint → Option Drawn
+inside_region s action (Some to) centre = contour_part s action to centre
+inside_region s action None centre = None
+
+-- what an operation draws, by its point and the centre of its arc
+abbrev pub operated : DrawState → Action → Option GridPoint → Option GridPoint → Option Drawn
+operated s action to centre = if s.in_region then inside_region s action to centre else outside_region s action to centre
+
+-- What a command draws in the state that it meets. A region begins with a contour at the current point, in case its first operation is `D01`.
+-- Copies of a step and repeat block are not told.
+abbrev pub drawn_by : DrawState → Command → Option Drawn
+drawn_by s command.RegionStart = option_map drawn.Contour (current_point s)
+drawn_by s (command.Operate action x y i j) = operated s action (operation_point s x y) (arc_centre s i j)
+drawn_by s _ = None
+
+-- what a list of commands draws, in order
+abbrev pub drawn_of : List Command → List Drawn
+drawn_of commands = filter_map (λ p. drawn_by (draw_state_after p.0) p.1) (with_prefixes commands)

@@ -1,0 +1,322 @@
+//! What the commands of a layer draw: lines and arcs, and the contours of regions.
+
+ghost use Rattle.std.specs.Prelude.{◌≡◌, ◌≤◌, ◌^◌, ℤ, Option, OnOk, [], unsigned_abs, IfSome};
+ghost use Rattle.std.specs.Option.{option_and_then};
+ghost use Rattle.grid_units.specs.Numbers.{picometres};
+ghost use Rattle.grid_units.specs.Points.{IsCoordinate};
+ghost use Rattle.gerber_commands.specs.declared.command.Action.{Action as TheAction};
+ghost use Rattle.gerber_commands.specs.declared.command.Command.TheVariants as command;
+ghost use Rattle.layer_image.specs.Numbers.{dec_length};
+ghost use Rattle.layer_image.specs.Drawn.{arc_between, arc_centre, bend_between, contour_part, current_point, draw_state_after, drawn_by, is_plot, line_between, line_width, moved, near, next_part, operated, operation_point, plotted, point_at, point_of, width_of};
+ghost use Rattle.layer_image.specs.Inner.Pencils.{after_command, draw_state};
+
+use crate::current::ONE;
+use crate::drawn::Drawn;
+use crate::length::{dec_length, step_length};
+use crate::line_apertures::{LineAperture, LineApertures, line_aperture_of};
+use gerber_text::{Action, Command, Interpolation, QuadrantMode, Template};
+use grid_units::{Dec, Point, Unit, is_too_far};
+use std::alloc::{AllocError, Global};
+
+/// The state that the commands so far make, as far as a draw needs it.
+#[derive(Drop)]
+pub(crate) struct Pencil {
+    unit: Unit,
+    decimals: u8,
+    in_region: bool,
+    mode: Interpolation,
+    quadrant: Option<QuadrantMode>,
+    apertures: LineApertures,
+    selected: Option<u32>,
+    x: i64,
+    y: i64,
+    scale: Dec,
+}
+
+impl Pencil {
+    /// A pencil that has met no command.
+    pub(crate) fn new(alloc: Global) -> Self
+        ensures { draw_state result ≡ draw_state_after [] }
+    {
+        Pencil {
+            unit: Unit::Millimetre,
+            decimals: 0,
+            in_region: false,
+            mode: Interpolation::Linear,
+            quadrant: None,
+            apertures: LineApertures::new(alloc),
+            selected: None,
+            x: 0,
+            y: 0,
+            scale: Dec::from_units(ONE).unwrap(),
+        }
+    }
+
+    /// Takes in one more command.
+    ///
+    /// # Errors
+    ///
+    /// An `AllocError` where there is no memory for an aperture.
+    pub(crate) fn take(&mut self, command: &Command) -> Result<(), AllocError>
+        ensures { OnOk result (draw_state self.new ≡ after_command command.now (draw_state self.old)) }
+    {
+        match command {
+            Command::RegionStart => self.in_region = true,
+            Command::RegionEnd => self.in_region = false,
+            Command::UnitIs(unit) => self.unit = *unit,
+            Command::FormatIs(format) => self.decimals = format.decimals,
+            Command::Mode(mode) => self.mode = *mode,
+            Command::Quadrant(mode) => self.quadrant = Some(*mode),
+            Command::Define { number, template } => self.define(*number, template.get())?,
+            Command::Select(number) => self.selected = Some(*number),
+            Command::Operate { x, y, .. } => self.set_point(x.get(), y.get()),
+            Command::Scale(scale) => self.scale = *scale,
+            Command::Comment(_)
+            | Command::Macro(_, _)
+            | Command::Dark
+            | Command::Mirror { .. }
+            | Command::Turn(_)
+            | Command::Repeat(_)
+            | Command::RepeatEnd
+            | Command::Attribute(_, _)
+            | Command::Remove(_)
+            | Command::Finish => {}
+        }
+        Ok(())
+    }
+
+    /// Takes in the definition of an aperture.
+    fn define(&mut self, number: u32, template: &Template) -> Result<(), AllocError>
+        ensures { OnOk result (draw_state self.new ≡ after_command (command.Define number template.now) (draw_state self.old)) }
+    {
+        self.apertures.insert(number, line_aperture_of(template))
+    }
+
+    /// Makes the point of an operation the current one.
+    fn set_point(&mut self, x: Option<i64>, y: Option<i64>)
+        ensures { (action : TheAction) (i j : Option ℤ) → draw_state self.new ≡ after_command (command.Operate action x y i j) (draw_state self.old) }
+    {
+        self.x = x.unwrap_or(self.x);
+        self.y = y.unwrap_or(self.y);
+    }
+
+    /// What a command draws, if it draws anything.
+    pub(crate) fn drawn(&self, command: &Command) -> Option<Drawn>
+        ensures { result ≡ drawn_by (draw_state self.now) command.now }
+    {
+        match command {
+            Command::RegionStart => Some(Drawn::Contour(self.current_point()?)),
+            Command::Operate { action, x, y, i, j } => {
+                let to = self.operation_point(x.get(), y.get());
+                self.operated(*action, to, self.arc_centre(i.get(), j.get()))
+            }
+            _ => None,
+        }
+    }
+
+    /// What an operation draws, by its point and the centre of its arc.
+    fn operated(&self, action: Action, to: Option<Point>, centre: Option<Point>) -> Option<Drawn>
+        ensures { result ≡ operated (draw_state self.now) action to centre }
+    {
+        if self.in_region {
+            self.contour_part(action, to?, centre)
+        } else if is_plot(action) {
+            self.plotted(to, centre)
+        } else {
+            None
+        }
+    }
+
+    /// What a plot outside of regions draws.
+    fn plotted(&self, to: Option<Point>, centre: Option<Point>) -> Option<Drawn>
+        ensures { result ≡ plotted (draw_state self.now) self.now.mode to centre }
+    {
+        match self.mode {
+            Interpolation::Linear => self.line(to),
+            Interpolation::Clockwise => self.arc(to, centre, true),
+            Interpolation::Counterclockwise => self.arc(to, centre, false),
+        }
+    }
+
+    /// The line from the current point to another, if both are near and it has a width.
+    fn line(&self, to: Option<Point>) -> Option<Drawn>
+        ensures { result ≡ line_between (current_point (draw_state self.now)) to (line_width (draw_state self.now)) }
+    {
+        let from = self.current_point()?;
+        let to = to?;
+        let width = self.width()?;
+        Some(Drawn::Line { from, to, width })
+    }
+
+    /// The arc round a centre from the current point to another, if all three are near and it has a width.
+    fn arc(&self, to: Option<Point>, centre: Option<Point>, clockwise: bool) -> Option<Drawn>
+        ensures { result ≡ arc_between clockwise (current_point (draw_state self.now)) to centre (line_width (draw_state self.now)) }
+    {
+        let from = self.current_point()?;
+        let to = to?;
+        let centre = centre?;
+        let width = self.width()?;
+        Some(Drawn::Arc {
+            from,
+            to,
+            centre,
+            width,
+            clockwise,
+        })
+    }
+
+    /// What an operation inside a region draws.
+    fn contour_part(&self, action: Action, to: Point, centre: Option<Point>) -> Option<Drawn>
+        ensures { result ≡ contour_part (draw_state self.now) action to centre }
+    {
+        match action {
+            Action::Move => Some(Drawn::Contour(to)),
+            Action::Plot => Some(self.next_part(to, centre)),
+            Action::Flash => None,
+        }
+    }
+
+    /// How a contour goes on to the point of a plot.
+    fn next_part(&self, to: Point, centre: Option<Point>) -> Drawn
+        ensures { result ≡ next_part (draw_state self.now) self.now.mode to centre }
+    {
+        match self.mode {
+            Interpolation::Linear => Drawn::Corner(to),
+            Interpolation::Clockwise => self.bend(to, centre, true),
+            Interpolation::Counterclockwise => self.bend(to, centre, false),
+        }
+    }
+
+    /// How a contour goes on along an arc: straight to its end where the centre or the current point is not near.
+    fn bend(&self, to: Point, centre: Option<Point>, clockwise: bool) -> Drawn
+        ensures { result ≡ bend_between clockwise (current_point (draw_state self.now)) to centre }
+    {
+        match (self.current_point(), centre) {
+            (Some(from), Some(centre)) => Drawn::Bend {
+                from,
+                to,
+                centre,
+                clockwise,
+            },
+            _ => Drawn::Corner(to),
+        }
+    }
+
+    /// The current point, if it is near.
+    fn current_point(&self) -> Option<Point>
+        ensures { result ≡ current_point (draw_state self.now) }
+    {
+        self.point(i128::from(self.x), i128::from(self.y))
+    }
+
+    /// The point of an operation, if it is near.
+    fn operation_point(&self, x: Option<i64>, y: Option<i64>) -> Option<Point>
+        ensures { result ≡ operation_point (draw_state self.now) x y }
+    {
+        self.point(
+            i128::from(x.unwrap_or(self.x)),
+            i128::from(y.unwrap_or(self.y)),
+        )
+    }
+
+    /// The centre of an arc, told where it is near and the mode is that of several quadrants.
+    fn arc_centre(&self, i: Option<i64>, j: Option<i64>) -> Option<Point>
+        ensures { result ≡ arc_centre (draw_state self.now) i j }
+    {
+        match self.quadrant {
+            Some(QuadrantMode::Multi) => self.point(moved(self.x, i), moved(self.y, j)),
+            Some(QuadrantMode::Single) | None => None,
+        }
+    }
+
+    /// The point of two coordinates in steps of the format, unless it is more than 10 m from zero along an axis.
+    fn point(&self, x: i128, y: i128) -> Option<Point>
+        requires x { unsigned_abs x ≤ 2 ^ 64 }
+        requires y { unsigned_abs y ≤ 2 ^ 64 }
+        ensures { result ≡ point_of (draw_state self.now) x y }
+    {
+        point_at(
+            near_coordinate(x, self.decimals, self.unit),
+            near_coordinate(y, self.decimals, self.unit),
+        )
+    }
+
+    /// The width of a line that is drawn with the selected aperture, in pm.
+    fn width(&self) -> Option<i64>
+        ensures { result ≡ line_width (draw_state self.now) }
+    {
+        if self.scale.units() != ONE {
+            return None;
+        }
+        width_of(self.unit, &self.aperture()?)
+    }
+
+    /// The aperture of the number that was selected last.
+    fn aperture(&self) -> Option<LineAperture>
+        ensures { result ≡ option_and_then (draw_state self.now).aperture self.now.selected }
+    {
+        match self.selected {
+            Some(number) => self.apertures.get(number),
+            None => None,
+        }
+    }
+}
+
+/// Whether an operation is a plot.
+fn is_plot(action: Action) -> bool
+    ensures { result ≡ is_plot action }
+{
+    matches!(action, Action::Plot)
+}
+
+/// A coordinate moved by an offset, 0 where it is left out. It may lie beyond every `i64`.
+fn moved(n: i64, offset: Option<i64>) -> i128
+    ensures value { result ≡ moved n offset }
+    ensures in_range { unsigned_abs result ≤ 2 ^ 64 }
+{
+    i128::from(n) + i128::from(offset.unwrap_or(0))
+}
+
+/// A coordinate in steps of the format, in pm, unless it is beyond 10 m.
+fn near_coordinate(n: i128, decimals: u8, unit: Unit) -> Option<i64>
+    requires { unsigned_abs n ≤ 2 ^ 64 }
+    ensures value { result ≡ near (picometres unit decimals n) }
+    ensures in_range { IfSome result IsCoordinate }
+{
+    let length = n * i128::from(step_length(decimals, unit));
+    if is_too_far(length) {
+        return None;
+    }
+    Some(length as i64)
+}
+
+/// The point of two coordinates, where there are both.
+fn point_at(x: Option<i64>, y: Option<i64>) -> Option<Point>
+    requires x { IfSome x IsCoordinate }
+    requires y { IfSome y IsCoordinate }
+    ensures { result ≡ point_at x y }
+{
+    let (x, y) = (x?, y?);
+    Some(Point::new(x, y).unwrap())
+}
+
+/// The width of a line that is drawn with an aperture, in pm.
+fn width_of(unit: Unit, aperture: &LineAperture) -> Option<i64>
+    ensures { result ≡ width_of unit aperture.now }
+{
+    match aperture {
+        LineAperture::Round(diameter) => near_size(*diameter, unit),
+        LineAperture::Other => None,
+    }
+}
+
+/// A size of an aperture in pm, unless it is above 10 m.
+fn near_size(size: Dec, unit: Unit) -> Option<i64>
+    ensures { result ≡ near (dec_length unit size) }
+{
+    let length = dec_length(size, unit);
+    if is_too_far(length) {
+        return None;
+    }
+    Some(length as i64)
+}

@@ -1,0 +1,146 @@
+//! Edges of polygons: the areas and lengths between an edge and a point, and comparisons of their squares in 128 bits.
+
+ghost use Rattle.std.specs.Prelude.{◌≡◌, ◌+◌, ◌*◌, ◌<◌, ◌≤◌, ◌*ℤ◌, pos, unsigned_abs, nat_le};
+ghost use Rattle.std.specs.Ordering.{MatchOrdering};
+ghost use Rattle.grid_units.specs.Points.{square, square_distance};
+ghost use Rattle.pad_shapes.specs.Rounded.{cross, along, is_deep_left, is_beside};
+
+use grid_units::{Point, square_distance, square_length};
+use std::cmp::Ordering;
+
+/// The product of two differences of coordinates, in square pm.
+fn product(a: i64, b: i64) -> i128
+    requires a { unsigned_abs a ≤ 20000000000000 }
+    requires b { unsigned_abs b ≤ 20000000000000 }
+    ensures value { result ≡ a *ℤ b }
+    ensures small { unsigned_abs result ≤ 400000000000000000000000000 }
+{
+    i128::from(a) * i128::from(b)
+}
+
+/// Twice the area of the triangle of an edge and a point, in square pm: above 0 where the point lies to the left of the edge.
+pub(crate) fn cross(from: Point, to: Point, point: Point) -> i128
+    ensures value { result ≡ cross (record { from = from; to = to }) point }
+    ensures small { unsigned_abs result ≤ 800000000000000000000000000 }
+{
+    product(to.x() - from.x(), point.y() - from.y())
+        - product(to.y() - from.y(), point.x() - from.x())
+}
+
+/// How far a point lies along an edge from its start, times the edge's length, in square pm.
+fn along(from: Point, to: Point, point: Point) -> i128
+    ensures { result ≡ along (record { from = from; to = to }) point }
+{
+    product(to.x() - from.x(), point.x() - from.x())
+        + product(to.y() - from.y(), point.y() - from.y())
+}
+
+/// The square of an edge's length, in square pm.
+fn square_edge(from: Point, to: Point) -> u128
+    ensures value { result ≡ square_distance to from }
+    ensures small { result ≤ 800000000000000000000000000 }
+{
+    let dx = to.x().abs_diff(from.x());
+    let dy = to.y().abs_diff(from.y());
+    square_length(dx, dy).unsigned_abs()
+}
+
+/// Compares the square of `rest` and `depth * loss` with `depth * gain`. None of the numbers that it meets needs more
+/// than 128 bits.
+fn compare_rests(depth: u128, rest: u128, gain: u128, loss: u128) -> Ordering
+    requires rest { rest < depth }
+    requires depth { depth ≤ 20000000000000 }
+    ensures { MatchOrdering result (square rest + depth * loss < depth * gain) (square rest + depth * loss ≡ depth * gain) (depth * gain < square rest + depth * loss) }
+{
+    if gain < loss {
+        return Ordering::Greater;
+    }
+    let more = gain - loss;
+    if depth <= more {
+        return Ordering::Less;
+    }
+    let first = rest * rest;
+    let second = depth * more;
+    if first < second {
+        Ordering::Less
+    } else if first == second {
+        Ordering::Equal
+    } else {
+        Ordering::Greater
+    }
+}
+
+/// Compares an area with the product of a depth and an edge's length, by their squares, which need up to 178 bits and are
+/// never formed. The area and the square of the edge are at most 8 * 10^26 square pm, the depth 2 * 10^13 pm.
+fn compare_areas(area: u128, depth: u128, square_edge: u128) -> Ordering
+    requires area { area ≤ 800000000000000000000000000 }
+    requires depth { depth ≤ 20000000000000 }
+    requires square_edge { square_edge ≤ 800000000000000000000000000 }
+    ensures { MatchOrdering result (square area < square depth * square_edge) (square area ≡ square depth * square_edge) (square depth * square_edge < square area) }
+{
+    if depth == 0 && area == 0 {
+        return Ordering::Equal;
+    }
+    if depth == 0 {
+        return Ordering::Greater;
+    }
+    let whole = area / depth;
+    let rest = area % depth;
+    if whole > 30_000_000_000_000 {
+        return Ordering::Greater;
+    }
+    let square_whole = whole * whole;
+    if square_edge < square_whole {
+        return Ordering::Greater;
+    }
+    let lack = square_edge - square_whole;
+    let double = 2 * whole;
+    if double < lack {
+        return Ordering::Less;
+    }
+    let gain = lack * depth;
+    let loss = double * rest;
+    compare_rests(depth, rest, gain, loss)
+}
+
+/// Whether a point lies to the left of an edge, and no nearer to its line than the depth, which is at most
+/// 20,000,000,000,000 pm; or on it, for the depth 0.
+pub(crate) fn is_deep_left(from: Point, to: Point, depth: u64, point: Point) -> bool
+    requires { depth ≤ 20000000000000 }
+    ensures { result ≡ is_deep_left (record { from = from; to = to }) depth point }
+{
+    let area = cross(from, to, point);
+    if area < 0 {
+        return false;
+    }
+    match compare_areas(
+        area.unsigned_abs(),
+        u128::from(depth),
+        square_edge(from, to),
+    ) {
+        Ordering::Less => false,
+        Ordering::Equal => true,
+        Ordering::Greater => true,
+    }
+}
+
+/// Whether a point lies beside an edge, between its ends, no further from its line than the distance, which is at most
+/// 5,000,000,000,000 pm.
+pub(crate) fn is_beside(from: Point, to: Point, distance: u64, point: Point) -> bool
+    requires { distance ≤ 5000000000000 }
+    ensures { result ≡ is_beside (record { from = from; to = to }) distance point }
+{
+    let foot = along(from, to, point);
+    if foot <= 0 || square_distance(to, from) <= foot {
+        return false;
+    }
+    match compare_areas(
+        cross(from, to, point).unsigned_abs(),
+        u128::from(distance),
+        square_edge(from, to),
+    ) {
+        Ordering::Less => true,
+        Ordering::Equal => true,
+        Ordering::Greater => false,
+    }
+}

@@ -1,0 +1,162 @@
+//! Polygons by their corners: what lies inside of each edge, and what lies near the rim.
+
+ghost use Rattle.std.specs.Prelude.{◌≡◌, ◌≤◌};
+ghost use Rattle.grid_units.specs.Points.{IsCoordinate};
+ghost use Rattle.pad_shapes.specs.Rounded.{has_area, is_deep_inside, is_near_corner, is_near_rim, is_convex, is_outline, is_deep_left_of_all, is_beside_some, least_corner, greatest_corner};
+
+use crate::edges::{cross, is_beside, is_deep_left};
+use grid_units::{Point, square, square_distance};
+
+/// Whether the corners enclose an area: the first one lies to the left of some edge.
+fn has_area(first: Point, others: &[Point]) -> bool
+    ensures { result ≡ has_area (record { first = first; others = others.now; radius = 0 }) }
+{
+    let mut from = first;
+    for to in others {
+        if 0 < cross(from, *to, first) {
+            return true;
+        }
+        from = *to;
+    }
+    0 < cross(from, first, first)
+}
+
+/// Whether a point lies to the left of each edge, no nearer to it than the depth.
+fn is_deep_left_of_all(first: Point, others: &[Point], depth: u64, point: Point) -> bool
+    requires { depth ≤ 20000000000000 }
+    ensures { result ≡ is_deep_left_of_all (record { first = first; others = others.now; radius = 0 }) depth point }
+{
+    let mut from = first;
+    for to in others {
+        if !is_deep_left(from, *to, depth, point) {
+            return false;
+        }
+        from = *to;
+    }
+    is_deep_left(from, first, depth, point)
+}
+
+/// Whether a point lies inside of each edge, no nearer to it than the depth in pm, which is at most 20,000,000,000,000.
+pub(crate) fn is_deep_inside(first: Point, others: &[Point], depth: u64, point: Point) -> bool
+    requires { depth ≤ 20000000000000 }
+    ensures { result ≡ is_deep_inside (record { first = first; others = others.now; radius = 0 }) depth point }
+{
+    has_area(first, others) && is_deep_left_of_all(first, others, depth, point)
+}
+
+/// Whether a point is no further from a corner than the distance.
+fn is_near_corner(first: Point, others: &[Point], distance: u64, point: Point) -> bool
+    requires { distance ≤ 5000000000000 }
+    ensures { result ≡ is_near_corner (record { first = first; others = others.now; radius = 0 }) distance point }
+{
+    let limit = square(distance);
+    if square_distance(point, first) <= limit {
+        return true;
+    }
+    for corner in others {
+        if square_distance(point, *corner) <= limit {
+            return true;
+        }
+    }
+    false
+}
+
+/// Whether a point lies beside an edge, no further from it than the distance.
+fn is_beside_some(first: Point, others: &[Point], distance: u64, point: Point) -> bool
+    requires { distance ≤ 5000000000000 }
+    ensures { result ≡ is_beside_some (record { first = first; others = others.now; radius = 0 }) distance point }
+{
+    let mut from = first;
+    for to in others {
+        if is_beside(from, *to, distance, point) {
+            return true;
+        }
+        from = *to;
+    }
+    is_beside(from, first, distance, point)
+}
+
+/// Whether a point is no further from the rim than the distance in pm, which is at most 5,000,000,000,000.
+pub(crate) fn is_near_rim(first: Point, others: &[Point], distance: u64, point: Point) -> bool
+    requires { distance ≤ 5000000000000 }
+    ensures { result ≡ is_near_rim (record { first = first; others = others.now; radius = 0 }) distance point }
+{
+    is_near_corner(first, others, distance, point) || is_beside_some(first, others, distance, point)
+}
+
+/// Whether the corners enclose an area, and none of them lies to the right of an edge.
+fn is_convex(first: Point, others: &[Point]) -> bool
+    ensures { result ≡ is_convex (record { first = first; others = others.now; radius = 0 }) }
+{
+    if !is_deep_inside(first, others, 0, first) {
+        return false;
+    }
+    for corner in others {
+        if !is_deep_inside(first, others, 0, *corner) {
+            return false;
+        }
+    }
+    true
+}
+
+/// Whether these are one corner, two different ones, or the corners of a convex polygon.
+pub(crate) fn is_outline(first: Point, others: &[Point]) -> bool
+    ensures { result ≡ is_outline first others.now }
+{
+    if others.is_empty() {
+        return true;
+    }
+    if others.len() == 1 {
+        let other = others[0];
+        return !(first.x() == other.x() && first.y() == other.y());
+    }
+    is_convex(first, others)
+}
+
+/// The least x of the corners, in pm.
+pub(crate) fn least_x(first: Point, others: &[Point]) -> i64
+    ensures value { result ≡ least_corner (λ v. v.x) (record { first = first; others = others.now; radius = 0 }) }
+    ensures in_range { IsCoordinate result }
+{
+    let mut least = first.x();
+    for corner in others {
+        least = least.min(corner.x());
+    }
+    least
+}
+
+/// The greatest x of the corners, in pm.
+pub(crate) fn greatest_x(first: Point, others: &[Point]) -> i64
+    ensures value { result ≡ greatest_corner (λ v. v.x) (record { first = first; others = others.now; radius = 0 }) }
+    ensures in_range { IsCoordinate result }
+{
+    let mut greatest = first.x();
+    for corner in others {
+        greatest = greatest.max(corner.x());
+    }
+    greatest
+}
+
+/// The least y of the corners, in pm.
+pub(crate) fn least_y(first: Point, others: &[Point]) -> i64
+    ensures value { result ≡ least_corner (λ v. v.y) (record { first = first; others = others.now; radius = 0 }) }
+    ensures in_range { IsCoordinate result }
+{
+    let mut least = first.y();
+    for corner in others {
+        least = least.min(corner.y());
+    }
+    least
+}
+
+/// The greatest y of the corners, in pm.
+pub(crate) fn greatest_y(first: Point, others: &[Point]) -> i64
+    ensures value { result ≡ greatest_corner (λ v. v.y) (record { first = first; others = others.now; radius = 0 }) }
+    ensures in_range { IsCoordinate result }
+{
+    let mut greatest = first.y();
+    for corner in others {
+        greatest = greatest.max(corner.y());
+    }
+    greatest
+}

@@ -1,0 +1,181 @@
+//! Rounded polygons: convex polygons, and all that lies within a radius of them.
+
+ghost use Rattle.std.specs.Prelude.{◌≡◌, pos, ◌<◌, ◌≤◌, ◌↔◌, false, IsSome, IfSome, MatchOption, unsigned_abs};
+ghost use Rattle.pad_shapes.specs.Shapes.{IsPadRadius, max_reach};
+ghost use Rattle.pad_shapes.specs.Zones.{BoundsCentres};
+ghost use Rattle.pad_shapes.specs.Rounded.{IsRounded, IsInRounded, IsGreatestReach, rounded_covers, rounded_left, rounded_right};
+ghost use Rattle.pad_shapes.specs.Inner.RoundedLaws.{rounded_contains_covered, rounded_contains_slots, rounded_between, rounded_extent};
+
+use crate::polygon::{
+    greatest_x, greatest_y, is_deep_inside, is_near_rim, is_outline, least_x, least_y,
+};
+use crate::shape::{MAX_HALF_SIDE, PadShape};
+use crate::zone::{Zone, are_apart};
+use grid_units::Point;
+use std::marker::Model;
+
+/// The largest number of corners of a rounded polygon.
+pub const MAX_CORNERS: usize = 256;
+
+/// The largest reach of a call in pm: twenty metres.
+const MAX_REACH: u64 = 20_000_000_000_000;
+
+/// A rounded polygon: one to 256 corners, and a radius of 0 to 5,000,000,000,000 pm. It has all points within the radius
+/// of its polygon. One corner makes a disc, two a line with round ends, and more go round a convex polygon
+/// counterclockwise.
+#[derive(Debug, Drop)]
+pub struct Rounded {
+    first: Point,
+    others: Vec<Point>,
+    radius: u64,
+}
+
+impl Model for Rounded {
+    ghost use Rattle.std.specs.Prelude.{◌≡◌, ◌≤◌, ◌<◌, true, length};
+    ghost use Rattle.pad_shapes.specs.Shapes.{max_half_side};
+    ghost use Rattle.pad_shapes.specs.Rounded.{GridRounded, max_corners, is_outline};
+
+    ghost Value = { GridRounded };
+
+    ghost view = { λ r. record { first = r.first; others = r.others.items; radius = r.radius } };
+
+    ghost invariant = { λ r. (length r.others.items < max_corners) × (r.radius ≤ max_half_side) × (is_outline r.first r.others.items ≡ true) };
+}
+
+impl Rounded {
+    /// The rounded polygon of these corners, the first one and the others in order, or `None` where there are more than
+    /// [`MAX_CORNERS`], where they are neither a point nor a line nor a convex polygon counterclockwise, or where the
+    /// radius in pm is out of range.
+    pub fn new(first: Point, others: Vec<Point>, radius: i64) -> Option<Rounded>
+        ensures valid { IsSome result ↔ IsRounded first others.items radius }
+        ensures value { IfSome result (λ r. r ≡ record { first = first; others = others.items; radius = unsigned_abs radius }) }
+    {
+        let is_in_range = others.len() < MAX_CORNERS && 0 <= radius && radius <= MAX_HALF_SIDE;
+        if is_in_range && is_outline(first, &others) {
+            Some(Rounded {
+                first,
+                others,
+                radius: radius.unsigned_abs(),
+            })
+        } else {
+            None
+        }
+    }
+
+    /// The first corner.
+    pub fn first(&self) -> Point
+        ensures { result ≡ self.now.first }
+    {
+        self.first
+    }
+
+    /// The other corners, in order.
+    pub fn others(&self) -> &[Point]
+        ensures value { result.now ≡ self.now.others }
+        ensures in_range { IsRounded self.now.first self.now.others (pos self.now.radius) }
+    {
+        &self.others
+    }
+
+    /// The radius in pm.
+    pub fn radius(&self) -> i64
+        ensures value { result ≡ pos self.now.radius }
+        ensures in_range { IsPadRadius result }
+    {
+        self.radius as i64
+    }
+
+    /// The box of all centres that are covered with this reach or a greater one: that of the corners, wider by the radius
+    /// and narrower by the reach.
+    fn centres(&self, reach: u64) -> Zone
+        requires { reach ≤ max_reach }
+        ensures { BoundsCentres rounded_covers self.now reach result }
+    {
+        let others = &self.others;
+        let inset = reach as i64 - self.radius as i64;
+        Zone {
+            left: least_x(self.first, others) + inset,
+            right: greatest_x(self.first, others) - inset,
+            bottom: least_y(self.first, others) + inset,
+            top: greatest_y(self.first, others) - inset,
+        }
+    }
+
+    /// Whether the shape covers a centre with this reach.
+    fn covers_reach(&self, hole: Point, reach: u64) -> bool
+        requires { reach ≤ max_reach }
+        ensures { result ≡ rounded_covers self.now hole reach }
+    {
+        let depth = reach.saturating_sub(self.radius);
+        if is_deep_inside(self.first, &self.others, depth, hole) {
+            return true;
+        }
+        reach <= self.radius && is_near_rim(self.first, &self.others, self.radius - reach, hole)
+    }
+
+    /// The greatest reach in pm with which the shape covers a centre, at most 20,000,000,000,000 pm, or `None` where it
+    /// does not cover the centre itself. It is found by halving: what is covered with one reach is covered with each lesser.
+    pub fn greatest_reach(&self, hole: Point) -> Option<u64>
+        ensures { MatchOption result (rounded_covers self.now hole 0 ≡ false) (IsGreatestReach self.now hole) }
+    {
+        if !self.covers_reach(hole, 0) {
+            return None;
+        }
+        if self.covers_reach(hole, MAX_REACH) {
+            return Some(MAX_REACH);
+        }
+        let mut covered = 0;
+        let mut missed = MAX_REACH;
+        while 1 < missed - covered {
+            let middle = covered + (missed - covered) / 2;
+            if self.covers_reach(hole, middle) {
+                covered = middle;
+            } else {
+                missed = middle;
+            }
+        }
+        Some(covered)
+    }
+}
+
+impl PadShape for Rounded {
+    ghost points = { IsInRounded };
+
+    ghost covers = { rounded_covers };
+
+    ghost left = { rounded_left };
+
+    ghost right = { rounded_right };
+
+    ghost holds = { rounded_contains_covered };
+
+    ghost holds_slots = { rounded_contains_slots };
+
+    ghost between = { rounded_between };
+
+    ghost extent = { rounded_extent };
+
+    fn covers(&self, hole: Point, reach: i64) -> bool {
+        self.covers_reach(hole, reach.unsigned_abs())
+    }
+
+    fn left(&self) -> i64 {
+        least_x(self.first, &self.others) - self.radius as i64
+    }
+
+    fn right(&self) -> i64 {
+        greatest_x(self.first, &self.others) + self.radius as i64
+    }
+
+    fn zone(&self, reach: u64) -> Option<Zone> {
+        Some(self.centres(reach))
+    }
+
+    fn may_cover(&self, zone: &Zone, reach: u64) -> bool {
+        if MAX_REACH < reach {
+            return true;
+        }
+        let own = self.centres(reach);
+        !are_apart(zone, &own)
+    }
+}

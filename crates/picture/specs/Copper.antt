@@ -1,0 +1,114 @@
+-- What a layer draws, in a picture (docs/FORMATS.md, Pictures). Lengths are whole pm, printed in mm without zeros at the end; y grows downwards.
+use Rattle.std.specs.Prelude.{ℕ, zero, suc, ℤ, pos, neg_ℤ, ◌+◌, ◌-ℤ◌, ◌*ℤ◌, Bool, false, ◌==◌, ◌&&◌, nat_le, int_lt, List, [], ◌++◌, length, codes, if◌then◌else◌}
+use Rattle.std.specs.List.{flat_map}
+use Rattle.std.specs.Ordering.{int_eq}
+use Rattle.grid_units.specs.Points.{GridPoint, square, square_distance}
+use Rattle.layer_image.specs.declared.drawn.Drawn.{Drawn}
+use Rattle.layer_image.specs.declared.drawn.Drawn.TheVariants as drawn
+use Rattle.picture.specs.Elements.{after}
+
+-- ---- arcs
+
+-- the root of a number, from that of the number before: one more, where the square of that is not above the number
+abbrev pub next_root : ℕ → ℕ → ℕ
+next_root root n = if nat_le (square (root + 1)) n then root + 1 else root
+
+-- the whole part of a square root: of 8 it is 2
+unfoldable pub floor_root : ℕ → ℕ
+floor_root zero = 0
+floor_root (suc n) = next_root (floor_root n) (suc n)
+
+-- the radius of an arc: the distance of its start from its centre, rounded down to whole pm
+abbrev pub arc_radius : GridPoint → GridPoint → ℕ
+arc_radius from centre = floor_root (square_distance from centre)
+
+-- as seen from the centre, the second point lies less than half a turn counterclockwise of the first: (0, 1) of (1, 0) round (0, 0)
+abbrev pub is_left : GridPoint → GridPoint → GridPoint → Bool
+is_left from to centre = int_lt ((from.y -ℤ centre.y) *ℤ (to.x -ℤ centre.x)) ((from.x -ℤ centre.x) *ℤ (to.y -ℤ centre.y))
+
+-- an arc is longer than half a circle: one clockwise from (1, 0) to (0, 1) round (0, 0), or one counterclockwise back
+abbrev pub is_large : GridPoint → GridPoint → GridPoint → Bool → Bool
+is_large from to centre clockwise = if clockwise then is_left from to centre else is_left to from centre
+
+-- a flag: `1` where it is set, else `0`
+abbrev pub flag : Bool → List ℕ
+flag set = if set then codes "1" else codes "0"
+
+-- the next part of a path, along an arc: its radius twice, no turn, whether it is large and whether it goes clockwise, its end: `A2 2 0 0 1 3 -4`
+unfoldable pub arc_to : ℤ → Bool → Bool → ℤ → ℤ → List ℕ
+arc_to radius large clockwise x y =
+    after (codes "A") radius ++ (after (codes " ") radius ++ ((codes " 0 " ++ flag large) ++ ((codes " " ++ flag clockwise) ++ (after (codes " ") x ++ after (codes " ") y))))
+
+-- a point on a circle, seen along one axis, and the one opposite: 1 is opposite 5 round 3
+abbrev pub opposite : ℤ → ℤ → ℤ
+opposite at centre = pos 2 *ℤ centre -ℤ at
+
+-- both ends of an arc are one point, so that it is a full circle (Gerber format, G75 and G74)
+abbrev pub is_circle : GridPoint → GridPoint → Bool
+is_circle from to = int_eq from.x to.x && int_eq from.y to.y
+
+-- a full circle from a point of it, as two half circles: to the point opposite, and back: `A1 1 0 0 1 -1 0A1 1 0 0 1 1 0`
+abbrev pub circle_way : GridPoint → GridPoint → Bool → List ℕ
+circle_way from centre clockwise =
+    arc_to (pos (arc_radius from centre)) false clockwise (opposite from.x centre.x) (neg_ℤ (opposite from.y centre.y))
+    ++ arc_to (pos (arc_radius from centre)) false clockwise from.x (neg_ℤ from.y)
+
+-- an arc whose ends are two points: `A2 2 0 0 1 3 -4`
+abbrev pub open_way : GridPoint → GridPoint → GridPoint → Bool → List ℕ
+open_way from to centre clockwise = arc_to (pos (arc_radius from centre)) (is_large from to centre clockwise) clockwise to.x (neg_ℤ to.y)
+
+-- the way along an arc, from its start on
+unfoldable pub arc_way : GridPoint → GridPoint → GridPoint → Bool → List ℕ
+arc_way from to centre clockwise = if is_circle from to then circle_way from centre clockwise else open_way from to centre clockwise
+
+-- an arc as an element, by its width, its start and its way: `<path stroke-width="0.2" d="M1 -2A2 2 0 0 1 3 -4"/>`
+unfoldable pub drawn_arc : ℤ → ℤ → ℤ → List ℕ → List ℕ
+drawn_arc width x y way = after (codes "<path stroke-width=\"") width ++ (after (codes "\" d=\"M") x ++ (after (codes " ") y ++ (way ++ codes "\"/>\n")))
+
+-- ---- lines and contours
+
+-- a line, by its width and its ends: `<path stroke-width="0.2" d="M1 -2L3 -4"/>`
+unfoldable pub drawn_line : ℤ → ℤ → ℤ → ℤ → ℤ → List ℕ
+drawn_line width x y end_x end_y =
+    after (codes "<path stroke-width=\"") width ++ (after (codes "\" d=\"M") x ++ (after (codes " ") y ++ (after (codes "L") end_x ++ (after (codes " ") end_y ++ codes "\"/>\n"))))
+
+-- the first corner of a contour: the path before it ends, and its own begins: `"/>`, LF, `<path d="M1 -2`
+unfoldable pub first_corner : ℤ → ℤ → List ℕ
+first_corner x y = after (codes "\"/>\n<path d=\"M") x ++ after (codes " ") y
+
+-- the next corner of a contour: `L3 -4`
+unfoldable pub next_corner : ℤ → ℤ → List ℕ
+next_corner x y = after (codes "L") x ++ after (codes " ") y
+
+-- the element of a line or an arc; nothing of a contour
+abbrev pub line_text : Drawn → List ℕ
+line_text (drawn.Line from to width) = drawn_line width from.x (neg_ℤ from.y) to.x (neg_ℤ to.y)
+line_text (drawn.Arc from to centre width clockwise) = drawn_arc width from.x (neg_ℤ from.y) (arc_way from to centre clockwise)
+line_text (drawn.Contour at) = []
+line_text (drawn.Corner at) = []
+line_text (drawn.Bend from to centre clockwise) = []
+
+-- a corner of a contour, or its way along an arc; nothing of a line or an arc outside of regions
+abbrev pub corner_text : Drawn → List ℕ
+corner_text (drawn.Line from to width) = []
+corner_text (drawn.Arc from to centre width clockwise) = []
+corner_text (drawn.Contour at) = first_corner at.x (neg_ℤ at.y)
+corner_text (drawn.Corner at) = next_corner at.x (neg_ℤ at.y)
+corner_text (drawn.Bend from to centre clockwise) = arc_way from to centre clockwise
+
+-- the start of the group of what is drawn, which is pale, since it is not judged
+abbrev pub copper_start : List ℕ
+copper_start = codes "<g class=\"drawn\" fill=\"none\" stroke=\"#f0dcc0\" stroke-linecap=\"round\"><title>drawn copper, not judged</title>\n"
+
+-- the start of the group of contours, and of a path without a corner
+abbrev pub contours_start : List ℕ
+contours_start = codes "<g fill=\"#f0dcc0\" fill-rule=\"evenodd\" stroke=\"none\">\n<path d=\""
+
+-- the end of the last path, and of both groups
+abbrev pub copper_end : List ℕ
+copper_end = codes "\"/>\n</g>\n</g>\n"
+
+-- what is drawn: the lines and arcs, then the contours, each a path of its own; nothing where nothing is drawn
+abbrev pub copper : List Drawn → List ℕ
+copper parts =
+    if length parts == 0 then [] else (((copper_start ++ flat_map line_text parts) ++ contours_start) ++ flat_map corner_text parts) ++ copper_end

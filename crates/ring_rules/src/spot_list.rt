@@ -1,0 +1,227 @@
+//! Spots in few bytes. A board has many holes and few tools, so what holes of one tool have in common stands once.
+
+ghost use Rattle.std.specs.Prelude.{◌≡◌, ℕ, ◌<◌, ◌≤◌, ◌-ℤ◌, [], ◌∷◌, ◌++◌, true, length, unsigned_abs, IfOk, IfSome, OnOk};
+ghost use Rattle.grid_units.specs.Points.{IsCoordinate};
+ghost use Rattle.ring_rules.specs.Spots.{spot_at, point_at};
+ghost use Rattle.ring_rules.specs.Inner.Forms.{moved, form_at, spot_of, HasForm};
+
+use crate::cells::narrow;
+use crate::spots::Spot;
+use grid_units::{Hole, Point};
+use std::alloc::{AllocError, Global};
+use std::marker::Model;
+
+/// How many numbers of forms that were met last are kept.
+const RECENT: usize = 1024;
+
+/// A spot in 24 bytes: the first end of its hole, its place in the list, and the number of its form.
+#[derive(Clone, Copy)]
+struct Entry {
+    from: Point,
+    place: u32,
+    form: u32,
+}
+
+/// A list of spots. A form is the radius of a hole and the way from its first end to its second; it is kept as one of the holes that have it.
+#[derive(Drop)]
+pub(crate) struct SpotList {
+    entries: Vec<Entry>,
+    forms: Vec<Hole>,
+    recent: Vec<u32>,
+}
+
+impl Model for SpotList {
+    ghost use Rattle.std.specs.Prelude.{List, map};
+    ghost use Rattle.ring_rules.specs.declared.spots.Spot.{Spot};
+
+    ghost Value = { List Spot };
+
+    ghost use Rattle.ring_rules.specs.Inner.Forms.{spot_of, HaveForms};
+
+    ghost view = { λ l. map (spot_of l.forms.items) l.entries.items };
+
+    ghost invariant = { λ l. HaveForms l.forms.items l.entries.items };
+}
+
+/// The way along x from the first end of a hole to the second, in pm.
+fn way_x(hole: &Hole) -> i64
+    ensures value { result ≡ hole.now.to.x -ℤ hole.now.from.x }
+    ensures in_range { unsigned_abs result ≤ 20000000000000 }
+    ensures end { IsCoordinate hole.now.to.x }
+{
+    hole.to().x() - hole.from().x()
+}
+
+/// The way along y from the first end of a hole to the second, in pm.
+fn way_y(hole: &Hole) -> i64
+    ensures value { result ≡ hole.now.to.y -ℤ hole.now.from.y }
+    ensures in_range { unsigned_abs result ≤ 20000000000000 }
+    ensures end { IsCoordinate hole.now.to.y }
+{
+    hole.to().y() - hole.from().y()
+}
+
+/// The x of the second end of a hole of a form that begins at a point.
+fn end_x(form: &Hole, from: Point) -> i64
+    requires { IsCoordinate (moved form.now from).to.x }
+    ensures value { result ≡ (moved form.now from).to.x }
+    ensures in_range { IsCoordinate result }
+{
+    from.x() + way_x(form)
+}
+
+/// The y of that end.
+fn end_y(form: &Hole, from: Point) -> i64
+    requires { IsCoordinate (moved form.now from).to.y }
+    ensures value { result ≡ (moved form.now from).to.y }
+    ensures in_range { IsCoordinate result }
+{
+    from.y() + way_y(form)
+}
+
+/// That end.
+fn end_of(form: &Hole, from: Point) -> Point
+    requires x { IsCoordinate (moved form.now from).to.x }
+    requires y { IsCoordinate (moved form.now from).to.y }
+    ensures x { result.x ≡ (moved form.now from).to.x }
+    ensures y { result.y ≡ (moved form.now from).to.y }
+{
+    Point::new(end_x(form, from), end_y(form, from)).unwrap()
+}
+
+/// A hole between two points, with the radius of a form.
+fn hole_between(from: Point, to: Point, form: &Hole) -> Hole
+    ensures { result ≡ record { from = from; to = to; radius = form.now.radius } }
+{
+    Hole::new(from, to, form.radius()).unwrap()
+}
+
+/// The hole of a form that begins at a point.
+fn moved(form: &Hole, from: Point) -> Hole
+    requires x { IsCoordinate (moved form.now from).to.x }
+    requires y { IsCoordinate (moved form.now from).to.y }
+    ensures { result ≡ moved form.now from }
+{
+    let to = end_of(form, from);
+    hole_between(from, to, form)
+}
+
+/// Whether two holes have the same form.
+fn is_like(form: &Hole, hole: &Hole) -> bool
+    ensures { result ≡ true → moved form.now hole.now.from ≡ hole.now }
+{
+    way_x(form) == way_x(hole) && way_y(form) == way_y(hole) && form.radius() == hole.radius()
+}
+
+/// The spot of an entry.
+fn spot_of(entry: Entry, forms: &[Hole]) -> Spot
+    requires { HasForm forms.now entry }
+    ensures { result ≡ spot_of forms.now entry }
+{
+    Spot {
+        hole: moved(&forms[entry.form as usize], entry.from),
+        place: entry.place as usize,
+    }
+}
+
+/// Where the number of a hole's form is kept, if it was met lately. Any answer is right.
+fn recent_place(hole: &Hole) -> usize
+    ensures x { IsCoordinate hole.now.to.x }
+    ensures y { IsCoordinate hole.now.to.y }
+{
+    let way = way_x(hole).unsigned_abs().rotate_left(20) ^ way_y(hole).unsigned_abs();
+    let mixed = hole.radius().unsigned_abs().rotate_left(40) ^ way;
+    (mixed.wrapping_mul(0x9E37_79B9_7F4A_7C15) >> 54) as usize
+}
+
+/// The number of a hole's form, if it was met lately.
+fn known_form(forms: &[Hole], recent: &[u32], hole: &Hole) -> Option<u32>
+    ensures listed { IfSome result (λ n. n < length forms.now) }
+    ensures form { IfSome result (λ n. moved (form_at forms.now n) hole.now.from ≡ hole.now) }
+{
+    let number = *recent.get(recent_place(hole))?;
+    let form = forms.get(number as usize)?;
+    if is_like(form, hole) {
+        Some(number)
+    } else {
+        None
+    }
+}
+
+/// The number of a hole's form: one that was met lately, or a new one.
+fn form_number(forms: &mut Vec<Hole>, recent: &mut [u32], hole: &Hole) -> Result<u32, AllocError>
+    ensures longer { length forms.old.items ≤ length forms.new.items }
+    ensures kept { (n : ℕ) → n < length forms.old.items → form_at forms.new.items n ≡ form_at forms.old.items n }
+    ensures listed { IfOk result (λ n. n < length forms.new.items) }
+    ensures form { IfOk result (λ n. moved (form_at forms.new.items n) hole.now.from ≡ hole.now) }
+    ensures x { IsCoordinate hole.now.to.x }
+    ensures y { IsCoordinate hole.now.to.y }
+{
+    let place = recent_place(hole);
+    if let Some(number) = known_form(forms, recent, hole) {
+        return Ok(number);
+    }
+    let number = narrow(forms.len())?;
+    forms.push(*hole)?;
+    if place < recent.len() {
+        recent[place] = number;
+    }
+    Ok(number)
+}
+
+impl SpotList {
+    /// A list without spots, with room for so many.
+    pub(crate) fn with_capacity(alloc: Global, count: usize) -> Result<SpotList, AllocError>
+        ensures items { IfOk result (λ list. list ≡ []) }
+    {
+        let entries = Vec::with_capacity(alloc, count)?;
+        let recent = vec![in alloc; 0; RECENT]?;
+        Ok(SpotList {
+            entries,
+            forms: Vec::new(alloc),
+            recent,
+        })
+    }
+
+    /// How many spots there are.
+    pub(crate) fn len(&self) -> usize
+        ensures { result ≡ length self.now }
+    {
+        self.entries.len()
+    }
+
+    /// A spot by its index.
+    pub(crate) fn at(&self, i: usize) -> Spot
+        requires { i < length self.now }
+        ensures { result ≡ spot_at self.now i }
+    {
+        spot_of(self.entries[i], &self.forms)
+    }
+
+    /// The entry point of the hole of a spot.
+    pub(crate) fn point(&self, i: usize) -> Point
+        requires { i < length self.now }
+        ensures { result ≡ point_at self.now i }
+    {
+        self.entries[i].from
+    }
+
+    /// The place of a spot in the list of holes.
+    pub(crate) fn place(&self, i: usize) -> usize
+        requires { i < length self.now }
+        ensures { result ≡ (spot_at self.now i).place }
+    {
+        self.entries[i].place as usize
+    }
+
+    /// Appends a spot.
+    pub(crate) fn push(&mut self, spot: Spot) -> Result<(), AllocError>
+        ensures items { OnOk result (self.new ≡ self.old ++ spot ∷ []) }
+    {
+        let place = narrow(spot.place)?;
+        let form = form_number(&mut self.forms, &mut self.recent, &spot.hole)?;
+        let from = spot.hole.from();
+        self.entries.push(Entry { from, place, form })?;
+        Ok(())
+    }
+}
