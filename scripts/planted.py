@@ -29,7 +29,8 @@ kit the prover gives the same answer, since it reads the same. Another kit than 
 
 What a check begins with. Where `rt check` has kept work of a crate in this checkout, ./try_planted begins with that, as `rt must-fail` does, so
 only what an edit changed is proved; else with nothing of the crate, over libraries as the gate leaves them, and each further check of the crate
-begins with what the one before it kept. With --all or --afresh each check begins with nothing of the crate.
+begins with what the one before it kept. With --all the first check of each crate begins with nothing, whatever `rt check` has kept; with --afresh
+each check does.
 
 What this cannot see is a line written by hand. So `--afresh`, after the gate, tries some bodies over libraries that the gate has just
 proved and with nothing kept of their own crate: a false line is found with some chance in each run, and for certain by `--all`.
@@ -672,7 +673,7 @@ def try_planted(words):
 
     def one(crate):
         started = time.time()
-        room = KeptRoom(crate) if crate in kept else (Room if asked.all else OwnRoom)(crate, libraries)
+        room = KeptRoom(crate) if crate in kept else OwnRoom(crate, libraries)
         return note(crate, bodies[crate], try_crate(crate, bodies[crate], room), digests, version, started)
 
     with alone("run"), Libraries([it for it in bodies if it not in kept]) as libraries, concurrent.futures.ThreadPoolExecutor(asked.jobs) as pool:
