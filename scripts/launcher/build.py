@@ -20,6 +20,7 @@ sys.pycache_prefix = f"{OWN}/../../crates/ringcheck_program/out/pycache"
 import index
 import progress
 import proof
+import rooms
 
 NAME = "ringcheck_program"
 CRATE = f"{index.TOP}/crates/{NAME}"
@@ -42,21 +43,53 @@ def free_memory():
     return min(free, default=1 << 62)
 
 
-def lock():
-    """Waits until no other launcher builds here. What is returned holds the lock; rt holds it too, should the launcher be killed."""
-    held = os.open("crates", os.O_RDONLY)
-    start = next_word = time.monotonic()
-    while True:
-        try:
-            fcntl.flock(held, fcntl.LOCK_EX | fcntl.LOCK_NB)
-            return held
-        except BlockingIOError:
-            if time.monotonic() >= next_word:
-                next_word = time.monotonic() + SILENCE
-                proof.say(f"{int(time.monotonic() - start) // 60} min: another ringcheck is proving and building here: waiting for it")
-            time.sleep(0.2)
-        except OSError:
-            return held  # A file system without locks: the stamp still keeps a half-built program from being run.
+def lock(paths, who):
+    """Waits until nobody else holds these, and returns what holds them until it is closed."""
+    held = []
+    for path in paths:
+        held.append(os.open(path, os.O_RDONLY))
+        start = next_word = time.monotonic()
+        while True:
+            try:
+                fcntl.flock(held[-1], fcntl.LOCK_EX | fcntl.LOCK_NB)
+                break
+            except BlockingIOError:
+                if time.monotonic() >= next_word:
+                    next_word = time.monotonic() + SILENCE
+                    proof.say(f"{int(time.monotonic() - start) // 60} min: {who}: waiting for it")
+                time.sleep(0.2)
+            except OSError:
+                break  # A file system without locks: the stamp still keeps a half-built program from being run.
+    return held
+
+
+class Call:
+    """rt at work, and what it has said so far."""
+
+    def __init__(self, build, words, folder, log):
+        with open(log, "a", encoding="utf-8") as to:
+            how = {"stdin": subprocess.DEVNULL, "stdout": to, "stderr": subprocess.STDOUT, "env": proof.environment(build.path)}
+            # Should the launcher be killed, rt holds its lock on.
+            self.rt = subprocess.Popen([build.toolchain.rt, *words], cwd=folder, pass_fds=build.held, **how)
+            self.read = open(log, encoding="utf-8", errors="replace")
+            self.read.seek(to.tell())
+        self.said, self.what = "", " ".join(["rt", *words])
+
+    def has_ended(self):
+        """Whether rt has ended. What it has said is heard first."""
+        has_ended = self.rt.poll() is not None
+        self.said += self.read.read()
+        return has_ended
+
+    def end(self):
+        """Stops rt if it is still at work."""
+        with contextlib.suppress(subprocess.TimeoutExpired):
+            self.rt.terminate()
+            self.rt.wait(10)
+        if self.rt.returncode is None:
+            self.rt.kill()
+            self.rt.wait()
+        self.read.close()
 
 
 class Build:
@@ -66,27 +99,27 @@ class Build:
         self.toolchain, self.path, self.held = toolchain, path, held
         self.start = self.told = time.monotonic()
         self.before = proof.Look(path, index.load())
-        self.crates, self.table = self.before.crates, progress.read_table()
-        self.jobs = progress.jobs_for(self.crates, self.table, len(os.sched_getaffinity(0)), free_memory())
-        self.forwarded = set()
-        self.plan()
+        self.crates, self.forwarded = self.before.crates, set()
+        self.choose()
+        self.make_plan(len(os.sched_getaffinity(0)))
 
-    def plan(self):
-        """Chooses how to prove: crates side by side, after a quick pass; or, where each has work of an earlier proof, one by one and without that."""
+    def choose(self):
+        """Which crates are proved: those that changed and those above them, and each of which no earlier proof left its work."""
         is_same = self.before.version() == self.toolchain.version
-        kept = [it for it in self.crates if is_same and os.path.isdir(f"crates/{it}/out/incremental")]
-        self.stale = progress.with_those_above(self.crates, self.before.changed())
-        figures = {it: self.table.get(it, progress.USUAL) for it in [*self.crates, progress.READING, progress.LINKING]}
-        seconds = {it: first if it not in kept else again if it in self.stale else 0 for it, (first, again, _) in figures.items()}
-        alone = progress.last_alone(self.crates) if self.jobs > 1 else []
-        shared = {it: all_of_it * progress.WITH_ALL_JOBS if it in alone else all_of_it for it, all_of_it in seconds.items()}
-        self.progress = progress.Progress(progress.side_by_side(self.crates, shared, self.jobs))
-        self.are_side_by_side = True
-        if len(kept) == len(self.crates):
-            seconds[progress.LINKING] = self.table[progress.LINKING][1]
-            one_by_one = progress.Progress(progress.one_by_one(self.crates, seconds))
-            if one_by_one.end <= self.progress.end:
-                self.progress, self.are_side_by_side = one_by_one, False
+        parts = {it: ["incremental"] if it == NAME else ["incremental", "rlib"] for it in self.crates}
+        self.kept = {it for it in self.crates if is_same and all(os.path.isdir(f"crates/{it}/out/{part}") for part in parts[it])}
+        stale = progress.with_those_above(self.crates, self.before.changed() | (set(self.crates) - self.kept))
+        self.libraries = [it for it in stale if it != NAME]
+
+    def make_plan(self, processors):
+        table = progress.read_table()
+        figures = {it: table.get(it, progress.USUAL) for it in [*self.crates, progress.LINKING]}
+        seconds = {it: figures[it][it in self.kept] for it in [*self.libraries, NAME]}
+        seconds[progress.LINKING] = figures[progress.LINKING][NAME in self.kept]
+        memory = {it: figure[2] for it, figure in figures.items()}
+        self.largest = max(memory[it] for it in [*self.libraries, NAME])
+        self.plan = progress.Plan(self.crates, seconds, memory, processors, free_memory() / 1e6)
+        self.progress = progress.Progress(self.plan.steps(self.libraries, [NAME, progress.LINKING]))
 
     def left(self):
         return progress.in_words(self.progress.seconds_left(time.monotonic() - self.start))
@@ -95,76 +128,85 @@ class Build:
         self.told = time.monotonic()
         proof.say(f"{int(self.told - self.start) // 60} min: {text}")
 
-    def tell_progress(self, said):
-        for it in re.findall(r"^rt: (.*waiting for .*)$", said, re.M):
+    def tell_progress(self, running, calls):
+        for it in re.findall(r"^rt: (.*waiting for .*)$", "\n".join(call.said for call in calls), re.M):
             if it not in self.forwarded:
                 self.forwarded.add(it)
                 self.tell(it)
-        new = self.progress.hear(said, time.monotonic() - self.start)
-        if new:
-            self.tell(f"proved {', '.join(new)}: {self.proved()}, {self.left()} left")
-        elif time.monotonic() - self.told > SILENCE:
-            self.tell(f"{self.progress.at_work(self.crates, self.jobs)}, {self.proved()}, {self.left()} left")
+        if time.monotonic() - self.told > SILENCE:
+            self.tell(f"{running}, {self.proved()}, {self.left()} left")
+
+    def finish(self, name):
+        self.progress.finish(name, time.monotonic() - self.start)
+        self.tell(f"proved {name}: {self.proved()}, {self.left()} left")
 
     def proved(self):
-        return f"{sum(it in self.progress.done for it in self.crates)} of {len(self.crates)} crates"
+        return f"{len(self.crates) - 1 - len(self.libraries) + len(self.progress.done)} of {len(self.crates)} crates"
 
-    def call(self, *words, until=lambda: False):
-        """Runs rt in the program's folder and returns its status and what it said. rt ends when it refuses a crate, when this launcher is stopped, and
-        where `until` says so: then its status is taken for 0."""
-        with open(LOG, "a", encoding="utf-8") as log, open(LOG, encoding="utf-8", errors="replace") as read:
-            read.seek(0, os.SEEK_END)
-            said, start = "", time.monotonic()
-            how = {"stdin": subprocess.DEVNULL, "stdout": log, "stderr": subprocess.STDOUT, "env": proof.environment(self.path)}
-            rt = subprocess.Popen([self.toolchain.rt, *words], cwd=CRATE, pass_fds=[self.held], **how)
-            try:
-                while rt.returncode is None:
-                    with contextlib.suppress(subprocess.TimeoutExpired):
-                        # The first words come soon.
-                        rt.wait(min(1, 0.05 + (time.monotonic() - start) / 10))
-                    said += read.read()
-                    refused = progress.refusal(said)
-                    if refused:
-                        raise proof.Refused(f"not proved: crate {refused[0]}: {refused[1]}: the log is {LOG}")
-                    self.tell_progress(said)
-                    if until():
-                        return 0, said
-            finally:
-                with contextlib.suppress(subprocess.TimeoutExpired):
-                    rt.terminate()
-                    rt.wait(10)
-                if rt.returncode is None:
-                    rt.kill()
-            return rt.returncode, said
+    def fail_where_refused(self, said):
+        refused = progress.refusal(said)
+        if refused:
+            raise proof.Refused(f"not proved: crate {refused[0]}: {refused[1]}: the log is {LOG}")
 
-    def refuse(self, what, status, said):
-        failed = re.search(r"^(\w+): failed", said, re.M)
-        section = failed and re.search(rf"^== {failed[1]}\n(.*?)(?=^== )", said, re.M | re.S)
-        why = f"crate {failed[1]}: {progress.reason(section[1], failed[1])}" if section else progress.reason(said)
-        raise proof.Refused(f"not proved: {why}: `{what}` ended with status {status}, and the log is {LOG}")
-
-    def not_proved(self):
-        return [it for it in progress.lowest_first(self.crates) if it not in self.progress.done]
-
-    def has_begun_a_chain(self):
-        """Whether each crate that is left rests on all those before it, so that nothing can be proved beside it, and rt has begun the first: over work that
-        has begun, `rt run` makes no pass over all sources."""
-        left, below = self.not_proved(), progress.all_below(self.crates)
-        work = f"crates/{left[0]}/out/incremental" if left else ""
-        return all(set(left[:at]) <= below[it] for at, it in enumerate(left)) and os.path.isdir(work) and os.listdir(work) != []
+    def refuse(self, call, name=None):
+        why = f"crate {name}: {progress.reason(call.said, name)}" if name else progress.reason(call.said)
+        raise proof.Refused(f"not proved: {why}: `{call.what}` ended with status {call.rt.returncode}, and the log is {LOG}")
 
     def prove(self):
-        """Proves crates that do not rest on each other side by side, each with one job, and leaves those of which each rests on the one before: `rt run` proves
-        these with a job for each processor."""
-        until = self.has_begun_a_chain if self.jobs > 1 else lambda: False
-        status, said = self.call("all", "check", "--jobs", str(self.jobs), until=until)
-        if status and progress.was_killed(said):
-            self.tell("a check was killed, most likely for memory: once more, one at a time")
-            self.jobs = 1
-            self.plan()
-            status, said = self.call("all", "check", "--jobs", "1")
-        if status:
-            self.refuse("rt all check", status, said)
+        """Proves the libraries side by side, each in a room."""
+        others = lock((f"crates/{it}" for it in self.crates), "another rt is at work here")
+        rooms.remove_all()
+        waiting, at_work = list(self.libraries), {}
+        free = [rooms.Room(number) for number in range(self.plan.processors)]
+        try:
+            while waiting or at_work:
+                self.begin_what_is_ready(waiting, at_work, free)
+                time.sleep(0.1)
+                for name in list(at_work):
+                    self.hear(name, waiting, at_work, free)
+                names = ", ".join(at_work)
+                self.tell_progress(f"proving {names}", [it for _, _, it in at_work.values()])
+        finally:
+            for name in list(at_work):
+                self.take_away(name, at_work)
+            rooms.remove_all()
+            for it in others:
+                os.close(it)
+
+    def begin_what_is_ready(self, waiting, at_work, free):
+        while begun := self.plan.next(waiting, {it: jobs for it, (jobs, _, _) in at_work.items()}):
+            name, jobs = begun
+            waiting.remove(name)
+            room = free.pop()
+            folder = room.enter(name, self.plan.below[name])
+            at_work[name] = jobs, room, Call(self, ["lib", "--jobs", str(jobs)], folder, f"{room.top}/log")
+
+    def take_away(self, name, at_work):
+        """Ends what is at work at a crate, puts what it left where the crate is, and what it said into the log."""
+        _, room, call = at_work.pop(name)
+        call.has_ended()
+        call.end()
+        room.leave(name)
+        with open(LOG, "a", encoding="utf-8") as log:
+            log.write(f"== {name}\n{call.said}")
+        return room, call
+
+    def hear(self, name, waiting, at_work, free):
+        _, _, call = at_work[name]
+        has_ended = call.has_ended()
+        self.fail_where_refused(call.said)
+        if not has_ended:
+            return
+        room, call = self.take_away(name, at_work)
+        free.append(room)
+        if not call.rt.returncode:
+            self.finish(name)
+        elif progress.was_killed(call.rt.returncode) and self.plan.processors > 1:
+            waiting.append(name)
+            self.plan.processors = 1
+            self.tell(f"the check of {name} was killed, most likely for memory: from now on one at a time")
+        else:
+            self.refuse(call, name)
 
     def begin(self):
         """Takes away what was built before, and says what is to be done."""
@@ -176,29 +218,41 @@ class Build:
             open(LOG, "w", encoding="utf-8").close()
         except OSError as error:
             raise proof.Refused(f"no program is proved from these sources, and none can be built, as {error.filename} cannot be written ({error.strerror})")
-        if self.are_side_by_side:
-            what = f"proving the {len(self.crates)} crates that it needs, {self.jobs} at a time"
-            largest = max(self.table.get(it, progress.USUAL)[2] for it in [*self.crates, progress.READING])
-            if largest * 1e6 > free_memory():
-                proof.say(f"a step of the proof takes {largest / 1000:.1f} GB of memory, and {free_memory() / 1e9:.1f} GB are free: it may be killed")
+        if self.kept:
+            names = [*self.libraries, NAME]
+            what = f"proving again what changed and what stands on it, {', '.join(names) if len(names) < 9 else f'{len(names)} crates'}"
         else:
-            what = f"proving again what changed and what stands on it, {', '.join(self.stale) if len(self.stale) < 9 else f'{len(self.stale)} crates'}"
+            what = f"proving the {len(self.crates)} crates that it needs, on {self.plan.processors} processors"
+        if self.largest * 1e6 > free_memory():
+            proof.say(f"a step of the proof takes {self.largest / 1000:.1f} GB of memory, and {free_memory() / 1e9:.1f} GB are free: it may be killed")
         self.tell(f"no program is proved from these sources: {what}, {self.left()} left; the log is {LOG}")
 
     def run(self):
         self.begin()
-        if self.are_side_by_side:
+        if self.libraries:
             self.prove()
-            left = [f"proving {it}" for it in self.not_proved()]
-            self.tell(f"{', '.join([*left, 'compiling and linking'])}, {self.left()} left")
-        # rt runs the program once it is linked: its status is 0 only where all is proved and the program answers.
-        status, said = self.call("run", "--", "--help")
-        if status:
-            self.refuse("rt run", status, said)
+            self.tell(f"proving {NAME}, compiling and linking, {self.left()} left")
+        self.prove_and_link()
         if not os.path.isfile(proof.PROGRAM):
             raise proof.Refused(f"`rt run` ended with status 0 and left no program: the log is {LOG}")
         self.stamp()
         self.tell("proved and built")
+
+    def prove_and_link(self):
+        """rt runs the program once it is linked: its status is 0 only where all is proved and the program answers."""
+        call, has_ended = Call(self, ["run", "--", "--help"], CRATE, LOG), False
+        try:
+            while not has_ended:
+                time.sleep(0.05)
+                has_ended = call.has_ended()
+                self.fail_where_refused(call.said)
+                if NAME not in self.progress.done and progress.is_proved(NAME, call.said):
+                    self.finish(NAME)
+                self.tell_progress("compiling and linking" if NAME in self.progress.done else f"proving {NAME}", [call])
+        finally:
+            call.end()
+        if call.rt.returncode:
+            self.refuse(call)
 
     def stamp(self):
         """Writes the stamp, unless a source was changed since the build began, were it only to be put back since: its state tells."""
@@ -238,14 +292,15 @@ def bring_up_to_date(path):
             "no program is proved from these sources, and none can be built: there is no toolchain `rt` that answers `rt version` "
             f"in the PATH, apart from empty and relative entries of it and from this folder and what lies below{why}"
         )
-    held = lock()
+    held = lock(["crates"], "another ringcheck is proving and building here")
     program = open_if_proved(path)
     if program is None:
         Build(toolchain, path, held).run()
         program = open_if_proved(path)
     if program is None:
         raise proof.Refused("sources or the program changed since the build: run this again")
-    os.close(held)
+    for it in held:
+        os.close(it)
     return program
 
 

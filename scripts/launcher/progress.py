@@ -1,8 +1,7 @@
-"""How far rt is, by what it has said so far, how long it will still take, and why it refuses a crate.
+"""In which order crates are proved, how far rt is, how long it will still take, and why it refuses a crate.
 
 How long is reckoned from scripts/crate_seconds.txt: of each crate the seconds of a processor that its proof takes from nothing, the
-same over the work that an earlier proof kept, and the memory in MB. From that a plan is made of how rt works through the crates,
-and the plan is stretched to the pace that this machine has had so far.
+same over the work that an earlier proof kept, and the memory in MB. The plan is stretched to the pace that this machine has had so far.
 """
 import re
 
@@ -11,16 +10,16 @@ import index
 TABLE = f"{index.TOP}/scripts/crate_seconds.txt"
 # What a crate is taken to need that is not in the table yet.
 USUAL = (120, 30, 2000)
-# rt's first step, a quick pass over all sources, and its last, which compiles and links, as the table calls them.
-READING, LINKING = "quick-pass", "linking"
-# The part of its seconds that a crate takes which has all processors to itself.
-WITH_ALL_JOBS = 0.6
+# rt's last step, which compiles and links, as the table calls it.
+LINKING = "linking"
+# More jobs than this gain a crate nothing.
+MOST_JOBS = 4
+# The part of its seconds that a crate takes with one job, with two, and so on, and of its memory.
+PART_BY_JOBS, MEMORY_BY_JOBS = (1, 0.75, 0.65, 0.6), (1, 1.6, 2.2, 2.8)
 # So many seconds at the table's own pace count beside the machine's, so that the first steps alone do not decide.
 TRUST_IN_TABLE = 300
 
 VERDICT = re.compile(r"^crate (\w+): modules .*\n(?:(?!crate |== ).*\n)*?logic=(proved|not-proved)\b", re.M)
-# A crate of which rt has nothing to say, or only whence it has it, was proved before.
-KEPT = re.compile(r"^== (?!summary$)(\w+)\n(?:rt: .*\n)*(?=== |\Z)", re.M)
 FUNCTION = re.compile(r"^(\w+) (\S+): (?:not proved|no proof).*\n", re.M)
 GOAL = re.compile(r"^note: (\S+:\d+:\d+): (.* not proved .*\(`([^`]+)`\).*)$", re.M)
 ERROR = re.compile(r"^(?:\./)?(\S+:\d+:\d+: error(?:\[[\w-]+\])?: .*)$", re.M)
@@ -46,38 +45,9 @@ def all_below(crates):
     return found
 
 
-def side_by_side(crates, seconds, jobs):
-    """The plan of `rt all check`: by the name of each step its seconds and when it ends. Crates are handed out by how many they stand
-    on, and a worker that has one waits for those."""
-    ends, free = {READING: seconds[READING]}, [seconds[READING]] * jobs
-    for name in lowest_first(crates):
-        at = free.index(min(free))
-        free[at] = max([free[at], *(ends[it] for it in crates[name])]) + seconds[name]
-        ends[name] = free[at]
-    ends[LINKING] = max(free) + seconds[LINKING]
-    return {name: (seconds[name], end) for name, end in ends.items()}
-
-
-def one_by_one(crates, seconds):
-    """The plan of `rt run` alone, which takes one crate after the other, and does without the quick pass."""
-    steps, end = {}, 0
-    for name in [*lowest_first(crates), LINKING]:
-        end += seconds[name]
-        steps[name] = (seconds[name], end)
-    return steps
-
-
 def lowest_first(crates):
     below = all_below(crates)
     return sorted(crates, key=lambda it: len(below[it]))
-
-
-def last_alone(crates):
-    """The crates that nothing can be proved beside once all others are proved: from the highest down, those that rest on all lower ones."""
-    below, order, found = all_below(crates), lowest_first(crates), []
-    while order and set(order[:-1]) <= below[order[-1]]:
-        found.append(order.pop())
-    return found
 
 
 def with_those_above(crates, changed):
@@ -86,41 +56,60 @@ def with_those_above(crates, changed):
     return [it for it in lowest_first(crates) if changed & {it, *below[it]}]
 
 
-def jobs_for(crates, table, processors, memory):
-    """How many crates at a time the processors and the memory, in bytes, are enough for. What has no other beside it is left out."""
-    below = all_below(crates)
-    beside = [it for it in crates if any(it not in below[other] and other not in below[it] for other in crates if other != it)]
-    needs = sorted((table.get(it, USUAL)[2] for it in beside), reverse=True)
-    fitting = [count for count in range(1, len(needs) + 1) if sum(needs[:count]) * 1e6 <= memory]
-    return max(1, min(processors, max(fitting, default=1)))
+class Plan:
+    """In which order crates are proved: each once those below it are, and of these first the one with the most to be proved above it. What no other
+    crate has a use for goes to its jobs: processors, and memory in MB. `seconds` has what is to be proved, the program too."""
+
+    def __init__(self, crates, seconds, memory, processors, free):
+        self.below, self.seconds, self.memory, self.processors, self.free = all_below(crates), seconds, memory, processors, free
+        self.chain = {}
+        for it in reversed(lowest_first(crates)):
+            above = [self.chain[other] for other in self.chain if it in self.below[other]]
+            self.chain[it] = seconds.get(it, 0) + max(above, default=0)
+
+    def memory_of(self, name, jobs):
+        return self.memory[name] * MEMORY_BY_JOBS[jobs - 1]
+
+    def next(self, waiting, running):
+        """The crate to begin now, and its jobs, or None. `running` has the jobs of each crate that rt is at work at."""
+        idle = self.processors - sum(running.values())
+        ready = [it for it in waiting if not self.below[it] & {*waiting, *running}]
+        if idle < 1 or not ready:
+            return None
+        name, left = max(ready, key=self.chain.get), self.free - sum(self.memory_of(*it) for it in running.items())
+        if running and self.memory_of(name, 1) > left:
+            return None
+        most = max(1, min(MOST_JOBS, idle // len(ready)))
+        return name, max(it for it in range(1, most + 1) if it == 1 or self.memory_of(name, it) <= left)
+
+    def steps(self, libraries, last):
+        """By the name of each step its seconds and when it ends: these libraries, and then the last steps, one after the other."""
+        now, waiting, running, steps = 0, list(libraries), {}, {}
+        while waiting or running:
+            while begun := self.next(waiting, running):
+                name, jobs = begun
+                waiting.remove(name)
+                running[name] = jobs
+                steps[name] = (self.seconds[name], now + self.seconds[name] * PART_BY_JOBS[jobs - 1])
+            name = min(running, key=lambda it: steps[it][1])
+            now = steps[name][1]
+            del running[name]
+        for name in last:
+            now += self.seconds[name]
+            steps[name] = (self.seconds[name], now)
+        return steps
 
 
 class Progress:
     """Which steps of a plan are done, and how long the others will take."""
 
     def __init__(self, steps):
-        self.steps, self.last = steps, 0
-        self.done = [it for it, (seconds, _) in steps.items() if not seconds]
+        self.steps, self.last, self.done = steps, 0, []
         self.end = max(end for _, end in steps.values())
 
-    def hear(self, said, elapsed):
-        """The crates that are proved, by what rt has said, and were not before."""
-        proved = [name for name, verdict in VERDICT.findall(said) if verdict == "proved"] + KEPT.findall(said)
-        if proved or re.search(r"^only=", said, re.M):
-            proved.append(READING)
-        new = [it for it in dict.fromkeys(proved) if it not in self.done and it in self.steps]
-        if new:
-            self.done += new
-            self.last = elapsed
-        return [it for it in new if it != READING]
-
-    def at_work(self, crates, jobs):
-        """What rt most likely has in hand."""
-        if READING in self.steps and READING not in self.done:
-            return "reading all sources"
-        ready = [it for it in crates if it not in self.done and all(below in self.done for below in crates[it])]
-        names = ", ".join(sorted(ready, key=lambda it: self.steps[it][1])[:jobs])
-        return f"proving {names}" if names else "compiling and linking"
+    def finish(self, name, elapsed):
+        self.done.append(name)
+        self.last = elapsed
 
     def seconds_left(self, elapsed):
         done = sum(self.steps[it][0] for it in self.done)
@@ -151,9 +140,13 @@ def refusal(said):
     return None
 
 
-def was_killed(said):
-    """Whether a check was killed, as for want of memory. rt tells that of a crate by this number, and of its quick pass by no word of it."""
-    return "failed (-9)" in said or ("mend these first" in said and not ERROR.search(said))
+def is_proved(name, said):
+    return (name, "proved") in VERDICT.findall(said)
+
+
+def was_killed(status):
+    """Whether a check was killed, as for want of memory: rt ends by the same signal, or with its number as a status below 256."""
+    return status in (-9, 247)
 
 
 def reason(text, crate=None):

@@ -42,6 +42,11 @@ def environment(path):
     return {**kept, "PATH": ":".join(path)}
 
 
+def name_in(line):
+    """The crate that a line of crates.txt is about; `?`, which no crate is named, where there is none."""
+    return line.partition("#")[0].partition(":")[0].strip() or "?"
+
+
 def crates_needed():
     """By the name of each crate that the program is built from, its own too, those that its line of crates.txt names."""
     with open("crates.txt", encoding="utf-8") as it:
