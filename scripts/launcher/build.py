@@ -99,7 +99,7 @@ class Build:
         self.toolchain, self.path, self.held = toolchain, path, held
         self.start = self.told = time.monotonic()
         self.before = proof.Look(path, index.load())
-        self.crates, self.forwarded = self.before.crates, set()
+        self.crates, self.forwarded, self.has_program_proof = self.before.crates, set(), False
         self.choose()
         self.make_plan(len(os.sched_getaffinity(0)))
 
@@ -113,13 +113,12 @@ class Build:
 
     def make_plan(self, processors):
         table = progress.read_table()
-        figures = {it: table.get(it, progress.USUAL) for it in [*self.crates, progress.LINKING]}
+        figures = {it: table.get(it, progress.USUAL) for it in self.crates}
         seconds = {it: figures[it][it in self.kept] for it in [*self.libraries, NAME]}
-        seconds[progress.LINKING] = figures[progress.LINKING][NAME in self.kept]
         memory = {it: figure[2] for it, figure in figures.items()}
         self.largest = max(memory[it] for it in [*self.libraries, NAME])
         self.plan = progress.Plan(self.crates, seconds, memory, processors, free_memory() / 1e6)
-        self.progress = progress.Progress(self.plan.steps(self.libraries, [NAME, progress.LINKING]))
+        self.progress = progress.Progress(self.plan.steps(self.libraries, NAME))
 
     def left(self):
         return progress.in_words(self.progress.seconds_left(time.monotonic() - self.start))
@@ -136,12 +135,9 @@ class Build:
         if time.monotonic() - self.told > SILENCE:
             self.tell(f"{running}, {self.proved()}, {self.left()} left")
 
-    def finish(self, name):
-        self.progress.finish(name, time.monotonic() - self.start)
-        self.tell(f"proved {name}: {self.proved()}, {self.left()} left")
-
     def proved(self):
-        return f"{len(self.crates) - 1 - len(self.libraries) + len(self.progress.done)} of {len(self.crates)} crates"
+        count = len(self.crates) - 1 - len(self.libraries) + len(self.progress.done) + self.has_program_proof
+        return f"{count} of {len(self.crates)} crates"
 
     def fail_where_refused(self, said):
         refused = progress.refusal(said)
@@ -200,7 +196,8 @@ class Build:
         room, call = self.take_away(name, at_work)
         free.append(room)
         if not call.rt.returncode:
-            self.finish(name)
+            self.progress.finish(name, time.monotonic() - self.start)
+            self.tell(f"proved {name}: {self.proved()}, {self.left()} left")
         elif progress.was_killed(call.rt.returncode) and self.plan.processors > 1:
             waiting.append(name)
             self.plan.processors = 1
@@ -246,9 +243,10 @@ class Build:
                 time.sleep(0.05)
                 has_ended = call.has_ended()
                 self.fail_where_refused(call.said)
-                if NAME not in self.progress.done and progress.is_proved(NAME, call.said):
-                    self.finish(NAME)
-                self.tell_progress("compiling and linking" if NAME in self.progress.done else f"proving {NAME}", [call])
+                if not self.has_program_proof and progress.is_proved(NAME, call.said):
+                    self.has_program_proof = True
+                    self.tell(f"proved {NAME}: {self.proved()}, compiling and linking, {self.left()} left")
+                self.tell_progress("compiling and linking" if self.has_program_proof else f"proving {NAME}", [call])
         finally:
             call.end()
         if call.rt.returncode:

@@ -10,12 +10,10 @@ import index
 TABLE = f"{index.TOP}/scripts/crate_seconds.txt"
 # What a crate is taken to need that is not in the table yet.
 USUAL = (120, 30, 2000)
-# rt's last step, which compiles and links, as the table calls it.
-LINKING = "linking"
-# More jobs than this gain a crate nothing.
+# More jobs than this gain a crate nothing. Each takes about as much memory as the first.
 MOST_JOBS = 4
-# The part of its seconds that a crate takes with one job, with two, and so on, and of its memory.
-PART_BY_JOBS, MEMORY_BY_JOBS = (1, 0.75, 0.65, 0.6), (1, 1.6, 2.2, 2.8)
+# The part of its seconds that a crate takes with one job, with two, and so on.
+PART_BY_JOBS = (1, 0.75, 0.65, 0.6)
 # So many seconds at the table's own pace count beside the machine's, so that the first steps alone do not decide.
 TRUST_IN_TABLE = 300
 
@@ -68,7 +66,7 @@ class Plan:
             self.chain[it] = seconds.get(it, 0) + max(above, default=0)
 
     def memory_of(self, name, jobs):
-        return self.memory[name] * MEMORY_BY_JOBS[jobs - 1]
+        return self.memory[name] * jobs
 
     def next(self, waiting, running):
         """The crate to begin now, and its jobs, or None. `running` has the jobs of each crate that rt is at work at."""
@@ -82,8 +80,8 @@ class Plan:
         most = max(1, min(MOST_JOBS, idle // len(ready)))
         return name, max(it for it in range(1, most + 1) if it == 1 or self.memory_of(name, it) <= left)
 
-    def steps(self, libraries, last):
-        """By the name of each step its seconds and when it ends: these libraries, and then the last steps, one after the other."""
+    def steps(self, libraries, program):
+        """By its name the seconds of each crate, and when it ends: of these libraries, and then of the program."""
         now, waiting, running, steps = 0, list(libraries), {}, {}
         while waiting or running:
             while begun := self.next(waiting, running):
@@ -94,10 +92,7 @@ class Plan:
             name = min(running, key=lambda it: steps[it][1])
             now = steps[name][1]
             del running[name]
-        for name in last:
-            now += self.seconds[name]
-            steps[name] = (self.seconds[name], now)
-        return steps
+        return {**steps, program: (self.seconds[program], now + self.seconds[program])}
 
 
 class Progress:

@@ -1,0 +1,221 @@
+-- The border of a polygon: no circle at a corner and no vector line along an edge is smaller.
+use Rattle.std.proofs.Common.{◌≡◌, ℕ, suc, ℤ, pos, ◌*◌, ◌/◌, ◌≤◌, ◌<◌, ◌≤ℤ◌, ◌+ℤ◌, ◌-ℤ◌, ◌*ℤ◌, unsigned_abs, max, min, true, List, [], ◌∷◌, Option, None, Some, refl, sym, ap, subst, ◌∙◌, ◌⊎◌, inl, inr, arith, le_trans}
+use Rattle.std.specs.Prelude.{◌&&◌, ◌||◌, nat_le, int_lt}
+use Rattle.std.specs.List.{All, Contains, fold}
+use Rattle.std.specs.Ordering.{int_eq}
+use Rattle.std.proofs.lemmas.Bool.{and_parts, or_cases, leb-true}
+use Rattle.std.proofs.lemmas.Bool.Decides.{Decides-int_eq}
+use Rattle.std.proofs.lemmas.Int.{ints}
+use Rattle.std.proofs.lemmas.List.Elements.{All-nil, All-cons}
+use Rattle.std.proofs.lemmas.Nat.{mul-le}
+use Rattle.std.proofs.lemmas.Option.{same_Some, cond_some}
+use Rattle.grid_units.specs.Points.{GridPoint, square, square_distance}
+use Rattle.grid_units.proofs.TriangleInequalities.{square-le, square_distance_comm}
+use Rattle.pad_shapes.specs.Rounded.{GridRounded, Edge, edges, corners, cross, along, square_edge, is_beside}
+use Rattle.pad_shapes.specs.Inner.Identities.{is_z, is_n, is_add, is_sub, is_mul, same, length_is}
+use Rattle.pad_shapes.specs.Inner.Fan.{edge}
+use Rattle.macro_shapes.specs.Primitives.{IsInPrimitive, IsInLine, is_same}
+use Rattle.macro_shapes.specs.Shapes.{diameter_at, width_along, greatest, least, disc_at, line_along, discs_at}
+use Rattle.macro_shapes.specs.declared.primitive.Primitive.{Primitive}
+use Rattle.macro_shapes.specs.declared.primitive.Primitive.TheVariants as primitive
+
+-- ---- sizes
+
+none_some : {A : Type 0} {B : Type 0} (x : A) → None ≡ Some x → B
+none_some x h = absurd cc
+
+-- a size that is found is there, and no less
+pub record IsAtLeast (o : Option ℕ) (d : ℕ) : Type 0 where
+  pub size : ℕ
+  pub found : o ≡ Some size
+  pub enough : d ≤ size
+
+least_parts : (a b : Option ℕ) (d : ℕ) → least a b ≡ Some d → IsAtLeast a d × IsAtLeast b d
+least_parts None b d h = none_some d h
+least_parts (Some a) None d h = none_some d h
+least_parts (Some a) (Some b) d h =
+    let e : min a b ≡ d = same_Some (min a b) d h in
+    (record { size = a; found = refl; enough = omega (arith, e) }, record { size = b; found = refl; enough = omega (arith, e) })
+
+weaker : (o : Option ℕ) (d e : ℕ) → e ≤ d → IsAtLeast o d → IsAtLeast o e
+weaker o d e less h = record { size = h.size; found = h.found; enough = le_trans less h.enough }
+
+fold_least : {X : Type 0} (f : X → Option ℕ) (start : Option ℕ) (xs : List X) (d : ℕ) → fold (λ found x. least found (f x)) start xs ≡ Some d → IsAtLeast start d × All (λ x. IsAtLeast (f x) d) xs
+fold_least f start [] d h = (record { size = d; found = h; enough = omega arith }, All-nil (λ x. IsAtLeast (f x) d))
+fold_least f start (x ∷ xs) d h =
+    let rest = fold_least f (least start (f x)) xs d h in
+    let both = least_parts start (f x) rest.0.size rest.0.found in
+    (weaker start rest.0.size d rest.0.enough both.0, All-cons (λ y. IsAtLeast (f y) d) x xs (weaker (f x) rest.0.size d rest.0.enough both.1) rest.1)
+
+larger : (m n : ℕ) → (max m n ≡ m) ⊎ (max m n ≡ n)
+larger m n = grind arith
+
+greatest_cases : (a b : Option ℕ) (d : ℕ) → greatest a b ≡ Some d → (a ≡ Some d) ⊎ (b ≡ Some d)
+greatest_cases None b d h = inr h
+greatest_cases (Some a) None d h = inl h
+greatest_cases (Some a) (Some b) d h =
+    let e : max a b ≡ d = same_Some (max a b) d h in
+    elim (larger a b) [ inl first ↦ inl (ap Some (sym first ∙ e)) | inr second ↦ inr (ap Some (sym second ∙ e)) ]
+
+-- a primitive that gives a size
+record IsGiven (f : Primitive → Option ℕ) (qs : List Primitive) (d : ℕ) : Type 0 where
+  q : Primitive
+  among : Contains qs q
+  gives : f q ≡ Some d
+
+fold_greatest : (f : Primitive → Option ℕ) (start : Option ℕ) (qs : List Primitive) (d : ℕ) → fold (λ found q. greatest found (f q)) start qs ≡ Some d → (start ≡ Some d) ⊎ IsGiven f qs d
+fold_greatest f start [] d h = inl h
+fold_greatest f start (q ∷ qs) d h = elim (fold_greatest f (greatest start (f q)) qs d h) [
+  | inl first ↦ elim (greatest_cases start (f q) d first) [ inl before ↦ inl before | inr here ↦ inr (record { q = q; among = (0, omega arith, refl); gives = here }) ]
+  | inr later ↦ inr (record { q = later.q; among = (suc later.among.0, omega (arith, later.among.1), later.among.2); gives = later.gives })
+]
+
+given : (f : Primitive → Option ℕ) (qs : List Primitive) (d : ℕ) → fold (λ found q. greatest found (f q)) None qs ≡ Some d → IsGiven f qs d
+given f qs d h = elim (fold_greatest f None qs d h) [ inl none ↦ none_some d none | inr some ↦ some ]
+
+-- ---- circles and lines
+
+pub same_point : (p q : GridPoint) → is_same p q ≡ true → p ≡ q
+same_point p q h =
+    let both = and_parts (int_eq p.x q.x) (int_eq p.y q.y) h in
+    let x = (Decides-int_eq p.x q.x).0 both.0 in
+    let y = (Decides-int_eq p.y q.y).0 both.1 in
+    λ i. record { x = x i; y = y i }
+
+-- half of a size, rounded down, times two
+half-le : (size d : ℕ) → size ≤ d → 2 * (size / 2) ≤ d
+half-le size d h = omega (arith, h)
+
+-- no further than half of a lesser size
+pub in_circle : (n size d : ℕ) → size ≤ d → n ≤ square (size / 2) → 4 * n ≤ square d
+in_circle n size d h near =
+    let t : (2 * (size / 2)) * (2 * (size / 2)) ≤ d * d = square-le (2 * (size / 2)) d (half-le size d h) in
+    doubled (size / 2) t near
+  where
+    doubled : (m : ℕ) → (2 * m) * (2 * m) ≤ d * d → n ≤ m * m → 4 * n ≤ d * d
+    doubled m t near = omega (arith, t, near)
+
+circle_at : (v p : GridPoint) (size d : ℕ) (q : Primitive) → diameter_at v q ≡ Some d → size ≤ d → square_distance p v ≤ square (size / 2) → IsInPrimitive q p
+circle_at v p size d (primitive.Circle c n) h less near =
+    let both = cond_some (is_same c v) n d h in
+    subst (λ m. 4 * square_distance p c ≤ square m) (sym both.1) (subst (λ u. 4 * square_distance p u ≤ square d) (sym (same_point c v both.0)) (in_circle (square_distance p v) size d less near))
+circle_at v p size d (primitive.VectorLine a b n) h less near = none_some d h
+circle_at v p size d (primitive.CentreLine c m n) h less near = none_some d h
+circle_at v p size d (primitive.Outline r) h less near = none_some d h
+
+-- p lies beside an edge, no further from its line than half of a lesser size
+in_line : (e : Edge) (p : GridPoint) (size w : ℕ) → size ≤ w → is_beside e (size / 2) p ≡ true → IsInLine e w p
+in_line e p size w less h =
+    let parts = and_parts (int_lt (pos 0) (along e p) && int_lt (along e p) (pos (square_edge e))) (nat_le (square (unsigned_abs (cross e p))) (square (size / 2) * square_edge e)) h in
+    let ends = and_parts (int_lt (pos 0) (along e p)) (int_lt (along e p) (pos (square_edge e))) parts.0 in
+    record {
+      some = long (along e p) (square_edge e) ends.0 ends.1;
+      after = above (along e p) ends.0;
+      before = below (along e p) (square_edge e) ends.1;
+      near = wide (square (unsigned_abs (cross e p))) (square_edge e) (leb-true (square (unsigned_abs (cross e p))) (square (size / 2) * square_edge e) parts.1);
+    }
+  where
+    long : (z : ℤ) (n : ℕ) → int_lt (pos 0) z ≡ true → int_lt z (pos n) ≡ true → 0 < n
+    long z n t u = omega (arith, ints)
+
+    above : (z : ℤ) → int_lt (pos 0) z ≡ true → pos 0 ≤ℤ z
+    above z t = omega (arith, ints)
+
+    below : (z : ℤ) (n : ℕ) → int_lt z (pos n) ≡ true → z ≤ℤ pos n
+    below z n t = omega (arith, ints)
+
+    times_four : (m c s : ℕ) → ((2 * m) * (2 * m)) * s ≤ (w * w) * s → c ≤ (m * m) * s → 4 * c ≤ (w * w) * s
+    times_four m c s u near = omega (arith, u, near)
+
+    wide : (c s : ℕ) → c ≤ square (size / 2) * s → 4 * c ≤ square w * s
+    wide c s near =
+        let t : (2 * (size / 2)) * (2 * (size / 2)) ≤ w * w = square-le (2 * (size / 2)) w (half-le size w less) in
+        let u : ((2 * (size / 2)) * (2 * (size / 2))) * s ≤ (w * w) * s = mul-le ((2 * (size / 2)) * (2 * (size / 2))) s (w * w) s t (omega arith) in
+        times_four (size / 2) c s u near
+
+along_back_z : (ax ay bx by x y : ℤ)
+    → ((bx -ℤ ax) *ℤ (x -ℤ ax) +ℤ (by -ℤ ay) *ℤ (y -ℤ ay)) +ℤ ((ax -ℤ bx) *ℤ (x -ℤ bx) +ℤ (ay -ℤ by) *ℤ (y -ℤ by))
+    ≡ (bx -ℤ ax) *ℤ (bx -ℤ ax) +ℤ (by -ℤ ay) *ℤ (by -ℤ ay)
+along_back_z ax ay bx by x y =
+    same
+    (is_add
+    (is_add (is_mul (is_sub (is_z bx) (is_z ax)) (is_sub (is_z x) (is_z ax))) (is_mul (is_sub (is_z by) (is_z ay)) (is_sub (is_z y) (is_z ay))))
+    (is_add (is_mul (is_sub (is_z ax) (is_z bx)) (is_sub (is_z x) (is_z bx))) (is_mul (is_sub (is_z ay) (is_z by)) (is_sub (is_z y) (is_z by)))))
+    (is_add (is_mul (is_sub (is_z bx) (is_z ax)) (is_sub (is_z bx) (is_z ax))) (is_mul (is_sub (is_z by) (is_z ay)) (is_sub (is_z by) (is_z ay))))
+    (omega arith)
+
+cross_back_z : (ax ay bx by x y : ℤ) → ((bx -ℤ ax) *ℤ (y -ℤ ay) -ℤ (by -ℤ ay) *ℤ (x -ℤ ax)) +ℤ ((ax -ℤ bx) *ℤ (y -ℤ by) -ℤ (ay -ℤ by) *ℤ (x -ℤ bx)) ≡ pos 0
+cross_back_z ax ay bx by x y =
+    same
+    (is_add
+    (is_sub (is_mul (is_sub (is_z bx) (is_z ax)) (is_sub (is_z y) (is_z ay))) (is_mul (is_sub (is_z by) (is_z ay)) (is_sub (is_z x) (is_z ax))))
+    (is_sub (is_mul (is_sub (is_z ax) (is_z bx)) (is_sub (is_z y) (is_z by))) (is_mul (is_sub (is_z ay) (is_z by)) (is_sub (is_z x) (is_z bx)))))
+    (is_n 0) (omega arith)
+
+-- a line and its way back have the same points
+line_back : (a b : GridPoint) (w : ℕ) (p : GridPoint) → IsInLine (edge a b) w p → IsInLine (edge b a) w p
+line_back a b w p h =
+    let s = square_distance_comm b a in
+    let whole : along (edge a b) p +ℤ along (edge b a) p ≡ pos (square_edge (edge a b)) = along_back_z a.x a.y b.x b.y p.x p.y ∙ length_is (b.x -ℤ a.x) (b.y -ℤ a.y) in
+    let area : unsigned_abs (cross (edge a b) p) ≡ unsigned_abs (cross (edge b a) p) = opposite (cross (edge a b) p) (cross (edge b a) p) (cross_back_z a.x a.y b.x b.y p.x p.y) in
+    record {
+      some = subst (λ n. 0 < n) s h.some;
+      after = rest_above (along (edge a b) p) (along (edge b a) p) (square_edge (edge a b)) whole h.before;
+      before = subst (λ n. along (edge b a) p ≤ℤ pos n) s (rest_below (along (edge a b) p) (along (edge b a) p) (square_edge (edge a b)) whole h.after);
+      near = subst (λ c. 4 * square c ≤ square w * square_edge (edge b a)) area (subst (λ n. 4 * square (unsigned_abs (cross (edge a b) p)) ≤ square w * n) s h.near);
+    }
+  where
+    opposite : (u t : ℤ) → u +ℤ t ≡ pos 0 → unsigned_abs u ≡ unsigned_abs t
+    opposite u t e = omega (arith, ints)
+
+    rest_above : (u t : ℤ) (n : ℕ) → u +ℤ t ≡ pos n → u ≤ℤ pos n → pos 0 ≤ℤ t
+    rest_above u t n e h = omega (arith, ints)
+
+    rest_below : (u t : ℤ) (n : ℕ) → u +ℤ t ≡ pos n → pos 0 ≤ℤ u → t ≤ℤ pos n
+    rest_below u t n e h = omega (arith, ints)
+
+line_at : (e : Edge) (p : GridPoint) (size w : ℕ) (q : Primitive) → width_along e q ≡ Some w → size ≤ w → is_beside e (size / 2) p ≡ true → IsInPrimitive q p
+line_at e p size w (primitive.Circle c n) h less near = none_some w h
+line_at e p size w (primitive.VectorLine a b n) h less near =
+    let both = cond_some ((is_same a e.from && is_same b e.to) || (is_same a e.to && is_same b e.from)) n w h in
+    subst (λ m. IsInLine (edge a b) m p) (sym both.1) (elim (or_cases (is_same a e.from && is_same b e.to) (is_same a e.to && is_same b e.from) both.0) [
+      | inl same_way ↦
+          let ends = and_parts (is_same a e.from) (is_same b e.to) same_way in
+          moved e.from e.to (sym (same_point a e.from ends.0)) (sym (same_point b e.to ends.1)) (in_line e p size w less near)
+      | inr other_way ↦
+          let ends = and_parts (is_same a e.to) (is_same b e.from) other_way in
+          moved e.to e.from (sym (same_point a e.to ends.0)) (sym (same_point b e.from ends.1)) (line_back e.from e.to w p (in_line e p size w less near))
+    ])
+  where
+    moved : (u v : GridPoint) → u ≡ a → v ≡ b → IsInLine (edge u v) w p → IsInLine (edge a b) w p
+    moved u v f g l = subst (λ z. IsInLine (edge a z) w p) g (subst (λ z. IsInLine (edge z v) w p) f l)
+line_at e p size w (primitive.CentreLine c m n) h less near = none_some w h
+line_at e p size w (primitive.Outline r) h less near = none_some w h
+
+-- ---- what a border says
+
+-- a point of some primitive
+abbrev pub IsInSome : List Primitive → GridPoint → Type 0
+IsInSome qs p = (q : Primitive) × Contains qs q × IsInPrimitive q p
+
+pub near_corner : (qs : List Primitive) (v p : GridPoint) (size : ℕ) → IsAtLeast (disc_at qs v) size → square_distance p v ≤ square (size / 2) → IsInSome qs p
+near_corner qs v p size h near =
+    let g = given (diameter_at v) qs h.size h.found in
+    (g.q, g.among, circle_at v p size h.size g.q g.gives h.enough near)
+
+pub near_edge : (qs : List Primitive) (e : Edge) (p : GridPoint) (size : ℕ) → IsAtLeast (line_along qs e) size → is_beside e (size / 2) p ≡ true → IsInSome qs p
+near_edge qs e p size h near =
+    let g = given (width_along e) qs h.size h.found in
+    (g.q, g.among, line_at e p size h.size g.q g.gives h.enough near)
+
+pub corners_given : (qs : List Primitive) (r : GridRounded) (size : ℕ) → discs_at qs r ≡ Some size → All (λ v. IsAtLeast (disc_at qs v) size) (corners r)
+corners_given qs r size h =
+    let f = fold_least (disc_at qs) (disc_at qs r.first) r.others size h in
+    All-cons (λ v. IsAtLeast (disc_at qs v) size) r.first r.others f.0 f.1
+
+pub edges_given : (qs : List Primitive) (r : GridRounded) (size : ℕ) → fold (λ found e. least found (line_along qs e)) (discs_at qs r) (edges r) ≡ Some size
+    → All (λ v. IsAtLeast (disc_at qs v) size) (corners r) × All (λ e. IsAtLeast (line_along qs e) size) (edges r)
+edges_given qs r size h =
+    let f = fold_least (line_along qs) (discs_at qs r) (edges r) size h in
+    let c = corners_given qs r f.0.size f.0.found in
+    (λ k d l. weaker (disc_at qs _) f.0.size size f.0.enough (c k d l), f.1)

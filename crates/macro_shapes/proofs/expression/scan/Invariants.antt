@@ -1,0 +1,11 @@
+use Rattle.std.proofs.Common.{◌≡◌, ◌≤◌, [], take, drop}
+use Rattle.macro_shapes.specs.Values.{lookup}
+use Rattle.macro_shapes.specs.Inner.Reading.{start, run}
+use Rattle.macro_shapes.specs.Inner.State.{state}
+use Rattle.macro_shapes.proofs.expression.scan.Given as goal
+
+abbrev pub invariant-loop-i : goal.invariant-loop-i
+invariant-loop-i l = record {
+  within : l.begin ≤ l.i;
+  same : run (lookup l.variables) (state l.reading) (drop l.begin (take l.i l.text)) (drop l.i l.text) ≡ run (lookup l.variables) start [] l.text;
+}

@@ -1,0 +1,8 @@
+use Rattle.std.proofs.Common.{◌≡◌, ◌++◌, drop}
+use Rattle.std.specs.Prelude.{option_map}
+use Rattle.macro_shapes.specs.Values.{lookup}
+use Rattle.macro_shapes.specs.Inner.Pieces.{fields_from}
+use Rattle.macro_shapes.proofs.fields.read_pieces.Given as goal
+
+abbrev pub invariant-loop-piece : goal.invariant-loop-piece
+invariant-loop-piece l = option_map (λ fs. l.primitives.items ++ fs) (fields_from (lookup l.variables) (drop l.piece-index l.pieces)) ≡ fields_from (lookup l.fn.variables) l.pieces

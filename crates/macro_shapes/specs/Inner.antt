@@ -1,0 +1,4 @@
+pub mod Reading
+pub mod State
+pub mod Parts
+pub mod Pieces

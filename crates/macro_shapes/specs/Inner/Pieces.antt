@@ -1,0 +1,55 @@
+-- The primitives of a macro, piece by piece.
+use Rattle.std.specs.Prelude.{ℕ, ℤ, nat_le, List, [], ◌∷◌, length, if◌then◌else◌, Option, None, Some, option_map, option_and_then}
+use Rattle.std.specs.Result.{result_ok}
+use Rattle.grid_units.specs.Ascii as ascii
+use Rattle.grid_units.specs.Numbers.{parse_decimal}
+use Rattle.macro_shapes.specs.Values.{Environment, assigned}
+use Rattle.macro_shapes.specs.Inner.Reading.{start, run}
+use Rattle.macro_shapes.specs.Pieces.{split_by, is_comment, definition, code_of, max_variables}
+use Rattle.macro_shapes.specs.declared.fields.Fields.{Fields}
+
+-- the value of an expression
+unfoldable pub value_of : Environment → List ℕ → Option ℤ
+value_of variables text = if nat_le (length text) 1000 then run variables start [] text else None
+
+-- the values of expressions
+abbrev pub all_values : Environment → List (List ℕ) → Option (List ℤ)
+all_values variables [] = Some []
+all_values variables (text ∷ texts) = option_and_then (λ v. option_map (λ vs. v ∷ vs) (all_values variables texts)) (value_of variables text)
+
+-- the primitive of a code and the texts of its other fields
+abbrev pub parts_fields : Environment → List (List ℕ) → Option Fields
+parts_fields variables [] = None
+parts_fields variables (code ∷ texts) = option_and_then (λ c. option_map (λ vs. record { code = c; values = vs }) (all_values variables texts)) (code_of code)
+
+-- the primitive that a piece spells, where its code is judged and each field has a value
+unfoldable pub piece_fields : Environment → List ℕ → Option Fields
+piece_fields variables piece = parts_fields variables (split_by ascii.comma piece)
+
+-- what a piece that is no comment adds to what those after it give
+abbrev pub on_definition : Option (ℕ × List ℕ) → Environment → List ℕ → (Environment → Option (List Fields)) → Option (List Fields)
+on_definition None variables piece go = option_and_then (λ f. option_map (λ fs. f ∷ fs) (go variables)) (piece_fields variables piece)
+on_definition (Some d) variables piece go = option_and_then (λ v. go (assigned variables d.0 v)) (value_of variables d.1)
+
+-- what a piece adds to what those after it give
+abbrev pub on_piece : Environment → List ℕ → (Environment → Option (List Fields)) → Option (List Fields)
+on_piece variables piece go = if is_comment piece then go variables else on_definition (definition piece) variables piece go
+
+-- the primitives that pieces spell, from these variables on
+abbrev pub fields_from : Environment → List (List ℕ) → Option (List Fields)
+fields_from variables [] = Some []
+fields_from variables (piece ∷ pieces) = on_piece variables piece (λ later. fields_from later pieces)
+
+-- the values of parameters
+abbrev pub all_decimals : List (List ℕ) → Option (List (Option ℤ))
+all_decimals [] = Some []
+all_decimals (text ∷ texts) = option_and_then (λ v. option_map (λ vs. Some v ∷ vs) (all_decimals texts)) (result_ok (parse_decimal text))
+
+-- these values, where they are not too many
+abbrev pub if_few : List (Option ℤ) → Option (List (Option ℤ))
+if_few values = if nat_le (length values) max_variables then Some values else None
+
+-- the values that the parameters of an aperture give to variables
+unfoldable pub parameters_of : Option (List ℕ) → Option (List (Option ℤ))
+parameters_of None = Some []
+parameters_of (Some text) = option_and_then if_few (all_decimals (split_by ascii.upper_x text))

@@ -1,0 +1,93 @@
+-- The pieces of a macro: comments, definitions of variables, and primitives with the values of their fields (Gerber format, Aperture
+-- macro AM).
+use Rattle.std.specs.Prelude.{◌≡◌, ℕ, ℤ, ◌≤◌, Bool, false, not, ◌&&◌, ◌||◌, ◌==◌, nat_le, List, [], ◌∷◌, length, drop, map, if◌then◌else◌, Option, None, Some, option_map, Ok, MatchOption, codes, take_while}
+use Rattle.std.specs.Bool.{MatchBool}
+use Rattle.std.specs.List.{prefix_len, slice_split, AllZip}
+use Rattle.std.specs.Str.{bytes_eq}
+use Rattle.grid_units.specs.Ascii as ascii
+use Rattle.grid_units.specs.Numbers.{is_digit, is_digits, is_number_char, value, parse_decimal}
+use Rattle.macro_shapes.specs.Values.{Environment, lookup, assigned, IsValue}
+use Rattle.macro_shapes.specs.declared.piece.Code.{Code}
+use Rattle.macro_shapes.specs.declared.piece.Code.TheVariants as code
+use Rattle.macro_shapes.specs.declared.fields.Fields.{Fields}
+
+-- the parts of a text between the bytes that divide it: `1,0.5` divided at `,` is `1` and `0.5`
+abbrev pub split_by : ℕ → List ℕ → List (List ℕ)
+split_by at text = slice_split (λ b. b == at) text
+
+-- ---- parameters
+
+-- the largest number of parameters
+abbrev pub max_variables : ℕ
+max_variables = 999
+
+-- the values of `$1`, `$2` and so on at the start: those of the parameters, each a decimal, divided by `X` (Gerber format, Aperture
+-- definition AD): `0.5X-1`
+abbrev pub AreParameters : Option (List ℕ) → List (Option ℤ) → Type 0
+AreParameters None values = values ≡ []
+AreParameters (Some text) values =
+    (decimals : List ℤ) × (length decimals ≤ max_variables) × (map parse_decimal (split_by ascii.upper_x text) ≡ map Ok decimals) × (values ≡ map Some decimals)
+
+-- ---- comments
+
+-- a field goes on: by a comma, or a byte of a number
+abbrev pub goes_on : List ℕ → Bool
+goes_on [] = false
+goes_on (b ∷ bs) = is_number_char b || (b == ascii.comma)
+
+-- `0`, alone or before a byte that is neither of a number nor a comma: `0 a pad` (Gerber format, Comment, code 0)
+abbrev pub is_comment : List ℕ → Bool
+is_comment [] = false
+is_comment (b ∷ bs) = if b == ascii.digit_zero then not (goes_on bs) else false
+
+-- ---- definitions of variables
+
+-- `b'='`
+abbrev pub equals : ℕ
+equals = 61
+
+-- the number of a variable, from 1 to 999
+abbrev pub variable_number : List ℕ → Option ℕ
+variable_number digits = if is_digits digits && (nat_le 1 (value digits) && nat_le (value digits) max_variables) then Some (value digits) else None
+
+-- a number, and an expression after `=`
+abbrev pub defined : List ℕ → List ℕ → Option (ℕ × List ℕ)
+defined digits [] = None
+defined digits (b ∷ bs) = if b == equals then option_map (λ n. (n, bs)) (variable_number digits) else None
+
+-- the variable that a piece defines, and the expression of its value: `$4=$1x0.5` (Gerber format, Aperture macro AM, Definition of a new
+-- variable)
+abbrev pub definition : List ℕ → Option (ℕ × List ℕ)
+definition [] = None
+definition (b ∷ bs) = if b == ascii.dollar then defined (take_while is_digit bs) (drop (prefix_len is_digit bs) bs) else None
+
+-- ---- primitives
+
+-- the primitive of a code that is judged: a circle, a vector line, a centre line or an outline (Gerber format, Aperture macro AM)
+abbrev pub code_of : List ℕ → Option Code
+code_of text =
+    if bytes_eq text (codes "1") then Some code.Circle
+    else if bytes_eq text (codes "20") then Some code.VectorLine
+    else if bytes_eq text (codes "21") then Some code.CentreLine
+    else if bytes_eq text (codes "4") then Some code.Outline else None
+
+-- the fields of a primitive, divided by `,`: its code, and expressions: `1,1,0.5,0,0`
+pub record SpellsFields (variables : Environment) (piece : List ℕ) (fields : Fields) : Type 0 where
+  pub code_text : List ℕ
+  pub texts : List (List ℕ)
+  pub parts : split_by ascii.comma piece ≡ code_text ∷ texts
+  pub judged : code_of code_text ≡ Some fields.code
+  pub valued : AllZip (IsValue variables) texts fields.values
+
+-- The primitives that pieces spell, in order, from these variables on: a comment spells none, and a definition gives a variable a value
+-- for the pieces after it.
+abbrev pub SpellPrimitives : Environment → List (List ℕ) → List Fields → Type 0
+SpellPrimitives variables [] found = found ≡ []
+SpellPrimitives variables (piece ∷ pieces) found =
+    MatchBool (is_comment piece) (SpellPrimitives variables pieces found) (MatchOption (definition piece)
+    ((fields : Fields) × (others : List Fields) × SpellsFields variables piece fields × SpellPrimitives variables pieces others × (found ≡ fields ∷ others))
+    (λ d. (v : ℤ) × IsValue variables d.1 v × SpellPrimitives (assigned variables d.0 v) pieces found))
+
+-- the primitives of a macro with these parameters
+abbrev pub IsMacro : List (List ℕ) → Option (List ℕ) → List Fields → Type 0
+IsMacro pieces parameters found = (values : List (Option ℤ)) × AreParameters parameters values × SpellPrimitives (lookup values) pieces found

@@ -1,0 +1,218 @@
+-- The primitives of a macro that are judged, all of them dark, and their points (Gerber format, Aperture macro AM). Lengths are whole picometres, and
+-- points lie about the point of the flash.
+use Rattle.std.specs.Prelude.{◌≡◌, ℕ, ℤ, pos, ◌-◌, ◌*◌, ◌/◌, ◌%◌, ◌<◌, ◌≤◌, ◌≤ℤ◌, neg_ℤ, Bool, true, not, ◌&&◌, ◌==◌, nat_le, nat_lt, int_lt, unsigned_abs, List, [], ◌∷◌, length, take, reverse, get_or, if◌then◌else◌, Option, None, Some, option_map, option_and_then}
+use Rattle.std.specs.Option.{option_or}
+use Rattle.std.specs.Result.{result_ok}
+use Rattle.std.specs.List.{list_any}
+use Rattle.std.specs.Ordering.{int_eq}
+use Rattle.grid_units.specs.Points.{GridPoint, max_coordinate, square, abs_diff, square_distance}
+use Rattle.grid_units.specs.Numbers.{picometres, within_limit}
+use Rattle.grid_units.specs.declared.lengths.Unit.{Unit as Units}
+use Rattle.pad_shapes.specs.Shapes.{max_half_side}
+use Rattle.pad_shapes.specs.Rounded.{GridRounded, Edge, along, cross, square_edge, is_deep_inside, is_outline, max_corners}
+use Rattle.macro_shapes.specs.declared.piece.Code.{Code}
+use Rattle.macro_shapes.specs.declared.piece.Code.TheVariants as code
+use Rattle.macro_shapes.specs.declared.fields.Fields.{Fields}
+use Rattle.macro_shapes.specs.declared.primitive.Primitive.{Primitive}
+use Rattle.macro_shapes.specs.declared.primitive.Primitive.TheVariants as primitive
+
+-- ---- points
+
+-- p is no further from the centre than half of the diameter (Gerber format, Circle, code 1)
+abbrev pub IsInCircle : GridPoint → ℕ → GridPoint → Type 0
+IsInCircle centre diameter p = 4 * square_distance p centre ≤ square diameter
+
+-- p lies beside the line from one end to the other, and no further from it than half of the width: a rectangle with the line in its
+-- middle, and no points where the ends are equal (Gerber format, Vector line, code 20)
+pub record IsInLine (e : Edge) (width : ℕ) (p : GridPoint) : Type 0 where
+  pub some : 0 < square_edge e
+  pub after : pos 0 ≤ℤ along e p
+  pub before : along e p ≤ℤ pos (square_edge e)
+  pub near : 4 * square (unsigned_abs (cross e p)) ≤ square width * square_edge e
+
+-- p is, along each axis, no further from the centre than half of the side (Gerber format, Center line, code 21)
+abbrev pub IsInRectangle : GridPoint → ℕ → ℕ → GridPoint → Type 0
+IsInRectangle centre width height p = (2 * abs_diff p.x centre.x ≤ width) × (2 * abs_diff p.y centre.y ≤ height)
+
+-- the points of a primitive; those of an outline lie to the right of no edge of a convex polygon, and a flat outline has none (Gerber
+-- format, Outline, code 4)
+abbrev pub IsInPrimitive : Primitive → GridPoint → Type 0
+IsInPrimitive (primitive.Circle centre diameter) p = IsInCircle centre diameter p
+IsInPrimitive (primitive.VectorLine from to width) p = IsInLine (record { from = from; to = to }) width p
+IsInPrimitive (primitive.CentreLine centre width height) p = IsInRectangle centre width height p
+IsInPrimitive (primitive.Outline corners) p = is_deep_inside corners 0 p ≡ true
+
+-- ---- values of fields
+
+-- one, in units of 10^-8
+abbrev pub one : ℤ
+one = pos 100000000
+
+-- the number of quarter turns counterclockwise, 0 to 3, of a rotation in units of 10^-8 degrees; none of another angle (Gerber format,
+-- Rotation parameter)
+abbrev pub quarter_turns : ℤ → Option ℕ
+quarter_turns rotation =
+    if unsigned_abs rotation % 9000000000 == 0 then Some (if int_lt rotation (pos 0) then (4 - unsigned_abs rotation / 9000000000 % 4) % 4 else unsigned_abs rotation / 9000000000 % 4)
+    else None
+
+-- the x of a point that is turned by so many quarters counterclockwise about the point of the flash
+abbrev pub turned_x : ℕ → GridPoint → ℤ
+turned_x turns p = if turns == 0 then p.x else if turns == 1 then neg_ℤ p.y else if turns == 2 then neg_ℤ p.x else p.y
+
+-- and its y
+abbrev pub turned_y : ℕ → GridPoint → ℤ
+turned_y turns p = if turns == 0 then p.y else if turns == 1 then p.x else if turns == 2 then neg_ℤ p.y else neg_ℤ p.x
+
+-- a point of the grid, where it is no further than 10 m along each axis
+abbrev pub grid_point : ℤ → ℤ → Option GridPoint
+grid_point x y = if nat_le (unsigned_abs x) max_coordinate && nat_le (unsigned_abs y) max_coordinate then Some (record { x = x; y = y }) else None
+
+-- the turned point
+abbrev pub turned : ℕ → GridPoint → Option GridPoint
+turned turns p = grid_point (turned_x turns p) (turned_y turns p)
+
+-- a value as a length in pm, none beyond 10 m
+abbrev pub length_of : Units → ℤ → Option ℤ
+length_of unit v = result_ok (within_limit (picometres unit 8 v))
+
+-- a value as the size of a primitive, which is not below 0
+abbrev pub size_of : Units → ℤ → Option ℕ
+size_of unit v = if int_lt v (pos 0) then None else option_map unsigned_abs (length_of unit v)
+
+-- a value as the side of a rectangle, which is above 0
+abbrev pub side_of : Units → ℤ → Option ℕ
+side_of unit v = if int_lt (pos 0) v then size_of unit v else None
+
+-- two values as a point
+abbrev pub point_of : Units → ℤ → ℤ → Option GridPoint
+point_of unit x y = option_and_then (λ a. option_and_then (λ b. grid_point a b) (length_of unit y)) (length_of unit x)
+
+-- two values as a point that is turned
+abbrev pub placed : Units → ℕ → ℤ → ℤ → Option GridPoint
+placed unit turns x y = option_and_then (turned turns) (point_of unit x y)
+
+-- the exposure is on (Gerber format, Exposure parameter)
+abbrev pub is_dark : ℤ → Bool
+is_dark exposure = int_eq exposure one
+
+-- the quarter turns of a primitive whose exposure is on
+abbrev pub dark_turns : ℤ → ℤ → Option ℕ
+dark_turns exposure rotation = if is_dark exposure then quarter_turns rotation else None
+
+-- ---- circles and lines
+
+-- a circle with these values, turned by so many quarters
+abbrev pub circle_at : Units → ℕ → ℤ → ℤ → ℤ → Option Primitive
+circle_at unit turns diameter x y = option_and_then (λ d. option_map (λ c. primitive.Circle c d) (placed unit turns x y)) (size_of unit diameter)
+
+-- exposure, diameter, x, y and, where it is written, the rotation (Gerber format, Circle, code 1)
+abbrev pub circle : Units → List ℤ → Option Primitive
+circle unit (exposure ∷ diameter ∷ x ∷ y ∷ []) = if is_dark exposure then circle_at unit 0 diameter x y else None
+circle unit (exposure ∷ diameter ∷ x ∷ y ∷ rotation ∷ []) = option_and_then (λ turns. circle_at unit turns diameter x y) (dark_turns exposure rotation)
+circle unit _ = None
+
+-- a vector line with these values, turned by so many quarters
+abbrev pub line_at : Units → ℕ → ℤ → ℤ → ℤ → ℤ → ℤ → Option Primitive
+line_at unit turns width x1 y1 x2 y2 =
+    option_and_then (λ w. option_and_then (λ from. option_map (λ to. primitive.VectorLine from to w) (placed unit turns x2 y2)) (placed unit turns x1 y1)) (size_of unit width)
+
+-- exposure, width, the two ends, rotation (Gerber format, Vector line, code 20)
+abbrev pub vector_line : Units → List ℤ → Option Primitive
+vector_line unit (exposure ∷ width ∷ x1 ∷ y1 ∷ x2 ∷ y2 ∷ rotation ∷ []) = option_and_then (λ turns. line_at unit turns width x1 y1 x2 y2) (dark_turns exposure rotation)
+vector_line unit _ = None
+
+-- the sides are exchanged by an odd number of quarter turns
+abbrev pub with_sides : ℕ → GridPoint → ℕ → ℕ → Primitive
+with_sides turns c w h = if turns % 2 == 0 then primitive.CentreLine c w h else primitive.CentreLine c h w
+
+-- a centre line with these values, turned by so many quarters
+abbrev pub rectangle_at : Units → ℕ → ℤ → ℤ → ℤ → ℤ → Option Primitive
+rectangle_at unit turns width height x y =
+    option_and_then (λ w. option_and_then (λ h. option_map (λ c. with_sides turns c w h) (placed unit turns x y)) (side_of unit height)) (side_of unit width)
+
+-- exposure, width, height, x, y, rotation (Gerber format, Center line, code 21)
+abbrev pub centre_line : Units → List ℤ → Option Primitive
+centre_line unit (exposure ∷ width ∷ height ∷ x ∷ y ∷ rotation ∷ []) = option_and_then (λ turns. rectangle_at unit turns width height x y) (dark_turns exposure rotation)
+centre_line unit _ = None
+
+-- ---- outlines
+
+-- two points are equal
+abbrev pub is_same : GridPoint → GridPoint → Bool
+is_same p q = int_eq p.x q.x && int_eq p.y q.y
+
+-- these are the coordinates of 3 to 4096 points and of the first one again, and the count says of how many
+abbrev pub is_count : ℤ → ℕ → Bool
+is_count count coordinates =
+    (nat_le 8 coordinates && nat_le coordinates 8194) && ((coordinates % 2 == 0) && int_eq count (pos ((coordinates / 2 - 1) * 100000000)))
+
+-- values by twos as points that are turned, where each of them is one
+abbrev pub run_of : Units → ℕ → List ℤ → Option (List GridPoint)
+run_of unit turns [] = Some []
+run_of unit turns (x ∷ []) = None
+run_of unit turns (x ∷ y ∷ rest) = option_and_then (λ p. option_map (λ ps. p ∷ ps) (run_of unit turns rest)) (placed unit turns x y)
+
+-- the point at a place, or the one of the flash
+abbrev pub point_at : List GridPoint → ℕ → GridPoint
+point_at run k = get_or run k (record { x = pos 0; y = pos 0 })
+
+-- the last point is the first one
+abbrev pub is_closed : List GridPoint → Bool
+is_closed run = not (length run == 0) && is_same (point_at run 0) (point_at run (length run - 1))
+
+-- those points that are not the same as the one before them
+abbrev pub moves_from : GridPoint → List GridPoint → List GridPoint
+moves_from before [] = []
+moves_from before (p ∷ ps) = if is_same p before then moves_from p ps else p ∷ moves_from p ps
+
+-- the points of a closed run, each once, or its one point
+abbrev pub stops : List GridPoint → List GridPoint
+stops run = if length (moves_from (point_at run 0) run) == 0 then point_at run 0 ∷ [] else moves_from (point_at run 0) run
+
+-- no two points are equal
+abbrev pub are_different : List GridPoint → Bool
+are_different [] = true
+are_different (p ∷ ps) = not (list_any (is_same p) ps) && are_different ps
+
+-- a rounded polygon with half of a size for its radius, where these are one corner, two different ones, or those of a convex polygon
+-- counterclockwise
+abbrev pub rounded_of : GridPoint → List GridPoint → ℕ → Option GridRounded
+rounded_of first others size =
+    if nat_lt (length others) max_corners && (nat_le (size / 2) max_half_side && is_outline first others) then Some (record { first = first; others = others; radius = size / 2 }) else None
+
+-- the polygon of corners in this order
+abbrev pub polygon_of : List GridPoint → Option GridRounded
+polygon_of [] = None
+polygon_of (first ∷ others) = rounded_of first others 0
+
+-- the polygon that different corners go round once, in this order or the other way
+abbrev pub either_way : List GridPoint → Option GridRounded
+either_way corners = if nat_le (length corners) max_corners && are_different corners then option_or (polygon_of corners) (polygon_of (reverse corners)) else None
+
+-- the outline of a run of points: closed, and round a convex polygon once, or there and back on a line
+abbrev pub outline_of : List GridPoint → Option Primitive
+outline_of run = if is_closed run then option_map primitive.Outline (either_way (stops run)) else None
+
+-- an outline with these values, whose count is that of its points and whose exposure is on
+abbrev pub outline_at : Units → ℤ → ℤ → List ℤ → ℤ → Option Primitive
+outline_at unit exposure count coordinates rotation =
+    if is_count count (length coordinates) then option_and_then (λ turns. option_and_then outline_of (run_of unit turns coordinates)) (dark_turns exposure rotation) else None
+
+-- exposure, the number of points, their coordinates and those of the first one again, rotation (Gerber format, Outline, code 4)
+abbrev pub outline : Units → List ℤ → Option Primitive
+outline unit (exposure ∷ count ∷ rest) = if length rest == 0 then None else outline_at unit exposure count (take (length rest - 1) rest) (get_or rest (length rest - 1) (pos 0))
+outline unit _ = None
+
+-- ---- all primitives
+
+-- the primitive that fields spell, where it is judged
+abbrev pub coded : Code → Units → List ℤ → Option Primitive
+coded code.Circle unit values = circle unit values
+coded code.VectorLine unit values = vector_line unit values
+coded code.CentreLine unit values = centre_line unit values
+coded code.Outline unit values = outline unit values
+
+-- the primitives that fields spell, where each of them is judged
+abbrev pub primitives_of : Units → List Fields → Option (List Primitive)
+primitives_of unit [] = Some []
+primitives_of unit (f ∷ fs) = option_and_then (λ q. option_map (λ qs. q ∷ qs) (primitives_of unit fs)) (coded f.code unit f.values)

@@ -1,0 +1,114 @@
+-- The shape of a macro: a rounded polygon that is inside of its primitives.
+use Rattle.std.specs.Prelude.{◌≡◌, ℕ, ℤ, pos, ◌+ℤ◌, ◌-ℤ◌, ◌/◌, max, min, ◌&&◌, ◌||◌, ◌==◌, not, nat_le, nat_lt, List, [], ◌∷◌, length, if◌then◌else◌, Option, None, Some, option_and_then}
+use Rattle.std.specs.Int.{int_min, int_max}
+use Rattle.std.specs.List.{fold, Contains}
+use Rattle.std.specs.Ordering.{int_eq}
+use Rattle.grid_units.specs.Points.{GridPoint, max_coordinate}
+use Rattle.pad_shapes.specs.Rounded.{GridRounded, Edge, edges, IsInRounded}
+use Rattle.macro_shapes.specs.Primitives.{IsInPrimitive, grid_point, is_same, rounded_of}
+use Rattle.macro_shapes.specs.declared.primitive.Primitive.{Primitive}
+use Rattle.macro_shapes.specs.declared.primitive.Primitive.TheVariants as primitive
+
+-- ---- the border of a polygon
+
+-- the diameter of a circle at this point
+abbrev pub diameter_at : GridPoint → Primitive → Option ℕ
+diameter_at v (primitive.Circle centre diameter) = if is_same centre v then Some diameter else None
+diameter_at v (primitive.VectorLine from to width) = None
+diameter_at v (primitive.CentreLine centre width height) = None
+diameter_at v (primitive.Outline corners) = None
+
+-- the width of a vector line along this edge, in either direction
+abbrev pub width_along : Edge → Primitive → Option ℕ
+width_along e (primitive.Circle centre diameter) = None
+width_along e (primitive.VectorLine from to width) = if (is_same from e.from && is_same to e.to) || (is_same from e.to && is_same to e.from) then Some width else None
+width_along e (primitive.CentreLine centre width height) = None
+width_along e (primitive.Outline corners) = None
+
+-- the greater of two sizes, of which one or both may lack
+abbrev pub greatest : Option ℕ → Option ℕ → Option ℕ
+greatest None b = b
+greatest (Some a) None = Some a
+greatest (Some a) (Some b) = Some (max a b)
+
+-- the lesser of two sizes, where none lacks
+abbrev pub least : Option ℕ → Option ℕ → Option ℕ
+least None b = None
+least (Some a) None = None
+least (Some a) (Some b) = Some (min a b)
+
+-- the greatest diameter of the circles at a point
+abbrev pub disc_at : List Primitive → GridPoint → Option ℕ
+disc_at qs v = fold (λ found q. greatest found (diameter_at v q)) None qs
+
+-- the greatest width of the vector lines along an edge
+abbrev pub line_along : List Primitive → Edge → Option ℕ
+line_along qs e = fold (λ found q. greatest found (width_along e q)) None qs
+
+-- the least of the circles at the corners
+abbrev pub discs_at : List Primitive → GridRounded → Option ℕ
+discs_at qs r = fold (λ found v. least found (disc_at qs v)) (disc_at qs r.first) r.others
+
+-- the least of the circles at the corners and of the vector lines along the edges, where none of them lacks; one corner has no edge
+abbrev pub border : List Primitive → GridRounded → Option ℕ
+border qs r = if length r.others == 0 then discs_at qs r else fold (λ found e. least found (line_along qs e)) (discs_at qs r) (edges r)
+
+-- ---- rectangles
+
+-- the rectangle with these sides
+abbrev pub rectangle_of : ℤ → ℤ → ℤ → ℤ → Option GridRounded
+rectangle_of left bottom right top =
+    option_and_then (λ a. option_and_then (λ b. option_and_then (λ c. option_and_then (λ d. rounded_of a (b ∷ c ∷ d ∷ []) 0) (grid_point left top)) (grid_point right top)) (grid_point right bottom)) (grid_point left bottom)
+
+-- the rectangle about a centre
+abbrev pub rectangle_about : GridPoint → ℕ → ℕ → Option GridRounded
+rectangle_about c width height =
+    if nat_le width max_coordinate && nat_le height max_coordinate
+    then rectangle_of (c.x -ℤ pos (width / 2)) (c.y -ℤ pos (height / 2)) (c.x +ℤ pos (width / 2)) (c.y +ℤ pos (height / 2)) else None
+
+-- the rectangle about a line along an axis
+abbrev pub rectangle_along : GridPoint → GridPoint → ℕ → Option GridRounded
+rectangle_along a b width =
+    if not (nat_le width max_coordinate) then None
+    else if int_eq a.y b.y then rectangle_of (int_min a.x b.x) (a.y -ℤ pos (width / 2)) (int_max a.x b.x) (a.y +ℤ pos (width / 2))
+    else if int_eq a.x b.x then rectangle_of (a.x -ℤ pos (width / 2)) (int_min a.y b.y) (a.x +ℤ pos (width / 2)) (int_max a.y b.y) else None
+
+-- ---- shapes
+
+-- the ends of a line after the first one: none where they are equal
+abbrev pub other_end : GridPoint → GridPoint → List GridPoint
+other_end a b = if is_same a b then [] else b ∷ []
+
+-- the line with round ends where there are circles at both ends and a line between them, or the line with square ends along an axis
+abbrev pub rounded_or_along : GridPoint → GridPoint → ℕ → Option ℕ → Option GridRounded
+rounded_or_along a b width None = rectangle_along a b width
+rounded_or_along a b width (Some size) = rounded_of a (other_end a b) size
+
+-- the shape of a vector line, by the circles at its ends and the lines between them
+abbrev pub line_shape : List Primitive → GridPoint → GridPoint → ℕ → Option GridRounded
+line_shape qs a b width = rounded_or_along a b width (border qs (record { first = a; others = other_end a b; radius = 0 }))
+
+-- a size, or 0
+abbrev pub or_0 : Option ℕ → ℕ
+or_0 None = 0
+or_0 (Some n) = n
+
+-- the outline with its border, and without one where a circle or a line lacks; a flat outline has no shape without a border
+abbrev pub with_border : GridRounded → ℕ → Option GridRounded
+with_border r size = if nat_lt 1 (length r.others) || nat_lt 0 size then rounded_of r.first r.others size else None
+
+-- the shape of these primitives by this one of them
+abbrev pub shape_from : List Primitive → Primitive → Option GridRounded
+shape_from qs (primitive.Circle centre diameter) = rounded_of centre [] diameter
+shape_from qs (primitive.VectorLine from to width) = line_shape qs from to width
+shape_from qs (primitive.CentreLine centre width height) = rectangle_about centre width height
+shape_from qs (primitive.Outline corners) = with_border corners (or_0 (border qs corners))
+
+-- the shape of a macro with these primitives, by its first one; the others, all dark, only add to it
+abbrev pub shape_of : List Primitive → Option GridRounded
+shape_of [] = None
+shape_of (q ∷ qs) = shape_from (q ∷ qs) q
+
+-- each point of a macro's shape is a point of one of its primitives
+abbrev pub ShapeIsInPrimitives : Type 0
+ShapeIsInPrimitives = (qs : List Primitive) (s : GridRounded) → shape_of qs ≡ Some s → (p : GridPoint) → IsInRounded s p → (q : Primitive) × Contains qs q × IsInPrimitive q p

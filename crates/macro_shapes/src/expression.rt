@@ -1,0 +1,50 @@
+//! Expressions of a macro: their values.
+
+ghost use Rattle.std.specs.Prelude.{◌≡◌, ◌↔◌, ℤ, [], Some};
+ghost use Rattle.macro_shapes.specs.Values.{lookup, IsValue};
+ghost use Rattle.macro_shapes.specs.Inner.Reading.{start, run};
+ghost use Rattle.macro_shapes.specs.Inner.Pieces.{value_of};
+
+use crate::reading::Reading;
+use crate::sign::sign_of;
+use crate::variables::Variables;
+use grid_units::Dec;
+
+/// The longest text of an expression, in bytes.
+const MAX_TEXT: usize = 1_000;
+
+/// The exact value of an expression, in units of 10^-8 of the file's unit. `None` where the text is no expression of at most
+/// 1,000 bytes and 16 brackets in each other, where a variable has no value, or where a step has no exact value in range
+/// (Gerber format, Aperture macro AM, Arithmetic expressions).
+pub fn value(text: &[u8], variables: &Variables) -> Option<Dec>
+    ensures { (v : ℤ) → (result ≡ Some v) ↔ IsValue (lookup variables.now) text.now v }
+{
+    read(text, variables)
+}
+
+/// The exact value of an expression.
+#[tactic(auto, unfolding(crate::specs::Inner::Pieces::value_of))]
+pub(crate) fn read(text: &[u8], variables: &Variables) -> Option<Dec>
+    ensures { result ≡ value_of (lookup variables.now) text.now }
+{
+    if MAX_TEXT < text.len() {
+        return None;
+    }
+    scan(text, variables)
+}
+
+/// Reads an expression sign by sign.
+fn scan(text: &[u8], variables: &Variables) -> Option<Dec>
+    ensures { result ≡ run (lookup variables.now) start [] text.now }
+{
+    let mut reading = Reading::new();
+    let mut begin = 0;
+    for (i, byte) in text.iter().enumerate() {
+        let Some(sign) = sign_of(*byte) else {
+            continue;
+        };
+        reading.step(&text[begin..i], sign, variables)?;
+        begin = i + 1;
+    }
+    reading.finish(&text[begin..], variables)
+}

@@ -1,0 +1,216 @@
+//! Outlines of a macro: the polygons that closed runs of points go round.
+
+ghost use Rattle.std.specs.Prelude.{◌≡◌, ◌<◌, IfOk, option_map, reverse, length};
+ghost use Rattle.macro_shapes.specs.Primitives.{is_same, is_count, run_of, is_closed, moves_from, stops, are_different, rounded_of, polygon_of, either_way, outline_of, outline_at, outline};
+ghost use Rattle.std.specs.List.{list_any};
+
+use crate::primitive::{Primitive, dark_turns, placed};
+use grid_units::{Dec, Point, Unit};
+use pad_shapes::{MAX_CORNERS, Rounded};
+use std::alloc::{AllocError, Global};
+
+/// Whether two points are equal.
+pub(crate) fn is_same(a: Point, b: Point) -> bool
+    ensures { result ≡ is_same a b }
+{
+    a.x() == b.x() && a.y() == b.y()
+}
+
+/// Whether these are the coordinates of 3 to 4096 points and of the first one again, and the count says of how many.
+fn is_count(count: Dec, coordinates: usize) -> bool
+    ensures { result ≡ is_count count coordinates }
+{
+    if coordinates < 8 || 8_194 < coordinates {
+        return false;
+    }
+    let sides = (coordinates / 2 - 1) as i64;
+    coordinates % 2 == 0 && count.units() == sides * 100_000_000
+}
+
+/// The points of values by twos, or `None` where one is no point or a value is left over.
+fn run_of(
+    alloc: Global,
+    unit: Unit,
+    turns: u8,
+    values: &[Dec],
+) -> Result<Option<Vec<Point>>, AllocError>
+    ensures { IfOk result (λ answer. option_map (λ run. run.items) answer ≡ run_of unit turns values.now) }
+{
+    let mut run = Vec::new(alloc);
+    let mut left = values;
+    while let [x, y, rest @ ..] = left {
+        let Some(point) = placed(unit, turns, *x, *y) else {
+            return Ok(None);
+        };
+        run.push(point)?;
+        left = rest;
+    }
+    if left.is_empty() {
+        Ok(Some(run))
+    } else {
+        Ok(None)
+    }
+}
+
+/// Whether the last point of a run is the first one.
+fn is_closed(run: &[Point]) -> bool
+    ensures { result ≡ is_closed run.now }
+{
+    if run.is_empty() {
+        return false;
+    }
+    is_same(run[0], run[run.len() - 1])
+}
+
+/// Those points that are not the same as the one before them.
+fn moves_from(alloc: Global, before: Point, run: &[Point]) -> Result<Vec<Point>, AllocError>
+    ensures { IfOk result (λ kept. kept.items ≡ moves_from before run.now) }
+{
+    let mut kept = Vec::new(alloc);
+    let mut last = before;
+    for point in run {
+        if !is_same(*point, last) {
+            kept.push(*point)?;
+        }
+        last = *point;
+    }
+    Ok(kept)
+}
+
+/// The points of a closed run, each once, or its one point.
+fn stops(alloc: Global, run: &[Point]) -> Result<Vec<Point>, AllocError>
+    requires { 0 < length run.now }
+    ensures { IfOk result (λ found. found.items ≡ stops run.now) }
+{
+    let mut found = moves_from(alloc, run[0], run)?;
+    if found.is_empty() {
+        found.push(run[0])?;
+    }
+    Ok(found)
+}
+
+/// Whether a point is among others.
+fn is_among(point: Point, others: &[Point]) -> bool
+    ensures { result ≡ list_any (is_same point) others.now }
+{
+    for other in others {
+        if is_same(point, *other) {
+            return true;
+        }
+    }
+    false
+}
+
+/// Whether no two points are equal.
+fn are_different(points: &[Point]) -> bool
+    ensures { result ≡ are_different points.now }
+{
+    let mut left = points;
+    while let [point, rest @ ..] = left {
+        if is_among(*point, rest) {
+            return false;
+        }
+        left = rest;
+    }
+    true
+}
+
+/// The rounded polygon of these corners with half of a size for its radius, where there is one.
+pub(crate) fn rounded_of(first: Point, others: Vec<Point>, size: u64) -> Option<Rounded>
+    ensures { result ≡ rounded_of first others.items size }
+{
+    Rounded::new(first, others, (size / 2) as i64)
+}
+
+/// The polygon of corners in this order, where there is one.
+fn polygon_of(alloc: Global, corners: &[Point]) -> Result<Option<Rounded>, AllocError>
+    ensures { IfOk result (λ answer. answer ≡ polygon_of corners.now) }
+{
+    match corners {
+        [] => Ok(None),
+        [first, others @ ..] => {
+            let others = others.iter().copied().collect(alloc)?;
+            Ok(rounded_of(*first, others, 0))
+        }
+    }
+}
+
+/// The points of a run from its last one back.
+fn reversed(alloc: Global, run: &[Point]) -> Result<Vec<Point>, AllocError>
+    ensures { IfOk result (λ found. found.items ≡ reverse run.now) }
+{
+    run.iter().rev().copied().collect(alloc)
+}
+
+/// The polygon that different corners go round once, in this order or the other way.
+fn either_way(alloc: Global, corners: &[Point]) -> Result<Option<Rounded>, AllocError>
+    ensures { IfOk result (λ answer. answer ≡ either_way corners.now) }
+{
+    if MAX_CORNERS < corners.len() || !are_different(corners) {
+        return Ok(None);
+    }
+    match polygon_of(alloc, corners)? {
+        Some(found) => Ok(Some(found)),
+        None => {
+            let back = reversed(alloc, corners)?;
+            polygon_of(alloc, &back)
+        }
+    }
+}
+
+/// The outline of a run of points, where it is judged.
+fn outline_of(alloc: Global, run: &[Point]) -> Result<Option<Primitive>, AllocError>
+    ensures { IfOk result (λ answer. answer ≡ outline_of run.now) }
+{
+    if !is_closed(run) {
+        return Ok(None);
+    }
+    let corners = stops(alloc, run)?;
+    match either_way(alloc, &corners)? {
+        Some(found) => Ok(Some(Primitive::Outline(found))),
+        None => Ok(None),
+    }
+}
+
+/// An outline.
+fn outline_at(
+    alloc: Global,
+    unit: Unit,
+    exposure: Dec,
+    count: Dec,
+    coordinates: &[Dec],
+    rotation: Dec,
+) -> Result<Option<Primitive>, AllocError>
+    ensures { IfOk result (λ answer. answer ≡ outline_at unit exposure count coordinates.now rotation) }
+{
+    if !is_count(count, coordinates.len()) {
+        return Ok(None);
+    }
+    let Some(turns) = dark_turns(exposure, rotation) else {
+        return Ok(None);
+    };
+    let Some(run) = run_of(alloc, unit, turns, coordinates)? else {
+        return Ok(None);
+    };
+    outline_of(alloc, &run)
+}
+
+/// The outline that values spell.
+pub(crate) fn outline(
+    alloc: Global,
+    unit: Unit,
+    values: &[Dec],
+) -> Result<Option<Primitive>, AllocError>
+    ensures { IfOk result (λ answer. answer ≡ outline unit values.now) }
+{
+    match values {
+        [exposure, count, rest @ ..] => {
+            if rest.is_empty() {
+                return Ok(None);
+            }
+            let last = rest.len() - 1;
+            outline_at(alloc, unit, *exposure, *count, &rest[..last], rest[last])
+        }
+        _ => Ok(None),
+    }
+}

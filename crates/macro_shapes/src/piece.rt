@@ -1,0 +1,123 @@
+//! The pieces of a macro: comments, definitions of variables, and primitives.
+
+ghost use Rattle.std.specs.Prelude.{◌≡◌, ◌≤◌, ◌<◌, ◌∷◌, length, option_map, IfSome, position, ◌==◌};
+ghost use Rattle.std.specs.Option.{option_copied};
+ghost use Rattle.macro_shapes.specs.Pieces.{split_by, goes_on, is_comment, variable_number, defined, definition, code_of};
+ghost use Rattle.macro_shapes.specs.Inner.Parts.{split_by_if};
+
+use grid_units::numbers::{capped_value, digit_run_len, is_digits, is_number_char};
+
+/// The code of a primitive that is judged (Gerber format, Aperture macro AM).
+#[derive(Clone, Copy, Debug, PartialEq, Eq)]
+pub enum Code {
+    /// 1: a circle.
+    Circle,
+    /// 20: a line with a width and straight ends.
+    VectorLine,
+    /// 21: a rectangle by its centre.
+    CentreLine,
+    /// 4: an area by the points of its outline.
+    Outline,
+}
+
+/// Whether a field goes on.
+fn goes_on(rest: &[u8]) -> bool
+    ensures { result ≡ goes_on rest.now }
+{
+    match rest {
+        [] => false,
+        [byte, ..] => is_number_char(*byte) || *byte == b',',
+    }
+}
+
+/// Whether a piece is a comment.
+pub(crate) fn is_comment(piece: &[u8]) -> bool
+    ensures { result ≡ is_comment piece.now }
+{
+    match piece {
+        [b'0', rest @ ..] => !goes_on(rest),
+        _ => false,
+    }
+}
+
+/// The number of a variable, from 1 to 999, of these digits.
+fn variable_number(digits: &[u8]) -> Option<usize>
+    ensures value { result ≡ variable_number digits.now }
+    ensures low { IfSome result (λ n. 1 ≤ n) }
+    ensures high { IfSome result (λ n. n ≤ 999) }
+{
+    if !is_digits(digits) {
+        return None;
+    }
+    let number = capped_value(digits, 1_000);
+    if 1 <= number && number <= 999 {
+        Some(number as usize)
+    } else {
+        None
+    }
+}
+
+/// A variable and the expression after `=`.
+fn defined<'a>(digits: &[u8], rest: &'a [u8]) -> Option<(usize, &'a [u8])>
+    ensures value { option_map (λ d. (d.0, d.1.now)) result ≡ defined digits.now rest.now }
+    ensures low { IfSome result (λ d. 1 ≤ d.0) }
+    ensures high { IfSome result (λ d. d.0 ≤ 999) }
+{
+    match rest {
+        [b'=', text @ ..] => match variable_number(digits) {
+            Some(number) => Some((number, text)),
+            None => None,
+        },
+        _ => None,
+    }
+}
+
+/// The variable that a piece defines, and the expression of its value.
+pub(crate) fn definition(piece: &[u8]) -> Option<(usize, &[u8])>
+    ensures value { option_map (λ d. (d.0, d.1.now)) result ≡ definition piece.now }
+    ensures low { IfSome result (λ d. 1 ≤ d.0) }
+    ensures high { IfSome result (λ d. d.0 ≤ 999) }
+{
+    match piece {
+        [b'$', rest @ ..] => {
+            let (digits, after) = rest.split_at(digit_run_len(rest));
+            defined(digits, after)
+        }
+        _ => None,
+    }
+}
+
+/// The primitive of a code, where it is judged.
+pub(crate) fn code_of(text: &[u8]) -> Option<Code>
+    ensures { result ≡ code_of text.now }
+{
+    if text == b"1".as_slice() {
+        Some(Code::Circle)
+    } else if text == b"20".as_slice() {
+        Some(Code::VectorLine)
+    } else if text == b"21".as_slice() {
+        Some(Code::CentreLine)
+    } else if text == b"4".as_slice() {
+        Some(Code::Outline)
+    } else {
+        None
+    }
+}
+
+/// The offset of the first byte that divides a text.
+fn separator_at(at: u8, text: &[u8]) -> Option<usize>
+    ensures { result ≡ position (λ b. b == at) text.now }
+{
+    text.iter().position(|byte| *byte == at)
+}
+
+/// The first part of a text, and what follows the byte that divides it.
+pub(crate) fn split_first(at: u8, text: &[u8]) -> (&[u8], Option<&[u8]>)
+    ensures parts { split_by at text.now ≡ result.0.now ∷ split_by_if at (option_copied result.1) }
+    ensures shorter { IfSome result.1 (λ rest. length rest.now < length text.now) }
+{
+    match separator_at(at, text) {
+        Some(i) => (&text[..i], Some(&text[i + 1..])),
+        None => (text, None),
+    }
+}

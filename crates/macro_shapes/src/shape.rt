@@ -1,0 +1,296 @@
+//! The shape of a macro: a rounded polygon that is inside of its primitives.
+
+ghost use Rattle.std.specs.Prelude.{◌≡◌, IfOk};
+ghost use Rattle.macro_shapes.specs.Shapes.{diameter_at, width_along, greatest, least, disc_at, line_along, discs_at, border, rectangle_of, rectangle_about, rectangle_along, other_end, rounded_or_along, line_shape, or_0, with_border, shape_from, shape_of};
+
+use crate::outline::{is_same, rounded_of};
+use crate::primitive::{Primitive, grid_point};
+use grid_units::Point;
+use pad_shapes::Rounded;
+use std::alloc::{AllocError, Global};
+
+/// The largest side of a primitive in pm: ten metres.
+const MAX_SIDE: u64 = 10_000_000_000_000;
+
+/// The diameter of a primitive that is a circle at this point.
+fn diameter_at(point: Point, primitive: &Primitive) -> Option<u64>
+    ensures { result ≡ diameter_at point primitive.now }
+{
+    match primitive {
+        Primitive::Circle { centre, diameter } => {
+            if is_same(*centre, point) {
+                Some(*diameter)
+            } else {
+                None
+            }
+        }
+        Primitive::VectorLine { .. } => None,
+        Primitive::CentreLine { .. } => None,
+        Primitive::Outline(_) => None,
+    }
+}
+
+/// The width of a primitive that is a vector line along an edge, in either direction.
+fn width_along(start: Point, end: Point, primitive: &Primitive) -> Option<u64>
+    ensures { result ≡ width_along (record { from = start; to = end }) primitive.now }
+{
+    match primitive {
+        Primitive::VectorLine { from, to, width } => {
+            let is_along = (is_same(*from, start) && is_same(*to, end))
+                || (is_same(*from, end) && is_same(*to, start));
+            if is_along { Some(*width) } else { None }
+        }
+        Primitive::Circle { .. } => None,
+        Primitive::CentreLine { .. } => None,
+        Primitive::Outline(_) => None,
+    }
+}
+
+/// The greater of two sizes, of which one or both may lack.
+fn greatest(a: Option<u64>, b: Option<u64>) -> Option<u64>
+    ensures { result ≡ greatest a b }
+{
+    match (a, b) {
+        (None, b) => b,
+        (Some(a), None) => Some(a),
+        (Some(a), Some(b)) => Some(a.max(b)),
+    }
+}
+
+/// The lesser of two sizes, where none lacks.
+fn least(a: Option<u64>, b: Option<u64>) -> Option<u64>
+    ensures { result ≡ least a b }
+{
+    match (a, b) {
+        (None, _) => None,
+        (Some(_), None) => None,
+        (Some(a), Some(b)) => Some(a.min(b)),
+    }
+}
+
+/// The greatest diameter of the circles at a point.
+fn disc_at(primitives: &[Primitive], point: Point) -> Option<u64>
+    ensures { result ≡ disc_at primitives.now point }
+{
+    let mut found = None;
+    for primitive in primitives {
+        found = greatest(found, diameter_at(point, primitive));
+    }
+    found
+}
+
+/// The greatest width of the vector lines along an edge.
+fn line_along(primitives: &[Primitive], start: Point, end: Point) -> Option<u64>
+    ensures { result ≡ line_along primitives.now (record { from = start; to = end }) }
+{
+    let mut found = None;
+    for primitive in primitives {
+        found = greatest(found, width_along(start, end, primitive));
+    }
+    found
+}
+
+/// The least of the circles at the corners, where none lacks.
+fn discs_at(primitives: &[Primitive], first: Point, others: &[Point]) -> Option<u64>
+    ensures { result ≡ discs_at primitives.now (record { first = first; others = others.now; radius = 0 }) }
+{
+    let mut found = disc_at(primitives, first);
+    for corner in others {
+        found = least(found, disc_at(primitives, *corner));
+    }
+    found
+}
+
+/// The least of the circles at the corners and of the vector lines along the edges, where none of them lacks.
+fn border(primitives: &[Primitive], first: Point, others: &[Point]) -> Option<u64>
+    ensures { result ≡ border primitives.now (record { first = first; others = others.now; radius = 0 }) }
+{
+    let mut found = discs_at(primitives, first, others);
+    if others.is_empty() {
+        return found;
+    }
+    let mut from = first;
+    for to in others {
+        found = least(found, line_along(primitives, from, *to));
+        from = *to;
+    }
+    least(found, line_along(primitives, from, first))
+}
+
+/// The rectangle with these sides in pm, where there is one.
+fn rectangle_of(
+    alloc: Global,
+    left: i64,
+    bottom: i64,
+    right: i64,
+    top: i64,
+) -> Result<Option<Rounded>, AllocError>
+    ensures { IfOk result (λ answer. answer ≡ rectangle_of left bottom right top) }
+{
+    let Some(first) = grid_point(left, bottom) else {
+        return Ok(None);
+    };
+    let Some(second) = grid_point(right, bottom) else {
+        return Ok(None);
+    };
+    let Some(third) = grid_point(right, top) else {
+        return Ok(None);
+    };
+    let Some(fourth) = grid_point(left, top) else {
+        return Ok(None);
+    };
+    let others = Vec::from_array(alloc, [second, third, fourth])?;
+    Ok(rounded_of(first, others, 0))
+}
+
+/// The rectangle about a centre.
+fn rectangle_about(
+    alloc: Global,
+    centre: Point,
+    width: u64,
+    height: u64,
+) -> Result<Option<Rounded>, AllocError>
+    ensures { IfOk result (λ answer. answer ≡ rectangle_about centre width height) }
+{
+    if MAX_SIDE < width || MAX_SIDE < height {
+        return Ok(None);
+    }
+    let x = (width / 2) as i64;
+    let y = (height / 2) as i64;
+    rectangle_of(
+        alloc,
+        centre.x() - x,
+        centre.y() - y,
+        centre.x() + x,
+        centre.y() + y,
+    )
+}
+
+/// The rectangle about a line along an axis.
+fn rectangle_along(
+    alloc: Global,
+    a: Point,
+    b: Point,
+    width: u64,
+) -> Result<Option<Rounded>, AllocError>
+    ensures { IfOk result (λ answer. answer ≡ rectangle_along a b width) }
+{
+    if MAX_SIDE < width {
+        return Ok(None);
+    }
+    let half = (width / 2) as i64;
+    if a.y() == b.y() {
+        let left = a.x().min(b.x());
+        let right = a.x().max(b.x());
+        return rectangle_of(alloc, left, a.y() - half, right, a.y() + half);
+    }
+    if a.x() == b.x() {
+        let bottom = a.y().min(b.y());
+        let top = a.y().max(b.y());
+        return rectangle_of(alloc, a.x() - half, bottom, a.x() + half, top);
+    }
+    Ok(None)
+}
+
+/// The ends of a line after the first one: none where they are equal.
+fn other_end(alloc: Global, a: Point, b: Point) -> Result<Vec<Point>, AllocError>
+    ensures { IfOk result (λ others. others.items ≡ other_end a b) }
+{
+    let mut others = Vec::new(alloc);
+    if !is_same(a, b) {
+        others.push(b)?;
+    }
+    Ok(others)
+}
+
+/// The shape of a vector line.
+fn line_shape(
+    alloc: Global,
+    primitives: &[Primitive],
+    from: Point,
+    to: Point,
+    width: u64,
+) -> Result<Option<Rounded>, AllocError>
+    ensures { IfOk result (λ answer. answer ≡ line_shape primitives.now from to width) }
+{
+    let others = other_end(alloc, from, to)?;
+    match border(primitives, from, &others) {
+        Some(size) => Ok(rounded_of(from, others, size)),
+        None => rectangle_along(alloc, from, to, width),
+    }
+}
+
+/// A size, or 0.
+fn or_0(size: Option<u64>) -> u64
+    ensures { result ≡ or_0 size }
+{
+    match size {
+        Some(size) => size,
+        None => 0,
+    }
+}
+
+/// The outline with a border of this size.
+fn with_border(alloc: Global, corners: &Rounded, size: u64) -> Result<Option<Rounded>, AllocError>
+    ensures { IfOk result (λ answer. answer ≡ with_border corners.now size) }
+{
+    let others = corners.others();
+    if others.len() <= 1 && size == 0 {
+        return Ok(None);
+    }
+    let others = others.iter().copied().collect(alloc)?;
+    Ok(rounded_of(corners.first(), others, size))
+}
+
+/// The shape of an outline.
+fn outline_shape(
+    alloc: Global,
+    primitives: &[Primitive],
+    corners: &Rounded,
+) -> Result<Option<Rounded>, AllocError>
+    ensures { IfOk result (λ answer. answer ≡ with_border corners.now (or_0 (border primitives.now corners.now))) }
+{
+    let size = or_0(border(primitives, corners.first(), corners.others()));
+    with_border(alloc, corners, size)
+}
+
+/// The shape of a macro, by its first primitive.
+fn shape_from(
+    alloc: Global,
+    primitives: &[Primitive],
+    first: &Primitive,
+) -> Result<Option<Rounded>, AllocError>
+    ensures { IfOk result (λ answer. answer ≡ shape_from primitives.now first.now) }
+{
+    match first {
+        Primitive::Circle { centre, diameter } => {
+            Ok(rounded_of(*centre, Vec::new(alloc), *diameter))
+        }
+        Primitive::VectorLine { from, to, width } => {
+            line_shape(alloc, primitives, *from, *to, *width)
+        }
+        Primitive::CentreLine {
+            centre,
+            width,
+            height,
+        } => rectangle_about(alloc, *centre, *width, *height),
+        Primitive::Outline(corners) => outline_shape(alloc, primitives, corners),
+    }
+}
+
+/// The shape of a macro with these primitives, by its first one, or `None` where it is not judged. A circle is a disc, a vector
+/// line with circles at both ends a line with round ends, a vector line along an axis or a centre line a rectangle, and an
+/// outline a convex polygon: rounded by half of the least of the circles at its corners and of the vector lines along its edges,
+/// where none of them lacks.
+///
+/// # Errors
+///
+/// An `AllocError` where there is no memory for it.
+pub fn macro_shape(alloc: Global, primitives: &[Primitive]) -> Result<Option<Rounded>, AllocError>
+    ensures { IfOk result (λ answer. answer ≡ shape_of primitives.now) }
+{
+    match primitives {
+        [] => Ok(None),
+        [first, ..] => shape_from(alloc, primitives, first),
+    }
+}
