@@ -55,8 +55,8 @@ def with_those_above(crates, changed):
 
 
 class Plan:
-    """In which order crates are proved: each once those below it are, and of these first the one with the most to be proved above it. What no other
-    crate has a use for goes to its jobs: processors, and memory in MB. `seconds` has what is to be proved, the program too."""
+    """In which order crates are proved: each once those below it are, and first the one with the most to be proved above it. It gets more
+    jobs where processors and memory, in MB, would lie idle. `seconds` has what is to be proved, the program too."""
 
     def __init__(self, crates, seconds, memory, processors, free):
         self.below, self.seconds, self.memory, self.processors, self.free = all_below(crates), seconds, memory, processors, free
