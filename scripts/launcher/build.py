@@ -161,7 +161,7 @@ class Build:
                 for name in list(at_work):
                     self.hear(name, waiting, at_work, free)
                 names = ", ".join(at_work)
-                self.tell_progress(f"proving {names}", [it for _, _, it in at_work.values()])
+                self.tell_progress(f"proving {names}", [call for _, _, _, call in at_work.values()])
         finally:
             for name in list(at_work):
                 self.take_away(name, at_work)
@@ -170,16 +170,17 @@ class Build:
                 os.close(it)
 
     def begin_what_is_ready(self, waiting, at_work, free):
-        while begun := self.plan.next(waiting, {it: jobs for it, (jobs, _, _) in at_work.items()}):
+        while begun := self.plan.next(waiting, {it: jobs for it, (jobs, _, _, _) in at_work.items()}):
             name, jobs = begun
             waiting.remove(name)
             room = free.pop()
             folder = room.enter(name, self.plan.below[name])
-            at_work[name] = jobs, room, Call(self, ["lib", "--jobs", str(jobs)], folder, f"{room.top}/log")
+            has_others_beside = self.plan.processors > 1
+            at_work[name] = jobs, has_others_beside, room, Call(self, ["lib", "--jobs", str(jobs)], folder, f"{room.top}/log")
 
     def take_away(self, name, at_work):
         """Ends what is at work at a crate, puts what it left where the crate is, and what it said into the log."""
-        _, room, call = at_work.pop(name)
+        _, _, room, call = at_work.pop(name)
         call.has_ended()
         call.end()
         room.leave(name)
@@ -188,7 +189,7 @@ class Build:
         return room, call
 
     def hear(self, name, waiting, at_work, free):
-        _, _, call = at_work[name]
+        _, has_others_beside, _, call = at_work[name]
         has_ended = call.has_ended()
         self.fail_where_refused(call.said)
         if not has_ended:
@@ -198,7 +199,7 @@ class Build:
         if not call.rt.returncode:
             self.progress.finish(name, time.monotonic() - self.start)
             self.tell(f"proved {name}: {self.proved()}, {self.left()} left")
-        elif progress.was_killed(call.rt.returncode) and self.plan.processors > 1:
+        elif progress.was_killed(call.rt.returncode) and has_others_beside:
             waiting.append(name)
             self.plan.processors = 1
             self.tell(f"the check of {name} was killed, most likely for memory: from now on one at a time")
