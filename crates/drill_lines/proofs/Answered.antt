@@ -22,7 +22,7 @@ use Rattle.drill_lines.specs.declared.command.DrillCommand.{DrillCommand}
 use Rattle.drill_lines.specs.declared.command.DrillCommand.TheVariants.{Comment, Start, UnitLine, Tool, HeaderEnd, UnitCode, Pick, Hit, Slot, Finish}
 use Rattle.drill_lines.specs.Formats.{Digits, AreDigitCounts}
 use Rattle.drill_lines.specs.Tools.{is_diameter_letter, is_tool_letter, is_skipped_letter, begins_with, are_fields, tool_number, diameter_of, diameter_run, tool_fields, tool_line, pick_fields, pick_line}
-use Rattle.drill_lines.specs.HoleLines.{coordinate, field, Runs, runs_of, has_run, coordinates, slot_line, hole_from, hole_line}
+use Rattle.drill_lines.specs.HoleLines.{coordinate, field, Runs, runs_of, has_run, coordinates, point_line, slot_line, hole_from, hole_line}
 use Rattle.drill_lines.specs.Meaning.{one_command, lines_before, common_lines, header_ends, body_prefixes, line_in, meaning}
 use Rattle.drill_lines.specs.Writing.{unit_word, zeros_text, pattern_text, canonical, can_give_zeros, IsInRange}
 use Rattle.drill_lines.specs.Grammar.{fixed_lines, unit_words, zeros_words, IsUnitLine, IsNumber, IsToolLine, IsPickLine, IsCoordinate, IsPointText, IsSlotLine}
@@ -222,6 +222,13 @@ point_read s text rest p h ends no_x no_y =
 -- a point that is the whole text
 point_alone : (s : Settings) (text : List ℕ) (p : Coordinates) → IsPointText s text p → IsReadPoint s text [] p
 point_alone s text p h = subst (λ (t : List ℕ). IsReadPoint s t [] p) (append-nil text) (point_read s text [] p h refl refl refl)
+
+pub point_answered : (s : Settings) (text : List ℕ) (p : Coordinates) → IsPointText s text p → point_line s text ≡ Some (Ok p)
+unfolding point_line
+point_answered s text p h =
+    let r = point_alone s text p h in
+    (λ i. cond (has_run (r.cut i).0 && eqb (length (r.cut i).1) 0) (Some (coordinates s (r.cut i).0)) None)
+    ∙ ((λ i. cond (r.named i && true) (Some (coordinates s r.runs)) None) ∙ (λ i. Some (r.reads i)))
 
 -- a line of the body that begins with a point drills
 point_head : (s : Settings) (x y rest : List ℕ) (v w : Option ℤ) → IsCoordinate s (codes "X") x v → IsCoordinate s (codes "Y") y w → (is_some v || is_some w) ≡ true

@@ -11,3 +11,5 @@ pub mod GrammarExamples
 pub mod WrittenFields
 pub mod Written
 pub mod Answered
+pub mod RouteLemmas
+pub mod RouteReads

@@ -24,7 +24,7 @@ use Rattle.drill_lines.specs.declared.command.DrillCommand.TheVariants.{UnitLine
 use Rattle.drill_lines.specs.Formats.{Digits, AreDigitCounts}
 use Rattle.drill_lines.specs.Header.{is_zero, is_digit_count, digit_counts, pattern, pattern_from, unit_format, unit_line}
 use Rattle.drill_lines.specs.Tools.{is_point, is_diameter_letter, is_tool_letter, is_skipped_letter, begins_with, are_fields, tool_number, diameter_of, tool_fields, tool_line, pick_fields, pick_line}
-use Rattle.drill_lines.specs.HoleLines.{coordinate_of, coordinate, field, Runs, runs_of, has_run, coordinates, slot_line, hole_from, hole_line}
+use Rattle.drill_lines.specs.HoleLines.{coordinate_of, coordinate, field, Runs, runs_of, has_run, coordinates, point_line, slot_line, hole_from, hole_line}
 use Rattle.drill_lines.specs.Grammar.{unit_words, zeros_words, IsNumber, IsCoordinate, IsPointText, IsLine}
 use Rattle.drill_lines.proofs.CutLemmas.{nested, run_and_rest, run_passes, rest_fails, before_more, after_more, before_here, after_here, passed}
 use Rattle.drill_lines.proofs.SkippedFields.{is_field_byte, is_skipped_byte, skipped_written, rest_written, count_more}
@@ -267,6 +267,15 @@ whole_point : (s : Settings) (line : List ℕ) (p : Coordinates) → eqb (length
 whole_point s line p none h e =
     let c = cut_point s line p h e in
     subst (λ (l : List ℕ). IsPointText s l p) (sym (c.whole ∙ ap (λ (l : List ℕ). c.text ++ l) (empty_is (runs_of line).1 none) ∙ append-nil c.text)) c.spells
+
+-- a point that is read is so written
+pub point_written : (s : Settings) (line : List ℕ) (p : Coordinates) → point_line s line ≡ Some (Ok p) → IsPointText s line p
+unfolding point_line
+point_written s line p h = by (has_run (runs_of line).0 && eqb (length (runs_of line).1) 0) refl h
+  where
+    by : (t : Bool) → (has_run (runs_of line).0 && eqb (length (runs_of line).1) 0) ≡ t → cond t (Some (coordinates s (runs_of line).0)) None ≡ Some (Ok p) → IsPointText s line p
+    by true e k = let b = both_true (has_run (runs_of line).0) (eqb (length (runs_of line).1) 0) e in let read : coordinates s (runs_of line).0 ≡ Ok p = cc in whole_point s line p b.1 b.0 read
+    by false e k = absurd cc
 
 slot_spelled : (s : Settings) (line rest : List ℕ) → s.part ≡ part.Body → has_run (runs_of line).0 ≡ true → (runs_of line).1 ≡ codes "G85" ++ rest → SpellsOne s line (slot_line s (runs_of line).0 rest)
 unfolding slot_line

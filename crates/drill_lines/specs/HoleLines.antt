@@ -10,7 +10,7 @@ use Rattle.grid_units.specs.declared.zero_filling.Zeros.{Zeros}
 use Rattle.grid_units.specs.declared.zero_filling.Zeros.TheVariants.{Full}
 use Rattle.grid_units.specs.Numbers.{is_number_char, parse_decimal, parse_zero_filled}
 use Rattle.grid_units.specs.Results.{◌>>=◌, both}
-use Rattle.grid_units.specs.Rows.{first_match_or, strip_prefix}
+use Rattle.grid_units.specs.Rows.{RowOf, first_match_or, strip_prefix}
 use Rattle.drill_lines.specs.declared.command.Coordinates.{Coordinates}
 use Rattle.drill_lines.specs.declared.command.Settings.{Settings}
 use Rattle.drill_lines.specs.declared.command.DrillCommand.{DrillCommand}
@@ -67,6 +67,10 @@ has_run runs = is_some runs.x || is_some runs.y
 -- the coordinates of these runs, or the first reason in the reading order
 unfoldable pub coordinates : Settings → Runs → Result Coordinates Reason
 coordinates settings runs = both (coordinate settings runs.x) (coordinate settings runs.y) >>= λ p. Ok (record { x = p.0; y = p.1 })
+
+-- the row of bytes that are a point alone, [`X` run] [`Y` run] with at least one of them: `X1.0Y2.0`, `Y2.0`
+unfoldable pub point_line : Settings → List ℕ → RowOf Coordinates
+point_line settings line = if has_run (runs_of line).0 && (length (runs_of line).1 == 0) then Some (coordinates settings (runs_of line).0) else None
 
 -- a slot from this point, by what follows its `G85`: `Y1.0` of `X2.0G85Y1.0`
 unfoldable pub slot_line : Settings → Runs → List ℕ → Result DrillCommand Reason

@@ -7,3 +7,7 @@ pub mod Meaning
 pub mod Writing
 pub mod Grammar
 pub mod Laws
+pub mod Routes
+pub mod RouteGrammar
+pub mod Inner
+pub mod LineReading

@@ -3,7 +3,7 @@
 ghost use Rattle.std.specs.Prelude.{◌≡◌};
 ghost use Rattle.std.specs.Option.{option_copied};
 ghost use Rattle.drill_lines.specs.Formats.{AreDigitCounts};
-ghost use Rattle.drill_lines.specs.HoleLines.{default_format, format_in, zeros_in, coordinate_of, coordinate, field, coordinates, slot_line, hole_from, hole_line};
+ghost use Rattle.drill_lines.specs.HoleLines.{default_format, format_in, zeros_in, coordinate_of, coordinate, field, coordinates, point_line, slot_line, hole_from, hole_line};
 
 use crate::command::{Coordinates, DrillCommand, DrillFormat, Settings};
 use crate::tools::has_point;
@@ -87,6 +87,19 @@ fn coordinates(
 {
     let (x, y) = both(coordinate(settings, x), coordinate(settings, y))?;
     Ok(Coordinates::new(x, y))
+}
+
+/// The point that bytes name, or the first reason in the reading order; `None` where they are no point.
+#[tactic(auto, unfolding(crate::specs::HoleLines::point_line))]
+pub(crate) fn point_line(settings: &Settings, line: &[u8]) -> Option<Result<Coordinates, Reason>>
+    ensures { result ≡ point_line settings.now line.now }
+{
+    let (x, rest) = field(b'X', line);
+    let (y, rest) = field(b'Y', rest);
+    if (x.is_none() && y.is_none()) || !rest.is_empty() {
+        return None;
+    }
+    Some(coordinates(settings, x, y))
 }
 
 /// A slot from a point, by what follows its `G85`.

@@ -7,6 +7,8 @@ mod header;
 mod hole_lines;
 mod laws;
 mod line;
+mod line_reader;
+mod route;
 mod tools;
 
 pub use canonical::{is_sayable, write_line};
@@ -14,3 +16,4 @@ pub use command::{Coordinates, DrillCommand, DrillFormat, OptionalDec, Part, Set
 pub use header::file_format;
 pub use laws::line_grammar;
 pub use line::read_line;
+pub use line_reader::{LineReader, Profile};

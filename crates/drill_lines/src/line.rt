@@ -203,7 +203,7 @@ fn begins_comment(part: Part, first: u8) -> bool
 
 /// The command that a line without blanks at its end spells, if it spells one.
 #[tactic(auto, unfolding(crate::specs::Meaning::meaning))]
-fn read_trimmed(
+pub(crate) fn read_trimmed(
     alloc: Global,
     settings: Settings,
     line: &[u8],

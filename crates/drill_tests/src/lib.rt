@@ -4,6 +4,8 @@
 #[cfg(test)]
 mod drill_pieces;
 #[cfg(test)]
+mod drill_profiles;
+#[cfg(test)]
 mod drill_text_calls;
 #[cfg(test)]
 mod drill_writing;

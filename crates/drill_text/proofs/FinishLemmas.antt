@@ -1,5 +1,5 @@
 -- The end of a text, from what a reader holds.
-use Rattle.std.proofs.Common.{◌≡◌, ℕ, suc, ◌+◌, ◌≤◌, true, false, cond, ltb, List, length, Result, Ok, Err, sym, ap, subst, ◌∙◌, arith, inl, inr}
+use Rattle.std.proofs.Common.{◌≡◌, ℕ, suc, ◌≤◌, true, false, cond, ltb, List, length, Result, Ok, Err, sym, ap, subst, ◌∙◌, arith, inl, inr}
 use Rattle.std.specs.List.{list_any}
 use Rattle.std.proofs.lemmas.List.{take_all}
 use Rattle.std.proofs.lemmas.Bool.{le-ltb}
@@ -8,53 +8,53 @@ use Rattle.grid_units.specs.declared.fault.Fault.{Fault}
 use Rattle.grid_units.specs.declared.fault.Fail.{Fail}
 use Rattle.grid_units.specs.declared.fault.Fail.TheVariants as fails
 use Rattle.grid_units.specs.declared.fault.Reason.TheVariants.{TooLong, Truncated}
+use Rattle.drill_lines.specs.declared.line_reader.Profile.{Profile}
+use Rattle.drill_lines.specs.declared.line_reader.Profile.TheVariants.{Strict}
 use Rattle.drill_text.specs.declared.kept.Keep.{Keep}
 use Rattle.drill_text.specs.declared.reader.Progress.{Progress}
-use Rattle.drill_text.specs.Lines.{bytes_of, Splits}
+use Rattle.drill_text.specs.Lines.{Splits}
 use Rattle.grid_units.specs.Results.{◌>>=◌, fault, Answers, IfFault}
-use Rattle.drill_text.specs.Reading.{shown, spelled, ended, is_finish, place_after_count, Reads, Shows}
-use Rattle.drill_text.specs.Keeping.{HasRead}
+use Rattle.drill_text.specs.Reading.{ended, is_finish, place_after_count, Shows}
+use Rattle.drill_text.specs.Profiles.{shown_by, with_rest, ReadsIn, ReadsAsIn, ShowsIn}
 use Rattle.drill_text.specs.Outcome.{DrillFile, file_of}
 use Rattle.drill_text.specs.Texts.{ReadsAs}
 use Rattle.drill_text.specs.Holding.{Holds}
 use Rattle.grid_units.proofs.ResultLemmas.{bind_err, guard_err}
 use Rattle.grid_units.specs.Limits.{text_limit}
+use Rattle.drill_text.proofs.ProfileLemmas.{strictly_shows, reads_strictly}
 
-ends_with : ℕ → List (List ℕ) → List ℕ → List DrillCommand → Result (List DrillCommand) Fault
-ends_with len lines rest commands = cond (ltb text_limit len) (Err (fault (suc (length lines)) text_limit TooLong)) (spelled (suc (length lines)) (length (bytes_of lines)) rest commands >>= ended len lines rest)
+ends_with : Profile → ℕ → List (List ℕ) → List ℕ → List DrillCommand → Result (List DrillCommand) Fault
+ends_with p len lines rest commands = cond (ltb text_limit len) (Err (fault (suc (length lines)) text_limit TooLong)) (with_rest p lines rest commands >>= ended len lines rest)
 
 -- a whole text reads as its last line leaves it
-pub reads_is : {keep : Keep} (r : Progress) (text : List ℕ) (h : Holds r keep text) (answer : Result (List DrillCommand) Fault) → r.offset ≤ text_limit
-    → (spelled (r.lines + 1) r.start r.line.items h.commands >>= ended (length text) h.lines r.line.items) ≡ answer → Reads text answer
+pub reads_is : {p : Profile} {keep : Keep} (r : Progress) (text : List ℕ) (h : Holds r p keep text) (answer : Result (List DrillCommand) Fault) → r.offset ≤ text_limit
+    → (with_rest p h.lines r.line.items h.commands >>= ended (length text) h.lines r.line.items) ≡ answer → ReadsIn p text answer
 unfolding ends_with
-reads_is r text h answer le e =
+reads_is {p = p} r text h answer le e =
     let short : length text ≤ text_limit = omega (arith, h.offset, le) in
     let rest = r.line.items in
     let cs = h.commands in
-    let place : suc (length h.lines) ≡ r.lines + 1 = omega (arith, h.count) in
     record {
       lines = h.lines;
       rest = rest;
       splits = subst (λ (t : List ℕ). Splits t h.lines rest) (sym (take_all text_limit text short)) h.splits;
-      answer_is = sym (ap (λ s. s >>= ends_with (length text) h.lines rest) h.spelled
-          ∙ (ap (λ t. cond t (Err (fault (suc (length h.lines)) text_limit TooLong)) (spelled (suc (length h.lines)) (length (bytes_of h.lines)) rest cs >>= ended (length text) h.lines rest)) (le-ltb text_limit (length text) short)
-          ∙ (ap (λ p. spelled p (length (bytes_of h.lines)) rest cs >>= ended (length text) h.lines rest) place
-          ∙ (ap (λ b. spelled (r.lines + 1) b rest cs >>= ended (length text) h.lines rest) (sym h.start) ∙ e))));
+      answer_is = sym (ap (λ s. s >>= ends_with p (length text) h.lines rest) h.spelled
+          ∙ (ap (λ t. cond t (Err (fault (suc (length h.lines)) text_limit TooLong)) (with_rest p h.lines rest cs >>= ended (length text) h.lines rest)) (le-ltb text_limit (length text) short) ∙ e));
     }
 
 -- the last line has a fault
-pub reads_fault : (keep : Keep) (r : Progress) (text : List ℕ) (e : Fail) → r.offset ≤ text_limit
-    → ((before : List DrillCommand) → HasRead r.state r.kept keep before → IfFault (λ f. spelled (r.lines + 1) r.start r.line.items before ≡ Err f) e) → Holds r keep text → Answers (λ (d : DrillFile). d) (ReadsAs (file_of keep) text) (Err e)
-reads_fault keep r text fails.Memory le k h = tt
-reads_fault keep r text (fails.Refused f) le k h = reads_is r text h (Err f) le (ap (λ s. s >>= ended (length text) h.lines r.line.items) (k h.commands h.has_read))
+pub reads_fault : (p : Profile) (keep : Keep) (r : Progress) (text : List ℕ) (e : Fail) → r.offset ≤ text_limit → (h : Holds r p keep text)
+    → IfFault (λ f. with_rest p h.lines r.line.items h.commands ≡ Err f) e → Answers (λ (d : DrillFile). d) (ReadsAsIn p (file_of keep) text) (Err e)
+reads_fault p keep r text fails.Memory le h k = tt
+reads_fault p keep r text (fails.Refused f) le h k = reads_is r text h (Err f) le (ap (λ s. s >>= ended (length text) h.lines r.line.items) k)
 
 -- the last line leaves the end of the file among the commands, or not
-pub reads_ended : {keep : Keep} (r : Progress) (text : List ℕ) (h : Holds r keep text) (new : List DrillCommand) → r.offset ≤ text_limit → spelled (r.lines + 1) r.start r.line.items h.commands ≡ Ok new → list_any is_finish new ≡ true → Reads text (Ok new)
+pub reads_ended : {p : Profile} {keep : Keep} (r : Progress) (text : List ℕ) (h : Holds r p keep text) (new : List DrillCommand) → r.offset ≤ text_limit → with_rest p h.lines r.line.items h.commands ≡ Ok new → list_any is_finish new ≡ true → ReadsIn p text (Ok new)
 reads_ended r text h new le e some =
     reads_is r text h (Ok new) le (ap (λ s. s >>= ended (length text) h.lines r.line.items) e ∙ ap (λ t. cond t (Ok new) (Err (fault (place_after_count (length h.lines) r.line.items) (length text) Truncated))) some)
 
-pub reads_truncated : {keep : Keep} (r : Progress) (text : List ℕ) (h : Holds r keep text) (new : List DrillCommand) → r.offset ≤ text_limit → spelled (r.lines + 1) r.start r.line.items h.commands ≡ Ok new → list_any is_finish new ≡ false
-    → Reads text (Err (fault (place_after_count r.lines r.line.items) r.offset Truncated))
+pub reads_truncated : {p : Profile} {keep : Keep} (r : Progress) (text : List ℕ) (h : Holds r p keep text) (new : List DrillCommand) → r.offset ≤ text_limit → with_rest p h.lines r.line.items h.commands ≡ Ok new → list_any is_finish new ≡ false
+    → ReadsIn p text (Err (fault (place_after_count r.lines r.line.items) r.offset Truncated))
 reads_truncated r text h new le e none =
     reads_is r text h (Err (fault (place_after_count r.lines r.line.items) r.offset Truncated)) le (ap (λ s. s >>= ended (length text) h.lines r.line.items) e
     ∙ (ap (λ t. cond t (Ok new) (Err (fault (place_after_count (length h.lines) r.line.items) (length text) Truncated))) none
@@ -64,20 +64,20 @@ checks_len : ℕ → List (List ℕ) → List DrillCommand → Result (List Dril
 checks_len len lines commands = cond (ltb text_limit len) (Err (fault (suc (length lines)) text_limit TooLong)) (Ok commands)
 
 -- a fault that a text shows is the one that it has
-pub shows_reads : (text : List ℕ) (f : Fault) → Shows text (Err f) → Reads text (Err f)
+pub shows_reads : (p : Profile) (text : List ℕ) (f : Fault) → ShowsIn p text (Err f) → ReadsIn p text (Err f)
 unfolding checks_len ends_with
-shows_reads text f s = record {
+shows_reads p text f s = record {
   lines = s.lines;
   rest = s.rest;
   splits = s.splits;
-  answer_is = elim (bind_err (shown s.lines s.rest) (checks_len (length text) s.lines) f (sym s.answer_is)) [
-    | inl h ↦ sym (ap (λ r. r >>= ends_with (length text) s.lines s.rest) h)
+  answer_is = elim (bind_err (shown_by p s.lines s.rest) (checks_len (length text) s.lines) f (sym s.answer_is)) [
+    | inl h ↦ sym (ap (λ r. r >>= ends_with p (length text) s.lines s.rest) h)
     | inr h ↦ (let g = guard_err (ltb text_limit (length text)) (fault (suc (length s.lines)) text_limit TooLong) f h.0 h.2 in
-        sym (ap (λ r. r >>= ends_with (length text) s.lines s.rest) h.1 ∙ (ap (λ t. cond t (Err (fault (suc (length s.lines)) text_limit TooLong)) (spelled (suc (length s.lines)) (length (bytes_of s.lines)) s.rest h.0 >>= ended (length text) s.lines s.rest)) g.0 ∙ ap (λ (x : Fault). Err x) g.1)))
+        sym (ap (λ r. r >>= ends_with p (length text) s.lines s.rest) h.1 ∙ (ap (λ t. cond t (Err (fault (suc (length s.lines)) text_limit TooLong)) (with_rest p s.lines s.rest h.0 >>= ended (length text) s.lines s.rest)) g.0 ∙ ap (λ (x : Fault). Err x) g.1)))
   ];
 }
 
 -- a fault that a text shows refuses it, however its commands would be seen
 pub shown_refused : {T V : Type 0} (view : T → V) (see : List DrillCommand → V) (text : List ℕ) (e : Fail) → IfFault (λ f. Shows text (Err f)) e → Answers view (ReadsAs see text) (Err e)
 shown_refused view see text fails.Memory h = tt
-shown_refused view see text (fails.Refused f) h = shows_reads text f h
+shown_refused view see text (fails.Refused f) h = reads_strictly text (Err f) (shows_reads Strict text f (strictly_shows text (Err f) h))

@@ -52,23 +52,23 @@ cut_lines (line ∷ lines) rest each partial =
     ap lines_of (append_assoc (line ++ 10 ∷ []) (bytes_of lines) rest ∙ append_assoc line (10 ∷ []) (bytes_of lines ++ rest))
     ∙ (cut_line line (bytes_of lines ++ rest) each.0 ∙ ap (λ (ls : List (List ℕ)). line ∷ ls) (cut_lines lines rest each.1 partial))
 
-same_lines : (text : List ℕ) (lines : List (List ℕ)) (rest : List ℕ) → Splits text lines rest → lines_of text ≡ lines ++ rest ∷ []
+pub same_lines : (text : List ℕ) (lines : List (List ℕ)) (rest : List ℕ) → Splits text lines rest → lines_of text ≡ lines ++ rest ∷ []
 same_lines text lines rest s = ap lines_of s.whole ∙ cut_lines lines rest s.each s.partial
 
 -- ---- the end of the file
 
-is_end : (c : DrillCommand) → is_finish c ≡ true → c ≡ command.Finish
+pub is_end : (c : DrillCommand) → is_finish c ≡ true → c ≡ command.Finish
 is_end command.Finish e = refl
 is_end c e = absurd cc
 
-has_end : (commands : List DrillCommand) → list_any is_finish commands ≡ true → Contains commands command.Finish
+pub has_end : (commands : List DrillCommand) → list_any is_finish commands ≡ true → Contains commands command.Finish
 has_end commands e = let there = list_any_element is_finish commands e in subst (Contains commands) (is_end there.0 there.2) there.1
 
 or_true : (a b : Bool) → b ≡ true → (a || b) ≡ true
 or_true true b e = refl
 or_true false b e = e
 
-end_found : (commands : List DrillCommand) → Contains commands command.Finish → list_any is_finish commands ≡ true
+pub end_found : (commands : List DrillCommand) → Contains commands command.Finish → list_any is_finish commands ≡ true
 end_found [] (k, less, e) = absurd (omega (arith, less))
 end_found (c ∷ cs) (zero, less, e) = ap (λ d. is_finish d || list_any is_finish cs) e
 end_found (c ∷ cs) (suc k, less, e) = or_true (is_finish c) (list_any is_finish cs) (end_found cs (k, omega (arith, less), e))

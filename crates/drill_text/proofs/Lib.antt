@@ -1,6 +1,9 @@
 pub mod SpelledLemmas
 pub mod Lookbacks
 pub mod ShowsLemmas
+pub mod ProfileLemmas
+pub mod PieceLemmas
+pub mod WideLemmas
 pub mod SplitsLemmas
 pub mod WholeTextLemmas
 pub mod FinishLemmas
@@ -20,3 +23,5 @@ pub mod DrillingLemmas
 pub mod DrillingExamples
 pub mod GrammarLemmas
 pub mod GrammarExamples
+pub mod WideGrammarLemmas
+pub mod WideReadings

@@ -1,29 +1,57 @@
 -- A line that is read and judged.
-use Rattle.std.proofs.Common.{◌≡◌, ℕ, ◌≤◌, List, [], ◌∷◌, ◌++◌, length, Option, None, Some, Result, Ok, Err, sym, ap, ◌∙◌}
-use Rattle.std.proofs.lemmas.Bool.{le-ltb}
+use Rattle.std.proofs.Common.{◌≡◌, ℕ, ◌<◌, List, [], ◌∷◌, ◌++◌, length, map, None, Some, Result, Ok, Err, sym, ap, subst, ◌∙◌, refl, arith}
+use Rattle.std.proofs.lemmas.List.{map-append}
 use Rattle.grid_units.specs.declared.fault.Reason.{Reason}
+use Rattle.grid_units.specs.declared.fault.Fault.{Fault}
+use Rattle.grid_units.specs.declared.fault.Fail.{Fail}
+use Rattle.grid_units.specs.Results.{fault, with_place, IfFault}
 use Rattle.drill_lines.specs.declared.command.DrillCommand.{DrillCommand}
 use Rattle.drill_lines.specs.declared.command.Settings.{Settings}
-use Rattle.drill_text.specs.declared.state.DrillState.{DrillState}
+use Rattle.drill_lines.specs.declared.line_reader.Profile.{Profile}
+use Rattle.drill_lines.specs.declared.line_reader.LineReader.{LineReader}
 use Rattle.drill_lines.specs.Lines.{trimmed}
-use Rattle.drill_text.specs.Lookback.{StateView}
-use Rattle.grid_units.specs.Results.{◌>>=◌}
-use Rattle.drill_lines.specs.Meaning.{meaning}
+use Rattle.drill_lines.specs.LineReading.{HasReadLines}
+use Rattle.drill_text.specs.declared.state.DrillState.{DrillState}
+use Rattle.drill_text.specs.declared.kept.Keep.{Keep}
+use Rattle.drill_text.specs.declared.kept.KeptCommands.{KeptCommands}
+use Rattle.drill_text.specs.Lookback.{StateView, settings_after}
 use Rattle.drill_text.specs.Rules.{broken_rule}
-use Rattle.grid_units.specs.Results.{fault, with_place}
-use Rattle.drill_text.specs.Reading.{add_unless, checked, step, spelled}
+use Rattle.drill_text.specs.Reading.{add_unless, checked}
+use Rattle.drill_text.specs.Profiles.{spelled_in, with_rest}
 use Rattle.drill_text.specs.Inner.StateSteps.{IsStateAfter}
-use Rattle.grid_units.specs.Limits.{line_limit}
+use Rattle.drill_text.specs.Keeping.{ResultsIn, ResultsInLine}
 
-step_is : (state : DrillState) (before : List DrillCommand) (line : List ℕ) (r : Result (Option DrillCommand) Reason) → IsStateAfter state before → length line ≤ line_limit → meaning state.settings (trimmed line) ≡ r → step before line ≡ (r >>= checked before)
-unfolding step
-step_is state before line r is_state le e = rw (le-ltb _ _ le) (ap (λ (s : Settings). meaning s (trimmed line) >>= checked before) (sym (ap (λ (s : StateView). s.settings) is_state.state_after)) ∙ ap (λ x. x >>= checked before) e)
+pub checked_kept : (before : List DrillCommand) (place byte : ℕ) (c : DrillCommand) → broken_rule before c ≡ None → with_place place byte (checked before (Some c)) ≡ Ok (before ++ c ∷ [])
+checked_kept before place byte c legal = ap (λ o. with_place place byte (add_unless o before c)) legal
 
-pub spelled_is : (state : DrillState) (before : List DrillCommand) (place byte : ℕ) (line : List ℕ) (r : Result (Option DrillCommand) Reason) → IsStateAfter state before → length line ≤ line_limit → meaning state.settings (trimmed line) ≡ r → spelled place byte line before ≡ with_place place byte (r >>= checked before)
-spelled_is state before place byte line r is_state le e = ap (with_place place byte) (step_is state before line r is_state le e)
+pub checked_broken : (before : List DrillCommand) (place byte : ℕ) (c : DrillCommand) (r : Reason) → broken_rule before c ≡ Some r → with_place place byte (checked before (Some c)) ≡ Err (fault place byte r)
+checked_broken before place byte c r broken = ap (λ o. with_place place byte (add_unless o before c)) broken
 
-pub spelled_kept : (state : DrillState) (before : List DrillCommand) (place byte : ℕ) (line : List ℕ) (c : DrillCommand) → IsStateAfter state before → length line ≤ line_limit → meaning state.settings (trimmed line) ≡ Ok (Some c) → broken_rule before c ≡ None → spelled place byte line before ≡ Ok (before ++ c ∷ [])
-spelled_kept state before place byte line c is_state le e legal = spelled_is state before place byte line (Ok (Some c)) is_state le e ∙ ap (λ o. with_place place byte (add_unless o before c)) legal
+-- the settings of a judge are those after its commands
+pub settings_are : (state : DrillState) (before : List DrillCommand) → IsStateAfter state before → state.settings ≡ settings_after before
+settings_are state before h = ap (λ (s : StateView). s.settings) h.state_after
 
-pub spelled_broken : (state : DrillState) (before : List DrillCommand) (place byte : ℕ) (line : List ℕ) (c : DrillCommand) (r : Reason) → IsStateAfter state before → length line ≤ line_limit → meaning state.settings (trimmed line) ≡ Ok (Some c) → broken_rule before c ≡ Some r → spelled place byte line before ≡ Err (fault place byte r)
-spelled_broken state before place byte line c r is_state le e broken = spelled_is state before place byte line (Ok (Some c)) is_state le e ∙ ap (λ o. with_place place byte (add_unless o before c)) broken
+-- one more line without the blanks at its end
+pub trimmed_more : (earlier : List (List ℕ)) (line : List ℕ) → map trimmed (earlier ++ line ∷ []) ≡ map trimmed earlier ++ trimmed line ∷ []
+trimmed_more earlier line = map-append trimmed earlier (line ∷ [])
+
+-- lines that were read, with one more
+pub lines_more : (reader : LineReader) (p : Profile) (s : Settings) (earlier : List (List ℕ)) (line : List ℕ) → HasReadLines reader p s (map trimmed earlier ++ trimmed line ∷ []) → HasReadLines reader p s (map trimmed (earlier ++ line ∷ []))
+lines_more reader p s earlier line h = subst (λ (e : List (List ℕ)). HasReadLines reader p s e) (sym (trimmed_more earlier line)) h
+
+-- the judged command of a line that was read
+pub line_results : {X : Type 0} (result : Result X Fail) (reader : LineReader) (state : DrillState) (kept : KeptCommands) (p : Profile) (keep : Keep) (earlier : List (List ℕ)) (line : List ℕ) (judged read : Result (List DrillCommand) Fault)
+    → read ≡ judged → ((after : List DrillCommand) → HasReadLines reader p (settings_after after) (map trimmed (earlier ++ line ∷ []))) → ResultsIn result state kept keep judged → ResultsInLine result reader state kept p keep earlier line read
+line_results (Ok x) reader state kept p keep earlier line judged read same lines h = (h.0, same ∙ h.1, record { lines = lines h.0; has_read = h.2 })
+line_results (Err e) reader state kept p keep earlier line judged read same lines h = subst (λ r. IfFault (λ f. r ≡ Err f) e) (sym same) h
+
+-- a rest with a byte is a line
+pub rest_is_line : (p : Profile) (lines : List (List ℕ)) (rest : List ℕ) (commands : List DrillCommand) → 0 < length rest → with_rest p lines rest commands ≡ spelled_in p lines rest commands
+rest_is_line p lines [] commands some = absurd (omega arith)
+rest_is_line p lines (b ∷ bs) commands some = refl
+
+-- what a last line leaves
+pub rest_results : {X : Type 0} (result : Result X Fail) (reader : LineReader) (state : DrillState) (kept : KeptCommands) (p : Profile) (keep : Keep) (earlier : List (List ℕ)) (line : List ℕ) (read rest : Result (List DrillCommand) Fault)
+    → rest ≡ read → ResultsInLine result reader state kept p keep earlier line read → ResultsIn result state kept keep rest
+rest_results (Ok x) reader state kept p keep earlier line read rest same h = (h.0, same ∙ h.1, h.2.has_read)
+rest_results (Err e) reader state kept p keep earlier line read rest same h = subst (λ r. IfFault (λ f. r ≡ Err f) e) (sym same) h

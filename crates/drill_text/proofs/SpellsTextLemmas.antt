@@ -37,7 +37,7 @@ record KeptCommands (before : List DrillCommand) (line : List ℕ) (new : List D
   new_is : before ++ option_to_list command ≡ new
   keeps : IsLegal broken_rule before → IsLegal broken_rule new
 
-judged_ok : (before : List DrillCommand) (command : Option DrillCommand) (new : List DrillCommand) → checked before command ≡ Ok new → (before ++ option_to_list command ≡ new) × (IsLegal broken_rule before → IsLegal broken_rule new)
+pub judged_ok : (before : List DrillCommand) (command : Option DrillCommand) (new : List DrillCommand) → checked before command ≡ Ok new → (before ++ option_to_list command ≡ new) × (IsLegal broken_rule before → IsLegal broken_rule new)
 judged_ok before None new e = let same : before ≡ new = cc in (append-nil before ∙ same, λ legal. subst (IsLegal broken_rule) same legal)
 judged_ok before (Some c) new e = by (broken_rule before c) refl e
   where
@@ -101,7 +101,7 @@ last_legal before c legal =
     no_break (length before) (broken_rule before c) (nil_back (violations broken_rule before) (filter_map (violation_at broken_rule) (with_prefixes_from before (c ∷ []))) (sym (violations-append broken_rule before (c ∷ [])) ∙ legal))
 
 -- a command that is judged is kept, if the list with it is legal
-keeps_judged : (before : List DrillCommand) (command : Option DrillCommand) → IsLegal broken_rule (before ++ option_to_list command) → checked before command ≡ Ok (before ++ option_to_list command)
+pub keeps_judged : (before : List DrillCommand) (command : Option DrillCommand) → IsLegal broken_rule (before ++ option_to_list command) → checked before command ≡ Ok (before ++ option_to_list command)
 keeps_judged before None legal = ap (λ (x : List DrillCommand). Ok x) (sym (append-nil before))
 keeps_judged before (Some c) legal = ap (λ o. add_unless o before c) (last_legal before c legal)
 
@@ -126,12 +126,12 @@ ends_with : ℕ → List (List ℕ) → List ℕ → List DrillCommand → Resul
 ends_with len lines rest commands = cond (ltb text_limit len) (Err (fault (suc (length lines)) text_limit TooLong)) (spelled (suc (length lines)) (length (bytes_of lines)) rest commands >>= ended len lines rest)
 
 -- a text that is not too long
-within : (t : Bool) (f : Fault) (r : Result (List DrillCommand) Fault) (cs : List DrillCommand) → cond t (Err f) r ≡ Ok cs → (t ≡ false) × (r ≡ Ok cs)
+pub within : (t : Bool) (f : Fault) (r : Result (List DrillCommand) Fault) (cs : List DrillCommand) → cond t (Err f) r ≡ Ok cs → (t ≡ false) × (r ≡ Ok cs)
 within true f r cs e = absurd cc
 within false f r cs e = (refl, e)
 
 -- a text whose end is among its commands
-with_end : (t : Bool) (f : Fault) (new cs : List DrillCommand) → cond t (Ok new) (Err f) ≡ Ok cs → (t ≡ true) × (new ≡ cs)
+pub with_end : (t : Bool) (f : Fault) (new cs : List DrillCommand) → cond t (Ok new) (Err f) ≡ Ok cs → (t ≡ true) × (new ≡ cs)
 with_end true f new cs e = (refl, cc)
 with_end false f new cs e = absurd cc
 
@@ -160,7 +160,7 @@ reads_drill_text text cs r =
       legal = k.2 refl;
     })
 
-last_short : (lines : List (List ℕ)) (rest : List ℕ) → AreWithinLimit (lines ++ rest ∷ []) → length rest ≤ line_limit
+pub last_short : (lines : List (List ℕ)) (rest : List ℕ) → AreWithinLimit (lines ++ rest ∷ []) → length rest ≤ line_limit
 last_short [] rest h = h.0
 last_short (line ∷ lines) rest h = last_short lines rest h.1
 

@@ -7,12 +7,13 @@ use Rattle.grid_units.specs.declared.fault.Fault.{Fault}
 use Rattle.grid_units.specs.declared.fault.Fail.{Fail}
 use Rattle.grid_units.specs.declared.fault.Fail.TheVariants as fails
 use Rattle.grid_units.specs.declared.fault.Reason.TheVariants.{TooLong}
+use Rattle.drill_lines.specs.declared.line_reader.Profile.{Profile}
 use Rattle.drill_text.specs.declared.kept.Keep.{Keep}
 use Rattle.drill_text.specs.declared.reader.Progress.{Progress}
 use Rattle.drill_text.specs.Lines.{Splits}
 use Rattle.grid_units.specs.Results.{◌>>=◌}
 use Rattle.grid_units.specs.Results.{fault}
-use Rattle.drill_text.specs.Reading.{Shows}
+use Rattle.drill_text.specs.Profiles.{ShowsIn}
 use Rattle.drill_text.specs.Holding.{Holds, HasFault, Refuses, RefusesText}
 use Rattle.grid_units.specs.Limits.{text_limit}
 
@@ -20,25 +21,25 @@ use Rattle.grid_units.specs.Limits.{text_limit}
 checks_len : ℕ → List (List ℕ) → List DrillCommand → Result (List DrillCommand) Fault
 checks_len len items commands = cond (ltb text_limit len) (Err (fault (suc (length items)) text_limit TooLong)) (Ok commands)
 
-pub fault_within : (text : List ℕ) (f : Fault) → length text ≤ text_limit → HasFault text f → Shows text (Err f)
+pub fault_within : (p : Profile) (text : List ℕ) (f : Fault) → length text ≤ text_limit → HasFault p text f → ShowsIn p text (Err f)
 unfolding checks_len
-fault_within text f le h = record {
+fault_within p text f le h = record {
   lines = h.lines;
   rest = h.rest;
   splits = subst (λ (t : List ℕ). Splits t h.lines h.rest) (sym (take_all text_limit text le)) h.splits;
   answer_is = sym (ap (λ r. r >>= checks_len (length text) h.lines) h.fault);
 }
 
-pub fault_of_prefix : (prefix more : List ℕ) (f : Fault) → length prefix ≡ text_limit → HasFault prefix f → Shows (prefix ++ more) (Err f)
+pub fault_of_prefix : (p : Profile) (prefix more : List ℕ) (f : Fault) → length prefix ≡ text_limit → HasFault p prefix f → ShowsIn p (prefix ++ more) (Err f)
 unfolding checks_len
-fault_of_prefix prefix more f e h = record {
+fault_of_prefix p prefix more f e h = record {
   lines = h.lines;
   rest = h.rest;
   splits = subst (λ (t : List ℕ). Splits t h.lines h.rest) (sym (take_at prefix more text_limit e)) h.splits;
   answer_is = sym (ap (λ r. r >>= checks_len (length (prefix ++ more)) h.lines) h.fault);
 }
 
-pub too_long_text : {keep : Keep} (r : Progress) (prefix more : List ℕ) → length prefix ≡ text_limit → 0 < length more → Holds r keep prefix → Shows (prefix ++ more) (Err (fault (r.lines + 1) text_limit TooLong))
+pub too_long_text : {p : Profile} {keep : Keep} (r : Progress) (prefix more : List ℕ) → length prefix ≡ text_limit → 0 < length more → Holds r p keep prefix → ShowsIn p (prefix ++ more) (Err (fault (r.lines + 1) text_limit TooLong))
 unfolding checks_len
 too_long_text r prefix more e some h =
     let long : text_limit < length (prefix ++ more) = omega (arith, length-append prefix more) in
@@ -47,14 +48,14 @@ too_long_text r prefix more e some h =
       lines = h.lines;
       rest = r.line.items;
       splits = subst (λ (t : List ℕ). Splits t h.lines r.line.items) (sym (take_at prefix more text_limit e)) h.splits;
-      answer_is = sym (ap (λ s. s >>= checks_len (length (prefix ++ more)) h.lines) h.spelled ∙ (ap (λ t. cond t (Err (fault (suc (length h.lines)) text_limit TooLong)) (Ok h.commands)) (lt-ltb text_limit (length (prefix ++ more)) long) ∙ ap (λ p. Err (fault p text_limit TooLong)) place));
+      answer_is = sym (ap (λ s. s >>= checks_len (length (prefix ++ more)) h.lines) h.spelled ∙ (ap (λ t. cond t (Err (fault (suc (length h.lines)) text_limit TooLong)) (Ok h.commands)) (lt-ltb text_limit (length (prefix ++ more)) long) ∙ ap (λ n. Err (fault n text_limit TooLong)) place));
     }
 
 pub refuses_within : (old : Progress) (piece : List ℕ) (e : Fail) → old.offset + length piece ≤ text_limit → Refuses old piece e → RefusesText old piece e
-refuses_within old piece fails.Memory le h = λ keep text holds. tt
-refuses_within old piece (fails.Refused f) le h = λ keep text holds. fault_within (text ++ piece) f (omega (arith, holds.offset, length-append text piece)) (h keep text holds)
+refuses_within old piece fails.Memory le h = λ p keep text holds. tt
+refuses_within old piece (fails.Refused f) le h = λ p keep text holds. fault_within p (text ++ piece) f (omega (arith, holds.offset, length-append text piece)) (h p keep text holds)
 
 pub refuses_beyond : (old : Progress) (prefix more : List ℕ) (e : Fail) → old.offset + length prefix ≡ text_limit → Refuses old prefix e → RefusesText old (prefix ++ more) e
-refuses_beyond old prefix more fails.Memory len h = λ keep text holds. tt
-refuses_beyond old prefix more (fails.Refused f) len h = λ keep text holds.
-    subst (λ (t : List ℕ). Shows t (Err f)) (append_assoc text prefix more) (fault_of_prefix (text ++ prefix) more f (omega (arith, holds.offset, length-append text prefix)) (h keep text holds))
+refuses_beyond old prefix more fails.Memory len h = λ p keep text holds. tt
+refuses_beyond old prefix more (fails.Refused f) len h = λ p keep text holds.
+    subst (λ (t : List ℕ). ShowsIn p t (Err f)) (append_assoc text prefix more) (fault_of_prefix p (text ++ prefix) more f (omega (arith, holds.offset, length-append text prefix)) (h p keep text holds))

@@ -5,50 +5,56 @@ use Rattle.grid_units.specs.declared.fault.Fault.{Fault}
 use Rattle.grid_units.specs.declared.fault.Fail.{Fail}
 use Rattle.grid_units.specs.declared.fault.Fail.TheVariants as fails
 use Rattle.drill_lines.specs.declared.command.DrillCommand.{DrillCommand}
+use Rattle.drill_lines.specs.declared.line_reader.Profile.{Profile}
+use Rattle.drill_lines.specs.declared.line_reader.Profile.TheVariants as profile
 use Rattle.drill_text.specs.declared.reader.Progress.{Progress}
 use Rattle.drill_text.specs.declared.reader.DrillReader.{DrillReader}
 use Rattle.drill_text.specs.declared.kept.Keep.{Keep}
 use Rattle.grid_units.specs.Results.{IfFault}
 use Rattle.drill_text.specs.Lines.{bytes_of, Splits}
-use Rattle.drill_text.specs.Reading.{shown, Shows}
-use Rattle.drill_text.specs.Keeping.{HasRead}
+use Rattle.drill_text.specs.Profiles.{shown_by, ShowsIn}
+use Rattle.drill_text.specs.Keeping.{HasReadIn}
 
 -- The text is cut into lines, which spell the commands that the reader has met, and into a rest, the line that has not ended.
-pub record Holds (reader : Progress) (keep : Keep) (text : List ℕ) : Type 0 where
+pub record Holds (reader : Progress) (profile : Profile) (keep : Keep) (text : List ℕ) : Type 0 where
   pub lines : List (List ℕ)
   pub commands : List DrillCommand
   pub splits : Splits text lines reader.line.items
-  pub spelled : shown lines reader.line.items ≡ Ok commands
-  pub has_read : HasRead reader.state reader.kept keep commands
+  pub spelled : shown_by profile lines reader.line.items ≡ Ok commands
+  pub has_read : HasReadIn reader.reader reader.state reader.kept profile keep lines commands
   pub count : reader.lines ≡ length lines
   pub start : reader.start ≡ length (bytes_of lines)
   pub offset : reader.offset ≡ length text
 
--- the text shows this fault, whatever bytes follow it
-pub record HasFault (text : List ℕ) (f : Fault) : Type 0 where
+-- the text shows this fault in the profile, whatever bytes follow it
+pub record HasFault (profile : Profile) (text : List ℕ) (f : Fault) : Type 0 where
   pub lines : List (List ℕ)
   pub rest : List ℕ
   pub splits : Splits text lines rest
-  pub fault : shown lines rest ≡ Err f
+  pub fault : shown_by profile lines rest ≡ Err f
 
 -- whatever text the old reader has read, the new one has read that text and these bytes
 abbrev pub Advances : Progress → Progress → List ℕ → Type 0
-Advances old new bytes = (keep : Keep) (text : List ℕ) → Holds old keep text → Holds new keep (text ++ bytes)
+Advances old new bytes = (profile : Profile) (keep : Keep) (text : List ℕ) → Holds old profile keep text → Holds new profile keep (text ++ bytes)
 
 -- whatever text the reader has read, that text with these bytes shows this fault; or memory ran out
 abbrev pub Refuses : Progress → List ℕ → Fail → Type 0
 Refuses old bytes fails.Memory = Unit {0}
-Refuses old bytes (fails.Refused f) = (keep : Keep) (text : List ℕ) → Holds old keep text → HasFault (text ++ bytes) f
+Refuses old bytes (fails.Refused f) = (profile : Profile) (keep : Keep) (text : List ℕ) → Holds old profile keep text → HasFault profile (text ++ bytes) f
 
 -- whatever text the reader has read, that text with this piece shows this fault; or memory ran out
 abbrev pub RefusesText : Progress → List ℕ → Fail → Type 0
-RefusesText old piece e = (keep : Keep) (text : List ℕ) → Holds old keep text → IfFault (λ f. Shows (text ++ piece) (Err f)) e
+RefusesText old piece e = (profile : Profile) (keep : Keep) (text : List ℕ) → Holds old profile keep text → IfFault (λ f. ShowsIn profile (text ++ piece) (Err f)) e
 
 -- the failure of a reader, `None` where it has not failed
 abbrev pub failure : DrillReader → Option Fail
 failure reader = reader.failed
 
--- The reader has read this text, which shows no fault, and keeps what was asked for.
-pub record StandsAfter (reader : DrillReader) (keep : Keep) (text : List ℕ) : Type 0 where
+-- The reader reads in this profile, has read this text, which shows no fault, and keeps what was asked for.
+pub record StandsIn (reader : DrillReader) (profile : Profile) (keep : Keep) (text : List ℕ) : Type 0 where
   pub sound : failure reader ≡ None
-  pub holds : Holds reader.progress keep text
+  pub holds : Holds reader.progress profile keep text
+
+-- the reader reads in the strict profile, has read this text, which shows no fault, and keeps what was asked for
+abbrev pub StandsAfter : DrillReader → Keep → List ℕ → Type 0
+StandsAfter reader keep text = StandsIn reader profile.Strict keep text

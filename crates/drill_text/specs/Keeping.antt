@@ -1,11 +1,16 @@
 -- What a reader has met and keeps of the commands of a text.
-use Rattle.std.specs.Prelude.{◌≡◌, List, Result, Ok, Err}
+use Rattle.std.specs.Prelude.{◌≡◌, ℕ, List, [], ◌∷◌, ◌++◌, map, Result, Ok, Err}
 use Rattle.std.specs.List.{list_any}
 use Rattle.grid_units.specs.Results.{IfFault}
 use Rattle.grid_units.specs.declared.fault.Fault.{Fault}
 use Rattle.grid_units.specs.declared.fault.Fail.{Fail}
 use Rattle.drill_lines.specs.declared.command.DrillCommand.{DrillCommand}
+use Rattle.drill_lines.specs.declared.line_reader.Profile.{Profile}
+use Rattle.drill_lines.specs.declared.line_reader.LineReader.{LineReader}
+use Rattle.drill_lines.specs.Lines.{trimmed}
+use Rattle.drill_lines.specs.LineReading.{HasReadLines}
 use Rattle.drill_text.specs.declared.state.DrillState.{DrillState}
+use Rattle.drill_text.specs.Lookback.{settings_after}
 use Rattle.drill_text.specs.declared.kept.Keep.{Keep}
 use Rattle.drill_text.specs.declared.kept.KeptCommands.{KeptCommands}
 use Rattle.drill_text.specs.Reading.{is_finish}
@@ -25,7 +30,17 @@ pub record HasRead (state : DrillState) (kept : KeptCommands) (keep : Keep) (com
   pub is_state : IsStateAfter state commands
   pub keeps : KeepsCommands kept keep commands
 
--- The line was read and judged: the judge has now met the commands after it; or this is its fault, or memory ran out.
+-- The command was judged: the judge has now met the commands after it; or this is its fault, or memory ran out.
 abbrev pub ResultsIn : {X : Type 0} → Result X Fail → DrillState → KeptCommands → Keep → Result (List DrillCommand) Fault → Type 0
 ResultsIn (Ok x) state kept keep read = (commands : List DrillCommand) × (read ≡ Ok commands) × HasRead state kept keep commands
 ResultsIn (Err e) state kept keep read = IfFault (λ f. read ≡ Err f) e
+
+-- these lines were read in the profile, the judge has met just these commands, and what was asked for is kept of them
+pub record HasReadIn (reader : LineReader) (state : DrillState) (kept : KeptCommands) (profile : Profile) (keep : Keep) (earlier : List (List ℕ)) (commands : List DrillCommand) : Type 0 where
+  pub lines : HasReadLines reader profile (settings_after commands) (map trimmed earlier)
+  pub has_read : HasRead state kept keep commands
+
+-- The line was read and judged: the judge has now met the commands after it; or this is its fault, or memory ran out.
+abbrev pub ResultsInLine : {X : Type 0} → Result X Fail → LineReader → DrillState → KeptCommands → Profile → Keep → List (List ℕ) → List ℕ → Result (List DrillCommand) Fault → Type 0
+ResultsInLine (Ok x) reader state kept profile keep earlier line read = (commands : List DrillCommand) × (read ≡ Ok commands) × HasReadIn reader state kept profile keep (earlier ++ line ∷ []) commands
+ResultsInLine (Err e) reader state kept profile keep earlier line read = IfFault (λ f. read ≡ Err f) e

@@ -4,6 +4,7 @@ pub mod Holes
 pub mod Rules
 pub mod Drilling
 pub mod Reading
+pub mod Profiles
 pub mod Texts
 pub mod Grammar
 pub mod Writing
@@ -12,4 +13,5 @@ pub mod Holding
 pub mod Outcome
 pub mod Faults
 pub mod Laws
+pub mod WideGrammar
 pub mod Inner

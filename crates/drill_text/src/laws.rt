@@ -9,6 +9,10 @@ ghost use Rattle.drill_text.specs.Reading.{Shows, Reads};
 ghost use Rattle.drill_text.specs.Faults.{HasAnswer, IsFirstFault, is_drill_reason};
 ghost use Rattle.drill_text.specs.Texts.{SpellsText, IsDrillText};
 ghost use Rattle.drill_text.specs.Writing.{drill_sayable};
+ghost use Rattle.drill_lines.specs.declared.line_reader.Profile.{Profile};
+ghost use Rattle.drill_lines.specs.declared.line_reader.Profile.TheVariants.{Strict, Wide};
+ghost use Rattle.drill_text.specs.Profiles.{ShowsIn, ReadsIn};
+ghost use Rattle.drill_text.specs.WideGrammar.{ReadIsWritten, WrittenIsRead};
 ghost use Rattle.drill_text.specs.Laws.{ListedHolesAreDrilled, DrilledHolesAreListed, DrillsAtMostOneList, SpelledIsWritten, IsTextOfAtMostOne};
 
 /// A text shows one thing, and has one reading.
@@ -59,4 +63,29 @@ pub fn drilled_holes()
 pub fn text_grammar()
     ensures written { SpelledIsWritten }
     ensures one { IsTextOfAtMostOne }
+{}
+
+/// In the strict profile a text shows, and is read as, what it does where no profile is named.
+pub fn strict_profile()
+    ensures shown { (text : List ℕ) (answer : Result (List DrillCommand) Fault) → (ShowsIn Strict text answer) ↔ (Shows text answer) }
+    ensures read { (text : List ℕ) (answer : Result (List DrillCommand) Fault) → (ReadsIn Strict text answer) ↔ (Reads text answer) }
+{}
+
+/// In each profile a text shows one thing and has one reading, and a fault that it shows is the fault of each text that begins with it.
+pub fn readings_in_profiles()
+    ensures shown { (profile : Profile) (text : List ℕ) (a b : Result (List DrillCommand) Fault) → ShowsIn profile text a → ShowsIn profile text b → a ≡ b }
+    ensures read { (profile : Profile) (text : List ℕ) (a b : Result (List DrillCommand) Fault) → ReadsIn profile text a → ReadsIn profile text b → a ≡ b }
+    ensures stays { (profile : Profile) (text more : List ℕ) (f : Fault) → ShowsIn profile text (Err f) → ReadsIn profile (text ++ more) (Err f) }
+{}
+
+/// A text that is read without a profile has the same commands in the wide one.
+pub fn wide_reads_more()
+    ensures { (text : List ℕ) (commands : List DrillCommand) → Reads text (Ok commands) → ReadsIn Wide text (Ok commands) }
+{}
+
+/// In the wide profile a text is read as commands just where it is a text of them by the grammar of lines and routes, the commands are
+/// legal, and neither the text nor a line is too long.
+pub fn wide_grammar()
+    ensures read { WrittenIsRead }
+    ensures written { ReadIsWritten }
 {}

@@ -10,11 +10,11 @@ mod state;
 mod writer;
 
 pub use drill::Drill;
-pub use drill_lines::{Coordinates, DrillCommand, DrillFormat};
+pub use drill_lines::{Coordinates, DrillCommand, DrillFormat, Profile};
 pub use kept::Keep;
 pub use laws::{
-    drill_texts, drilled_holes, equal_commands, faults_stay, first_faults, sayable_texts,
-    text_grammar, unique_reading,
+    drill_texts, drilled_holes, equal_commands, faults_stay, first_faults, readings_in_profiles,
+    sayable_texts, strict_profile, text_grammar, unique_reading, wide_grammar, wide_reads_more,
 };
 pub use reader::{DrillReader, read_drill};
 pub use writer::{drill_sayable, write_drill};

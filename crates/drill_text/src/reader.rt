@@ -1,17 +1,18 @@
 //! A reader of a drill file that comes in pieces.
 
-ghost use Rattle.std.specs.Prelude.{◌≡◌, ◌≢◌, ◌≤◌, ◌<◌, ◌+◌, true, ℕ, List, All, length, vec_len, take, slice_index, Some, None, Ok, Err, OnOk, IfOk, IfErr, IfSome};
+ghost use Rattle.std.specs.Prelude.{◌≡◌, ◌≢◌, ◌≤◌, ◌<◌, ◌+◌, true, ℕ, suc, List, All, length, vec_len, take, slice_index, Some, None, Ok, Err, OnOk, IfOk, IfErr, IfSome};
 ghost use Rattle.drill_lines.specs.declared.command.DrillCommand.{DrillCommand as TheCommand};
 ghost use Rattle.grid_units.specs.declared.fault.Fault.{Fault};
 ghost use Rattle.grid_units.specs.declared.fault.Fail.TheVariants.{Refused};
 ghost use Rattle.grid_units.specs.Limits.{line_limit, text_limit};
-ghost use Rattle.grid_units.specs.Results.{fault, Answers};
-ghost use Rattle.drill_text.specs.Reading.{spelled, Reads, place_after_count};
+ghost use Rattle.grid_units.specs.Results.{fault, with_place, Answers};
+ghost use Rattle.drill_text.specs.Reading.{checked, Reads, place_after_count};
+ghost use Rattle.drill_text.specs.Profiles.{spelled_in, with_rest, ReadsAsIn};
 ghost use Rattle.drill_text.specs.declared.kept.Keep.{Keep as TheKeep};
 ghost use Rattle.drill_text.specs.declared.kept.Keep.TheVariants as keep;
-ghost use Rattle.drill_text.specs.Keeping.{HasRead, ResultsIn};
-ghost use Rattle.drill_lines.specs.Lines.{trimmed};
-ghost use Rattle.drill_lines.specs.Meaning.{meaning};
+ghost use Rattle.drill_text.specs.Keeping.{HasRead, HasReadIn, ResultsIn, ResultsInLine};
+ghost use Rattle.drill_text.specs.Lines.{bytes_of};
+ghost use Rattle.drill_lines.specs.declared.line_reader.Profile.{Profile as TheProfile};
 ghost use Rattle.drill_text.specs.Outcome.{commands_in, file_of};
 ghost use Rattle.drill_text.specs.Texts.{IsDrillText, ReadsAs};
 ghost use Rattle.drill_text.specs.Writing.{drill_sayable};
@@ -20,7 +21,7 @@ use crate::drill::Drill;
 use crate::fast_path::leading_hit;
 use crate::kept::{Keep, KeptCommands};
 use crate::state::DrillState;
-use drill_lines::{Coordinates, DrillCommand, read_line};
+use drill_lines::{Coordinates, DrillCommand, LineReader, Profile};
 use grid_units::{Fail, Fault, ItemFail, LINE_LIMIT, Reason};
 use memchr::memchr;
 use std::alloc::Global;
@@ -31,7 +32,7 @@ const TEXT_LIMIT: u64 = grid_units::TEXT_LIMIT as u64;
 /// What was read so far, and the line that has not ended.
 #[derive(Drop)]
 struct Progress {
-    alloc: Global,
+    reader: LineReader,
     state: DrillState,
     kept: KeptCommands,
     line: Vec<u8>,
@@ -65,7 +66,7 @@ fn refusal(place: u64, byte: u64, reason: Reason) -> Fail
     })
 }
 
-/// Checks the command that a line spells, and adds it if it breaks no rule.
+/// Checks a command, and adds it if it breaks no rule.
 fn keep(
     place: u64,
     byte: u64,
@@ -73,7 +74,7 @@ fn keep(
     state: &mut DrillState,
     kept: &mut KeptCommands,
 ) -> Result<(), Fail>
-    ensures { (keep : TheKeep) (line : List ℕ) (before : List TheCommand) → length line ≤ line_limit → meaning state.old.settings (trimmed line) ≡ Ok (Some command) → HasRead state.old kept.old keep before → ResultsIn result state.new kept.new keep (spelled place byte line before) }
+    ensures { (keep : TheKeep) (before : List TheCommand) → HasRead state.old kept.old keep before → ResultsIn result state.new kept.new keep (with_place place byte (checked before (Some command))) }
 {
     match state.step(&command) {
         Ok(()) => {
@@ -87,17 +88,17 @@ fn keep(
 
 /// Reads and judges a line, and adds the command that it spells.
 fn parse_line(
-    alloc: Global,
     place: u64,
     byte: u64,
     line: &[u8],
+    reader: &mut LineReader,
     state: &mut DrillState,
     kept: &mut KeptCommands,
 ) -> Result<(), Fail>
     requires short { length line.now ≤ line_limit }
-    ensures { (keep : TheKeep) (before : List TheCommand) → HasRead state.old kept.old keep before → ResultsIn result state.new kept.new keep (spelled place byte line.now before) }
+    ensures { (profile : TheProfile) (keep : TheKeep) (earlier : List (List ℕ)) (before : List TheCommand) → place ≡ suc (length earlier) → byte ≡ length (bytes_of earlier) → HasReadIn reader.old state.old kept.old profile keep earlier before → ResultsInLine result reader.new state.new kept.new profile keep earlier line.now (spelled_in profile earlier line.now before) }
 {
-    match read_line(alloc, state.settings(), line) {
+    match reader.read(state.settings(), line) {
         Ok(None) => Ok(()),
         Ok(Some(command)) => keep(place, byte, command, state, kept),
         Err(ItemFail::Memory) => Err(Fail::Memory),
@@ -106,17 +107,18 @@ fn parse_line(
 }
 
 impl Progress {
-    ghost use Rattle.std.specs.Prelude.{[], ◌∷◌, ◌++◌, List};
+    ghost use Rattle.std.specs.Prelude.{false, [], ◌∷◌, ◌++◌, List};
     ghost use Rattle.drill_lines.specs.declared.command.Part.TheVariants as part;
+    ghost use Rattle.drill_lines.specs.declared.route.Route.TheVariants as route;
     ghost use Rattle.drill_text.specs.Inner.FastPath.{HasLeadingHit};
     ghost use Rattle.drill_text.specs.Holding.{Advances, Refuses, RefusesText, Holds};
 
     /// A reader that has read nothing.
-    fn new(alloc: Global, keep: Keep) -> Progress
-        ensures { Holds result keep [] }
+    fn new(alloc: Global, keep: Keep, profile: Profile) -> Progress
+        ensures { Holds result profile keep [] }
     {
         Progress {
-            alloc,
+            reader: LineReader::new(alloc, profile),
             state: DrillState::new(alloc),
             kept: KeptCommands::new(alloc, keep),
             line: Vec::new(alloc),
@@ -150,10 +152,10 @@ impl Progress {
         ensures err { IfErr result (Refuses self.old (10 ∷ [])) }
     {
         parse_line(
-            self.alloc,
             self.lines + 1,
             self.start,
             &self.line,
+            &mut self.reader,
             &mut self.state,
             &mut self.kept,
         )?;
@@ -175,10 +177,10 @@ impl Progress {
         ensures err { IfErr result (Refuses self.old (line.now ++ 10 ∷ [])) }
     {
         parse_line(
-            self.alloc,
             self.lines + 1,
             self.start,
             line,
+            &mut self.reader,
             &mut self.state,
             &mut self.kept,
         )?;
@@ -192,6 +194,7 @@ impl Progress {
     fn take_hit(&mut self, point: Coordinates, len: usize, bytes: &[u8]) -> Result<(), Fail>
         requires leads { HasLeadingHit point len bytes.now }
         requires body { self.old.state.settings.part ≡ part.Body }
+        requires drilling { self.old.reader.route ≡ route.Free false }
         requires empty { self.old.line.items ≡ [] }
         requires room { self.old.offset + length bytes.now ≤ text_limit }
         ensures offset { OnOk result (self.new.offset ≡ self.old.offset + (len + 1)) }
@@ -234,7 +237,7 @@ impl Progress {
         ensures ok { IfOk result (λ n. Advances self.old self.new (take n bytes.now)) }
         ensures err { IfErr result (Refuses self.old bytes.now) }
     {
-        if self.line.is_empty() && self.state.is_in_body() {
+        if self.line.is_empty() && self.state.is_in_body() && self.reader.may_drill() {
             if let Some((point, len)) = leading_hit(bytes) {
                 self.take_hit(point, len, bytes)?;
                 return Ok(len + 1);
@@ -287,16 +290,19 @@ impl Progress {
         }
     }
 
-    /// Reads the rest of the text, which no LF has ended, as a line.
+    /// Reads the rest of the text, which no LF has ended, as a line, if it has a byte.
     fn end(&mut self) -> Result<(), Fail>
-        ensures results_in { (keep : TheKeep) (before : List TheCommand) → HasRead self.old.state self.old.kept keep before → ResultsIn result self.new.state self.new.kept keep (spelled (self.old.lines + 1) self.old.start self.old.line.items before) }
+        ensures results_in { (profile : TheProfile) (keep : TheKeep) (text : List ℕ) (h : Holds self.old profile keep text) → ResultsIn result self.new.state self.new.kept keep (with_rest profile h.lines self.old.line.items h.commands) }
         ensures same { OnOk result ((self.new.lines ≡ self.old.lines) × (self.new.line.items ≡ self.old.line.items) × (self.new.offset ≡ self.old.offset)) }
     {
+        if self.line.is_empty() {
+            return Ok(());
+        }
         parse_line(
-            self.alloc,
             self.lines + 1,
             self.start,
             &self.line,
+            &mut self.reader,
             &mut self.state,
             &mut self.kept,
         )
@@ -304,7 +310,7 @@ impl Progress {
 
     /// The drill file, or the fault of the text that ends here.
     fn finish(self) -> Result<Drill, Fail>
-        ensures { (keep : TheKeep) (text : List ℕ) → Holds self keep text → Answers (λ drill. drill) (ReadsAs (file_of keep) text) result }
+        ensures { (profile : TheProfile) (keep : TheKeep) (text : List ℕ) → Holds self profile keep text → Answers (λ drill. drill) (ReadsAsIn profile (file_of keep) text) result }
     {
         let mut last = self;
         last.end()?;
@@ -326,7 +332,8 @@ impl DrillReader {
     ghost use Rattle.std.specs.Prelude.{List, Some, Ok, Err, [], ◌++◌};
     ghost use Rattle.drill_text.specs.Reading.{Shows};
     ghost use Rattle.grid_units.specs.Results.{IfFault};
-    ghost use Rattle.drill_text.specs.Holding.{StandsAfter, failure};
+    ghost use Rattle.drill_text.specs.Profiles.{ShowsIn};
+    ghost use Rattle.drill_text.specs.Holding.{StandsAfter, StandsIn, failure};
 
     /// A reader that has read nothing, and keeps the commands.
     pub fn new(alloc: Global) -> DrillReader
@@ -339,8 +346,15 @@ impl DrillReader {
     pub fn keeping(alloc: Global, keep: Keep) -> DrillReader
         ensures { StandsAfter result keep [] }
     {
+        DrillReader::in_profile(alloc, keep, Profile::Strict)
+    }
+
+    /// A reader that has read nothing, and keeps what it is asked for. It reads in this profile: the other readers are strict.
+    pub fn in_profile(alloc: Global, keep: Keep, profile: Profile) -> DrillReader
+        ensures { StandsIn result profile keep [] }
+    {
         DrillReader {
-            progress: Progress::new(alloc, keep),
+            progress: Progress::new(alloc, keep, profile),
             failed: None,
         }
     }
@@ -353,6 +367,8 @@ impl DrillReader {
     pub fn feed(&mut self, piece: &[u8]) -> Result<(), Fail>
         ensures ok { (keep : TheKeep) (text : List ℕ) → StandsAfter self.old keep text → OnOk result (StandsAfter self.new keep (text ++ piece.now)) }
         ensures err { (keep : TheKeep) (text : List ℕ) → StandsAfter self.old keep text → IfErr result (IfFault (λ f. Shows (text ++ piece.now) (Err f))) }
+        ensures ok_in { (profile : TheProfile) (keep : TheKeep) (text : List ℕ) → StandsIn self.old profile keep text → OnOk result (StandsIn self.new profile keep (text ++ piece.now)) }
+        ensures err_in { (profile : TheProfile) (keep : TheKeep) (text : List ℕ) → StandsIn self.old profile keep text → IfErr result (IfFault (λ f. ShowsIn profile (text ++ piece.now) (Err f))) }
         ensures failed { IfSome (failure self.old) (λ e. result ≡ Err e) }
         ensures fails { IfErr result (λ e. failure self.new ≡ Some e) }
     {
@@ -373,6 +389,7 @@ impl DrillReader {
     /// The fault of the whole text, or [`Fail::Memory`].
     pub fn finish(self) -> Result<Drill, Fail>
         ensures exact { (keep : TheKeep) (text : List ℕ) → StandsAfter self keep text → Answers (λ drill. drill) (ReadsAs (file_of keep) text) result }
+        ensures exact_in { (profile : TheProfile) (keep : TheKeep) (text : List ℕ) → StandsIn self profile keep text → Answers (λ drill. drill) (ReadsAsIn profile (file_of keep) text) result }
         ensures sayable { (text : List ℕ) → StandsAfter self keep.Commands text → IfOk result (λ drill. drill_sayable drill.commands ≡ true) }
         ensures failed { IfSome (failure self) (λ e. result ≡ Err e) }
     {

@@ -1,6 +1,8 @@
-//! What layers draw: lines and arcs, and the contours of regions.
+//! What layers draw: lines and arcs, flashes of macros, and the contours of regions.
 
+use grid_units::Point;
 use layer_image::{Drawn, read_layer};
+use pad_shapes::Rounded;
 use std::alloc::Global;
 
 /// A part of what is drawn, with its points and its width in pm.
@@ -10,6 +12,8 @@ enum Part {
     Line(i64, i64, i64, i64, i64),
     /// An arc: the x and y of its ends and of its centre, its width, and whether it goes clockwise.
     Arc(i64, i64, i64, i64, i64, i64, i64, bool),
+    /// A flash of a macro: the x and y of its point, the radius, and the corners about the point.
+    Flash(i64, i64, i64, &'static [(i64, i64)]),
     /// The first corner of a contour.
     Contour(i64, i64),
     /// The next corner.
@@ -18,7 +22,7 @@ enum Part {
     Bend(i64, i64, i64, i64, i64, i64, bool),
 }
 
-/// A part with its points as numbers.
+/// A part with its points as numbers; of a flash without its corners.
 fn part_of(drawn: &Drawn) -> Part {
     match drawn {
         Drawn::Line { from, to, width } => Part::Line(from.x(), from.y(), to.x(), to.y(), *width),
@@ -38,6 +42,7 @@ fn part_of(drawn: &Drawn) -> Part {
             *width,
             *clockwise,
         ),
+        Drawn::Flash { at, shape } => Part::Flash(at.x(), at.y(), shape.get().radius(), &[]),
         Drawn::Contour(at) => Part::Contour(at.x(), at.y()),
         Drawn::Corner(at) => Part::Corner(at.x(), at.y()),
         Drawn::Bend {
@@ -57,13 +62,49 @@ fn part_of(drawn: &Drawn) -> Part {
     }
 }
 
+/// Whether a point has these coordinates.
+fn is_at(point: Point, expected: (i64, i64)) -> bool {
+    (point.x(), point.y()) == expected
+}
+
+/// Whether points have these coordinates.
+fn are_at(points: &[Point], expected: &[(i64, i64)]) -> bool {
+    if points.len() != expected.len() {
+        return false;
+    }
+    for i in 0..points.len() {
+        if !is_at(points[i], expected[i]) {
+            return false;
+        }
+    }
+    true
+}
+
+/// Whether a shape has these corners.
+fn has_corners(shape: &Rounded, expected: &[(i64, i64)]) -> bool {
+    match expected {
+        [] => false,
+        [first, others @ ..] => is_at(shape.first(), *first) && are_at(shape.others(), others),
+    }
+}
+
+/// Whether this part is drawn.
+fn is_part(drawn: &Drawn, expected: &Part) -> bool {
+    match (drawn, expected) {
+        (Drawn::Flash { shape, .. }, Part::Flash(x, y, radius, corners)) => {
+            part_of(drawn) == Part::Flash(*x, *y, *radius, &[]) && has_corners(shape.get(), corners)
+        }
+        _ => part_of(drawn) == *expected,
+    }
+}
+
 /// Whether these parts are drawn, in this order.
 fn are_parts(drawn: &[Drawn], expected: &[Part]) -> bool {
     if drawn.len() != expected.len() {
         return false;
     }
     for i in 0..drawn.len() {
-        if part_of(&drawn[i]) != expected[i] {
+        if !is_part(&drawn[i], &expected[i]) {
             return false;
         }
     }
@@ -82,7 +123,7 @@ fn draws(alloc: Global, text: &[u8], expected: &[Part]) -> bool {
 }
 
 /// Texts, and what they draw. In most of them a step is 1 nm, so 1,000,000 is 1 mm, which is 1,000,000,000 pm.
-const DRAWN: [(&[u8], &[Part]); 19] = [
+const DRAWN: [(&[u8], &[Part]); 27] = [
     // Lines from point to point: a coordinate that is left out is the last one.
     (
         b"%FSLAX46Y46*%\n%MOMM*%\n%ADD10C,0.2*%\nD10*\nG01*\nX0Y0D02*\nX1000000Y0D01*\nY2000000D01*\nM02*\n",
@@ -170,7 +211,7 @@ const DRAWN: [(&[u8], &[Part]); 19] = [
         b"%FSLAX46Y46*%\n%MOMM*%\n%ADD10C,0.2*%\nD10*\nX1Y0D02*\nG75*\nG02*\nX2I9999999999D01*\nX0I9999999999D01*\nM02*\n",
         &[Part::Arc(1_000, 0, 2_000, 0, 10_000_000_000_000, 0, 200_000_000, true)],
     ),
-    // Moves and flashes draw nothing.
+    // Moves and flashes of pads draw nothing.
     (
         b"%FSLAX46Y46*%\n%MOMM*%\n%ADD10C,0.2*%\nD10*\nX1000000Y0D02*\nX0D03*\nM02*\n",
         &[],
@@ -236,10 +277,74 @@ const DRAWN: [(&[u8], &[Part]); 19] = [
         b"%FSLAX46Y46*%\n%MOMM*%\n%ADD10C,10000.1*%\n%ADD11C,0*%\nD10*\nX1000000Y0D01*\nD11*\nX0D01*\nM02*\n",
         &[Part::Line(1_000_000_000, 0, 0, 0, 0)],
     ),
+    // A rectangle with round corners, as exporters write it: its corners from the second point on, and the border at them.
+    (
+        b"%FSLAX46Y46*%\n%MOMM*%\n%AMRoundRect*\n0 Rectangle with rounded corners*\n0 $1 Rounding radius*\n0 $2 $3 $4 $5 $6 $7 $8 $9 X,Y pos of 4 corners*\n0 Add a 4 corners polygon primitive as box body*\n4,1,4,$2,$3,$4,$5,$6,$7,$8,$9,$2,$3,0*\n0 Add four circle primitives for the rounded corners*\n1,1,$1+$1,$2,$3*\n1,1,$1+$1,$4,$5*\n1,1,$1+$1,$6,$7*\n1,1,$1+$1,$8,$9*\n0 Add four rect primitives between the rounded corners*\n20,1,$1+$1,$2,$3,$4,$5,0*\n20,1,$1+$1,$4,$5,$6,$7,0*\n20,1,$1+$1,$6,$7,$8,$9,0*\n20,1,$1+$1,$8,$9,$2,$3,0*%\n%ADD10RoundRect,0.250000X-0.300000X-0.450000X0.300000X-0.450000X0.300000X0.450000X-0.300000X0.450000X0*%\nD10*\nX1000000Y2000000D03*\nM02*\n",
+        &[Part::Flash(
+            1_000_000_000,
+            2_000_000_000,
+            250_000_000,
+            &[
+                (300_000_000, -450_000_000),
+                (300_000_000, 450_000_000),
+                (-300_000_000, 450_000_000),
+                (-300_000_000, -450_000_000),
+            ],
+        )],
+    ),
+    // A thermal is not judged, and a parameter that lacks has no value.
+    (
+        b"%FSLAX46Y46*%\n%MOMM*%\n%AMTHERMAL*7,0,0,1,0.5,0.1,0*%\n%AMDOT*1,1,$1,0,0*%\n%ADD10THERMAL*%\n%ADD11DOT*%\nD10*\nX0Y0D03*\nD11*\nX0Y0D03*\nM02*\n",
+        &[],
+    ),
+    // Nothing is shown while it is scaled, turned or mirrored.
+    (
+        b"%FSLAX46Y46*%\n%MOMM*%\n%AMDOT*1,1,$1,0,0*%\n%ADD10DOT,0.6*%\nD10*\n%LS2*%\nX0Y0D03*\n%LS1*%\n%LR90*%\nX0D03*\n%LR0*%\n%LMY*%\nX0D03*\n%LMN*%\nX7000000D03*\nM02*\n",
+        &[Part::Flash(7_000_000_000, 0, 300_000_000, &[(0, 0)])],
+    ),
+    // Each aperture has the macro of its own name, with its own parameters. One that is defined a second time is refused.
+    (
+        b"%FSLAX46Y46*%\n%MOMM*%\n%AMDOT*1,1,$1,0,0*%\n%AMBOX*21,1,$1,$2,0,0,0*%\n%ADD10DOT,0.6*%\n%ADD11BOX,1X2*%\n%ADD12DOT,0.8*%\nD11*\nX0Y0D03*\nD10*\nX0D03*\nD12*\nX0D03*\nM02*\n",
+        &[
+            Part::Flash(
+                0,
+                0,
+                0,
+                &[
+                    (-500_000_000, -1_000_000_000),
+                    (500_000_000, -1_000_000_000),
+                    (500_000_000, 1_000_000_000),
+                    (-500_000_000, 1_000_000_000),
+                ],
+            ),
+            Part::Flash(0, 0, 300_000_000, &[(0, 0)]),
+            Part::Flash(0, 0, 400_000_000, &[(0, 0)]),
+        ],
+    ),
+    // A macro in inches.
+    (
+        b"%FSLAX24Y24*%\n%MOIN*%\n%AMDOT*1,1,$1,0.1,0*%\n%ADD10DOT,0.01*%\nD10*\nX10000Y0D03*\nM02*\n",
+        &[Part::Flash(25_400_000_000, 0, 127_000_000, &[(2_540_000_000, 0)])],
+    ),
+    // An aperture that is defined before the unit has no shape.
+    (
+        b"%FSLAX46Y46*%\n%AMDOT*1,1,$1,0,0*%\n%ADD10DOT,0.6*%\n%MOMM*%\n%ADD11DOT,0.6*%\nD10*\nX0Y0D03*\nD11*\nX0D03*\nM02*\n",
+        &[Part::Flash(0, 0, 300_000_000, &[(0, 0)])],
+    ),
+    // A corner may lie as far as 10 m from zero, and a flash with one a nanometre farther is not shown.
+    (
+        b"%FSLAX46Y46*%\n%MOMM*%\n%AMDOT*1,1,0.2,1,0*%\n%ADD10DOT*%\nD10*\nX9999000000Y0D03*\nX9999000001D03*\nM02*\n",
+        &[Part::Flash(9_999_000_000_000, 0, 100_000_000, &[(1_000_000_000, 0)])],
+    ),
+    // The copies of a block are not told. A macro draws no line.
+    (
+        b"%FSLAX46Y46*%\n%MOMM*%\n%AMDOT*1,1,$1,0,0*%\n%ADD10DOT,0.6*%\nD10*\n%SRX2Y1I5J0*%\nX0Y0D03*\n%SR*%\nX1000000D01*\nM02*\n",
+        &[Part::Flash(0, 0, 300_000_000, &[(0, 0)])],
+    ),
 ];
 
 #[test]
-fn layers_draw_lines_arcs_and_contours(rt: HostRuntime) {
+fn layers_draw_lines_arcs_flashes_and_contours(rt: HostRuntime) {
     for (place, &(text, expected)) in DRAWN.iter().enumerate() {
         assert!(rt; draws(rt.alloc(), text, expected), "at {place}");
     }

@@ -20,3 +20,4 @@ pub mod UniquePads
 pub mod FlashedPads
 pub mod PadExamples
 pub mod DrawnLemmas
+pub mod MacroFields

@@ -7,12 +7,13 @@ ghost use Rattle.layer_image.specs.Drawn.{drawn_by, drawn_of};
 ghost use Rattle.layer_image.specs.Inner.Pencils.{draw_state};
 
 use crate::pencil::Pencil;
+use crate::shared::SharedRounded;
 use gerber_text::{Command, Placed};
 use grid_units::Point;
 use std::alloc::{AllocError, Global};
 
-/// A part of what a layer draws with `D01`. Points and widths are in pm.
-#[derive(Clone, Copy, Debug, PartialEq, Eq)]
+/// A part of what a layer draws with `D01`, or a flash of a macro. Points and widths are in pm.
+#[derive(Debug, Drop)]
 pub enum Drawn {
     /// A straight line with round ends, drawn by a round aperture.
     Line {
@@ -36,6 +37,13 @@ pub enum Drawn {
         /// Whether it goes clockwise, with y upwards.
         clockwise: bool,
     },
+    /// A flash of a macro.
+    Flash {
+        /// Its point.
+        at: Point,
+        /// The shape of the macro about that point, which is (0, 0) for the shape.
+        shape: SharedRounded,
+    },
     /// The first corner of a contour of a region.
     Contour(Point),
     /// The next corner of the contour, to which it goes straight; also the end of an arc whose centre is not told.
@@ -57,7 +65,7 @@ pub enum Drawn {
 fn push_drawn(drawn: &mut Vec<Drawn>, pencil: &Pencil, command: &Command) -> Result<(), AllocError>
     ensures { OnOk result (drawn.new.items ≡ drawn.old.items ++ cons_option (drawn_by (draw_state pencil.now) command.now) []) }
 {
-    if let Some(part) = pencil.drawn(command) {
+    if let Some(part) = pencil.drawn(command)? {
         drawn.push(part)?;
     }
     Ok(())

@@ -1,19 +1,23 @@
-//! What the commands of a layer draw: lines and arcs, and the contours of regions.
+//! What the commands of a layer draw: lines and arcs, flashes of macros, and the contours of regions.
 
-ghost use Rattle.std.specs.Prelude.{◌≡◌, ◌≤◌, ◌^◌, ℤ, Option, OnOk, [], unsigned_abs, IfSome};
-ghost use Rattle.std.specs.Option.{option_and_then};
-ghost use Rattle.grid_units.specs.Numbers.{picometres};
+ghost use Rattle.std.specs.Prelude.{◌≡◌, ◌≤◌, ◌^◌, ◌+ℤ◌, not, ℤ, Option, OnOk, IfOk, [], unsigned_abs, IfSome};
+ghost use Rattle.std.specs.List.{list_all};
+ghost use Rattle.std.specs.Option.{option_copied, option_map};
+ghost use Rattle.grid_units.specs.Numbers.{is_too_far, picometres};
 ghost use Rattle.grid_units.specs.Points.{IsCoordinate};
 ghost use Rattle.gerber_commands.specs.declared.command.Action.{Action as TheAction};
 ghost use Rattle.gerber_commands.specs.declared.command.Command.TheVariants as command;
 ghost use Rattle.layer_image.specs.Numbers.{dec_length};
-ghost use Rattle.layer_image.specs.Drawn.{arc_between, arc_centre, bend_between, contour_part, current_point, draw_state_after, drawn_by, is_plot, line_between, line_width, moved, near, next_part, operated, operation_point, plotted, point_at, point_of, width_of};
+ghost use Rattle.layer_image.specs.declared.drawn.Drawn.TheVariants as drawn;
+ghost use Rattle.layer_image.specs.Drawn.{arc_between, arc_centre, bend_between, contour_part, current_point, draw_state_after, draw_unit, drawn_by, flash_of, flash_shape, flashed, inside_region, is_plain, line_between, line_width, moved, near, next_part, operated, operation_point, outside_region, plotted, point_at, point_of, selected_aperture, stays_near, width_of};
 ghost use Rattle.layer_image.specs.Inner.Pencils.{after_command, draw_state};
 
 use crate::current::ONE;
 use crate::drawn::Drawn;
+use crate::drawn_apertures::{DrawnAperture, DrawnApertures, drawn_aperture_of};
 use crate::length::{dec_length, step_length};
-use crate::line_apertures::{LineAperture, LineApertures, line_aperture_of};
+use crate::macros::Macros;
+use crate::shared::SharedRounded;
 use gerber_text::{Action, Command, Interpolation, QuadrantMode, Template};
 use grid_units::{Dec, Point, Unit, is_too_far};
 use std::alloc::{AllocError, Global};
@@ -21,16 +25,20 @@ use std::alloc::{AllocError, Global};
 /// The state that the commands so far make, as far as a draw needs it.
 #[derive(Drop)]
 pub(crate) struct Pencil {
-    unit: Unit,
+    alloc: Global,
+    unit: Option<Unit>,
     decimals: u8,
     in_region: bool,
     mode: Interpolation,
     quadrant: Option<QuadrantMode>,
-    apertures: LineApertures,
+    macros: Macros,
+    apertures: DrawnApertures,
     selected: Option<u32>,
     x: i64,
     y: i64,
     scale: Dec,
+    turn: Dec,
+    mirrored: bool,
 }
 
 impl Pencil {
@@ -39,16 +47,20 @@ impl Pencil {
         ensures { draw_state result ≡ draw_state_after [] }
     {
         Pencil {
-            unit: Unit::Millimetre,
+            alloc,
+            unit: None,
             decimals: 0,
             in_region: false,
             mode: Interpolation::Linear,
             quadrant: None,
-            apertures: LineApertures::new(alloc),
+            macros: Macros::new(alloc),
+            apertures: DrawnApertures::new(alloc),
             selected: None,
             x: 0,
             y: 0,
             scale: Dec::from_units(ONE).unwrap(),
+            turn: Dec::from_units(0).unwrap(),
+            mirrored: false,
         }
     }
 
@@ -56,26 +68,28 @@ impl Pencil {
     ///
     /// # Errors
     ///
-    /// An `AllocError` where there is no memory for an aperture.
+    /// An `AllocError` where there is no memory for an aperture or a macro.
     pub(crate) fn take(&mut self, command: &Command) -> Result<(), AllocError>
         ensures { OnOk result (draw_state self.new ≡ after_command command.now (draw_state self.old)) }
     {
         match command {
             Command::RegionStart => self.in_region = true,
             Command::RegionEnd => self.in_region = false,
-            Command::UnitIs(unit) => self.unit = *unit,
+            Command::UnitIs(unit) => self.unit = Some(*unit),
             Command::FormatIs(format) => self.decimals = format.decimals,
             Command::Mode(mode) => self.mode = *mode,
             Command::Quadrant(mode) => self.quadrant = Some(*mode),
             Command::Define { number, template } => self.define(*number, template.get())?,
             Command::Select(number) => self.selected = Some(*number),
             Command::Operate { x, y, .. } => self.set_point(x.get(), y.get()),
+            Command::Macro(name, pieces) => {
+                self.macros.insert(self.alloc, name, pieces.get())?;
+            }
             Command::Scale(scale) => self.scale = *scale,
+            Command::Turn(turn) => self.turn = *turn,
+            Command::Mirror { x, y } => self.mirrored = *x || *y,
             Command::Comment(_)
-            | Command::Macro(_, _)
             | Command::Dark
-            | Command::Mirror { .. }
-            | Command::Turn(_)
             | Command::Repeat(_)
             | Command::RepeatEnd
             | Command::Attribute(_, _)
@@ -89,7 +103,8 @@ impl Pencil {
     fn define(&mut self, number: u32, template: &Template) -> Result<(), AllocError>
         ensures { OnOk result (draw_state self.new ≡ after_command (command.Define number template.now) (draw_state self.old)) }
     {
-        self.apertures.insert(number, line_aperture_of(template))
+        let aperture = drawn_aperture_of(self.alloc, self.unit, &self.macros, template)?;
+        self.apertures.insert(number, aperture)
     }
 
     /// Makes the point of an operation the current one.
@@ -101,29 +116,67 @@ impl Pencil {
     }
 
     /// What a command draws, if it draws anything.
-    pub(crate) fn drawn(&self, command: &Command) -> Option<Drawn>
-        ensures { result ≡ drawn_by (draw_state self.now) command.now }
+    pub(crate) fn drawn(&self, command: &Command) -> Result<Option<Drawn>, AllocError>
+        ensures { IfOk result (λ part. part ≡ drawn_by (draw_state self.now) command.now) }
     {
         match command {
-            Command::RegionStart => Some(Drawn::Contour(self.current_point()?)),
+            Command::RegionStart => Ok(self.region_start()),
             Command::Operate { action, x, y, i, j } => {
                 let to = self.operation_point(x.get(), y.get());
                 self.operated(*action, to, self.arc_centre(i.get(), j.get()))
             }
-            _ => None,
+            _ => Ok(None),
         }
     }
 
+    /// The contour at the start of a region.
+    fn region_start(&self) -> Option<Drawn>
+        ensures { result ≡ option_map drawn.Contour (current_point (draw_state self.now)) }
+    {
+        Some(Drawn::Contour(self.current_point()?))
+    }
+
     /// What an operation draws, by its point and the centre of its arc.
-    fn operated(&self, action: Action, to: Option<Point>, centre: Option<Point>) -> Option<Drawn>
-        ensures { result ≡ operated (draw_state self.now) action to centre }
+    fn operated(
+        &self,
+        action: Action,
+        to: Option<Point>,
+        centre: Option<Point>,
+    ) -> Result<Option<Drawn>, AllocError>
+        ensures { IfOk result (λ part. part ≡ operated (draw_state self.now) action to centre) }
     {
         if self.in_region {
-            self.contour_part(action, to?, centre)
-        } else if is_plot(action) {
-            self.plotted(to, centre)
+            Ok(self.inside_region(action, to, centre))
         } else {
-            None
+            self.outside_region(action, to, centre)
+        }
+    }
+
+    /// What an operation inside a region draws, where its point is near.
+    fn inside_region(
+        &self,
+        action: Action,
+        to: Option<Point>,
+        centre: Option<Point>,
+    ) -> Option<Drawn>
+        ensures { result ≡ inside_region (draw_state self.now) action to centre }
+    {
+        self.contour_part(action, to?, centre)
+    }
+
+    /// What an operation outside of regions draws.
+    fn outside_region(
+        &self,
+        action: Action,
+        to: Option<Point>,
+        centre: Option<Point>,
+    ) -> Result<Option<Drawn>, AllocError>
+        ensures { IfOk result (λ part. part ≡ outside_region (draw_state self.now) action to centre) }
+    {
+        match action {
+            Action::Plot => Ok(self.plotted(to, centre)),
+            Action::Move => Ok(None),
+            Action::Flash => flashed(to, self.flash_shape()),
         }
     }
 
@@ -236,9 +289,16 @@ impl Pencil {
         ensures { result ≡ point_of (draw_state self.now) x y }
     {
         point_at(
-            near_coordinate(x, self.decimals, self.unit),
-            near_coordinate(y, self.decimals, self.unit),
+            near_coordinate(x, self.decimals, self.unit()),
+            near_coordinate(y, self.decimals, self.unit()),
         )
+    }
+
+    /// The unit that was named.
+    fn unit(&self) -> Unit
+        ensures { result ≡ draw_unit (draw_state self.now) }
+    {
+        self.unit.unwrap_or(Unit::Millimetre)
     }
 
     /// The width of a line that is drawn with the selected aperture, in pm.
@@ -248,12 +308,30 @@ impl Pencil {
         if self.scale.units() != ONE {
             return None;
         }
-        width_of(self.unit, &self.aperture()?)
+        width_of(self.unit(), self.aperture()?)
+    }
+
+    /// Whether nothing is scaled, turned or mirrored.
+    fn is_plain(&self) -> bool
+        ensures { result ≡ is_plain (draw_state self.now) }
+    {
+        self.scale.units() == ONE && self.turn.units() == 0 && !self.mirrored
+    }
+
+    /// The shape that is flashed with the selected aperture, while nothing is scaled, turned or mirrored.
+    fn flash_shape(&self) -> Option<&SharedRounded>
+        ensures { option_copied result ≡ flash_shape (draw_state self.now) }
+    {
+        if self.is_plain() {
+            self.aperture()?.shape()
+        } else {
+            None
+        }
     }
 
     /// The aperture of the number that was selected last.
-    fn aperture(&self) -> Option<LineAperture>
-        ensures { result ≡ option_and_then (draw_state self.now).aperture self.now.selected }
+    fn aperture(&self) -> Option<&DrawnAperture>
+        ensures { option_copied result ≡ selected_aperture (draw_state self.now) }
     {
         match self.selected {
             Some(number) => self.apertures.get(number),
@@ -262,11 +340,53 @@ impl Pencil {
     }
 }
 
-/// Whether an operation is a plot.
-fn is_plot(action: Action) -> bool
-    ensures { result ≡ is_plot action }
+/// Whether the sum of two coordinates is at most 10 m in absolute value.
+fn is_near_sum(a: i64, b: i64) -> bool
+    ensures { result ≡ not (is_too_far (a +ℤ b)) }
 {
-    matches!(action, Action::Plot)
+    !is_too_far(i128::from(a) + i128::from(b))
+}
+
+/// Whether a corner about the point of a flash lies at most 10 m from zero along each axis.
+fn stays_near(at: Point, corner: Point) -> bool
+    ensures { result ≡ stays_near at corner }
+{
+    is_near_sum(at.x(), corner.x()) && is_near_sum(at.y(), corner.y())
+}
+
+/// Whether all corners about the point of a flash do.
+fn all_stay_near(at: Point, corners: &[Point]) -> bool
+    ensures { result ≡ list_all (stays_near at) corners.now }
+{
+    for corner in corners {
+        if !stays_near(at, *corner) {
+            return false;
+        }
+    }
+    true
+}
+
+/// A shape at the point of a flash, where each of its corners is near.
+fn flash_of(at: Point, shape: &SharedRounded) -> Result<Option<Drawn>, AllocError>
+    ensures { IfOk result (λ part. part ≡ flash_of at shape.now) }
+{
+    let corners = shape.get();
+    if stays_near(at, corners.first()) && all_stay_near(at, corners.others()) {
+        let shape = shape.share()?;
+        Ok(Some(Drawn::Flash { at, shape }))
+    } else {
+        Ok(None)
+    }
+}
+
+/// A flash of a shape, where its point is near and there is one.
+fn flashed(at: Option<Point>, shape: Option<&SharedRounded>) -> Result<Option<Drawn>, AllocError>
+    ensures { IfOk result (λ part. part ≡ flashed at (option_copied shape.entry)) }
+{
+    match (at, shape) {
+        (Some(at), Some(shape)) => flash_of(at, shape),
+        _ => Ok(None),
+    }
 }
 
 /// A coordinate moved by an offset, 0 where it is left out. It may lie beyond every `i64`.
@@ -301,12 +421,12 @@ fn point_at(x: Option<i64>, y: Option<i64>) -> Option<Point>
 }
 
 /// The width of a line that is drawn with an aperture, in pm.
-fn width_of(unit: Unit, aperture: &LineAperture) -> Option<i64>
+fn width_of(unit: Unit, aperture: &DrawnAperture) -> Option<i64>
     ensures { result ≡ width_of unit aperture.now }
 {
     match aperture {
-        LineAperture::Round(diameter) => near_size(*diameter, unit),
-        LineAperture::Other => None,
+        DrawnAperture::Round(diameter) => near_size(*diameter, unit),
+        DrawnAperture::Shape(_) | DrawnAperture::Other => None,
     }
 }
 

@@ -1,8 +1,9 @@
 -- What a layer draws, in a picture (docs/FORMATS.md, Pictures). Lengths are whole pm, printed in mm without zeros at the end; y grows downwards.
-use Rattle.std.specs.Prelude.{ℕ, zero, suc, ℤ, pos, neg_ℤ, ◌+◌, ◌-ℤ◌, ◌*ℤ◌, Bool, false, ◌==◌, ◌&&◌, nat_le, int_lt, List, [], ◌++◌, length, codes, if◌then◌else◌}
+use Rattle.std.specs.Prelude.{ℕ, zero, suc, ℤ, pos, neg_ℤ, ◌+◌, ◌*◌, ◌+ℤ◌, ◌-ℤ◌, ◌*ℤ◌, Bool, false, ◌==◌, ◌&&◌, nat_le, int_lt, List, [], ◌++◌, length, codes, if◌then◌else◌}
 use Rattle.std.specs.List.{flat_map}
 use Rattle.std.specs.Ordering.{int_eq}
 use Rattle.grid_units.specs.Points.{GridPoint, square, square_distance}
+use Rattle.pad_shapes.specs.Rounded.{GridRounded}
 use Rattle.layer_image.specs.declared.drawn.Drawn.{Drawn}
 use Rattle.layer_image.specs.declared.drawn.Drawn.TheVariants as drawn
 use Rattle.picture.specs.Elements.{after}
@@ -80,18 +81,56 @@ first_corner x y = after (codes "\"/>\n<path d=\"M") x ++ after (codes " ") y
 unfoldable pub next_corner : ℤ → ℤ → List ℕ
 next_corner x y = after (codes "L") x ++ after (codes " ") y
 
--- the element of a line or an arc; nothing of a contour
+-- ---- flashes of macros
+
+-- the x of a corner about the point of a flash
+abbrev pub corner_x : GridPoint → GridPoint → ℤ
+corner_x at corner = at.x +ℤ corner.x
+
+-- and its y, downwards
+abbrev pub corner_y : GridPoint → GridPoint → ℤ
+corner_y at corner = neg_ℤ (at.y +ℤ corner.y)
+
+-- the next corner about the point of a flash: `L3 -4`
+abbrev pub flash_corner : GridPoint → GridPoint → List ℕ
+flash_corner at corner = next_corner (corner_x at corner) (corner_y at corner)
+
+-- the width of the line round the corners: twice the radius
+abbrev pub flash_width : GridRounded → ℤ
+flash_width shape = pos (2 * shape.radius)
+
+-- the path round several corners, by the width of its line, the first corner and the others:
+-- `<path stroke-width="0.2" stroke-linejoin="round" fill="#f0dcc0" d="M1 -2L3 -2L3 -4z"/>`
+unfoldable pub drawn_polygon : ℤ → ℤ → ℤ → List ℕ → List ℕ
+drawn_polygon width x y others =
+    after (codes "<path stroke-width=\"") width ++ (after (codes "\" stroke-linejoin=\"round\" fill=\"#f0dcc0\" d=\"M") x ++ (after (codes " ") y ++ (others ++ codes "z\"/>\n")))
+
+-- a flash of a single corner: a line of no length
+abbrev pub drawn_dot : GridPoint → GridRounded → List ℕ
+drawn_dot at shape = drawn_line (flash_width shape) (corner_x at shape.first) (corner_y at shape.first) (corner_x at shape.first) (corner_y at shape.first)
+
+-- a flash of a macro, by its point and the shape about it
+abbrev pub drawn_flash : GridPoint → GridRounded → List ℕ
+drawn_flash at shape =
+    if length shape.others == 0 then drawn_dot at shape
+    else drawn_polygon (flash_width shape) (corner_x at shape.first) (corner_y at shape.first) (flat_map (flash_corner at) shape.others)
+
+-- ---- all parts
+
+-- the element of a line, an arc or a flash; nothing of a contour
 abbrev pub line_text : Drawn → List ℕ
 line_text (drawn.Line from to width) = drawn_line width from.x (neg_ℤ from.y) to.x (neg_ℤ to.y)
 line_text (drawn.Arc from to centre width clockwise) = drawn_arc width from.x (neg_ℤ from.y) (arc_way from to centre clockwise)
+line_text (drawn.Flash at shape) = drawn_flash at shape
 line_text (drawn.Contour at) = []
 line_text (drawn.Corner at) = []
 line_text (drawn.Bend from to centre clockwise) = []
 
--- a corner of a contour, or its way along an arc; nothing of a line or an arc outside of regions
+-- a corner of a contour, or its way along an arc; nothing of what is drawn outside of regions
 abbrev pub corner_text : Drawn → List ℕ
 corner_text (drawn.Line from to width) = []
 corner_text (drawn.Arc from to centre width clockwise) = []
+corner_text (drawn.Flash at shape) = []
 corner_text (drawn.Contour at) = first_corner at.x (neg_ℤ at.y)
 corner_text (drawn.Corner at) = next_corner at.x (neg_ℤ at.y)
 corner_text (drawn.Bend from to centre clockwise) = arc_way from to centre clockwise
@@ -108,7 +147,7 @@ contours_start = codes "<g fill=\"#f0dcc0\" fill-rule=\"evenodd\" stroke=\"none\
 abbrev pub copper_end : List ℕ
 copper_end = codes "\"/>\n</g>\n</g>\n"
 
--- what is drawn: the lines and arcs, then the contours, each a path of its own; nothing where nothing is drawn
+-- what is drawn: the lines, arcs and flashes, then the contours, each a path of its own; nothing where nothing is drawn
 abbrev pub copper : List Drawn → List ℕ
 copper parts =
     if length parts == 0 then [] else (((copper_start ++ flat_map line_text parts) ++ contours_start) ++ flat_map corner_text parts) ++ copper_end

@@ -1,13 +1,15 @@
-//! What a layer draws, in a picture: its lines and arcs, and the contours of its regions. Coordinates and widths are in pm.
+//! What a layer draws, in a picture: its lines and arcs, its flashes of macros, and the contours of its regions. Coordinates and widths are in pm.
 
-ghost use Rattle.std.specs.Prelude.{◌≡◌, ◌≤◌, ◌-ℤ◌, ◌*ℤ◌, neg_ℤ, pos, unsigned_abs, false, Some};
+ghost use Rattle.std.specs.Prelude.{◌≡◌, ◌≤◌, ◌+ℤ◌, ◌-ℤ◌, ◌*ℤ◌, neg_ℤ, pos, unsigned_abs, false, Some};
 ghost use Rattle.std.specs.Fmt.{DisplaysOnOk};
+ghost use Rattle.std.specs.List.{flat_map};
 ghost use Rattle.grid_units.specs.Points.{IsCoordinate};
-ghost use Rattle.picture.specs.Copper.{arc_radius, arc_to, arc_way, copper, corner_text, drawn_arc, drawn_line, first_corner, flag, floor_root, is_circle, is_large, is_left, line_text, next_corner, open_way, opposite};
+ghost use Rattle.picture.specs.Copper.{arc_radius, arc_to, arc_way, copper, corner_text, corner_x, corner_y, drawn_arc, drawn_dot, drawn_flash, drawn_line, drawn_polygon, first_corner, flag, flash_corner, flash_width, floor_root, is_circle, is_large, is_left, line_text, next_corner, open_way, opposite};
 
 use crate::elements::down;
 use grid_units::{Point, square_length};
 use layer_image::Drawn;
+use pad_shapes::Rounded;
 use printing::{Line, Lines, ShortMillimetres};
 use std::fmt;
 use std::fmt::{Display, Formatter};
@@ -261,11 +263,124 @@ fn arc_of(from: &Point, to: &Point, centre: &Point, width: i64, clockwise: bool)
     }
 }
 
-/// The lines and arcs of what is drawn, as elements.
+/// A coordinate of a corner about the point of a flash.
+fn moved(at: i64, corner: i64) -> i64
+    requires at { IsCoordinate at }
+    requires corner { IsCoordinate corner }
+    ensures value { result ≡ at +ℤ corner }
+    ensures in_range { unsigned_abs result ≤ 20000000000000 }
+{
+    at + corner
+}
+
+/// The x of a corner about the point of a flash.
+fn corner_x(at: &Point, corner: Point) -> i64
+    ensures { result ≡ corner_x at.now corner }
+{
+    moved(at.x(), corner.x())
+}
+
+/// The y of a corner about the point of a flash, downwards.
+fn corner_y(at: &Point, corner: Point) -> i64
+    ensures { result ≡ corner_y at.now corner }
+{
+    down(moved(at.y(), corner.y()))
+}
+
+/// The width of the line round the corners of a flash.
+fn flash_width(shape: &Rounded) -> i64
+    ensures { result ≡ flash_width shape.now }
+{
+    2 * shape.radius()
+}
+
+/// The point of a flash.
+#[derive(Clone, Copy)]
+struct FlashPoint(Point);
+
+/// The next corner of a flash.
+impl Line<FlashPoint> for Point {
+    ghost text = { λ flash corner. flash_corner flash.0 corner };
+
+    #[tactic(auto, unfolding(crate::specs::Copper::next_corner))]
+    fn fmt_on<W: fmt::Write>(&self, flash: &FlashPoint, f: &mut Formatter<W>) -> fmt::Result {
+        let x = ShortMillimetres(corner_x(&flash.0, *self));
+        let y = ShortMillimetres(corner_y(&flash.0, *self));
+        write!(f, "L{x} {y}")
+    }
+}
+
+/// A flash with several corners, by the width of its line, its first corner, its point and the other corners about it.
+#[derive(Clone, Copy)]
+struct FlashPath<'a> {
+    width: i64,
+    x: i64,
+    y: i64,
+    at: FlashPoint,
+    others: &'a [Point],
+}
+
+impl Display for FlashPath<'_> {
+    ghost output = { λ p. Some (drawn_polygon p.width p.x p.y (flat_map (flash_corner p.at.0) p.others.now)) };
+
+    fn fmt<W: fmt::Write>(&self, f: &mut Formatter<W>) -> fmt::Result {
+        let (x, y) = (ShortMillimetres(self.x), ShortMillimetres(self.y));
+        let width = ShortMillimetres(self.width);
+        let others = Lines {
+            page: &self.at,
+            lines: self.others,
+        };
+        write!(
+            f,
+            "<path stroke-width=\"{width}\" stroke-linejoin=\"round\" fill=\"#f0dcc0\" d=\"M{x} {y}{others}z\"/>\n"
+        )
+    }
+}
+
+/// The path of a flash with several corners.
+fn path_of<'a>(at: &Point, shape: &'a Rounded) -> FlashPath<'a>
+    ensures { drawn_polygon result.width result.x result.y (flat_map (flash_corner result.at.0) result.others.now) ≡ drawn_polygon (flash_width shape.now) (corner_x at.now shape.now.first) (corner_y at.now shape.now.first) (flat_map (flash_corner at.now) shape.now.others) }
+{
+    let first = shape.first();
+    FlashPath {
+        width: flash_width(shape),
+        x: corner_x(at, first),
+        y: corner_y(at, first),
+        at: FlashPoint(*at),
+        others: shape.others(),
+    }
+}
+
+/// A flash of a single corner: a line of no length.
+fn dot_of(at: &Point, shape: &Rounded) -> DrawnLine
+    ensures { drawn_line result.width result.x result.y result.end_x result.end_y ≡ drawn_dot at.now shape.now }
+{
+    let (x, y) = (corner_x(at, shape.first()), corner_y(at, shape.first()));
+    DrawnLine {
+        width: flash_width(shape),
+        x,
+        y,
+        end_x: x,
+        end_y: y,
+    }
+}
+
+/// Writes a flash.
+fn write_flash<W: fmt::Write>(f: &mut Formatter<W>, at: &Point, shape: &Rounded) -> fmt::Result
+    ensures { DisplaysOnOk W.write_str_gives f.old result (Some (drawn_flash at.now shape.now)) f.new }
+{
+    if shape.others().is_empty() {
+        write!(f, "{}", dot_of(at, shape))
+    } else {
+        write!(f, "{}", path_of(at, shape))
+    }
+}
+
+/// The lines, arcs and flashes of what is drawn, as elements.
 #[derive(Clone, Copy)]
 struct LineElements;
 
-/// The element of a line or an arc; nothing of a contour.
+/// The element of a line, an arc or a flash; nothing of a contour.
 impl Line<LineElements> for Drawn {
     ghost text = { λ _ part. line_text part };
 
@@ -279,6 +394,7 @@ impl Line<LineElements> for Drawn {
                 width,
                 clockwise,
             } => write!(f, "{}", arc_of(from, to, centre, *width, *clockwise)),
+            Drawn::Flash { at, shape } => write_flash(f, at, shape.get()),
             Drawn::Contour(_) | Drawn::Corner(_) | Drawn::Bend { .. } => Ok(()),
         }
     }
@@ -306,13 +422,13 @@ fn write_next_corner<W: fmt::Write>(f: &mut Formatter<W>, at: &Point) -> fmt::Re
 #[derive(Clone, Copy)]
 struct ContourPaths;
 
-/// A corner of a contour, or its way along an arc; nothing of a line or an arc outside of regions.
+/// A corner of a contour, or its way along an arc; nothing of what is drawn outside of regions.
 impl Line<ContourPaths> for Drawn {
     ghost text = { λ _ part. corner_text part };
 
     fn fmt_on<W: fmt::Write>(&self, _page: &ContourPaths, f: &mut Formatter<W>) -> fmt::Result {
         match self {
-            Drawn::Line { .. } | Drawn::Arc { .. } => Ok(()),
+            Drawn::Line { .. } | Drawn::Arc { .. } | Drawn::Flash { .. } => Ok(()),
             Drawn::Contour(at) => write_first_corner(f, at),
             Drawn::Corner(at) => write_next_corner(f, at),
             Drawn::Bend {
@@ -325,7 +441,7 @@ impl Line<ContourPaths> for Drawn {
     }
 }
 
-/// What a layer draws: a group of its lines and arcs, and of its contours; nothing where it draws nothing.
+/// What a layer draws: a group of its lines, arcs and flashes, and of its contours; nothing where it draws nothing.
 #[derive(Clone, Copy)]
 pub(crate) struct Copper<'a>(pub(crate) &'a [Drawn]);
 

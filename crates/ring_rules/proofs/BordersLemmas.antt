@@ -27,7 +27,7 @@ tested a b h = by_test (int_le a b) refl where
   by_test true e = refl
   by_test false e = absurd (omega (arith, ints))
 
-up_to-le : (bs : List ℤ) (v w : ℤ) → v ≤ℤ w → borders_up_to bs v ≤ borders_up_to bs w
+pub up_to-le : (bs : List ℤ) (v w : ℤ) → v ≤ℤ w → borders_up_to bs v ≤ borders_up_to bs w
 up_to-le [] v w h = omega arith
 up_to-le (b ∷ bs) v w h = by_tests (int_le b v) (int_le b w) refl refl (up_to-le bs v w h) where
   by_tests : (s t : Bool) → int_le b v ≡ s → int_le b w ≡ t → borders_up_to bs v ≤ borders_up_to bs w → cond s (1 + borders_up_to bs v) 0 ≤ cond t (1 + borders_up_to bs w) 0
@@ -67,6 +67,21 @@ end_by bs v k b rises inside is h =
     let later = rises (borders_up_to bs v) k b h inside in
     omega (arith, ints, stop, later, is)
 
+pub before_by : (bs : List ℤ) (v : ℤ) (k : ℕ) (b : ℤ) → b ≡ get_or bs k b → v <ℤ b → borders_up_to bs v ≤ k
+before_by bs v k b is less = elim (cases_lt k (borders_up_to bs v)) [
+  | inl past ↦ absurd (let low = start_by bs v k b is past in omega (arith, ints, low, less))
+  | inr within ↦ within
+]
+
+pub after_by : (bs : List ℤ) (v : ℤ) (k : ℕ) (b : ℤ) → IsAscending bs → k < length bs → b ≡ get_or bs k b → b ≤ℤ v → k < borders_up_to bs v
+after_by bs v k b rises inside is more = elim (cases_lt k (borders_up_to bs v)) [
+  | inl past ↦ past
+  | inr within ↦ absurd
+      (let stop = above (get_or bs (borders_up_to bs v) b) v (prefix_len_stops (λ b. int_le b v) bs b (omega (arith, within, inside))) in
+      let later = rises (borders_up_to bs v) k b within inside in
+      omega (arith, ints, stop, later, is, more))
+]
+
 not_less_at : (a b : ℤ) (t : Bool) → int_lt a b ≡ t → is_lt (cond t Less (cond (int_lt b a) Greater Equal)) ≡ false → b ≤ℤ a
 not_less_at a b true h e = cc
 not_less_at a b false h e = omega (arith, ints)
@@ -75,7 +90,7 @@ not_less : (a b : ℤ) → is_lt (int_cmp a b) ≡ false → b ≤ℤ a
 not_less a b e = not_less_at a b (int_lt a b) refl e
 
 -- no later element has a lower key
-sorted_keys : {X : Type 0} (key : X → ℤ) (xs : List X) → IsSortedByKey key int_cmp xs → (i j : ℕ) (d : X) → i ≤ j → j < length xs → key (get_or xs i d) ≤ℤ key (get_or xs j d)
+pub sorted_keys : {X : Type 0} (key : X → ℤ) (xs : List X) → IsSortedByKey key int_cmp xs → (i j : ℕ) (d : X) → i ≤ j → j < length xs → key (get_or xs i d) ≤ℤ key (get_or xs j d)
 sorted_keys key xs up i j d h k =
     not_less (key (get_or xs j d)) (key (get_or xs i d)) (sorted_far (λ x y. is_lt (int_cmp (key x) (key y))) (ranks_by int_cmp_total key) xs up i j d h k)
 

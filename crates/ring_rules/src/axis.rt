@@ -1,6 +1,6 @@
 //! Places along an axis, which map coordinates to the columns or rows of a grid.
 
-ghost use Rattle.std.specs.Prelude.{◌≡◌, ℤ, pos, ◌+◌, ◌*◌, ◌/◌, ◌^◌, ◌<◌, ◌≤◌, ◌≤ℤ◌, ◌+ℤ◌, unsigned_abs};
+ghost use Rattle.std.specs.Prelude.{◌≡◌, ℤ, true, false, pos, ◌+◌, ◌*◌, ◌/◌, ◌^◌, ◌<◌, ◌≤◌, ◌≤ℤ◌, ◌+ℤ◌, unsigned_abs};
 ghost use Rattle.ring_rules.specs.Borders.{IsAscending, borders_up_to};
 ghost use Rattle.ring_rules.specs.Places.{steps_above};
 
@@ -37,6 +37,43 @@ pub(crate) fn uneven_steps(borders: &[i64], v: i64) -> usize
     ensures { result ≡ borders_up_to borders.now v }
 {
     borders.partition_point(|border| *border <= v)
+}
+
+/// Whether a coordinate lies before the border at a place, or no border stands there.
+fn is_before(borders: &[i64], place: usize, v: i64) -> bool
+    requires { IsAscending borders.now }
+    ensures before { result ≡ true → borders_up_to borders.now v ≤ place }
+    ensures after { result ≡ false → place < borders_up_to borders.now v }
+    ensures fits { result ≡ false → place + 1 < 2 ^ 64 }
+{
+    borders.len() <= place || v < borders[place]
+}
+
+/// How many borders are not above a coordinate: at least `count`. The next two are compared before the rest is searched.
+fn steps_from(borders: &[i64], count: usize, v: i64) -> usize
+    requires rises { IsAscending borders.now }
+    requires count { count ≤ borders_up_to borders.now v }
+    ensures { result ≡ borders_up_to borders.now v }
+{
+    if is_before(borders, count, v) {
+        return count;
+    }
+    if is_before(borders, count + 1, v) {
+        return count + 1;
+    }
+    uneven_steps(borders, v)
+}
+
+/// How many borders are not above `high`, given how many are not above `low`. It is quick where few lie between the two.
+pub(crate) fn later_steps(borders: &[i64], low: i64, count: usize, high: i64) -> usize
+    requires rises { IsAscending borders.now }
+    requires count { count ≡ borders_up_to borders.now low }
+    ensures { result ≡ borders_up_to borders.now high }
+{
+    if high < low {
+        return uneven_steps(borders, high);
+    }
+    steps_from(borders, count, high)
 }
 
 /// The coordinate so many places above the low end.

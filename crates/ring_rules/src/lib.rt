@@ -17,6 +17,7 @@ mod layout;
 mod limits;
 mod marks;
 mod near;
+mod ordered;
 mod pads;
 mod places;
 mod regions;

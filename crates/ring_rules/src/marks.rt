@@ -1,13 +1,15 @@
 //! Marks of the holes that no pad has covered so far. They stand in the order of the spots.
 
-ghost use Rattle.std.specs.Prelude.{◌≡◌, ◌<◌, ◌≤◌, ◌&&◌, false, not, length};
+ghost use Rattle.std.specs.Prelude.{◌≡◌, ◌+◌, ◌<◌, ◌≤◌, ◌&&◌, false, not, length};
 ghost use Rattle.pad_shapes.specs.Shapes.{IsAxisAligned};
 ghost use Rattle.ring_rules.specs.Findings.{covers_hole};
 ghost use Rattle.ring_rules.specs.Inner.Marks.{gives_ring, gives_ring_at, RemovesMarks, NoMarkPassesFrom, HasNoMarkFrom};
+ghost use Rattle.ring_rules.specs.Inner.Regions.{AreInOrder};
 
 use crate::finding::is_oblique;
+use crate::ordered::between;
 use crate::spot_list::SpotList;
-use crate::spots::Run;
+use crate::spots::{FEW_SPOTS, Run};
 use grid_units::{Hole, Rules};
 use pad_shapes::PadShape;
 
@@ -58,4 +60,47 @@ pub(crate) fn try_run<S: PadShape>(
         is_left = is_left | keeps_mark;
     }
     is_left
+}
+
+/// Does so for a run in the order of x. The pad is tried at the spots from its left to its right: it covers none of the others.
+/// Where there are others, the answer is that a mark may be left.
+fn try_ordered<S: PadShape>(
+    spots: &SpotList,
+    rules: Rules,
+    pad: &S,
+    run: Run,
+    marks: &mut [bool],
+) -> bool
+    requires start { run.start ≤ run.end }
+    requires within { run.end ≤ length spots.now }
+    requires order { AreInOrder run.start run.end spots.now }
+    requires size { length marks.old ≡ length spots.now }
+    ensures removes { RemovesMarks (gives_ring_at S.covers rules.ring spots.now pad.now) marks.old marks.new }
+    ensures tried { NoMarkPassesFrom (gives_ring_at S.covers rules.ring spots.now pad.now) run.start run.end marks.new }
+    ensures none { result ≡ false → HasNoMarkFrom run.start run.end marks.new }
+{
+    let part = between(spots, run, pad.left(), pad.right());
+    let is_left = try_run(spots, rules, pad, part, marks);
+    is_left || run.start < part.start || part.end < run.end
+}
+
+/// Does so for the spots of one cell, which are in the order of x where they are many.
+pub(crate) fn try_cell<S: PadShape>(
+    spots: &SpotList,
+    rules: Rules,
+    pad: &S,
+    run: Run,
+    marks: &mut [bool],
+) -> bool
+    requires within { run.end ≤ length spots.now }
+    requires order { run.start + 16 < run.end → AreInOrder run.start run.end spots.now }
+    requires size { length marks.old ≡ length spots.now }
+    ensures removes { RemovesMarks (gives_ring_at S.covers rules.ring spots.now pad.now) marks.old marks.new }
+    ensures tried { NoMarkPassesFrom (gives_ring_at S.covers rules.ring spots.now pad.now) run.start run.end marks.new }
+    ensures none { result ≡ false → HasNoMarkFrom run.start run.end marks.new }
+{
+    if run.end.saturating_sub(run.start) <= FEW_SPOTS {
+        return try_run(spots, rules, pad, run, marks);
+    }
+    try_ordered(spots, rules, pad, run, marks)
 }

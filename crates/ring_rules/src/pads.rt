@@ -10,7 +10,7 @@ ghost use Rattle.ring_rules.specs.Inner.Regions.{IsInRegion};
 ghost use Rattle.ring_rules.specs.Inner.Trees.{AreClosedUnmarked};
 
 use crate::axis::Axis;
-use crate::places::place;
+use crate::places::places;
 use crate::regions::{Region, RingSearch, region_of};
 use crate::ring_index::RingIndex;
 use pad_shapes::PadShape;
@@ -38,15 +38,18 @@ fn range_of<S: PadShape>(x: &Axis, y: &Axis, pad: &S, least: u64) -> CellRange
             region: region_of(x, y, &zone),
             is_strip: false,
         },
-        None => CellRange {
-            region: Region {
-                top: 0,
-                bottom: y.last + 1,
-                left: place(x, pad.left()),
-                right: place(x, pad.right()) + 1,
-            },
-            is_strip: true,
-        },
+        None => {
+            let (left, last_column) = places(x, pad.left(), pad.right());
+            CellRange {
+                region: Region {
+                    top: 0,
+                    bottom: y.last + 1,
+                    left,
+                    right: last_column + 1,
+                },
+                is_strip: true,
+            }
+        }
     }
 }
 

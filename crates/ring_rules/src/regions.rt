@@ -7,14 +7,11 @@ ghost use Rattle.ring_rules.specs.Inner.Marks.{gives_ring_at, RemovesMarks};
 ghost use Rattle.ring_rules.specs.Inner.Regions.{IsInRegion, IsOnBoard, IsHoleGrid, NoMarkPassesIn, HasNoMarkIn};
 
 use crate::axis::Axis;
-use crate::marks::try_run;
-use crate::places::{place, place_end, place_start};
-use crate::spots::Cells;
+use crate::marks::{try_cell, try_run};
+use crate::places::{place_end, place_start, places};
+use crate::spots::{Cells, FEW_SPOTS};
 use grid_units::Rules;
 use pad_shapes::{PadShape, Zone};
-
-/// The most spots of a part of a row that a pad is tried at one by one, without a look at their cells.
-const FEW_SPOTS: usize = 16;
 
 /// A region of a grid: rows from `top` to `bottom` and columns from `left` to `right`, ends excluded.
 #[derive(Clone, Copy)]
@@ -40,11 +37,13 @@ pub(crate) fn region_of(x: &Axis, y: &Axis, zone: &Zone) -> Region
     ensures left { result.left ≤ x.now.last + 1 }
     ensures right { result.right ≤ x.now.last + 1 }
 {
+    let (top, last_row) = places(y, zone.bottom, zone.top);
+    let (left, last_column) = places(x, zone.left, zone.right);
     Region {
-        top: place(y, zone.bottom),
-        bottom: place(y, zone.top) + 1,
-        left: place(x, zone.left),
-        right: place(x, zone.right) + 1,
+        top,
+        bottom: last_row + 1,
+        left,
+        right: last_column + 1,
     }
 }
 
@@ -94,7 +93,7 @@ impl RingSearch<'_> {
         if !pad.may_cover(&zone_of(&self.cells.x, &self.cells.y, region), self.least) {
             return true;
         }
-        try_run(&self.cells.spots, self.rules, pad, run, marks)
+        try_cell(&self.cells.spots, self.rules, pad, run, marks)
     }
 
     /// Tries a pad at the holes of a row cell by cell, in columns from `left` to `right`, end excluded.

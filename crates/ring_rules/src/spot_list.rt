@@ -1,9 +1,12 @@
 //! Spots in few bytes. A board has many holes and few tools, so what holes of one tool have in common stands once.
 
-ghost use Rattle.std.specs.Prelude.{◌≡◌, ℕ, ◌<◌, ◌≤◌, ◌-ℤ◌, [], ◌∷◌, ◌++◌, true, length, unsigned_abs, IfOk, IfSome, OnOk};
+ghost use Rattle.std.specs.Prelude.{◌≡◌, ℕ, ◌<◌, ◌≤◌, ◌≤ℤ◌, ◌-ℤ◌, [], ◌∷◌, ◌++◌, true, length, get_or, unsigned_abs, IfOk, IfSome, OnOk};
+ghost use Rattle.std.specs.List.Sorted.{IsPermutation};
 ghost use Rattle.grid_units.specs.Points.{IsCoordinate};
 ghost use Rattle.ring_rules.specs.Spots.{spot_at, point_at};
 ghost use Rattle.ring_rules.specs.Inner.Forms.{moved, form_at, spot_of, HasForm};
+ghost use Rattle.ring_rules.specs.Inner.SpotLists.{PutsInOrder};
+ghost use Rattle.ring_rules.specs.declared.spot_list.Entry.{Entry};
 
 use crate::cells::narrow;
 use crate::spots::Spot;
@@ -169,6 +172,14 @@ fn form_number(forms: &mut Vec<Hole>, recent: &mut [u32], hole: &Hole) -> Result
     Ok(number)
 }
 
+/// Puts entries in the order of the x of their points.
+fn sort_entries(entries: &mut [Entry])
+    ensures order { (i j : ℕ) (d : Entry) → i ≤ j → j < length entries.new → (get_or entries.new i d).from.x ≤ℤ (get_or entries.new j d).from.x }
+    ensures same { IsPermutation entries.old entries.new }
+{
+    entries.sort_unstable_by_key(|entry| entry.from.x());
+}
+
 impl SpotList {
     /// A list without spots, with room for so many.
     pub(crate) fn with_capacity(alloc: Global, count: usize) -> Result<SpotList, AllocError>
@@ -212,6 +223,14 @@ impl SpotList {
         ensures { result ≡ (spot_at self.now i).place }
     {
         self.entries[i].place as usize
+    }
+
+    /// Puts the spots from an index on in the order of the x of their entry points.
+    pub(crate) fn sort_from(&mut self, start: usize)
+        requires { start ≤ length self.old }
+        ensures { PutsInOrder start self.old self.new }
+    {
+        sort_entries(&mut self.entries[start..]);
     }
 
     /// Appends a spot.

@@ -1,10 +1,10 @@
 //! The holes of a board in the order of their cells, so that what is near on the board is near in memory.
 
-ghost use Rattle.std.specs.Prelude.{◌≡◌, ℕ, [], ◌∷◌, ◌+◌, ◌*◌, ◌<◌, ◌≤◌, IfOk, OnOk, length};
+ghost use Rattle.std.specs.Prelude.{◌≡◌, ℕ, [], ◌∷◌, ◌+◌, ◌*◌, ◌<◌, ◌≤◌, IfOk, OnOk, length, get_or};
 ghost use Rattle.ring_rules.specs.Places.{IsChained};
 ghost use Rattle.ring_rules.specs.Cells.{cell_of, cell_at};
 ghost use Rattle.ring_rules.specs.Spots.{point_at, HasSpot, AreInCells};
-ghost use Rattle.ring_rules.specs.Inner.Regions.{IsInRegion, IsLaidOut};
+ghost use Rattle.ring_rules.specs.Inner.Regions.{IsInRegion, IsLaidOut, AreInOrder};
 ghost use Rattle.ring_rules.specs.Inner.SpotLists.{AddsSpots, AreSpotted, IsSpotted};
 
 use crate::axis::Axis;
@@ -14,6 +14,9 @@ use crate::spot_list::SpotList;
 use grid_units::Hole;
 use std::alloc::{AllocError, Global};
 
+/// The most spots that are tried one by one, and that a cell has in no order.
+pub(crate) const FEW_SPOTS: usize = 16;
+
 /// A hole, and its place in the list.
 #[derive(Clone, Copy)]
 pub(crate) struct Spot {
@@ -21,7 +24,8 @@ pub(crate) struct Spot {
     pub place: usize,
 }
 
-/// The holes of a board in the order of their cells. Those of a cell begin at its start, and end at that of the next one.
+/// The holes of a board in the order of their cells. Those of a cell begin at its start, and end at that of the next one. Where
+/// they are many, they are in the order of the x of their entry points.
 #[derive(Drop)]
 pub(crate) struct Cells {
     pub x: Axis,
@@ -44,6 +48,8 @@ impl Cells {
         requires row { row ≤ self.now.y.last }
         requires left { left ≤ self.now.x.last + 1 }
         requires right { right ≤ self.now.x.last + 1 }
+        ensures start { result.start ≡ get_or self.now.starts.items (row * (self.now.x.last + 1) + left) 0 }
+        ensures end { result.end ≡ get_or self.now.starts.items (row * (self.now.x.last + 1) + right) 0 }
         ensures within { result.end ≤ length self.now.spots }
         ensures holds { (i : ℕ) → i < length self.now.spots → IsInRegion self.now.x self.now.y row (row + 1) left right (point_at self.now.spots i) → (result.start ≤ i) × (i < result.end) }
     {
@@ -56,7 +62,7 @@ impl Cells {
 }
 
 /// Appends the spots of a cell, along its chain.
-fn push_cell(
+fn push_chain(
     chains: &Chains,
     holes: &[Drilled],
     cell: usize,
@@ -72,6 +78,26 @@ fn push_cell(
         let hole = holes[place].hole;
         spots.push(Spot { hole, place })?;
         link = link_at(&chains.next, place);
+    }
+    Ok(())
+}
+
+/// Appends the spots of a cell. Where they are many, they are put in the order of x.
+fn push_cell(
+    chains: &Chains,
+    holes: &[Drilled],
+    cell: usize,
+    spots: &mut SpotList,
+) -> Result<(), AllocError>
+    requires { IsChained (cell_at chains.now.x chains.now.y holes.now) (length holes.now) chains.now.head.items chains.now.next.items }
+    ensures adds { OnOk result (AddsSpots (cell_of chains.now.x chains.now.y) holes.now cell spots.old spots.new) }
+    ensures all { OnOk result ((k : ℕ) → k < length holes.now → cell_at chains.now.x chains.now.y holes.now k ≡ cell → HasSpot spots.new k) }
+    ensures order { OnOk result (length spots.old + 16 < length spots.new → AreInOrder (length spots.old) (length spots.new) spots.new) }
+{
+    let start = spots.len();
+    push_chain(chains, holes, cell, spots)?;
+    if FEW_SPOTS < spots.len().saturating_sub(start) {
+        spots.sort_from(start);
     }
     Ok(())
 }

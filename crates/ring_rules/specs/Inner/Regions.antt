@@ -1,5 +1,5 @@
 -- Regions of a grid: a range of rows and a range of columns. Rows run from `top` to `bottom`, columns from `left` to `right`, ends excluded.
-use Rattle.std.specs.Prelude.{◌≡◌, ℕ, ◌+◌, ◌*◌, ◌^◌, ◌<◌, ◌≤◌, ◌≤ℤ◌, Bool, true, false, List, length}
+use Rattle.std.specs.Prelude.{◌≡◌, ℕ, ◌+◌, ◌*◌, ◌^◌, ◌<◌, ◌≤◌, ◌≤ℤ◌, Bool, true, false, List, length, get_or}
 use Rattle.grid_units.specs.Points.{GridPoint}
 use Rattle.ring_rules.specs.Places.{entry_at, IsChained}
 use Rattle.ring_rules.specs.Cells.{column_of, row_of, cell_at}
@@ -30,12 +30,21 @@ pub record IsLaidOut (x y : Axis) (head next : List ℕ) (holes : List Drilled) 
   pub ends : (k : ℕ) → k < length holes → IsOnBoard x y (entry_at holes k)
   pub fits : (y.last + 1) * (x.last + 1) ≤ 2 ^ 62
 
+-- the spots from `start` to `end`, end excluded, are in the order of the x of their entry points
+abbrev pub AreInOrder : ℕ → ℕ → List Spot → Type 0
+AreInOrder start end spots = (i j : ℕ) → start ≤ i → i ≤ j → j < end → (point_at spots i).x ≤ℤ (point_at spots j).x
+
+-- so are those of each cell that has more than 16
+abbrev pub AreCellsInOrder : List ℕ → List Spot → Type 0
+AreCellsInOrder starts spots = (c : ℕ) → get_or starts c 0 + 16 < get_or starts (c + 1) 0 → AreInOrder (get_or starts c 0) (get_or starts (c + 1) 0) spots
+
 -- the spots are in the order of their cells, their entry points lie on the board, and the radius of each hole with the ring is at
 -- least the reach `least`, in pm
 pub record IsHoleGrid (x y : Axis) (starts : List ℕ) (spots : List Spot) (ring least : ℕ) : Type 0 where
   pub cells : AreInCells x y starts spots
   pub ends : (i : ℕ) → i < length spots → IsOnBoard x y (point_at spots i)
   pub reach : (i : ℕ) → i < length spots → least ≤ (spot_at spots i).hole.radius + ring
+  pub order : AreCellsInOrder starts spots
 
 -- no mark is left in a region where the test passes
 abbrev pub NoMarkPassesIn : (ℕ → Bool) → Axis → Axis → List Spot → ℕ → ℕ → ℕ → ℕ → List Bool → Type 0

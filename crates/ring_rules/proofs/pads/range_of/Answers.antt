@@ -11,8 +11,8 @@ returns-in-None-clause-holds g c = λ p r less e.
     let last = place-le c.args.x.now p.x (g.S.PadShape.right c.args.pad.now) between.1 in
     let fits_left : to_z w64 (of_z w64 c.left.result) ≡ c.left.result = search (rules, to_z-of_z) in
     let fits_right : to_z w64 (of_z w64 c.right.result) ≡ c.right.result = search (rules, to_z-of_z) in
-    let from : c.place.result ≡ place_of c.args.x.now (g.S.PadShape.left c.args.pad.now) = c.place.ensures.value ∙ ap (place_of c.args.x.now) (fits_left ∙ c.left.ensures) in
-    let to : c.place-in-None.result ≡ place_of c.args.x.now (g.S.PadShape.right c.args.pad.now) = c.place-in-None.ensures.value ∙ ap (place_of c.args.x.now) (fits_right ∙ c.right.ensures) in
+    let from : c.places-left.result.0 ≡ place_of c.args.x.now (g.S.PadShape.left c.args.pad.now) = c.places-left.ensures.low ∙ ap (place_of c.args.x.now) (fits_left ∙ c.left.ensures) in
+    let to : c.places-left.result.1 ≡ place_of c.args.x.now (g.S.PadShape.right c.args.pad.now) = c.places-left.ensures.high ∙ ap (place_of c.args.x.now) (fits_right ∙ c.right.ensures) in
     record {
       row_from = omega arith;
       row_below = omega arith;

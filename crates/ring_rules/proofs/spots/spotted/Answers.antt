@@ -16,4 +16,5 @@ returns c =
       cells = in_cells x y c.args.holes.now (length c.args.chains.head.items) starts spots are c.requires.count c.requires.fits;
       listed = spots_of x y c.args.holes.now (length c.args.chains.head.items) starts spots are (cell_inside (cell_at c.args.chains.x c.args.chains.y c.args.holes.now) (length c.args.holes.now) c.args.chains.head.items c.args.chains.next.items c.requires.chained);
       ends = c.requires.ends;
+      order = are.order;
     }

@@ -1,4 +1,10 @@
+use Rattle.drill_lines.specs.declared.line_reader.Profile.TheVariants.{Strict}
+use Rattle.std.proofs.Common.{◌++◌}
+use Rattle.drill_text.proofs.ProfileLemmas.{strict_fault}
 use Rattle.drill_text.proofs.reader.DrillReader.feed.Goals as goal
 
 pub returns-in-Err-clause-err : goal.returns-in-Err-clause-err
-returns-in-Err-clause-err c keep text h = c.in-Err.ensures.err keep text h.holds
+returns-in-Err-clause-err c keep text h = strict_fault (text ++ c.args.piece.now) c.in-Err.fail (c.in-Err.ensures.err Strict keep text h.holds)
+
+pub returns-in-Err-clause-err_in : goal.returns-in-Err-clause-err_in
+returns-in-Err-clause-err_in c p keep text h = c.in-Err.ensures.err p keep text h.holds

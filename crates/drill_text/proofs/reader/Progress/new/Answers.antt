@@ -1,17 +1,18 @@
 use Rattle.std.proofs.Common.{ℕ, List, [], ap, sym, subst, refl}
 use Rattle.drill_text.specs.Lines.{Splits}
-use Rattle.drill_text.specs.Reading.{shown}
+use Rattle.drill_text.specs.Lookback.{settings_after}
+use Rattle.drill_text.specs.Profiles.{shown_by}
 use Rattle.drill_text.proofs.reader.Progress.new.Goals as goal
 
 pub returns : goal.returns
 returns c =
-    let none = c.new-3.ensures.items in
+    let none = c.new-4.ensures.items in
     record {
       lines = [];
       commands = [];
       splits = subst (λ (x : List ℕ). Splits [] [] x) (sym none) (record { whole = refl; each = tt; partial = tt });
-      spelled = ap (shown []) none;
-      has_read = record { is_state = c.new.ensures; keeps = c.new-2.ensures };
+      spelled = ap (shown_by c.args.profile []) none;
+      has_read = record { lines = c.new.ensures (settings_after []); has_read = record { is_state = c.new-2.ensures; keeps = c.new-3.ensures } };
       count = refl;
       start = refl;
       offset = refl;

@@ -1,10 +1,27 @@
-use Rattle.std.proofs.Common.{◌≡◌, ◌≤◌, ◌+◌, ℕ, List, [], ◌∷◌, ◌++◌, length, take, sym, ap, subst, ◌∙◌, refl, arith, append_assoc}
+use Rattle.std.proofs.Common.{◌≡◌, ◌≤◌, ◌+◌, ℕ, suc, false, List, [], ◌∷◌, ◌++◌, length, take, map, Some, Ok, Err, sym, ap, subst, ◌∙◌, refl, arith, append_assoc}
 use Rattle.std.proofs.lemmas.List.{length-append, take_at}
 use Rattle.std.proofs.lemmas.Result.{err_from_is_err_and}
+use Rattle.grid_units.specs.Results.{IfFault, with_place}
 use Rattle.drill_lines.specs.declared.command.Coordinates.{Coordinates}
+use Rattle.drill_lines.specs.declared.command.Part.TheVariants as part
+use Rattle.drill_lines.specs.declared.command.Settings.{Settings}
+use Rattle.drill_lines.specs.declared.command.DrillCommand.TheVariants.{Hit}
+use Rattle.drill_lines.specs.declared.line_reader.Profile.{Profile}
+use Rattle.drill_lines.specs.declared.route.Route.TheVariants as route
+use Rattle.drill_lines.specs.Lines.{trimmed}
+use Rattle.drill_lines.specs.LineReading.{ReadsLine}
+use Rattle.drill_lines.proofs.RouteLemmas.{drilling_line}
+use Rattle.drill_text.specs.declared.kept.Keep.{Keep}
+use Rattle.drill_text.specs.declared.reader.Progress.{Progress}
 use Rattle.drill_text.specs.Inner.FastPath.{HasLeadingHit}
-use Rattle.drill_text.specs.Holding.{Refuses}
-use Rattle.drill_text.proofs.ShowsLemmas.{Refuses-prefix}
+use Rattle.drill_text.specs.Lines.{bytes_of}
+use Rattle.drill_text.specs.Lookback.{settings_after}
+use Rattle.drill_text.specs.Reading.{checked}
+use Rattle.drill_text.specs.Profiles.{spelled_in}
+use Rattle.drill_text.specs.Holding.{Holds, Refuses}
+use Rattle.drill_text.proofs.ProfileLemmas.{spelled_in_is}
+use Rattle.drill_text.proofs.SpelledLemmas.{settings_are, lines_more}
+use Rattle.drill_text.proofs.PieceLemmas.{Refuses-prefix}
 use Rattle.drill_text.proofs.WholeLineLemmas.{no_break, whole_taken, whole_refused}
 use Rattle.drill_text.proofs.reader.Progress.take_hit.Goals as goal
 
@@ -15,21 +32,42 @@ prefix point len bytes h =
     let count : length (h.line ++ 10 ∷ []) ≡ len + 1 = omega (arith, length-append h.line (10 ∷ []), h.count) in
     sym (ap (take (len + 1)) whole ∙ take_at (h.line ++ 10 ∷ []) h.more (len + 1) count)
 
+-- the line spells the hit in each profile, and the reader of lines stays as it is
+reads_hit : (old : Progress) (point : Coordinates) (len : ℕ) (bytes : List ℕ) (leads : HasLeadingHit point len bytes) (p : Profile) (keep : Keep) (text : List ℕ) (h : Holds old p keep text) → old.state.settings.part ≡ part.Body → old.reader.route ≡ route.Free false
+    → ReadsLine (Ok (Some (Hit point))) old.reader p (settings_after h.commands) (map trimmed h.lines) (trimmed leads.line)
+reads_hit old point len bytes leads p keep text h body drilling =
+    let settings = settings_are old.state h.commands h.has_read.has_read.is_state in
+    let inside : (settings_after h.commands).part ≡ part.Body = ap (λ (s : Settings). s.part) (sym settings) ∙ body in
+    drilling_line old.reader p (settings_after h.commands) (map trimmed h.lines) (trimmed leads.line) (Some (Hit point)) h.has_read.lines drilling (leads.spells (settings_after h.commands) inside)
+
+-- it is judged as the hit
+judged : (old : Progress) (point : Coordinates) (len : ℕ) (bytes : List ℕ) (leads : HasLeadingHit point len bytes) (p : Profile) (keep : Keep) (text : List ℕ) (h : Holds old p keep text) → old.state.settings.part ≡ part.Body → old.reader.route ≡ route.Free false
+    → spelled_in p h.lines leads.line h.commands ≡ with_place (old.lines + 1) old.start (checked h.commands (Some (Hit point)))
+judged old point len bytes leads p keep text h body drilling =
+    let short : length leads.line ≤ 1048576 = omega (arith, leads.count, leads.short) in
+    let place : suc (length h.lines) ≡ old.lines + 1 = omega (arith, h.count) in
+    spelled_in_is p h.lines leads.line h.commands (Ok (Some (Hit point))) short (reads_hit old point len bytes leads p keep text h body drilling).0
+    ∙ (ap (λ n. with_place n (length (bytes_of h.lines)) (checked h.commands (Some (Hit point)))) place ∙ ap (λ b. with_place (old.lines + 1) b (checked h.commands (Some (Hit point)))) (sym h.start))
+
 pub returns-clause-ok : goal.returns-clause-ok
-returns-clause-ok c keep text h =
+returns-clause-ok c p keep text h =
     let leads = c.requires.leads in
     let old = c.args.self.now in
-    let short : length leads.line ≤ 1048576 = omega (arith, leads.count, leads.short) in
-    let k = c.in_ok-keep.ensures keep leads.line h.commands short (leads.spells old.state.settings c.requires.body) h.has_read in
-    whole_taken old _ text leads.line _ k.0 h (prefix c.args.point c.args.len c.args.bytes.now leads) c.requires.empty (no_break leads.line leads.inside) refl k.1 k.2 refl refl (ap (λ n. old.offset + (n + 1)) (sym leads.count))
+    let point = c.args.point in
+    let bytes = c.args.bytes.now in
+    let read = reads_hit old point c.args.len bytes leads p keep text h c.requires.body c.requires.drilling in
+    let k = c.in_ok-keep.ensures keep h.commands h.has_read.has_read in
+    whole_taken old _ text leads.line _ k.0 h (prefix point c.args.len bytes leads) c.requires.empty (no_break leads.line leads.inside) refl (judged old point c.args.len bytes leads p keep text h c.requires.body c.requires.drilling ∙ k.1)
+    (record { lines = lines_more old.reader p (settings_after k.0) h.lines leads.line (read.1 (settings_after k.0) tt); has_read = k.2 }) refl refl (ap (λ n. old.offset + (n + 1)) (sym leads.count))
 
 pub returns-in_err-keep-clause-err : goal.returns-in_err-keep-clause-err
 returns-in_err-keep-clause-err c =
     let leads = c.requires.leads in
     let old = c.args.self.now in
+    let point = c.args.point in
     let bytes = c.args.bytes.now in
     let e = c.in_err-keep.field-0.0 in
     let p = err_from_is_err_and c.from_residual.result c.from_residual.ensures.1 in
-    let short : length leads.line ≤ 1048576 = omega (arith, leads.count, leads.short) in
-    rw (p.1, p.2) (Refuses-prefix old bytes (c.args.len + 1) e (subst (λ (x : List ℕ). Refuses old x e) (prefix c.args.point c.args.len bytes leads)
-    (whole_refused old leads.line e c.requires.empty (no_break leads.line leads.inside) (λ keep before has_read. c.in_err-keep.ensures keep leads.line before short (leads.spells old.state.settings c.requires.body) has_read))))
+    rw (p.1, p.2) (Refuses-prefix old bytes (c.args.len + 1) e (subst (λ (x : List ℕ). Refuses old x e) (prefix point c.args.len bytes leads)
+    (whole_refused old leads.line e c.requires.empty (no_break leads.line leads.inside) (λ q keep text h.
+    subst (λ r. IfFault (λ f. r ≡ Err f) e) (sym (judged old point c.args.len bytes leads q keep text h c.requires.body c.requires.drilling)) (c.in_err-keep.ensures keep h.commands h.has_read.has_read)))))

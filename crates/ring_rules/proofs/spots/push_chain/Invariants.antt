@@ -2,7 +2,7 @@ use Rattle.std.proofs.Common.{◌≡◌, ℕ, ◌+◌, ◌<◌, ◌≤◌, lengt
 use Rattle.ring_rules.specs.Cells.{cell_of, cell_at}
 use Rattle.ring_rules.specs.Spots.{HasSpot}
 use Rattle.ring_rules.specs.Inner.SpotLists.{AddsSpots}
-use Rattle.ring_rules.proofs.spots.push_cell.Given as goal
+use Rattle.ring_rules.proofs.spots.push_chain.Given as goal
 
 -- the link is one of the cell, and the places passed so far have spots
 abbrev pub invariant-loop-link : goal.invariant-loop-link

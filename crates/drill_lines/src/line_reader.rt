@@ -1,0 +1,85 @@
+//! A reader of the lines of a drill file, one after the other, in a profile.
+
+ghost use Rattle.std.specs.Prelude.{◌≡◌, true, false, ℕ, List};
+
+use crate::command::{DrillCommand, Settings};
+use crate::line::{read_line, trimmed_len};
+use crate::route::{Route, route_step};
+use grid_units::ItemFail;
+use std::alloc::Global;
+
+/// Which texts are read as drill files.
+#[derive(Clone, Copy, Debug, PartialEq, Eq)]
+pub enum Profile {
+    /// Each slot stands in one line (`G85`), and each file has a header.
+    Strict,
+    /// Also slots that are routed by four lines, and files without a header and without holes.
+    Wide,
+}
+
+/// A reader of the lines of a drill file, which come one after the other.
+#[derive(Drop)]
+pub struct LineReader {
+    alloc: Global,
+    profile: Profile,
+    route: Route,
+}
+
+impl LineReader {
+    ghost use Rattle.std.specs.Prelude.{[]};
+    ghost use Rattle.drill_lines.specs.declared.command.Settings.{Settings as TheSettings};
+    ghost use Rattle.drill_lines.specs.declared.line_reader.Profile.{Profile as TheProfile};
+    ghost use Rattle.drill_lines.specs.declared.line_reader.Profile.TheVariants as profile;
+    ghost use Rattle.drill_lines.specs.declared.route.Route.TheVariants as route;
+    ghost use Rattle.drill_lines.specs.Lines.{trimmed};
+    ghost use Rattle.drill_lines.specs.LineReading.{HasReadLines, ReadsLine};
+
+    /// A reader that has read no line.
+    pub fn new(alloc: Global, profile: Profile) -> LineReader
+        ensures { (settings : TheSettings) → HasReadLines result profile settings [] }
+    {
+        LineReader {
+            alloc,
+            profile,
+            route: Route::Free(false),
+        }
+    }
+
+    /// Whether a hit may stand in the next line: no line of a route is due, and the machine does not route.
+    pub fn may_drill(&self) -> bool
+        ensures { result ≡ true → self.now.route ≡ route.Free false }
+    {
+        matches!(self.route, Route::Free(false))
+    }
+
+    /// The command that the next line spells, if it spells one. Blanks at its end are dropped.
+    ///
+    /// # Errors
+    ///
+    /// The first reason of the reading order ("docs/FORMATS.md", Drill lines; The wide profile), or `Memory`.
+    pub fn read(
+        &mut self,
+        settings: Settings,
+        line: &[u8],
+    ) -> Result<Option<DrillCommand>, ItemFail>
+        ensures { (profile : TheProfile) (earlier : List (List ℕ)) → HasReadLines self.old profile settings earlier → ReadsLine result self.new profile settings earlier (trimmed line.now) }
+    {
+        match self.profile {
+            Profile::Strict => read_line(self.alloc, settings, line),
+            Profile::Wide => self.read_wide(settings, &line[..trimmed_len(line)]),
+        }
+    }
+
+    /// The command that a line without blanks at its end spells in the wide profile, if it spells one.
+    fn read_wide(
+        &mut self,
+        settings: Settings,
+        line: &[u8],
+    ) -> Result<Option<DrillCommand>, ItemFail>
+        ensures { (earlier : List (List ℕ)) → HasReadLines self.old profile.Wide settings earlier → ReadsLine result self.new profile.Wide settings earlier line.now }
+    {
+        let (spelled, route) = route_step(self.alloc, self.route, settings, line)?;
+        self.route = route;
+        Ok(spelled)
+    }
+}

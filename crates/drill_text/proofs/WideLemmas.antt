@@ -1,0 +1,87 @@
+-- A text that is read in the strict profile is read alike in the wide one.
+use Rattle.std.proofs.Common.{◌≡◌, ℕ, suc, Bool, true, false, cond, ltb, List, [], ◌∷◌, ◌++◌, length, map, Result, Ok, Err, refl, sym, ap, subst, ◌∙◌, append_assoc}
+use Rattle.std.proofs.lemmas.List.{append-nil}
+use Rattle.grid_units.specs.declared.fault.Reason.TheVariants.{TooLong}
+use Rattle.grid_units.specs.declared.fault.Fault.{Fault}
+use Rattle.grid_units.specs.Results.{◌>>=◌, fault, with_place}
+use Rattle.grid_units.proofs.ResultLemmas.{bind_ok}
+use Rattle.grid_units.specs.Limits.{line_limit, text_limit}
+use Rattle.drill_lines.specs.declared.command.DrillCommand.{DrillCommand}
+use Rattle.drill_lines.specs.declared.line_reader.Profile.{Profile}
+use Rattle.drill_lines.specs.declared.line_reader.Profile.TheVariants.{Strict, Wide}
+use Rattle.drill_lines.specs.Lines.{trimmed}
+use Rattle.drill_lines.specs.Meaning.{meaning}
+use Rattle.drill_lines.specs.Routes.{is_routing, wide_meaning}
+use Rattle.drill_lines.specs.Inner.RouteSteps.{IsFree}
+use Rattle.drill_lines.proofs.RouteLemmas.{strict_line}
+use Rattle.drill_text.specs.Lines.{bytes_of}
+use Rattle.drill_text.specs.Lookback.{settings_after}
+use Rattle.drill_text.specs.Reading.{checked, ended, Reads}
+use Rattle.drill_text.specs.Profiles.{step_in, spelled_in, commands_by, shown_by, with_rest, ReadsIn}
+use Rattle.drill_text.proofs.SpellsTextLemmas.{at_ok}
+use Rattle.drill_text.proofs.SpelledLemmas.{trimmed_more}
+use Rattle.drill_text.proofs.ProfileLemmas.{shown_by_ok, show_by_ok, strictly_reads}
+
+-- no line of a route is due after these lines, and the machine drills
+record IsDrilling (earlier : List (List ℕ)) : Type 0 where
+  free : IsFree (map trimmed earlier)
+  drills : is_routing (map trimmed earlier) ≡ false
+
+-- what is guarded by a test that a refusal fails
+pub guarded : {A E : Type 0} (t : Bool) (d : E) (r : Result A E) (x : A) → cond t (Err d) r ≡ Ok x → (t ≡ false) × (r ≡ Ok x)
+guarded true d r x e = absurd cc
+guarded false d r x e = (refl, e)
+
+step_alike : (earlier : List (List ℕ)) (line : List ℕ) (before cs : List DrillCommand) → IsDrilling earlier → step_in Strict earlier before line ≡ Ok cs → (step_in Wide earlier before line ≡ Ok cs) × IsDrilling (earlier ++ line ∷ [])
+unfolding step_in
+step_alike earlier line before cs h e =
+    let s = settings_after before in
+    let g = guarded (ltb line_limit (length line)) TooLong (meaning s (trimmed line) >>= checked before) cs e in
+    let b = bind_ok (meaning s (trimmed line)) (checked before) cs g.1 in
+    let k = strict_line s (map trimmed earlier) (trimmed line) b.0 h.free h.drills b.1 in
+    let same : map trimmed earlier ++ trimmed line ∷ [] ≡ map trimmed (earlier ++ line ∷ []) = sym (trimmed_more earlier line) in (
+      ap (λ t. cond t (Err TooLong) (wide_meaning (map trimmed earlier) s (trimmed line) >>= checked before)) g.0 ∙ (ap (λ m. m >>= checked before) k.0 ∙ b.2),
+      record { free = subst IsFree same k.1.0; drills = ap is_routing (sym same) ∙ k.1.1 },
+    )
+
+line_alike : (earlier : List (List ℕ)) (line : List ℕ) (before cs : List DrillCommand) → IsDrilling earlier → spelled_in Strict earlier line before ≡ Ok cs → (spelled_in Wide earlier line before ≡ Ok cs) × IsDrilling (earlier ++ line ∷ [])
+line_alike earlier line before cs h e =
+    let k = step_alike earlier line before cs h (at_ok (suc (length earlier)) (length (bytes_of earlier)) (step_in Strict earlier before line) cs e) in
+    (ap (with_place (suc (length earlier)) (length (bytes_of earlier))) k.0, k.1)
+
+lines_alike : (earlier lines : List (List ℕ)) (before cs : List DrillCommand) → IsDrilling earlier → commands_by Strict earlier lines before ≡ Ok cs → (commands_by Wide earlier lines before ≡ Ok cs) × IsDrilling (earlier ++ lines)
+lines_alike earlier [] before cs h e = (e, subst IsDrilling (sym (append-nil earlier)) h)
+lines_alike earlier (line ∷ lines) before cs h e =
+    let next : List (List ℕ) = earlier ++ line ∷ [] in
+    let b = bind_ok (spelled_in Strict earlier line before) (commands_by Strict next lines) cs e in
+    let first = line_alike earlier line before b.0 h b.1 in
+    let rest = lines_alike next lines b.0 cs first.1 b.2 in
+    (ap (λ r. r >>= commands_by Wide next lines) first.0 ∙ rest.0, subst IsDrilling (append_assoc earlier (line ∷ []) lines) rest.1)
+
+rest_alike : (lines : List (List ℕ)) (rest : List ℕ) (before cs : List DrillCommand) → IsDrilling lines → with_rest Strict lines rest before ≡ Ok cs → with_rest Wide lines rest before ≡ Ok cs
+rest_alike lines [] before cs h e = e
+rest_alike lines (b ∷ bs) before cs h e = (line_alike lines (b ∷ bs) before cs h e).0
+
+ends_by : Profile → ℕ → List (List ℕ) → List ℕ → List DrillCommand → Result (List DrillCommand) Fault
+ends_by p len lines rest cs = cond (ltb text_limit len) (Err (fault (suc (length lines)) text_limit TooLong)) (with_rest p lines rest cs >>= ended len lines rest)
+
+pub wide_reads : (text : List ℕ) (cs : List DrillCommand) → Reads text (Ok cs) → ReadsIn Wide text (Ok cs)
+unfolding ends_by
+wide_reads text cs reads =
+    let r = strictly_reads text (Ok cs) reads in
+    let lines = r.lines in
+    let rest = r.rest in
+    let len = length text in
+    let b = bind_ok (shown_by Strict lines rest) (ends_by Strict len lines rest) cs (sym r.answer_is) in
+    let g = guarded (ltb text_limit len) (fault (suc (length lines)) text_limit TooLong) (with_rest Strict lines rest b.0 >>= ended len lines rest) cs b.2 in
+    let c = bind_ok (with_rest Strict lines rest b.0) (ended len lines rest) cs g.1 in
+    let shown = shown_by_ok Strict lines rest b.0 b.1 in
+    let all = lines_alike [] lines [] b.0 (record { free = (refl, refl, refl); drills = refl }) shown.0 in
+    record {
+      lines = lines;
+      rest = rest;
+      splits = r.splits;
+      answer_is = sym (ap (λ s. s >>= ends_by Wide len lines rest) (show_by_ok Wide lines rest b.0 all.0 shown.1)
+          ∙ (ap (λ t. cond t (Err (fault (suc (length lines)) text_limit TooLong)) (with_rest Wide lines rest b.0 >>= ended len lines rest)) g.0
+          ∙ (ap (λ s. s >>= ended len lines rest) (rest_alike lines rest b.0 c.0 all.1 c.1) ∙ c.2)));
+    }

@@ -1,0 +1,317 @@
+-- A text that is read in the wide profile is a wide text, by its grammar, of what it is read as.
+use Rattle.std.proofs.Common.{◌≡◌, ◌≤◌, inl, inr, ℕ, suc, Bool, true, false, cond, ltb, ◌||◌, List, [], ◌∷◌, ◌++◌, length, map, Option, None, Some, Result, Ok, Err, refl, sym, ap, subst, ◌∙◌, arith, append_assoc}
+use Rattle.std.specs.Prelude.{codes}
+use Rattle.std.specs.List.{list_any}
+use Rattle.std.specs.Option.{option_to_list}
+use Rattle.std.proofs.lemmas.Bool.{ltb-false}
+use Rattle.std.proofs.lemmas.List.{append-nil, take_all}
+use Rattle.std.proofs.lemmas.List.Concat.{flat_map-append}
+use Rattle.grid_units.specs.declared.fault.Reason.TheVariants.{TooLong, Truncated}
+use Rattle.grid_units.specs.declared.fault.Fault.{Fault}
+use Rattle.grid_units.specs.Results.{◌>>=◌, fault}
+use Rattle.grid_units.specs.Lists.{IsLegal}
+use Rattle.grid_units.specs.Limits.{line_limit, text_limit}
+use Rattle.grid_units.proofs.BoolLemmas.{and_false}
+use Rattle.grid_units.proofs.LookbackLemmas.{last_or-more, list_any-more}
+use Rattle.grid_units.proofs.ResultLemmas.{bind_ok}
+use Rattle.drill_lines.specs.declared.command.Coordinates.{Coordinates}
+use Rattle.drill_lines.specs.declared.command.Part.{Part}
+use Rattle.drill_lines.specs.declared.command.Part.TheVariants as part
+use Rattle.drill_lines.specs.declared.command.Settings.{Settings}
+use Rattle.drill_lines.specs.declared.command.DrillCommand.{DrillCommand}
+use Rattle.drill_lines.specs.declared.command.DrillCommand.TheVariants as command
+use Rattle.drill_lines.specs.declared.line_reader.Profile.TheVariants.{Wide}
+use Rattle.drill_lines.specs.declared.route.Route.{Route}
+use Rattle.drill_lines.specs.declared.route.Route.TheVariants as route
+use Rattle.drill_lines.specs.Grammar.{IsPointText}
+use Rattle.drill_lines.specs.Lines.{trimmed}
+use Rattle.drill_lines.specs.Meaning.{line_in}
+use Rattle.drill_lines.specs.Routes.{is_routing, wide_meaning}
+use Rattle.drill_lines.specs.RouteGrammar.{IsAlone, IsRoute}
+use Rattle.drill_lines.specs.LineReading.{IsLater}
+use Rattle.drill_lines.specs.Inner.RouteSteps.{IsRouteAfter}
+use Rattle.drill_lines.proofs.Answered.{written_is_answered}
+use Rattle.drill_lines.proofs.CanonicalParses.{read_in_part, means}
+use Rattle.drill_lines.proofs.RouteReads.{IsWritten, empty_line, reads_on}
+use Rattle.drill_text.specs.Lines.{bytes_of, Splits}
+use Rattle.drill_text.specs.Lookback.{part_set, part_after, settings_after}
+use Rattle.drill_text.specs.Rules.{broken_rule}
+use Rattle.drill_text.specs.Reading.{checked, ended, is_finish, place_after}
+use Rattle.drill_text.specs.Texts.{AreWithinLimit}
+use Rattle.drill_text.specs.Profiles.{step_in, spelled_in, commands_by, shown_by, with_rest}
+use Rattle.drill_text.specs.Grammar.{lines_of}
+use Rattle.drill_text.specs.WideGrammar.{IsEntry, AreEntries, lines_in, ReadIsWritten}
+use Rattle.drill_text.proofs.SplitsLemmas.{AllR-append}
+use Rattle.drill_text.proofs.GrammarLemmas.{is_end, same_lines, has_end}
+use Rattle.drill_text.proofs.SpellsTextLemmas.{at_ok, judged_ok, within, with_end}
+use Rattle.drill_text.proofs.SpelledLemmas.{trimmed_more}
+use Rattle.drill_text.proofs.ProfileLemmas.{shown_by_ok}
+use Rattle.drill_text.proofs.WideLemmas.{guarded}
+
+-- ---- entries
+
+entries_push : (e : List (List ℕ)) (before : List DrillCommand) (entries : List (List (List ℕ))) (mid : List DrillCommand) (entry : List (List ℕ)) (c : Option DrillCommand) → AreEntries e before entries mid
+    → IsEntry (settings_after mid) (is_routing (map trimmed (e ++ lines_in entries))) entry c → AreEntries e before (entries ++ entry ∷ []) (mid ++ option_to_list c)
+entries_push e before [] mid entry c h k = (
+  c,
+  subst (λ (cs : List DrillCommand). IsEntry (settings_after cs) (is_routing (map trimmed e)) entry c) h (subst (λ (l : List (List ℕ)). IsEntry (settings_after mid) (is_routing (map trimmed l)) entry c) (append-nil e) k),
+  ap (λ (cs : List DrillCommand). cs ++ option_to_list c) h,
+)
+entries_push e before (x ∷ entries) mid entry c (spelled, is, rest) k = (
+  spelled,
+  is,
+  entries_push (e ++ x) (before ++ option_to_list spelled) entries mid entry c rest (subst (λ (l : List (List ℕ)). IsEntry (settings_after mid) (is_routing (map trimmed l)) entry c) (sym (append_assoc e x (lines_in entries))) k),
+)
+
+lines_push : (entries : List (List (List ℕ))) (entry : List (List ℕ)) → lines_in (entries ++ entry ∷ []) ≡ lines_in entries ++ entry
+lines_push entries entry = flat_map-append (λ (x : List (List ℕ)). x) entries (entry ∷ []) ∙ ap (λ (l : List (List ℕ)). lines_in entries ++ l) (append-nil entry)
+
+-- ---- lines that wait for the next of a route
+
+record IsBegun (s : Settings) (first : List ℕ) (from : Coordinates) : Type 0 where
+  in_body : s.part ≡ part.Body
+  start : List ℕ
+  first_is : first ≡ codes "G00" ++ start
+  from_is : IsPointText s start from
+
+record IsCut (s : Settings) (third : List ℕ) (to : Coordinates) : Type 0 where
+  target : List ℕ
+  third_is : third ≡ codes "G01" ++ target
+  to_is : IsPointText s target to
+
+abbrev Waits : Route → Settings → List (List ℕ) → Type 0
+Waits (route.Free routing) s pending = pending ≡ []
+Waits (route.Started from) s pending = (a : List ℕ) × (pending ≡ a ∷ []) × IsBegun s (trimmed a) from
+Waits (route.Lowered from) s pending = (a b : List ℕ) × (pending ≡ a ∷ b ∷ []) × IsBegun s (trimmed a) from × (trimmed b ≡ codes "M15")
+Waits (route.Cut from to) s pending = (a b c : List ℕ) × (pending ≡ a ∷ b ∷ c ∷ []) × IsBegun s (trimmed a) from × (trimmed b ≡ codes "M15") × IsCut s (trimmed c) to
+
+-- the lines are entries that spell these commands, and lines that wait
+record IsGrouped (earlier : List (List ℕ)) (before : List DrillCommand) (r : Route) : Type 0 where
+  entries : List (List (List ℕ))
+  pending : List (List ℕ)
+  lines : earlier ≡ lines_in entries ++ pending
+  spells : AreEntries [] [] entries before
+  waits : Waits r (settings_after before) pending
+
+-- a line that spells nothing yet waits
+waits_on : (earlier : List (List ℕ)) (before : List DrillCommand) (line : List ℕ) (c : Option DrillCommand) (next given : Route) → c ≡ None → next ≡ given → IsGrouped (earlier ++ line ∷ []) before given → IsGrouped (earlier ++ line ∷ []) (before ++ option_to_list c) next
+waits_on earlier before line c next given none is h =
+    subst (λ (x : Option DrillCommand). IsGrouped (earlier ++ line ∷ []) (before ++ option_to_list x) next) (sym none)
+    (subst (λ (cs : List DrillCommand). IsGrouped (earlier ++ line ∷ []) cs next) (sym (append-nil before)) (subst (IsGrouped (earlier ++ line ∷ []) before) (sym is) h))
+
+-- the last line of an entry
+closes : (earlier : List (List ℕ)) (before : List DrillCommand) (line : List ℕ) (c : Option DrillCommand) (next : Route) (after : Bool) (entries : List (List (List ℕ))) (pending : List (List ℕ)) → next ≡ route.Free after → earlier ≡ lines_in entries ++ pending → AreEntries [] [] entries before
+    → IsEntry (settings_after before) (is_routing (map trimmed (lines_in entries))) (pending ++ line ∷ []) c → IsGrouped (earlier ++ line ∷ []) (before ++ option_to_list c) next
+closes earlier before line c next after entries pending is lines spells entry = subst (IsGrouped (earlier ++ line ∷ []) (before ++ option_to_list c)) (sym is) (record {
+  entries = entries ++ (pending ++ line ∷ []) ∷ [];
+  pending = [];
+  lines = ap (λ (l : List (List ℕ)). l ++ line ∷ []) lines ∙ (append_assoc (lines_in entries) pending (line ∷ []) ∙ (sym (lines_push entries (pending ++ line ∷ [])) ∙ sym (append-nil (lines_in (entries ++ (pending ++ line ∷ []) ∷ [])))));
+  spells = entries_push [] [] entries before (pending ++ line ∷ []) c spells entry;
+  waits = refl;
+})
+
+grouped_more : (r : Route) (earlier : List (List ℕ)) (before : List DrillCommand) (line : List ℕ) (c : Option DrillCommand) (next : Route) → IsGrouped earlier before r → IsRouteAfter r (settings_after before) (map trimmed earlier)
+    → IsWritten r (settings_after before) (trimmed line) c next → IsGrouped (earlier ++ line ∷ []) (before ++ option_to_list c) next
+grouped_more (route.Free routing) earlier before line c next g at (inl (after, is, alone)) =
+    let whole : earlier ≡ lines_in g.entries = g.lines ∙ (ap (λ (p : List (List ℕ)). lines_in g.entries ++ p) g.waits ∙ append-nil (lines_in g.entries)) in
+    let here : is_routing (map trimmed (lines_in g.entries)) ≡ routing = ap (λ (l : List (List ℕ)). is_routing (map trimmed l)) (sym whole) ∙ at.1 in
+    closes earlier before line c next after g.entries [] is (whole ∙ sym (append-nil (lines_in g.entries))) g.spells (subst (λ b. IsAlone (settings_after before) b (trimmed line) c) (sym here) alone)
+grouped_more (route.Free routing) earlier before line c next g at (inr (from, start, body, first_is, from_is, none, is)) =
+    let whole : earlier ≡ lines_in g.entries = g.lines ∙ (ap (λ (p : List (List ℕ)). lines_in g.entries ++ p) g.waits ∙ append-nil (lines_in g.entries)) in
+    waits_on earlier before line c next (route.Started from) none is (record {
+      entries = g.entries;
+      pending = line ∷ [];
+      lines = ap (λ (l : List (List ℕ)). l ++ line ∷ []) whole;
+      spells = g.spells;
+      waits = (line, refl, record { in_body = body; start = start; first_is = first_is; from_is = from_is });
+    })
+grouped_more (route.Started from) earlier before line c next g at (second_is, none, is) =
+    let a = g.waits.0 in
+    let whole : earlier ≡ lines_in g.entries ++ a ∷ [] = g.lines ∙ ap (λ (p : List (List ℕ)). lines_in g.entries ++ p) g.waits.1 in
+    waits_on earlier before line c next (route.Lowered from) none is (record {
+      entries = g.entries;
+      pending = a ∷ line ∷ [];
+      lines = ap (λ (l : List (List ℕ)). l ++ line ∷ []) whole ∙ append_assoc (lines_in g.entries) (a ∷ []) (line ∷ []);
+      spells = g.spells;
+      waits = (a, line, refl, g.waits.2, second_is);
+    })
+grouped_more (route.Lowered from) earlier before line c next g at (to, target, third_is, to_is, none, is) =
+    let a = g.waits.0 in
+    let b = g.waits.1 in
+    let whole : earlier ≡ lines_in g.entries ++ (a ∷ b ∷ []) = g.lines ∙ ap (λ (p : List (List ℕ)). lines_in g.entries ++ p) g.waits.2 in
+    waits_on earlier before line c next (route.Cut from to) none is (record {
+      entries = g.entries;
+      pending = a ∷ b ∷ line ∷ [];
+      lines = ap (λ (l : List (List ℕ)). l ++ line ∷ []) whole ∙ append_assoc (lines_in g.entries) (a ∷ b ∷ []) (line ∷ []);
+      spells = g.spells;
+      waits = (a, b, line, refl, g.waits.3, g.waits.4, record { target = target; third_is = third_is; to_is = to_is });
+    })
+grouped_more (route.Cut from to) earlier before line c next g at (fourth_is, some, is) =
+    let x = g.waits.0 in
+    let y = g.waits.1 in
+    let z = g.waits.2 in
+    let begun = g.waits.4 in
+    let cut = g.waits.6 in
+    let s = settings_after before in
+    let is_route : IsRoute s (trimmed x) (trimmed y) (trimmed z) (trimmed line) from to = record {
+      in_body = begun.in_body;
+      start = begun.start;
+      first_is = begun.first_is;
+      from_is = begun.from_is;
+      second_is = g.waits.5;
+      target = cut.target;
+      third_is = cut.third_is;
+      to_is = cut.to_is;
+      fourth_is = fourth_is;
+    } in
+    closes earlier before line c next true g.entries (x ∷ y ∷ z ∷ []) is (g.lines ∙ ap (λ (p : List (List ℕ)). lines_in g.entries ++ p) g.waits.3) g.spells
+    (subst (λ (o : Option DrillCommand). IsEntry s (is_routing (map trimmed (lines_in g.entries))) (x ∷ y ∷ z ∷ line ∷ []) o) (sym some) is_route)
+
+-- ---- after `M30` nothing is spelled
+
+nothing_after : (s : Settings) (line : List ℕ) (d : DrillCommand) → read_in_part part.After s line ≡ Ok (Some d) → ⊥
+unfolding read_in_part line_in
+nothing_after s [] d h = absurd cc
+nothing_after s (b ∷ bs) d h = absurd cc
+
+never_after : (r : Route) (before : List DrillCommand) (line : List ℕ) (d : DrillCommand) (next : Route) (pending : List (List ℕ)) → Waits r (settings_after before) pending → IsWritten r (settings_after before) (trimmed line) (Some d) next → part_after before ≡ part.After → ⊥
+never_after (route.Free routing) before line d next pending w (inl (after, is, inl alone)) h =
+    let s = settings_after before in
+    nothing_after s (trimmed line) d (ap (λ (p : Part). read_in_part p s (trimmed line)) (sym h) ∙ (sym (means s (trimmed line)) ∙ written_is_answered s (trimmed line) (Some d) alone.0))
+never_after (route.Free routing) before line d next pending w (inl (after, is, inr alone)) h = let no : part.Before ≡ part.After = sym alone.0 ∙ h in absurd cc
+never_after (route.Free routing) before line d next pending w (inr (from, start, body, first_is, from_is, none, is)) h = absurd cc
+never_after (route.Started from) before line d next pending w (second_is, none, is) h = absurd cc
+never_after (route.Lowered from) before line d next pending w (to, target, third_is, to_is, none, is) h = absurd cc
+never_after (route.Cut from to) before line d next pending w k h = let no : part.Body ≡ part.After = sym w.4.in_body ∙ h in absurd cc
+
+-- the end of the file begins the part after it
+abbrev EndsPart : List DrillCommand → Type 0
+EndsPart before = list_any is_finish before ≡ true → part_after before ≡ part.After
+
+ends_more : (before : List DrillCommand) (d : DrillCommand) → EndsPart before → (part_after before ≡ part.After → ⊥) → EndsPart (before ++ d ∷ [])
+ends_more before d h not_after some = by (is_finish d) refl
+  where
+    by : (t : Bool) → is_finish d ≡ t → part_after (before ++ d ∷ []) ≡ part.After
+    by true e = ap (λ (x : DrillCommand). part_after (before ++ x ∷ [])) (is_end d e) ∙ last_or-more part_set part.Before before command.Finish
+    by false e = let earlier : list_any is_finish before ≡ true = sym (ap (λ t. t || list_any is_finish before) e) ∙ (sym (list_any-more is_finish before d) ∙ some) in absurd (not_after (h earlier))
+
+-- ---- lines
+
+record IsParsed (earlier : List (List ℕ)) (before : List DrillCommand) : Type 0 where
+  r : Route
+  grouped : IsGrouped earlier before r
+  at : IsRouteAfter r (settings_after before) (map trimmed earlier)
+  short : AreWithinLimit earlier
+  legal : IsLegal broken_rule before
+  ends : EndsPart before
+
+later_settings : (before : List DrillCommand) (c : Option DrillCommand) → IsLater c (settings_after before) (settings_after (before ++ option_to_list c))
+later_settings before None = ap settings_after (append-nil before)
+later_settings before (Some d) = tt
+
+ends_after : (before : List DrillCommand) (c : Option DrillCommand) → EndsPart before → ((d : DrillCommand) → c ≡ Some d → part_after before ≡ part.After → ⊥) → EndsPart (before ++ option_to_list c)
+ends_after before None h not_after = subst EndsPart (sym (append-nil before)) h
+ends_after before (Some d) h not_after = ends_more before d h (not_after d refl)
+
+parsed_more : (earlier : List (List ℕ)) (before after : List DrillCommand) (line : List ℕ) → IsParsed earlier before → step_in Wide earlier before line ≡ Ok after → IsParsed (earlier ++ line ∷ []) after
+unfolding step_in
+parsed_more earlier before after line h e =
+    let s = settings_after before in
+    let g = guarded (ltb line_limit (length line)) TooLong (wide_meaning (map trimmed earlier) s (trimmed line) >>= checked before) after e in
+    let b = bind_ok (wide_meaning (map trimmed earlier) s (trimmed line)) (checked before) after g.1 in
+    let c = b.0 in
+    let j = judged_ok before c after b.2 in
+    let k = reads_on h.r s (map trimmed earlier) (trimmed line) c h.at b.1 in
+    let now : List DrillCommand = before ++ option_to_list c in
+    subst (IsParsed (earlier ++ line ∷ [])) j.0 (record {
+      r = k.next;
+      grouped = grouped_more h.r earlier before line c k.next h.grouped h.at k.written;
+      at = subst (λ (l : List (List ℕ)). IsRouteAfter k.next (settings_after now) l) (sym (trimmed_more earlier line)) (k.after (settings_after now) (later_settings before c));
+      short = AllR-append (λ l. length l ≤ line_limit) earlier (line ∷ []) h.short (ltb-false _ _ g.0, tt);
+      legal = subst (IsLegal broken_rule) (sym j.0) (j.1 h.legal);
+      ends = ends_after before c h.ends (λ d same. never_after h.r before line d k.next h.grouped.pending h.grouped.waits (subst (λ (o : Option DrillCommand). IsWritten h.r s (trimmed line) o k.next) same k.written));
+    })
+
+line_parsed : (earlier : List (List ℕ)) (before after : List DrillCommand) (line : List ℕ) → IsParsed earlier before → spelled_in Wide earlier line before ≡ Ok after → IsParsed (earlier ++ line ∷ []) after
+line_parsed earlier before after line h e = parsed_more earlier before after line h (at_ok (suc (length earlier)) (length (bytes_of earlier)) (step_in Wide earlier before line) after e)
+
+lines_parsed : (earlier lines : List (List ℕ)) (before after : List DrillCommand) → IsParsed earlier before → commands_by Wide earlier lines before ≡ Ok after → IsParsed (earlier ++ lines) after
+lines_parsed earlier [] before after h e = let same : before ≡ after = cc in subst (IsParsed (earlier ++ [])) same (subst (λ (l : List (List ℕ)). IsParsed l before) (sym (append-nil earlier)) h)
+lines_parsed earlier (line ∷ lines) before after h e =
+    let next : List (List ℕ) = earlier ++ line ∷ [] in
+    let b = bind_ok (spelled_in Wide earlier line before) (commands_by Wide next lines) after e in
+    subst (λ (l : List (List ℕ)). IsParsed l after) (append_assoc earlier (line ∷ []) lines) (lines_parsed next lines b.0 after (line_parsed earlier before b.0 line h b.1) b.2)
+
+none_parsed : IsParsed [] []
+none_parsed = record {
+  r = route.Free false;
+  grouped = record { entries = []; pending = []; lines = refl; spells = refl; waits = refl };
+  at = ((refl, refl, refl), refl);
+  short = tt;
+  legal = refl;
+  ends = λ e. absurd cc;
+}
+
+-- ---- texts
+
+-- once the file has ended, no line waits
+free_at_end : (r : Route) (before : List DrillCommand) (pending : List (List ℕ)) → Waits r (settings_after before) pending → part_after before ≡ part.After → (routing : Bool) × (r ≡ route.Free routing) × (pending ≡ [])
+free_at_end (route.Free routing) before pending w h = (routing, refl, w)
+free_at_end (route.Started from) before pending w h = let no : part.Body ≡ part.After = sym w.2.in_body ∙ h in absurd cc
+free_at_end (route.Lowered from) before pending w h = let no : part.Body ≡ part.After = sym w.3.in_body ∙ h in absurd cc
+free_at_end (route.Cut from to) before pending w h = let no : part.Body ≡ part.After = sym w.4.in_body ∙ h in absurd cc
+
+-- lines of which none waits are those of the entries
+entries_alone : (entries : List (List (List ℕ))) (pending cut all : List (List ℕ)) → cut ≡ all → all ≡ lines_in entries ++ pending → pending ≡ [] → lines_in entries ≡ cut
+entries_alone entries pending cut all same is none = sym (same ∙ (is ∙ (ap (λ (p : List (List ℕ)). lines_in entries ++ p) none ∙ append-nil (lines_in entries))))
+
+-- an empty line after all is an entry too
+empty_entry : (lines : List (List ℕ)) (cs : List DrillCommand) → IsParsed lines cs → list_any is_finish cs ≡ true → IsParsed (lines ++ [] ∷ []) cs
+empty_entry lines cs h some =
+    let f = free_at_end h.r cs h.grouped.pending h.grouped.waits (h.ends some) in
+    let s = settings_after cs in
+    let at : IsRouteAfter (route.Free f.0) s (map trimmed lines) = subst (λ (r : Route). IsRouteAfter r s (map trimmed lines)) f.1 h.at in
+    let grouped : IsGrouped lines cs (route.Free f.0) = subst (IsGrouped lines cs) f.1 h.grouped in
+    let alone : IsAlone s f.0 [] None = inl ((0, omega arith, refl), and_false f.0) in
+    let more = grouped_more (route.Free f.0) lines cs [] None (route.Free f.0) grouped at (inl (f.0, refl, alone)) in
+    record {
+      r = route.Free f.0;
+      grouped = subst (λ (x : List DrillCommand). IsGrouped (lines ++ [] ∷ []) x (route.Free f.0)) (append-nil cs) more;
+      at = after_empty lines s f.0 at;
+      short = AllR-append (λ l. length l ≤ line_limit) lines ([] ∷ []) h.short (omega arith, tt);
+      legal = h.legal;
+      ends = h.ends;
+    }
+  where
+    after_empty : (lines : List (List ℕ)) (s : Settings) (routing : Bool) → IsRouteAfter (route.Free routing) s (map trimmed lines) → IsRouteAfter (route.Free routing) s (map trimmed (lines ++ [] ∷ []))
+    after_empty lines s routing at = subst (λ (l : List (List ℕ)). IsRouteAfter (route.Free routing) s l) (sym (trimmed_more lines [])) (empty_line s (map trimmed lines) routing at)
+
+rest_parsed : (lines : List (List ℕ)) (rest : List ℕ) (before cs : List DrillCommand) → IsParsed lines before → with_rest Wide lines rest before ≡ Ok cs → list_any is_finish cs ≡ true → IsParsed (lines ++ rest ∷ []) cs
+rest_parsed lines [] before cs h e some = let same : before ≡ cs = cc in empty_entry lines cs (subst (IsParsed lines) same h) some
+rest_parsed lines (b ∷ bs) before cs h e some = line_parsed lines before cs (b ∷ bs) h e
+
+ends_by : ℕ → List (List ℕ) → List ℕ → List DrillCommand → Result (List DrillCommand) Fault
+ends_by len lines rest cs = cond (ltb text_limit len) (Err (fault (suc (length lines)) text_limit TooLong)) (with_rest Wide lines rest cs >>= ended len lines rest)
+
+pub read_is_written : ReadIsWritten
+unfolding ends_by
+read_is_written text cs r =
+    let lines = r.lines in
+    let rest = r.rest in
+    let len = length text in
+    let b = bind_ok (shown_by Wide lines rest) (ends_by len lines rest) cs (sym r.answer_is) in
+    let w = within (ltb text_limit len) (fault (suc (length lines)) text_limit TooLong) (with_rest Wide lines rest b.0 >>= ended len lines rest) cs b.2 in
+    let c = bind_ok (with_rest Wide lines rest b.0) (ended len lines rest) cs w.1 in
+    let e = with_end (list_any is_finish c.0) (fault (place_after lines rest) len Truncated) c.0 cs c.2 in
+    let some : list_any is_finish cs ≡ true = sym (ap (list_any is_finish) e.1) ∙ e.0 in
+    let first = lines_parsed [] lines [] b.0 none_parsed (shown_by_ok Wide lines rest b.0 b.1).0 in
+    let all = subst (IsParsed (lines ++ rest ∷ [])) e.1 (rest_parsed lines rest b.0 c.0 first c.1 e.0) in
+    let le : length text ≤ text_limit = ltb-false _ _ w.0 in
+    let splits : Splits text lines rest = subst (λ (t : List ℕ). Splits t lines rest) (take_all text_limit text le) r.splits in
+    let same : lines_of text ≡ lines ++ rest ∷ [] = same_lines text lines rest splits in
+    let f = free_at_end all.r cs all.grouped.pending all.grouped.waits (all.ends some) in
+    let whole : lines_in all.grouped.entries ≡ lines_of text = entries_alone all.grouped.entries all.grouped.pending (lines_of text) (lines ++ rest ∷ []) same all.grouped.lines f.2 in (
+      (le, subst AreWithinLimit (sym same) all.short),
+      record { entries = all.grouped.entries; lines = whole; spells = all.grouped.spells; ends = has_end cs some },
+      all.legal,
+    )

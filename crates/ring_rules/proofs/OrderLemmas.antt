@@ -1,0 +1,129 @@
+-- Spots that are put in the order of x: none comes or goes.
+use Rattle.std.proofs.Common.{◌≡◌, ℕ, ℤ, ◌+◌, ◌-◌, ◌<◌, ◌≤◌, ◌<ℤ◌, ◌≤ℤ◌, inl, inr, List, length, get_or, map, take, drop, sym, ap, subst, ◌∙◌, arith}
+use Rattle.std.specs.List.{All, Contains}
+use Rattle.std.specs.List.Sorted.{IsPermutation}
+use borrow.Rule.Slice.PartMut.{put_mid, mid_of}
+use Rattle.std.proofs.lemmas.Bool.{cases_lt}
+use Rattle.std.proofs.lemmas.Int.{ints}
+use Rattle.std.proofs.lemmas.List.{get_or-map, get_or-drop, get_or-take, length-drop, length-map, drop-map, get_or_default}
+use Rattle.std.proofs.lemmas.List.Elements.{All-get_or, All-from_get_or, Contains-get_or}
+use Rattle.std.proofs.lemmas.List.Sorted.{All-permutation, Contains-permutation, IsPermutation-map, IsPermutation-put_mid, length_permutation}
+use Rattle.std.proofs.lemmas.Slice.{take-put_mid_below, between-put_mid, between_to_end}
+use Rattle.grid_units.specs.Points.{GridPoint}
+use Rattle.grid_units.specs.Holes.{GridHole}
+use Rattle.ring_rules.specs.Spots.{default_spot, spot_at, point_at, IsSpotOf, HasSpot}
+use Rattle.ring_rules.specs.Inner.Regions.{AreInOrder}
+use Rattle.ring_rules.specs.Inner.SpotLists.{AddsSpots, PutsInOrder}
+use Rattle.ring_rules.specs.Inner.Forms.{spot_of, HasForm, default_entry, HaveForms}
+use Rattle.ring_rules.specs.declared.finding.Drilled.{Drilled}
+use Rattle.ring_rules.specs.declared.spots.Spot.{Spot}
+use Rattle.ring_rules.specs.declared.spot_list.Entry.{Entry}
+
+-- an element by its place from the start of the rest
+at_rest : {X : Type 0} (n : ℕ) (xs : List X) (i : ℕ) (d : X) → n ≤ i → get_or (drop n xs) (i - n) d ≡ get_or xs i d
+at_rest n xs i d h = (let is : n + (i - n) ≡ i = omega (arith, h) in get_or-drop n xs (i - n) d ∙ ap (λ (k : ℕ). get_or xs k d) is)
+
+module _ (start : ℕ) (b d : List Spot) (puts : PutsInOrder start b d) where
+  -- what holds of each spot from the start on
+  still_each : (P : Spot → Type 0) → ((i : ℕ) → start ≤ i → i < length b → P (spot_at b i)) → (i : ℕ) → start ≤ i → i < length d → P (spot_at d i)
+  still_each P each i h k =
+      let all : All P (drop start b) = All-from_get_or P (drop start b) default_spot (λ n inside.
+      subst P (sym (get_or-drop start b n default_spot)) (each (start + n) (omega arith) (omega (arith, inside, length-drop start b)))) in
+      subst P (at_rest start d i default_spot h)
+      (All-get_or P (drop start d) (i - start) default_spot (omega (arith, h, k, length-drop start d)) (All-permutation P (drop start b) (drop start d) puts.same all))
+
+  found_in_rest : (k : ℕ) (s : Spot) → s.place ≡ k → Contains (drop start d) s → HasSpot d k
+  found_in_rest k s is at =
+      let inside = at.1 in
+      let same : spot_at d (start + at.0) ≡ s = sym (get_or-drop start d at.0 default_spot) ∙ (get_or_default (drop start d) at.0 default_spot s at.1 ∙ at.2) in
+      (start + at.0, omega (arith, inside, length-drop start d), ap (λ (t : Spot). t.place) same ∙ is)
+
+  pub has_spot_in_order : (k : ℕ) → HasSpot b k → HasSpot d k
+  has_spot_in_order k has = elim (cases_lt has.0 start) [
+    | inl less ↦ (let inside = has.1 in (has.0, omega (arith, inside, puts.size), ap (λ (t : Spot). t.place) (puts.kept has.0 less) ∙ has.2))
+    | inr past ↦ (let inside = has.1 in
+        found_in_rest k (spot_at b has.0) has.2
+        (Contains-permutation (drop start b) (drop start d) (spot_at b has.0) puts.same
+        (subst (Contains (drop start b)) (at_rest start b has.0 default_spot past) (Contains-get_or (drop start b) (has.0 - start) default_spot (omega (arith, past, inside, length-drop start b))))))
+  ]
+
+-- the spots of a cell in the order of x
+pub adds_in_order : (cell : GridPoint → ℕ) (holes : List Drilled) (c : ℕ) (a b d : List Spot) → AddsSpots cell holes c a b → PutsInOrder (length a) b d → AddsSpots cell holes c a d
+adds_in_order cell holes c a b d adds puts = record {
+  longer = omega (arith, adds.longer, puts.size);
+  kept = λ i h. puts.kept i h ∙ adds.kept i h;
+  each = still_each (length a) b d puts (IsSpotOf holes) adds.each;
+  here = still_each (length a) b d puts (λ (s : Spot). cell s.hole.from ≡ c) adds.here;
+}
+
+-- the part of a list from an index on, in another order
+module _ {X : Type 0} (a k : ℕ) (xs ys : List X) (at : a ≤ length xs) (whole : a + k ≡ length xs) (same : IsPermutation (mid_of a k xs) ys) where
+  moves : IsPermutation xs (put_mid a k xs ys)
+  moves = IsPermutation-put_mid a k xs ys same
+
+  as_long : length (put_mid a k xs ys) ≡ length xs
+  as_long = length_permutation xs (put_mid a k xs ys) moves
+
+  rest_is : mid_of a k xs ≡ drop a xs
+  rest_is = (let is : k ≡ a + k - a = omega arith in ap (λ (n : ℕ). take n (drop a xs)) is ∙ between_to_end xs a (a + k) (omega (arith, whole)))
+
+  rest_long : length ys ≡ k
+  rest_long = (let e = length_permutation (mid_of a k xs) ys same in let f = ap (λ (zs : List X). length zs) rest_is in omega (arith, e, f, length-drop a xs, whole))
+
+  rest_now : drop a (put_mid a k xs ys) ≡ ys
+  rest_now = sym (between_to_end (put_mid a k xs ys) a (length xs) (omega (arith, as_long))) ∙ between-put_mid a k xs ys (length xs) at (omega (arith, rest_long, whole))
+
+  rest_moves : IsPermutation (drop a xs) (drop a (put_mid a k xs ys))
+  rest_moves = subst (λ (zs : List X). IsPermutation zs (drop a (put_mid a k xs ys))) rest_is (subst (IsPermutation (mid_of a k xs)) (sym rest_now) same)
+
+  kept_before : (i : ℕ) (d : X) → i < a → get_or (put_mid a k xs ys) i d ≡ get_or xs i d
+  kept_before i d h =
+      sym (get_or-take a (put_mid a k xs ys) i d h)
+      ∙ (ap (λ (zs : List X). get_or zs i d) (take-put_mid_below a k xs ys a (omega arith) at)
+      ∙ get_or-take a xs i d h)
+
+-- so are the spots that the entries stand for
+module _ (forms : List GridHole) (a k : ℕ) (xs ys : List Entry) (at : a ≤ length xs) (whole : a + k ≡ length xs) (same : IsPermutation (mid_of a k xs) ys) where
+  abbrev now : List Entry
+  now = put_mid a k xs ys
+
+  pub still_have_forms : HaveForms forms xs → HaveForms forms now
+  still_have_forms have i h =
+      All-get_or (HasForm forms) now i default_entry h
+      (All-permutation (HasForm forms) xs now (moves a k xs ys at whole same) (All-from_get_or (HasForm forms) xs default_entry have))
+
+  spot_now : (i : ℕ) → i < length now → spot_at (map (spot_of forms) now) i ≡ spot_of forms (get_or now i default_entry)
+  spot_now i h = get_or-map (spot_of forms) now i default_entry default_spot h
+
+  pub size : length now ≡ length xs
+  size = as_long a k xs ys at whole same
+
+  pub spots_in_order : ((i j : ℕ) (d : Entry) → i ≤ j → j < length ys → (get_or ys i d).from.x ≤ℤ (get_or ys j d).from.x) → PutsInOrder a (map (spot_of forms) xs) (map (spot_of forms) now)
+  spots_in_order order = record {
+    size = length-map now (spot_of forms) ∙ (size ∙ sym (length-map xs (spot_of forms)));
+    kept = λ i h.
+        spot_now i (omega (arith, h, at, size))
+        ∙ (ap (spot_of forms) (kept_before a k xs ys at whole same i default_entry h)
+        ∙ sym (get_or-map (spot_of forms) xs i default_entry default_spot (omega (arith, h, at))));
+    same = subst (λ (zs : List Spot). IsPermutation zs (drop a (map (spot_of forms) now))) (sym (drop-map (spot_of forms) a xs))
+        (subst (IsPermutation (map (spot_of forms) (drop a xs))) (sym (drop-map (spot_of forms) a now))
+        (IsPermutation-map (spot_of forms) (drop a xs) (drop a now) (rest_moves a k xs ys at whole same)));
+    order = λ i j from up below.
+        let inside : j < length now = omega (arith, below, length-map now (spot_of forms)) in
+        let long = rest_long a k xs ys at whole same in
+        let up_rest = order (i - a) (j - a) default_entry (omega (arith, from, up)) (omega (arith, from, up, inside, long, whole, size)) in
+        subst (λ (s : Spot). s.hole.from.x ≤ℤ (point_at (map (spot_of forms) now) j).x) (sym (spot_now i (omega (arith, up, inside))))
+        (subst (λ (s : Spot). (get_or now i default_entry).from.x ≤ℤ s.hole.from.x) (sym (spot_now j inside))
+        (subst (λ (e : Entry). e.from.x ≤ℤ (get_or now j default_entry).from.x) (in_rest i from)
+        (subst (λ (e : Entry). (get_or ys (i - a) default_entry).from.x ≤ℤ e.from.x) (in_rest j (omega (arith, from, up))) up_rest)));
+  } where
+    in_rest : (n : ℕ) → a ≤ n → get_or ys (n - a) default_entry ≡ get_or now n default_entry
+    in_rest n h = ap (λ (zs : List Entry). get_or zs (n - a) default_entry) (sym (rest_now a k xs ys at whole same)) ∙ at_rest a now n default_entry h
+
+-- a spot that lies left of a coordinate has all before it there too, one that does not has all after it there too
+module _ (spots : List Spot) (start end m : ℕ) (order : AreInOrder start end spots) (from : start ≤ m) (below : m < end) (v : ℤ) where
+  pub all_before : (point_at spots m).x <ℤ v → (i : ℕ) → start ≤ i → i < m + 1 → (point_at spots i).x <ℤ v
+  all_before less i h k = let up = order i m h (omega (arith, k)) below in omega (arith, ints, up, less)
+
+  pub all_after : v ≤ℤ (point_at spots m).x → (i : ℕ) → m ≤ i → i < end → v ≤ℤ (point_at spots i).x
+  all_after more i h k = let up = order m i from h k in omega (arith, ints, up, more)
