@@ -1,4 +1,4 @@
-//! Tests of the crate `macro_shapes`: values of expressions and variables, pieces and shapes.
+//! Tests of the crates `macro_shapes` and `wide_pads`: values of expressions and variables, pieces and shapes, and holes at any angle.
 #![tactic(auto)]
 
 #[cfg(test)]
@@ -7,3 +7,5 @@ mod macro_pieces_calls;
 mod macro_shapes_calls;
 #[cfg(test)]
 mod macro_values_calls;
+#[cfg(test)]
+mod wide_pads_calls;

@@ -1,0 +1,4 @@
+pub mod Holding
+pub mod WidePads
+pub mod Laws
+pub mod Inner
