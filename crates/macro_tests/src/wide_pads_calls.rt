@@ -202,11 +202,14 @@ fn holes_are_covered_up_to_a_greatest_ring(rt: HostRuntime) -> Result<(), Fail> 
 fn each_shape_covers_an_oblique_slot(rt: HostRuntime) -> Result<(), Fail> {
     let slot = hole((-300, -100), (300, 100), 200)?;
     let ring = micrometres(100);
-    assert!(rt; is_covered(&disc()?, &slot, ring)?);
-    assert!(rt; is_covered(&rect()?, &slot, ring)?);
-    assert!(rt; is_covered(&obround()?, &slot, ring)?);
-    assert!(rt; is_covered(&Pad::Obround(obround()?), &slot, ring)?);
-    assert!(rt; is_covered(&polygon(rt.alloc(), Copper::Diamond)?, &slot, ring)?);
+    let covered = [
+        is_covered(&disc()?, &slot, ring)?,
+        is_covered(&rect()?, &slot, ring)?,
+        is_covered(&obround()?, &slot, ring)?,
+        is_covered(&Pad::Obround(obround()?), &slot, ring)?,
+        is_covered(&polygon(rt.alloc(), Copper::Diamond)?, &slot, ring)?,
+    ];
+    assert!(rt; covered.iter().all(|it| *it));
     Ok(())
 }
 
