@@ -23,7 +23,7 @@ _ringcheck() {
       mapfile -t COMPREPLY < <(compgen -W "$formats" -- "$word")
       return
       ;;
-    --waive)
+    --waive | --outline)
       compopt -o filenames
       mapfile -t COMPREPLY < <(compgen -f -- "$word")
       return
@@ -31,8 +31,9 @@ _ringcheck() {
     --ring | --gap | --max) return ;;
   esac
   case $command in
-    check | draw) options='--ring --gap --help' ;;
-    report) options='--ring --gap --max --waive --format --help' ;;
+    check) options='--ring --gap --help' ;;
+    draw) options='--ring --gap --outline --help' ;;
+    report) options='--ring --gap --max --waive --outline --format --help' ;;
     measure) options='--format --help' ;;
     manifest) options='--why --help' ;;
     show | rewrite) options='--kind --help' ;;

@@ -19,6 +19,7 @@ complete -c ringcheck -n '__fish_seen_subcommand_from check report draw' -l ring
 complete -c ringcheck -n '__fish_seen_subcommand_from check report draw' -l gap -x -d 'gap between two holes, in mm'
 complete -c ringcheck -n '__fish_seen_subcommand_from report' -l max -x -d 'most findings to show'
 complete -c ringcheck -n '__fish_seen_subcommand_from report' -l waive -r -F -d 'the findings that are accepted'
+complete -c ringcheck -n '__fish_seen_subcommand_from report draw' -l outline -r -F -d "the board's edge"
 complete -c ringcheck -n '__fish_seen_subcommand_from report measure' -l format -x -a 'text json' -d 'lines for people, or one object of JSON'
 complete -c ringcheck -n '__fish_seen_subcommand_from report' -l format -x -a html -d 'a page with the picture and a table'
 complete -c ringcheck -n '__fish_seen_subcommand_from report' -l format -x -a waivers -d 'a file of waivers of all findings'

@@ -89,7 +89,7 @@ fn drawn(
     let board = read_package(rt.alloc(), files, Keep::Flashes)
         .ok()
         .ok_or("refused")?;
-    let drawing = Drawing::new(rt.alloc(), names, &board, rules)?;
+    let drawing = Drawing::new(rt.alloc(), names, &board, &[], rules)?;
     Ok(format!(in rt.alloc(); "{drawing}")?)
 }
 
@@ -223,13 +223,14 @@ const PAGES: [PageRow; 10] = [
             ">0 pads, 1 other</text>\n<rect class=\"board\" x=\"-0.5\" y=\"-2.5\" width=\"11\" height=\"3\"/>\n<path class=\"other\"",
         ],
     ),
+    // Beside pads they widen it.
     (
         ("top", WIDE),
         ("bottom", MACROS),
         NO_HOLE,
         false,
         &[
-            ">0 pads, 2 other</text>\n<rect class=\"board\" x=\"-0.5\" y=\"-0.5\" width=\"75\" height=\"1\"/>\n<path class=\"other\"",
+            ">0 pads, 2 other</text>\n<rect class=\"board\" x=\"-0.5\" y=\"-2.5\" width=\"75\" height=\"3\"/>\n<path class=\"other\"",
         ],
     ),
     // Characters that XML forbids are replaced.
@@ -267,21 +268,30 @@ fn pages_have_what_belongs_to_their_boards(rt: HostRuntime) -> Result<(), Fail> 
 const DRAWN: &[u8] =
     b"%FSLAX46Y46*%\n%MOMM*%\n%ADD10R,75.0X75.0*%\n%ADD11C,0.5*%\nD10*\nX0Y0D03*\nD11*\nX-1000000Y-2000000D02*\nX3000000Y4000000D01*\nG36*\nX0Y0D02*\nX2000000D01*\nY1000000D01*\nX0Y0D01*\nG37*\nM02*\n";
 
+/// Two discs of 1 mm in a box of 75 mm, and a line and the contour of a region that leave it.
+const BEYOND: &[u8] =
+    b"%FSLAX46Y46*%\n%MOMM*%\n%ADD10C,1.0*%\nD10*\nX0Y0D03*\nX74000000Y0D03*\nX100000000Y-3000000D01*\nG36*\nX102000000D01*\nY1000000D01*\nX100000000Y-3000000D01*\nG37*\nM02*\n";
+
 /// 101,000 discs of 1 mm, and a line.
 const MANY_AND_A_LINE: &[u8] =
     b"%FSLAX46Y46*%\n%MOMM*%\n%ADD10C,1.0*%\nD10*\n%SRX1000Y101I1.0J1.0*%\nX0Y0D03*\n%SR*%\nX1000000D01*\nM02*\n";
 
 /// Copper files, and what stands in their page where the board has what they draw.
-const COPPER: [(&[u8], &str); 4] = [
-    // Lines, then contours, each a path, stand behind the pads. The region begins at the end of the line.
+const COPPER: [(&[u8], &str); 5] = [
+    // Lines, then contours, each a path, stand below the pads. The region begins at the end of the line.
     (
         DRAWN,
-        "<rect class=\"board\" x=\"-37.5\" y=\"-37.5\" width=\"75\" height=\"75\"/>\n<g class=\"drawn\" fill=\"none\" stroke=\"#f0dcc0\" stroke-linecap=\"round\"><title>drawn copper, not judged</title>\n<path stroke-width=\"0.5\" d=\"M-1 2L3 -4\"/>\n<g fill=\"#f0dcc0\" fill-rule=\"evenodd\" stroke=\"none\">\n<path d=\"\"/>\n<path d=\"M3 -4\"/>\n<path d=\"M0 0L2 0L2 -1L0 0\"/>\n</g>\n</g>\n<path class=\"pad\" d=\"M-37.5 -37.5h75v75h-75z\">",
+        "<rect class=\"board\" x=\"-37.5\" y=\"-37.5\" width=\"75\" height=\"75\"/>\n<svg class=\"drawn\" x=\"-37.5\" y=\"-37.5\" width=\"75\" height=\"75\" viewBox=\"-37.5 -37.5 75 75\" fill=\"none\" stroke=\"#f0dcc0\" stroke-linecap=\"round\"><title>drawn copper, not judged</title>\n<path stroke-width=\"0.5\" d=\"M-1 2L3 -4\"/>\n<g fill=\"#f0dcc0\" fill-rule=\"evenodd\" stroke=\"none\">\n<path d=\"\"/>\n<path d=\"M3 -4\"/>\n<path d=\"M0 0L2 0L2 -1L0 0\"/>\n</g>\n</svg>\n<path class=\"pad\" d=\"M-37.5 -37.5h75v75h-75z\">",
     ),
-    // A line does not widen the box.
+    // A line and a contour that lie outside of the box of the discs do not widen it, and are cut there.
+    (
+        BEYOND,
+        "<rect class=\"board\" x=\"-0.5\" y=\"-0.5\" width=\"75\" height=\"1\"/>\n<svg class=\"drawn\" x=\"-0.5\" y=\"-0.5\" width=\"75\" height=\"1\" viewBox=\"-0.5 -0.5 75 1\" fill=\"none\" stroke=\"#f0dcc0\" stroke-linecap=\"round\"><title>drawn copper, not judged</title>\n<path stroke-width=\"1\" d=\"M74 0L100 3\"/>\n<g fill=\"#f0dcc0\" fill-rule=\"evenodd\" stroke=\"none\">\n<path d=\"\"/>\n<path d=\"M100 3L102 3L102 -1L100 3\"/>\n</g>\n</svg>\n<path class=\"line\"",
+    ),
+    // Where there is no pad, a line does not widen the box either.
     (
         NOTHING,
-        "<rect class=\"board\" x=\"0\" y=\"-1\" width=\"1\" height=\"1\"/>\n<g class=\"drawn\" fill=\"none\" stroke=\"#f0dcc0\" stroke-linecap=\"round\"><title>drawn copper, not judged</title>\n<path stroke-width=\"1\" d=\"M0 0L1 0\"/>\n<g fill=\"#f0dcc0\" fill-rule=\"evenodd\" stroke=\"none\">\n<path d=\"\"/>\n</g>\n</g>\n</g>\n",
+        "<rect class=\"board\" x=\"0\" y=\"-1\" width=\"1\" height=\"1\"/>\n<svg class=\"drawn\" x=\"0\" y=\"-1\" width=\"1\" height=\"1\" viewBox=\"0 -1 1 1\" fill=\"none\" stroke=\"#f0dcc0\" stroke-linecap=\"round\"><title>drawn copper, not judged</title>\n<path stroke-width=\"1\" d=\"M0 0L1 0\"/>\n<g fill=\"#f0dcc0\" fill-rule=\"evenodd\" stroke=\"none\">\n<path d=\"\"/>\n</g>\n</svg>\n</g>\n",
     ),
     // Where nothing is drawn there is no group.
     (
@@ -319,7 +329,7 @@ fn page_of_copper(rt: HostRuntime, copper: &[u8], keep: Keep) -> Result<String, 
     let board = read_package(rt.alloc(), &files, keep)
         .ok()
         .ok_or("refused")?;
-    let drawing = Drawing::new(rt.alloc(), &["top", "pth"], &board, None)?;
+    let drawing = Drawing::new(rt.alloc(), &["top", "pth"], &board, &[], None)?;
     Ok(format!(in rt.alloc(); "{drawing}")?)
 }
 
@@ -368,7 +378,7 @@ const SHOWN: [(usize, Keep, bool); 4] = [
 fn more_than_a_panel_draws_is_left_out(rt: HostRuntime) -> Result<(), Fail> {
     for &(count, keep, is_shown) in &SHOWN {
         let page = page_of_copper(rt, &dots(rt, count)?, keep)?;
-        let is_there = page.contains("<g class=\"drawn\"");
+        let is_there = page.contains("<svg class=\"drawn\"");
         assert!(rt; is_there == is_shown, "of {count}");
     }
     Ok(())

@@ -95,7 +95,7 @@ fn page_of<'a>(
         gaps,
         idle: &[],
     };
-    let page = HtmlReport::new(rt.alloc(), &["a<b", "c&d"], &board, &report, &accepted)?;
+    let page = HtmlReport::new(rt.alloc(), &["a<b", "c&d"], &board, &[], &report, &accepted)?;
     Ok(format!(in rt.alloc(); "{page}")?)
 }
 

@@ -34,15 +34,15 @@ check_answer r g m p q s =
 
 -- ---- `report`
 
-abbrev pub report_options : Text → Text → Option Text → Option Text → Option Text → Text → Options
-report_options r g n l o m = (codes "ring", Some r) ∷ (codes "gap", Some g) ∷ (codes "max", n) ∷ (codes "waive", l) ∷ (codes "format", o) ∷ (codes "manifest", Some m) ∷ []
+abbrev pub report_options : Text → Text → Option Text → Option Text → Option Text → Option Text → Text → Options
+report_options r g n v l o m = (codes "ring", Some r) ∷ (codes "gap", Some g) ∷ (codes "max", n) ∷ (codes "waive", v) ∷ (codes "outline", l) ∷ (codes "format", o) ∷ (codes "manifest", Some m) ∷ []
 
-pub report_answer : (r g : Text) (n l o : Option Text) (m : Text) → is_plain_word r ≡ true → is_plain_word g ≡ true → is_plain_if_some n ≡ true → is_plain_if_some l ≡ true
-    → is_plain_if_some o ≡ true → is_plain_word m ≡ true → answer (report_words r g n l o m) ≡ (true, Some (codes "report", rows_of (report_options r g n l o m)))
+pub report_answer : (r g : Text) (n v l o : Option Text) (m : Text) → is_plain_word r ≡ true → is_plain_word g ≡ true → is_plain_if_some n ≡ true → is_plain_if_some v ≡ true
+    → is_plain_if_some l ≡ true → is_plain_if_some o ≡ true → is_plain_word m ≡ true → answer (report_words r g n v l o m) ≡ (true, Some (codes "report", rows_of (report_options r g n v l o m)))
 unfolding clap_on_literals
-report_answer r g n l o m p q t v u s =
-    command_answer (codes "report") ((codes "ring", Some r) ∷ (codes "gap", Some g) ∷ (codes "max", n) ∷ (codes "waive", l) ∷ (codes "format", o) ∷ []) (codes "manifest") m
-    (record { named = (λ rest. refl, λ rest. refl); options = (refl, (refl, (refl, (refl, (refl, tt))))); end = refl }) (p, (q, (t, (v, (u, tt))))) s
+report_answer r g n v l o m p q t w x u s =
+    command_answer (codes "report") ((codes "ring", Some r) ∷ (codes "gap", Some g) ∷ (codes "max", n) ∷ (codes "waive", v) ∷ (codes "outline", l) ∷ (codes "format", o) ∷ []) (codes "manifest") m
+    (record { named = (λ rest. refl, λ rest. refl); options = (refl, (refl, (refl, (refl, (refl, (refl, tt)))))); end = refl }) (p, (q, (t, (w, (x, (u, tt)))))) s
 
 -- ---- `measure`
 
@@ -58,22 +58,22 @@ measure_answer o m t s =
 
 -- ---- `draw`
 
-abbrev rules : Option (Text × Text) → Options
-rules o = (codes "ring", option_map (λ rules. rules.0) o) ∷ (codes "gap", option_map (λ rules. rules.1) o) ∷ []
+abbrev given : Option (Text × Text) → Option Text → Options
+given o l = (codes "ring", option_map (λ rules. rules.0) o) ∷ (codes "gap", option_map (λ rules. rules.1) o) ∷ (codes "outline", l) ∷ []
 
-abbrev pub draw_options : Option (Text × Text) → Text → Options
-draw_options o m = (codes "ring", option_map (λ rules. rules.0) o) ∷ (codes "gap", option_map (λ rules. rules.1) o) ∷ (codes "manifest", Some m) ∷ []
+abbrev pub draw_options : Option (Text × Text) → Option Text → Text → Options
+draw_options o l m = (codes "ring", option_map (λ rules. rules.0) o) ∷ (codes "gap", option_map (λ rules. rules.1) o) ∷ (codes "outline", l) ∷ (codes "manifest", Some m) ∷ []
 
-is_draw : (o : Option (Text × Text)) (m : Text) → IsCommand (codes "draw") (rules o) (codes "manifest") m
+is_draw : (o : Option (Text × Text)) (l : Option Text) (m : Text) → IsCommand (codes "draw") (given o l) (codes "manifest") m
 unfolding clap_on_literals
-is_draw o m = record { named = (λ rest. refl, λ rest. refl); options = (refl, (refl, tt)); end = refl }
+is_draw o l m = record { named = (λ rest. refl, λ rest. refl); options = (refl, (refl, (refl, tt))); end = refl }
 
-pub draw_answer : (o : Option (Text × Text)) (m : Text) → are_plain_rules o ≡ true → is_plain_word m ≡ true
-    → answer (draw_words o m) ≡ (true, Some (codes "draw", rows_of (draw_options o m)))
-draw_answer None m p s = command_answer (codes "draw") (rules None) (codes "manifest") m (is_draw None m) (refl, (refl, tt)) s
-draw_answer (Some (r, g)) m p s =
+pub draw_answer : (o : Option (Text × Text)) (l : Option Text) (m : Text) → are_plain_rules o ≡ true → is_plain_if_some l ≡ true → is_plain_word m ≡ true
+    → answer (draw_words o l m) ≡ (true, Some (codes "draw", rows_of (draw_options o l m)))
+draw_answer None l m p t s = command_answer (codes "draw") (given None l) (codes "manifest") m (is_draw None l m) (refl, (refl, (t, tt))) s
+draw_answer (Some (r, g)) l m p t s =
     let k = both (is_plain_word r) (is_plain_word g) p in
-    command_answer (codes "draw") (rules (Some (r, g))) (codes "manifest") m (is_draw (Some (r, g)) m) (k.0, (k.1, tt)) s
+    command_answer (codes "draw") (given (Some (r, g)) l) (codes "manifest") m (is_draw (Some (r, g)) l m) (k.0, (k.1, (t, tt))) s
 
 -- ---- `show` and `rewrite`
 

@@ -23,23 +23,28 @@ is_measure o m (Measure format manifest) a =
     (sym a.1 ∙ first_is (codes "format") (measure_options o m), some_is manifest.now m (sym a.2 ∙ first_is (codes "manifest") (measure_options o m)))
 is_measure o m request a = absurd (differ (codes "measure") a.0 refl)
 
-pub is_report : (r g : Text) (n l o : Option Text) (m : Text) (request : Request) → IsRequestOf (Some (codes "report", rows_of (report_options r g n l o m))) request → IsReport r g n l o m request
-is_report r g n l o m (Report ring gap limit waive format manifest) a =
-    let all = report_options r g n l o m in (
+pub is_report : (r g : Text) (n v l o : Option Text) (m : Text) (request : Request) → IsRequestOf (Some (codes "report", rows_of (report_options r g n v l o m))) request → IsReport r g n v l o m request
+is_report r g n v l o m (Report ring gap limit waive outline format manifest) a =
+    let all = report_options r g n v l o m in (
       some_is ring.now r (sym a.1 ∙ first_is (codes "ring") all),
       some_is gap.now g (sym a.2 ∙ first_is (codes "gap") all),
       sym a.3 ∙ first_is (codes "max") all,
       sym a.4 ∙ first_is (codes "waive") all,
-      sym a.5 ∙ first_is (codes "format") all,
-      some_is manifest.now m (sym a.6 ∙ first_is (codes "manifest") all),
+      sym a.5 ∙ first_is (codes "outline") all,
+      sym a.6 ∙ first_is (codes "format") all,
+      some_is manifest.now m (sym a.7 ∙ first_is (codes "manifest") all),
     )
-is_report r g n l o m request a = absurd (differ (codes "report") a.0 refl)
+is_report r g n v l o m request a = absurd (differ (codes "report") a.0 refl)
 
-pub is_draw : (o : Option (Text × Text)) (m : Text) (request : Request) → IsRequestOf (Some (codes "draw", rows_of (draw_options o m))) request → IsDraw o m request
-is_draw o m (Draw ring gap manifest) a =
-    let all = draw_options o m in
-    (sym a.1 ∙ first_is (codes "ring") all, sym a.2 ∙ first_is (codes "gap") all, some_is manifest.now m (sym a.3 ∙ first_is (codes "manifest") all))
-is_draw o m request a = absurd (differ (codes "draw") a.0 refl)
+pub is_draw : (o : Option (Text × Text)) (l : Option Text) (m : Text) (request : Request) → IsRequestOf (Some (codes "draw", rows_of (draw_options o l m))) request → IsDraw o l m request
+is_draw o l m (Draw ring gap outline manifest) a =
+    let all = draw_options o l m in (
+      sym a.1 ∙ first_is (codes "ring") all,
+      sym a.2 ∙ first_is (codes "gap") all,
+      sym a.3 ∙ first_is (codes "outline") all,
+      some_is manifest.now m (sym a.4 ∙ first_is (codes "manifest") all),
+    )
+is_draw o l m request a = absurd (differ (codes "draw") a.0 refl)
 
 pub is_show : (k f : Text) (request : Request) → IsRequestOf (Some (codes "show", rows_of (file_options k f))) request → IsShow k f request
 is_show k f (Show kind file) a =

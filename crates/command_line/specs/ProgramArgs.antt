@@ -46,15 +46,17 @@ check_app = with_rule (with_rule (with_rule (new_app (codes "check")) (option (c
 abbrev pub measure_app : App
 measure_app = with_rule (with_rule (new_app (codes "measure")) (optional_option (codes "format"))) (positional (codes "manifest"))
 
--- `report --ring MM --gap MM [--max N] [--waive FILE] [--format text|html|json|waivers] MANIFEST`
+-- `report --ring MM --gap MM [--max N] [--waive FILE] [--outline FILE] [--format text|html|json|waivers] MANIFEST`
 abbrev pub report_app : App
 report_app =
-    with_rule (with_rule (with_rule (with_rule (with_rule (with_rule (new_app (codes "report")) (option (codes "ring"))) (option (codes "gap"))) (optional_option (codes "max")))
-    (optional_option (codes "waive"))) (optional_option (codes "format"))) (positional (codes "manifest"))
+    with_rule (with_rule (with_rule (with_rule (with_rule (with_rule (with_rule (new_app (codes "report")) (option (codes "ring"))) (option (codes "gap"))) (optional_option (codes "max")))
+    (optional_option (codes "waive"))) (optional_option (codes "outline"))) (optional_option (codes "format"))) (positional (codes "manifest"))
 
--- `draw [--ring MM --gap MM] MANIFEST`
+-- `draw [--ring MM --gap MM] [--outline FILE] MANIFEST`
 abbrev pub draw_app : App
-draw_app = with_rule (with_rule (with_rule (new_app (codes "draw")) (optional_option (codes "ring"))) (optional_option (codes "gap"))) (positional (codes "manifest"))
+draw_app =
+    with_rule (with_rule (with_rule (with_rule (new_app (codes "draw")) (optional_option (codes "ring"))) (optional_option (codes "gap"))) (optional_option (codes "outline")))
+    (positional (codes "manifest"))
 
 -- `show --kind layer|drill FILE` and `rewrite --kind layer|drill FILE`
 abbrev pub file_app : Text → App
@@ -94,14 +96,14 @@ IsRequestOf (Some (name, rows)) (Check ring gap manifest) =
     (name ≡ codes "check") × (first_of (codes "ring") rows ≡ Some ring.now) × (first_of (codes "gap") rows ≡ Some gap.now) × (first_of (codes "manifest") rows ≡ Some manifest.now)
 IsRequestOf (Some (name, rows)) (Measure format manifest) =
     (name ≡ codes "measure") × (first_of (codes "format") rows ≡ option_map (λ f. f.now) format) × (first_of (codes "manifest") rows ≡ Some manifest.now)
-IsRequestOf (Some (name, rows)) (Report ring gap limit waive format manifest) =
+IsRequestOf (Some (name, rows)) (Report ring gap limit waive outline format manifest) =
     (name ≡ codes "report") × (first_of (codes "ring") rows ≡ Some ring.now) × (first_of (codes "gap") rows ≡ Some gap.now)
     × (first_of (codes "max") rows ≡ option_map (λ n. n.now) limit) × (first_of (codes "waive") rows ≡ option_map (λ w. w.now) waive)
-    × (first_of (codes "format") rows ≡ option_map (λ f. f.now) format)
+    × (first_of (codes "outline") rows ≡ option_map (λ o. o.now) outline) × (first_of (codes "format") rows ≡ option_map (λ f. f.now) format)
     × (first_of (codes "manifest") rows ≡ Some manifest.now)
-IsRequestOf (Some (name, rows)) (Draw ring gap manifest) =
+IsRequestOf (Some (name, rows)) (Draw ring gap outline manifest) =
     (name ≡ codes "draw") × (first_of (codes "ring") rows ≡ option_map (λ r. r.now) ring) × (first_of (codes "gap") rows ≡ option_map (λ g. g.now) gap)
-    × (first_of (codes "manifest") rows ≡ Some manifest.now)
+    × (first_of (codes "outline") rows ≡ option_map (λ o. o.now) outline) × (first_of (codes "manifest") rows ≡ Some manifest.now)
 IsRequestOf (Some (name, rows)) (Show kind file) = (name ≡ codes "show") × (first_of (codes "kind") rows ≡ Some kind.now) × (first_of (codes "file") rows ≡ Some file.now)
 IsRequestOf (Some (name, rows)) (Rewrite kind file) =
     (name ≡ codes "rewrite") × (first_of (codes "kind") rows ≡ Some kind.now) × (first_of (codes "file") rows ≡ Some file.now)
@@ -133,8 +135,8 @@ check_words ring gap manifest = codes "check" ∷ codes "--ring" ∷ ring ∷ co
 abbrev pub IsCheck : Text → Text → Text → Request → Type 0
 IsCheck r g m (Check ring gap manifest) = (ring.now ≡ r) × (gap.now ≡ g) × (manifest.now ≡ m)
 IsCheck r g m (Measure format manifest) = ⊥
-IsCheck r g m (Report ring gap limit waive format manifest) = ⊥
-IsCheck r g m (Draw ring gap manifest) = ⊥
+IsCheck r g m (Report ring gap limit waive outline format manifest) = ⊥
+IsCheck r g m (Draw ring gap outline manifest) = ⊥
 IsCheck r g m (Show kind file) = ⊥
 IsCheck r g m (Rewrite kind file) = ⊥
 IsCheck r g m (Manifest why files) = ⊥
@@ -158,8 +160,8 @@ file_words name kind file = name ∷ codes "--kind" ∷ kind ∷ file ∷ []
 abbrev pub IsShow : Text → Text → Request → Type 0
 IsShow k f (Check ring gap manifest) = ⊥
 IsShow k f (Measure format manifest) = ⊥
-IsShow k f (Report ring gap limit waive format manifest) = ⊥
-IsShow k f (Draw ring gap manifest) = ⊥
+IsShow k f (Report ring gap limit waive outline format manifest) = ⊥
+IsShow k f (Draw ring gap outline manifest) = ⊥
 IsShow k f (Show kind file) = (kind.now ≡ k) × (file.now ≡ f)
 IsShow k f (Rewrite kind file) = ⊥
 IsShow k f (Manifest why files) = ⊥
@@ -169,8 +171,8 @@ IsShow k f (Explain word) = ⊥
 abbrev pub IsRewrite : Text → Text → Request → Type 0
 IsRewrite k f (Check ring gap manifest) = ⊥
 IsRewrite k f (Measure format manifest) = ⊥
-IsRewrite k f (Report ring gap limit waive format manifest) = ⊥
-IsRewrite k f (Draw ring gap manifest) = ⊥
+IsRewrite k f (Report ring gap limit waive outline format manifest) = ⊥
+IsRewrite k f (Draw ring gap outline manifest) = ⊥
 IsRewrite k f (Show kind file) = ⊥
 IsRewrite k f (Rewrite kind file) = (kind.now ≡ k) × (file.now ≡ f)
 IsRewrite k f (Manifest why files) = ⊥
@@ -198,8 +200,8 @@ manifest_words why files = codes "manifest" ∷ (if why then codes "--why" ∷ f
 abbrev pub IsManifest : Bool → List Text → Request → Type 0
 IsManifest w fs (Check ring gap manifest) = ⊥
 IsManifest w fs (Measure format manifest) = ⊥
-IsManifest w fs (Report ring gap limit waive format manifest) = ⊥
-IsManifest w fs (Draw ring gap manifest) = ⊥
+IsManifest w fs (Report ring gap limit waive outline format manifest) = ⊥
+IsManifest w fs (Draw ring gap outline manifest) = ⊥
 IsManifest w fs (Show kind file) = ⊥
 IsManifest w fs (Rewrite kind file) = ⊥
 IsManifest w fs (Manifest why files) = (why ≡ w) × (map (λ file. file.now) files.items ≡ fs)
@@ -223,52 +225,54 @@ measure_words format manifest = codes "measure" ∷ (option_words (codes "--form
 abbrev pub IsMeasure : Option Text → Text → Request → Type 0
 IsMeasure o m (Check ring gap manifest) = ⊥
 IsMeasure o m (Measure format manifest) = (option_map (λ f. f.now) format ≡ o) × (manifest.now ≡ m)
-IsMeasure o m (Report ring gap limit waive format manifest) = ⊥
-IsMeasure o m (Draw ring gap manifest) = ⊥
+IsMeasure o m (Report ring gap limit waive outline format manifest) = ⊥
+IsMeasure o m (Draw ring gap outline manifest) = ⊥
 IsMeasure o m (Show kind file) = ⊥
 IsMeasure o m (Rewrite kind file) = ⊥
 IsMeasure o m (Manifest why files) = ⊥
 IsMeasure o m (Explain word) = ⊥
 
--- the words `report --ring R --gap G [--max N] [--waive V] [--format F] M`
-abbrev pub report_words : Text → Text → Option Text → Option Text → Option Text → Text → List Text
-report_words ring gap limit waive format manifest =
+-- the words `report --ring R --gap G [--max N] [--waive V] [--outline O] [--format F] M`
+abbrev pub report_words : Text → Text → Option Text → Option Text → Option Text → Option Text → Text → List Text
+report_words ring gap limit waive outline format manifest =
     codes "report" ∷ codes "--ring" ∷ ring ∷ codes "--gap" ∷ gap
-    ∷ (option_words (codes "--max") limit ++ (option_words (codes "--waive") waive ++ (option_words (codes "--format") format ++ manifest ∷ [])))
+    ∷ (option_words (codes "--max") limit ++ (option_words (codes "--waive") waive ++ (option_words (codes "--outline") outline ++ (option_words (codes "--format") format ++ manifest ∷ []))))
 
--- the request is a report with just this ring, gap and manifest, and just these of a limit of findings, a file of waivers and a format
-abbrev pub IsReport : Text → Text → Option Text → Option Text → Option Text → Text → Request → Type 0
-IsReport r g n v o m (Check ring gap manifest) = ⊥
-IsReport r g n v o m (Measure format manifest) = ⊥
-IsReport r g n v o m (Report ring gap limit waive format manifest) =
-    (ring.now ≡ r) × (gap.now ≡ g) × (option_map (λ t. t.now) limit ≡ n) × (option_map (λ w. w.now) waive ≡ v) × (option_map (λ f. f.now) format ≡ o) × (manifest.now ≡ m)
-IsReport r g n v o m (Draw ring gap manifest) = ⊥
-IsReport r g n v o m (Show kind file) = ⊥
-IsReport r g n v o m (Rewrite kind file) = ⊥
-IsReport r g n v o m (Manifest why files) = ⊥
-IsReport r g n v o m (Explain word) = ⊥
+-- the request is a report with just this ring, gap and manifest, and just these of a limit of findings, a file of waivers, a file of an outline and a format
+abbrev pub IsReport : Text → Text → Option Text → Option Text → Option Text → Option Text → Text → Request → Type 0
+IsReport r g n v l o m (Check ring gap manifest) = ⊥
+IsReport r g n v l o m (Measure format manifest) = ⊥
+IsReport r g n v l o m (Report ring gap limit waive outline format manifest) =
+    (ring.now ≡ r) × (gap.now ≡ g) × (option_map (λ t. t.now) limit ≡ n) × (option_map (λ w. w.now) waive ≡ v) × (option_map (λ f. f.now) outline ≡ l) × (option_map (λ f. f.now) format ≡ o) × (manifest.now ≡ m)
+IsReport r g n v l o m (Draw ring gap outline manifest) = ⊥
+IsReport r g n v l o m (Show kind file) = ⊥
+IsReport r g n v l o m (Rewrite kind file) = ⊥
+IsReport r g n v l o m (Manifest why files) = ⊥
+IsReport r g n v l o m (Explain word) = ⊥
 
--- the words `draw M` or `draw --ring R --gap G M`
-abbrev pub draw_words : Option (Text × Text) → Text → List Text
-draw_words None manifest = codes "draw" ∷ manifest ∷ []
-draw_words (Some (ring, gap)) manifest = codes "draw" ∷ codes "--ring" ∷ ring ∷ codes "--gap" ∷ gap ∷ manifest ∷ []
+-- the words `draw [--outline O] M` or `draw --ring R --gap G [--outline O] M`
+abbrev pub draw_words : Option (Text × Text) → Option Text → Text → List Text
+draw_words None outline manifest = codes "draw" ∷ (option_words (codes "--outline") outline ++ manifest ∷ [])
+draw_words (Some (ring, gap)) outline manifest =
+    codes "draw" ∷ codes "--ring" ∷ ring ∷ codes "--gap" ∷ gap ∷ (option_words (codes "--outline") outline ++ manifest ∷ [])
 
 -- whether a ring and a gap that may be left out are plain where they are there
 abbrev pub are_plain_rules : Option (Text × Text) → Bool
 are_plain_rules None = true
 are_plain_rules (Some (ring, gap)) = is_plain_word ring && is_plain_word gap
 
--- the request is to draw the package of this manifest, with just this ring and gap or with neither
-abbrev pub IsDraw : Option (Text × Text) → Text → Request → Type 0
-IsDraw o m (Check ring gap manifest) = ⊥
-IsDraw o m (Measure format manifest) = ⊥
-IsDraw o m (Report ring gap limit waive format manifest) = ⊥
-IsDraw o m (Draw ring gap manifest) =
-    (option_map (λ r. r.now) ring ≡ option_map (λ rules. rules.0) o) × (option_map (λ g. g.now) gap ≡ option_map (λ rules. rules.1) o) × (manifest.now ≡ m)
-IsDraw o m (Show kind file) = ⊥
-IsDraw o m (Rewrite kind file) = ⊥
-IsDraw o m (Manifest why files) = ⊥
-IsDraw o m (Explain word) = ⊥
+-- the request is to draw the package of this manifest, with just this ring and gap or with neither, and just this file of an outline or none
+abbrev pub IsDraw : Option (Text × Text) → Option Text → Text → Request → Type 0
+IsDraw o l m (Check ring gap manifest) = ⊥
+IsDraw o l m (Measure format manifest) = ⊥
+IsDraw o l m (Report ring gap limit waive outline format manifest) = ⊥
+IsDraw o l m (Draw ring gap outline manifest) =
+    (option_map (λ r. r.now) ring ≡ option_map (λ rules. rules.0) o) × (option_map (λ g. g.now) gap ≡ option_map (λ rules. rules.1) o)
+    × (option_map (λ f. f.now) outline ≡ l) × (manifest.now ≡ m)
+IsDraw o l m (Show kind file) = ⊥
+IsDraw o l m (Rewrite kind file) = ⊥
+IsDraw o l m (Manifest why files) = ⊥
+IsDraw o l m (Explain word) = ⊥
 
 -- the words `explain` or `explain W`
 abbrev pub explain_words : Option Text → List Text
@@ -279,8 +283,8 @@ explain_words (Some word) = codes "explain" ∷ word ∷ []
 abbrev pub IsExplain : Option Text → Request → Type 0
 IsExplain o (Check ring gap manifest) = ⊥
 IsExplain o (Measure format manifest) = ⊥
-IsExplain o (Report ring gap limit waive format manifest) = ⊥
-IsExplain o (Draw ring gap manifest) = ⊥
+IsExplain o (Report ring gap limit waive outline format manifest) = ⊥
+IsExplain o (Draw ring gap outline manifest) = ⊥
 IsExplain o (Show kind file) = ⊥
 IsExplain o (Rewrite kind file) = ⊥
 IsExplain o (Manifest why files) = ⊥

@@ -23,6 +23,10 @@ const RING: &str = "Copper to stand round a plated hole, in mm: 0.125";
 
 const GAP: &str = "Gap that any two holes must keep, in mm: 0.25";
 
+const OUTLINE: &str = "Gerber file of the board's edge, drawn as a thin line";
+
+const PAGE_OUTLINE: &str = "Gerber file of the board's edge, for --format html";
+
 const FORMAT: &str = "Lines for people, or one object of JSON;
 text where it is not there";
 
@@ -41,9 +45,10 @@ ring where holes without a pad are left out. Lengths are in mm, or any, or
 none. A line ring tells the least ring of the holes of one diameter.
 Example:  ringcheck measure board.csv";
 
-// After `Usage: ` it stands on two lines, the second below the options of the first.
+// After `Usage: ` it stands on three lines, the others below the options of the first.
 const REPORT_USAGE: &str = "ringcheck report --ring <MM> --gap <MM> [--max <N>] [--waive <FILE>]
-                        [--format <text|html|json|waivers>] <MANIFEST>";
+                        [--outline <FILE>] [--format <text|html|json|waivers>]
+                        <MANIFEST>";
 
 const REPORT: &str = "The findings are those of check, in its order, with its status where none is
 waived; files have their names, lengths are in mm. Below stand the causes that
@@ -166,7 +171,7 @@ fn measure<'a>(alloc: Global) -> Result<Command<'a>, AllocError>
     ))
 }
 
-/// `report --ring MM --gap MM [--max N] [--waive FILE] [--format text|html|json|waivers] MANIFEST`
+/// `report --ring MM --gap MM [--max N] [--waive FILE] [--outline FILE] [--format text|html|json|waivers] MANIFEST`
 fn report<'a>(alloc: Global) -> Result<Command<'a>, AllocError>
     ensures { IfOk result (λ c. app_of c ≡ report_app) }
 {
@@ -182,7 +187,7 @@ fn report<'a>(alloc: Global) -> Result<Command<'a>, AllocError>
     with_report_args(alloc, under_rules)
 }
 
-/// Adds `[--max N] [--waive FILE] [--format text|html|json|waivers] MANIFEST` to a command.
+/// Adds `[--max N] [--waive FILE] [--outline FILE] [--format text|html|json|waivers] MANIFEST` to a command.
 fn with_report_args<'a>(alloc: Global, command: Command<'a>) -> Result<Command<'a>, AllocError>
     ensures { IfOk result (λ c. app_of c ≡ report_args_of (app_of command.entry)) }
 {
@@ -199,6 +204,7 @@ fn with_report_args<'a>(alloc: Global, command: Command<'a>) -> Result<Command<'
             "FILE",
             "File of waivers: findings that are accepted",
         ))?
+        .arg(optional_option_arg(alloc, "outline", "FILE", PAGE_OUTLINE))?
         .arg(optional_option_arg(alloc, "format", "NAME", REPORT_FORMAT))?
         .arg(required_arg(
             alloc,
@@ -208,7 +214,7 @@ fn with_report_args<'a>(alloc: Global, command: Command<'a>) -> Result<Command<'
         ))
 }
 
-/// `draw [--ring MM --gap MM] MANIFEST`
+/// `draw [--ring MM --gap MM] [--outline FILE] MANIFEST`
 fn draw<'a>(alloc: Global) -> Result<Command<'a>, AllocError>
     ensures { IfOk result (λ c. app_of c ≡ draw_app) }
 {
@@ -216,11 +222,12 @@ fn draw<'a>(alloc: Global) -> Result<Command<'a>, AllocError>
         alloc,
         "draw",
         "Draw a package as an SVG picture",
-        "ringcheck draw [--ring <MM> --gap <MM>] <MANIFEST>",
+        "ringcheck draw [--ring <MM> --gap <MM>] [--outline <FILE>] <MANIFEST>",
         DRAW,
     )
     .arg(optional_option_arg(alloc, "ring", "MM", RING))?
     .arg(optional_option_arg(alloc, "gap", "MM", GAP))?
+    .arg(optional_option_arg(alloc, "outline", "FILE", OUTLINE))?
     .arg(required_arg(
         alloc,
         "manifest",

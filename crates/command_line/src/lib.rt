@@ -2,9 +2,9 @@
 //!
 //! ```text
 //! ringcheck check --ring MM --gap MM MANIFEST
-//! ringcheck report --ring MM --gap MM [--max N] [--waive FILE] [--format text|html|json|waivers] MANIFEST
+//! ringcheck report --ring MM --gap MM [--max N] [--waive FILE] [--outline FILE] [--format text|html|json|waivers] MANIFEST
 //! ringcheck measure [--format text|json] MANIFEST
-//! ringcheck draw [--ring MM --gap MM] MANIFEST
+//! ringcheck draw [--ring MM --gap MM] [--outline FILE] MANIFEST
 //! ringcheck manifest [--why] FILE..
 //! ringcheck explain [WORD]
 //! ringcheck show --kind layer|drill FILE
@@ -42,21 +42,23 @@ pub enum Request<'a> {
         manifest: &'a str,
     },
     /// Print each finding under the ring and the gap, by how much it lacks, and why. The ring and the gap are texts in mm. `limit`
-    /// is the limit of findings, also a text: without it all of them are shown. `waive` is the name of a file of waivers, and
-    /// `format` the word for a format, where they are given.
+    /// is the limit of findings, also a text: without it all of them are shown. `waive` is the name of a file of waivers, `outline`
+    /// that of a file with the board's edge, and `format` the word for a format, where they are given.
     Report {
         ring: &'a str,
         gap: &'a str,
         limit: Option<&'a str>,
         waive: Option<&'a str>,
+        outline: Option<&'a str>,
         format: Option<&'a str>,
         manifest: &'a str,
     },
     /// Draw the package of a manifest, with the findings under a ring and a gap where they are given. Both are texts in mm;
-    /// one of them may be there without the other.
+    /// one of them may be there without the other. `outline` is the name of a file with the board's edge, where one is given.
     Draw {
         ring: Option<&'a str>,
         gap: Option<&'a str>,
+        outline: Option<&'a str>,
         manifest: &'a str,
     },
     /// Print the table of a file, read as a layer or as a drill file.
@@ -108,11 +110,11 @@ pub fn parse<'a>(alloc: Global, words: &'a [&'a str]) -> Result<Request<'a>, Ref
         → is_plain_word g ≡ true → is_plain_word m ≡ true → ParsesAsCheck r g m result }
     ensures measure { (format : Option Text) (m : Text) → map (λ w. w.now) words.entry.now ≡ measure_words format m → is_plain_if_some format ≡ true
         → is_plain_word m ≡ true → ParsesAs (IsMeasure format m) result }
-    ensures report { (r g : Text) (limit waive format : Option Text) (m : Text) → map (λ w. w.now) words.entry.now ≡ report_words r g limit waive format m
-        → is_plain_word r ≡ true → is_plain_word g ≡ true → is_plain_if_some limit ≡ true → is_plain_if_some waive ≡ true → is_plain_if_some format ≡ true → is_plain_word m ≡ true
-        → ParsesAs (IsReport r g limit waive format m) result }
-    ensures draw { (rules : Option (Text × Text)) (m : Text) → map (λ w. w.now) words.entry.now ≡ draw_words rules m → are_plain_rules rules ≡ true
-        → is_plain_word m ≡ true → ParsesAs (IsDraw rules m) result }
+    ensures report { (r g : Text) (limit waive outline format : Option Text) (m : Text) → map (λ w. w.now) words.entry.now ≡ report_words r g limit waive outline format m
+        → is_plain_word r ≡ true → is_plain_word g ≡ true → is_plain_if_some limit ≡ true → is_plain_if_some waive ≡ true → is_plain_if_some outline ≡ true
+        → is_plain_if_some format ≡ true → is_plain_word m ≡ true → ParsesAs (IsReport r g limit waive outline format m) result }
+    ensures draw { (rules : Option (Text × Text)) (outline : Option Text) (m : Text) → map (λ w. w.now) words.entry.now ≡ draw_words rules outline m
+        → are_plain_rules rules ≡ true → is_plain_if_some outline ≡ true → is_plain_word m ≡ true → ParsesAs (IsDraw rules outline m) result }
     ensures show { (k f : Text) → map (λ w. w.now) words.entry.now ≡ file_words (codes "show") k f → is_plain_word k ≡ true
         → is_plain_word f ≡ true → ParsesAs (IsShow k f) result }
     ensures rewrite { (k f : Text) → map (λ w. w.now) words.entry.now ≡ file_words (codes "rewrite") k f → is_plain_word k ≡ true
@@ -192,11 +194,13 @@ fn report_request<'a>(values: &ArgMatches<'a>) -> Option<Request<'a>>
     let ring = value(values, "ring")?;
     let gap = value(values, "gap")?;
     let package = value(values, "manifest")?;
+    let outline = value(values, "outline");
     Some(Request::Report {
         ring,
         gap,
         limit: value(values, "max"),
         waive: value(values, "waive"),
+        outline,
         format: value(values, "format"),
         manifest: package,
     })
@@ -209,6 +213,7 @@ fn draw_request<'a>(values: &ArgMatches<'a>) -> Option<Request<'a>>
     Some(Request::Draw {
         ring: value(values, "ring"),
         gap: value(values, "gap"),
+        outline: value(values, "outline"),
         manifest: package,
     })
 }

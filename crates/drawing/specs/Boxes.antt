@@ -1,14 +1,17 @@
 -- The box that all panels of a board share (docs/FORMATS.md, Pictures). Lengths are whole picometres.
-use Rattle.std.specs.Prelude.{◌≡◌, ◌*◌, ◌^◌, ◌++◌, ◌+ℤ◌, ◌-ℤ◌, ℕ, ℤ, pos, List, [], get_or, Option, None, Some, map}
+use Rattle.std.specs.Prelude.{◌≡◌, ◌*◌, ◌^◌, ◌++◌, ◌∷◌, ◌+ℤ◌, ◌-ℤ◌, ℕ, ℤ, pos, min, Bool, List, [], get_or, Option, None, Some, map}
 use Rattle.std.specs.Int.{int_min, int_max}
 use Rattle.std.specs.List.{flat_map, fold}
 use Rattle.grid_units.specs.Holes.{GridHole}
 use Rattle.grid_units.specs.Points.{GridPoint}
+use Rattle.layer_image.specs.declared.drawn.Drawn.{Drawn}
+use Rattle.layer_image.specs.declared.drawn.Drawn.TheVariants as drawn
 use Rattle.layer_image.specs.declared.flash.Flash.{Flash}
 use Rattle.pad_shapes.specs.declared.pad.Pad.{Pad}
 use Rattle.pad_shapes.specs.declared.pad.Pad.TheVariants as pads
 use Rattle.ring_rules.specs.declared.finding.Drilled.{Drilled}
 use Rattle.package_check.specs.Boards.{BoardView}
+use Rattle.picture.specs.Outlines.{long_radius}
 use Rattle.picture.specs.Scenes.{cross_of}
 use Rattle.picture.specs.declared.frame.Frame.{Frame}
 
@@ -60,15 +63,35 @@ cross_extent flash = map (λ point. extent_round point (5 * 10 ^ 8) (5 * 10 ^ 8)
 abbrev pub cross_extents : List (List Flash) → List ℕ → List GridExtent
 cross_extents flashes files = flat_map (λ file. flat_map cross_extent (get_or flashes file [])) files
 
--- an extent, or the other where it is missing
-abbrev pub extent_or : Option GridExtent → Option GridExtent → Option GridExtent
-extent_or None other = other
-extent_or (Some extent) other = Some extent
-
--- the extent of a board: of all its pads and holes; where it has neither, of its other flashes
+-- the extent of a board: of all its pads, holes and other flashes
 abbrev pub board_extent : BoardView → Option GridExtent
-board_extent board =
-    extent_or (whole_extent (extents board.layers board.holes)) (whole_extent (cross_extents board.flashes board.layer_indexes))
+board_extent board = whole_extent (extents board.layers board.holes ++ cross_extents board.flashes board.layer_indexes)
+
+-- the extent of an end: its point
+abbrev pub end_extent : GridPoint → GridExtent
+end_extent p = extent_round p 0 0
+
+-- the circle of an arc that is half a circle or longer, by its radius, of which at most 10 m count
+abbrev pub circle_extents : GridPoint → Option ℕ → List GridExtent
+circle_extents centre None = []
+circle_extents centre (Some radius) = extent_round centre (min radius (10 ^ 13)) (min radius (10 ^ 13)) ∷ []
+
+-- both ends of an arc; where it is half a circle or longer, also its whole circle
+abbrev pub arc_extents : GridPoint → GridPoint → GridPoint → Bool → List GridExtent
+arc_extents from to centre clockwise = end_extent from ∷ end_extent to ∷ circle_extents centre (long_radius from to centre clockwise)
+
+-- the extents of a part of an outline; none of a flash, and none of a contour's first corner, at which the contour also ends
+abbrev pub edge_extents : Drawn → List GridExtent
+edge_extents (drawn.Line from to width) = end_extent from ∷ end_extent to ∷ []
+edge_extents (drawn.Arc from to centre width clockwise) = arc_extents from to centre clockwise
+edge_extents (drawn.Flash at shape) = []
+edge_extents (drawn.Contour at) = []
+edge_extents (drawn.Corner at) = end_extent at ∷ []
+edge_extents (drawn.Bend from to centre clockwise) = arc_extents from to centre clockwise
+
+-- an extent, if there is one, joined with those of the parts of an outline
+abbrev pub outlined_extent : Option GridExtent → List Drawn → Option GridExtent
+outlined_extent extent outline = fold joined_to extent (flat_map edge_extents outline)
 
 -- a box has this left edge, this top edge and these sides
 pub record HasSides (f : Frame) (left top width height : ℤ) : Type 0 where

@@ -10,7 +10,8 @@ use Rattle.ring_rules.specs.declared.finding.Finding.{Finding}
 use Rattle.package_check.specs.Boards.{BoardView, board_findings}
 use Rattle.picture.specs.Scenes.{AreSortedBySize, crosses_of, is_crowded, drawn_findings, shown_copper, unless_crowded}
 use Rattle.picture.specs.declared.scene.Scene.{Scene}
-use Rattle.drawing.specs.Boxes.{board_extent}
+use Rattle.picture.specs.Outlines.{shown_outline}
+use Rattle.drawing.specs.Boxes.{board_extent, outlined_extent}
 use Rattle.drawing.specs.Pages.{page_text}
 use Rattle.drawing.specs.Layouts.{IsLayout, box_left, box_top}
 use Rattle.drawing.specs.declared.draw.Drawing.{Drawing}
@@ -22,10 +23,11 @@ abbrev pub findings_under : Option GridRules → BoardView → List Finding
 findings_under None board = []
 findings_under (Some rules) board = board_findings rules board
 
--- the contents of a layer's panel, by the layer's place among the copper files, from 0
-pub record IsScene (layer : ℕ) (flashes : List Flash) (copper : List Drawn) (drilled : List Drilled) (findings : List Finding) (scene : Scene) : Type 0 where
+-- the contents of a layer's panel, by the layer's place among the copper files, from 0; `edge` are the parts of the board's outline
+pub record IsScene (layer : ℕ) (flashes : List Flash) (copper edge : List Drawn) (drilled : List Drilled) (findings : List Finding) (scene : Scene) : Type 0 where
   pub crowded : scene.crowded ≡ is_crowded flashes drilled
   pub drawn : scene.drawn.now ≡ shown_copper scene.crowded copper
+  pub outline : scene.outline.now ≡ edge
   pub pads : IsPermutation (pads_of (unless_crowded scene.crowded flashes)) scene.pads.items
   pub order : AreSortedBySize scene.pads.items
   pub crosses : scene.crosses.items ≡ crosses_of (unless_crowded scene.crowded flashes)
@@ -36,20 +38,20 @@ pub record IsScene (layer : ℕ) (flashes : List Flash) (copper : List Drawn) (d
 abbrev pub number_of : ℕ → ℕ
 number_of file = min (file + 1) (2 ^ 64 - 1)
 
--- the panel of a layer, by its place among the copper files, from 0, and the index of its file
-pub record IsPanel (names : List (List ℕ)) (board : BoardView) (findings : List Finding) (l : Layout) (at : ℕ × ℕ) (panel : Panel) : Type 0 where
+-- the panel of a layer, by its place among the copper files, from 0, and the index of its file; `edge` are the parts of the board's outline
+pub record IsPanel (names : List (List ℕ)) (board : BoardView) (edge : List Drawn) (findings : List Finding) (l : Layout) (at : ℕ × ℕ) (panel : Panel) : Type 0 where
   pub file : panel.place.file ≡ number_of at.1
   pub name : panel.place.name.now ≡ get_or names at.1 []
   pub first : panel.place.first ≡ (at.0 == 0)
   pub x : panel.place.x ≡ pos (box_left l at.0) -ℤ l.frame.left
   pub y : panel.place.y ≡ pos (box_top l at.0) +ℤ l.frame.top
-  pub scene : IsScene at.0 (get_or board.flashes at.1 []) (get_or board.drawn at.1 []) board.holes findings panel.scene
+  pub scene : IsScene at.0 (get_or board.flashes at.1 []) (get_or board.drawn at.1 []) edge board.holes findings panel.scene
 
--- the contents of a board's page, under rules if there are any; `names` are those of its files, in order
-pub record IsPage (names : List (List ℕ)) (board : BoardView) (given_rules : Option GridRules) (drawing : Drawing) : Type 0 where
-  pub laid : IsLayout (board_extent board) (length board.layer_indexes) given_rules drawing.layout
+-- the contents of a board's page, with these parts of its outline, under rules if there are any; `names` are those of its files, in order
+pub record IsPage (names : List (List ℕ)) (board : BoardView) (edge : List Drawn) (given_rules : Option GridRules) (drawing : Drawing) : Type 0 where
+  pub laid : IsLayout (outlined_extent (board_extent board) edge) (length board.layer_indexes) given_rules drawing.layout
   pub under : drawing.rules ≡ given_rules
-  pub drawn : AllZip (IsPanel names board (findings_under given_rules board) drawing.layout) (enumerate_from 0 board.layer_indexes) drawing.panels.items
+  pub drawn : AllZip (IsPanel names board edge (findings_under given_rules board) drawing.layout) (enumerate_from 0 board.layer_indexes) drawing.panels.items
   pub counted : drawing.count ≡ length (findings_under given_rules board)
 
 -- the element `svg` of a drawing, as it may stand within a page of HTML
@@ -64,8 +66,8 @@ declaration = codes "<?xml version=\"1.0\" encoding=\"UTF-8\"?>\n"
 abbrev pub drawing_text : Drawing → List ℕ
 drawing_text d = declaration ++ svg_text d
 
--- a text is the page of a board, under rules if there are any; `names` are those of its files, in order
-pub record IsDrawn (names : List (List ℕ)) (board : BoardView) (given_rules : Option GridRules) (text : List ℕ) : Type 0 where
+-- a text is the page of a board with the outline that these parts draw, under rules if there are any; `names` are those of its files, in order
+pub record IsDrawn (names : List (List ℕ)) (board : BoardView) (outline : List Drawn) (given_rules : Option GridRules) (text : List ℕ) : Type 0 where
   pub drawing : Drawing
-  pub shows : IsPage names board given_rules drawing
+  pub shows : IsPage names board (shown_outline outline) given_rules drawing
   pub is : text ≡ drawing_text drawing

@@ -1,8 +1,8 @@
 //! The extent of a board.
 
-ghost use Rattle.std.specs.Prelude.{◌≡◌, map};
+ghost use Rattle.std.specs.Prelude.{◌≡◌, ◌++◌, map};
 ghost use Rattle.std.specs.List.{flat_map, fold};
-ghost use Rattle.drawing.specs.Boxes.{cross_extent, cross_extents, extent_or, extents, hole_extent, joined_to, pad_extent, whole_extent};
+ghost use Rattle.drawing.specs.Boxes.{cross_extent, cross_extents, extents, hole_extent, joined_to, pad_extent, whole_extent};
 
 use crate::extent::{Extent, hole_extent, joined_to, pad_extent, point_extent};
 use layer_image::{Flash, What};
@@ -43,13 +43,6 @@ fn with_holes(before: Option<Extent>, holes: &[Drilled]) -> Option<Extent>
     all
 }
 
-/// The extent of all pads of some layers and of some holes, if there are any.
-fn extent_of(layers: &[&[Pad]], holes: &[Drilled]) -> Option<Extent>
-    ensures { result ≡ whole_extent (extents (map (λ layer. layer.now) layers.now) holes.now) }
-{
-    with_holes(with_layers(None, layers), holes)
-}
-
 /// The extent so far, joined with that of a flash that is no pad.
 fn with_flash(before: Option<Extent>, flash: &Flash) -> Option<Extent>
     ensures { result ≡ fold joined_to before (cross_extent flash.now) }
@@ -71,30 +64,21 @@ fn with_flashes(before: Option<Extent>, flashes: &[Flash]) -> Option<Extent>
     all
 }
 
-/// The extent of those flashes of some files that are no pads, if there are any.
-fn crosses_extent(board: &Board, files: &[usize]) -> Option<Extent>
-    ensures { result ≡ whole_extent (cross_extents board.now.flashes files.now) }
+/// The extent so far, joined with those of the flashes of some files that are no pads.
+fn with_crosses(before: Option<Extent>, board: &Board, files: &[usize]) -> Option<Extent>
+    ensures { result ≡ fold joined_to before (cross_extents board.now.flashes files.now) }
 {
-    let mut all = None;
+    let mut all = before;
     for file in files {
         all = with_flashes(all, board.flashes_of(*file));
     }
     all
 }
 
-/// An extent, or where there is none that of the board's flashes that are no pads.
-fn or_crosses(extent: Option<Extent>, board: &Board) -> Option<Extent>
-    ensures { result ≡ extent_or extent (whole_extent (cross_extents board.now.flashes board.now.layer_indexes)) }
-{
-    match extent {
-        Some(extent) => Some(extent),
-        None => crosses_extent(board, board.layer_indexes()),
-    }
-}
-
-/// The extent of a board: of its holes and of the pads of its layers. Where it has neither, that of its other flashes.
+/// The extent of a board: of the pads of its layers, of its holes and of its other flashes, if it has any of these.
 pub(crate) fn board_extent(layers: &[&[Pad]], board: &Board) -> Option<Extent>
-    ensures { result ≡ extent_or (whole_extent (extents (map (λ layer. layer.now) layers.now) board.now.holes)) (whole_extent (cross_extents board.now.flashes board.now.layer_indexes)) }
+    ensures { result ≡ whole_extent (extents (map (λ layer. layer.now) layers.now) board.now.holes ++ cross_extents board.now.flashes board.now.layer_indexes) }
 {
-    or_crosses(extent_of(layers, board.holes()), board)
+    let pads_and_holes = with_holes(with_layers(None, layers), board.holes());
+    with_crosses(pads_and_holes, board, board.layer_indexes())
 }

@@ -4,12 +4,15 @@ ghost use Rattle.std.specs.Prelude.{◌≡◌, Some, map, IfOk};
 ghost use Rattle.drawing.specs.Drawings.{IsDrawn, IsPage, drawing_text, findings_under, svg_text};
 
 use crate::bounds::board_extent;
+use crate::edge_bounds::with_edge;
 use crate::layout::Layout;
 use crate::page::{write_legend, write_page_start, write_scale, write_title};
 use crate::page_layout::layout_of;
 use crate::panels::{Panel, panels_of};
 use grid_units::Rules;
+use layer_image::Drawn;
 use package_check::Board;
+use picture::shown_outline;
 use printing::Lines;
 use ring_rules::Finding;
 use std::alloc::{AllocError, Global};
@@ -44,20 +47,21 @@ fn findings_under(
     }
 }
 
-/// The contents of the page of a board.
+/// The contents of the page of a board, with the parts of its outline.
 fn page_of<'a>(
     alloc: Global,
     names: &[&'a str],
     board: &'a Board,
+    edge: &'a [Drawn],
     rules: Option<Rules>,
 ) -> Result<Drawing<'a>, AllocError>
-    ensures { IfOk result (IsPage (map (λ name. name.now) names.now) board.now rules) }
+    ensures { IfOk result (IsPage (map (λ name. name.now) names.now) board.now edge.now rules) }
 {
     let findings = findings_under(alloc, board, &rules)?;
     let layers = board.layers(alloc)?;
-    let extent = board_extent(&layers, board);
+    let extent = with_edge(board_extent(&layers, board), edge);
     let layout = layout_of(extent, board.layer_indexes().len(), &rules);
-    let panels = panels_of(alloc, &layout, names, board, &findings)?;
+    let panels = panels_of(alloc, &layout, names, board, edge, &findings)?;
     Ok(Drawing {
         layout,
         rules,
@@ -67,9 +71,10 @@ fn page_of<'a>(
 }
 
 impl<'a> Drawing<'a> {
-    /// Draws a board, by the names of its files: a panel for each copper file, with the findings under the rules, and behind the pads what
-    /// the file draws, where the board has it. Without rules it has no findings. All memory is taken here, for the contents of all
-    /// panels; printing takes none.
+    /// Draws a board, by the names of its files: a panel for each copper file, with the findings under the rules, and below the pads what
+    /// the file draws, where the board has it. Without rules it has no findings. Each panel shows the outline of the board: the lines,
+    /// arcs and contours of these parts, as thin lines below the pads, and the box of the panels also holds them. Nothing of an outline
+    /// of more than 100,000 parts is drawn. All memory is taken here, for the contents of all panels; printing takes none.
     ///
     /// # Errors
     ///
@@ -78,11 +83,12 @@ impl<'a> Drawing<'a> {
         alloc: Global,
         names: &'a [&'a str],
         board: &'a Board,
+        outline: &'a [Drawn],
         rules: Option<Rules>,
     ) -> Result<Drawing<'a>, AllocError>
-        ensures { IfOk result (λ drawing. IsDrawn (map (λ name. name.now) names.now) board.now rules (drawing_text drawing)) }
+        ensures { IfOk result (λ drawing. IsDrawn (map (λ name. name.now) names.now) board.now outline.now rules (drawing_text drawing)) }
     {
-        page_of(alloc, names, board, rules)
+        page_of(alloc, names, board, shown_outline(outline), rules)
     }
 }
 

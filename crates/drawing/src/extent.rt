@@ -99,7 +99,7 @@ fn greater(first: i64, second: i64) -> i64
 
 fn less(at: i64, far: u64) -> i64
     requires at { unsigned_abs at ≤ 10 ^ 13 }
-    requires far { far ≤ 5000000000000 }
+    requires far { far ≤ 10000000000000 }
     ensures value { result ≡ at -ℤ pos far }
     ensures near { unsigned_abs result ≤ 2 * 10 ^ 13 }
 {
@@ -108,7 +108,7 @@ fn less(at: i64, far: u64) -> i64
 
 fn more(at: i64, far: u64) -> i64
     requires at { unsigned_abs at ≤ 10 ^ 13 }
-    requires far { far ≤ 5000000000000 }
+    requires far { far ≤ 10000000000000 }
     ensures value { result ≡ at +ℤ pos far }
     ensures near { unsigned_abs result ≤ 2 * 10 ^ 13 }
 {
@@ -116,9 +116,9 @@ fn more(at: i64, far: u64) -> i64
 }
 
 /// The extent that reaches this far from a point along each axis, in pm.
-fn extent_round(centre: Point, far_x: u64, far_y: u64) -> Extent
-    requires x { far_x ≤ 5000000000000 }
-    requires y { far_y ≤ 5000000000000 }
+pub(crate) fn extent_round(centre: Point, far_x: u64, far_y: u64) -> Extent
+    requires x { far_x ≤ 10000000000000 }
+    requires y { far_y ≤ 10000000000000 }
     ensures { result ≡ extent_round centre far_x far_y }
 {
     Extent {

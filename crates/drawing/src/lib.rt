@@ -6,6 +6,7 @@
 mod bounds;
 mod columns;
 mod draw;
+mod edge_bounds;
 mod extent;
 mod layout;
 mod page;

@@ -21,7 +21,7 @@ use std::fmt::Formatter;
 pub(crate) struct Panel<'a> {
     /// Its place on the page, and the number and name of its file.
     pub(crate) place: Place<'a>,
-    /// What its layer draws, its pads, crosses, holes and findings.
+    /// What its layer draws, the outline of the board, pads, crosses, holes and findings.
     pub(crate) scene: Scene<'a>,
 }
 
@@ -73,24 +73,26 @@ fn scene_on<'a>(
     layer: usize,
     flashes: &[Flash],
     drawn: &'a [Drawn],
+    edge: &'a [Drawn],
     holes: &'a [Drilled],
     findings: &[Finding],
 ) -> Result<Scene<'a>, AllocError>
-    ensures { IfOk result (IsScene layer flashes.now drawn.now holes.now findings.now) }
+    ensures { IfOk result (IsScene layer flashes.now drawn.now edge.now holes.now findings.now) }
 {
-    scene_of(alloc, layer, flashes, drawn, holes, findings)
+    scene_of(alloc, layer, flashes, drawn, edge, holes, findings)
 }
 
-/// The panel of a layer, by its place among the copper files and the index of its file.
+/// The panel of a layer, by its place among the copper files and the index of its file, with the parts of the board's outline.
 fn panel_of<'a>(
     alloc: Global,
     layout: &Layout,
     names: &[&'a str],
     board: &'a Board,
+    edge: &'a [Drawn],
     findings: &[Finding],
     at: (usize, usize),
 ) -> Result<Panel<'a>, AllocError>
-    ensures { IfOk result (IsPanel (map (λ name. name.now) names.now) board.now findings.now layout.now at) }
+    ensures { IfOk result (IsPanel (map (λ name. name.now) names.now) board.now edge.now findings.now layout.now at) }
 {
     let (layer, file) = at;
     let scene = scene_on(
@@ -98,6 +100,7 @@ fn panel_of<'a>(
         layer,
         board.flashes_of(file),
         board.drawn_of(file),
+        edge,
         board.holes(),
         findings,
     )?;
@@ -116,7 +119,7 @@ fn add<'a>(panels: &mut Vec<Panel<'a>>, panel: Panel<'a>) -> Result<(), AllocErr
     Ok(())
 }
 
-/// The panels of a board, one for each copper file.
+/// The panels of a board, one for each copper file, with the parts of the board's outline.
 ///
 /// # Errors
 ///
@@ -126,15 +129,16 @@ pub(crate) fn panels_of<'a>(
     layout: &Layout,
     names: &[&'a str],
     board: &'a Board,
+    edge: &'a [Drawn],
     findings: &[Finding],
 ) -> Result<Vec<Panel<'a>>, AllocError>
-    ensures { IfOk result (λ panels. AllZip (IsPanel (map (λ name. name.now) names.now) board.now findings.now layout.now) (enumerate_from 0 board.now.layer_indexes) panels.items) }
+    ensures { IfOk result (λ panels. AllZip (IsPanel (map (λ name. name.now) names.now) board.now edge.now findings.now layout.now) (enumerate_from 0 board.now.layer_indexes) panels.items) }
 {
     let files = board.layer_indexes();
     let mut panels = Vec::new(alloc);
     for layer in 0..files.len() {
         let at = (layer, files[layer]);
-        let panel = panel_of(alloc, layout, names, board, findings, at)?;
+        let panel = panel_of(alloc, layout, names, board, edge, findings, at)?;
         add(&mut panels, panel)?;
     }
     Ok(panels)

@@ -1,5 +1,6 @@
 //! What layers draw: lines and arcs, flashes of macros, and the contours of regions.
 
+use crate::texts::joined;
 use grid_units::Point;
 use layer_image::{Drawn, read_layer};
 use pad_shapes::Rounded;
@@ -123,7 +124,7 @@ fn draws(alloc: Global, text: &[u8], expected: &[Part]) -> bool {
 }
 
 /// Texts, and what they draw. In most of them a step is 1 nm, so 1,000,000 is 1 mm, which is 1,000,000,000 pm.
-const DRAWN: [(&[u8], &[Part]); 27] = [
+const DRAWN: [(&[u8], &[Part]); 28] = [
     // Lines from point to point: a coordinate that is left out is the last one.
     (
         b"%FSLAX46Y46*%\n%MOMM*%\n%ADD10C,0.2*%\nD10*\nG01*\nX0Y0D02*\nX1000000Y0D01*\nY2000000D01*\nM02*\n",
@@ -201,12 +202,12 @@ const DRAWN: [(&[u8], &[Part]); 27] = [
         b"%FSLAX46Y46*%\n%MOMM*%\n%ADD10C,0.2*%\nD10*\nX1000000Y0D02*\nG75*\nG03*\nX1000000Y0I-1000000J0D01*\nM02*\n",
         &[Part::Arc(1_000_000_000, 0, 1_000_000_000, 0, 0, 0, 200_000_000, false)],
     ),
-    // In a single quadrant, and where no mode is named, no arc is told. Lines are.
+    // In a single quadrant, and where no mode is named, no arc is drawn. Lines are.
     (
         b"%FSLAX46Y46*%\n%MOMM*%\n%ADD10C,0.2*%\nD10*\nG02*\nX1000000Y1000000I1000000J0D01*\nG74*\nX2000000Y0I0J1000000D01*\nG01*\nX0D01*\nM02*\n",
         &[Part::Line(2_000_000_000, 0, 0, 0, 200_000_000)],
     ),
-    // A centre may be as far as 10 m, and an arc round one a nanometre farther is not told.
+    // A centre may be as far as 10 m, and an arc round one a nanometre farther is not drawn.
     (
         b"%FSLAX46Y46*%\n%MOMM*%\n%ADD10C,0.2*%\nD10*\nX1Y0D02*\nG75*\nG02*\nX2I9999999999D01*\nX0I9999999999D01*\nM02*\n",
         &[Part::Arc(1_000, 0, 2_000, 0, 10_000_000_000_000, 0, 200_000_000, true)],
@@ -249,7 +250,7 @@ const DRAWN: [(&[u8], &[Part]); 27] = [
             Part::Line(1_000_000_000, 0, 0, 0, 200_000_000),
         ],
     ),
-    // An arc of a contour is told by its ends in a single quadrant, and where its centre is beyond 10 m.
+    // An arc of a contour is drawn as its chord in a single quadrant, and where its centre is beyond 10 m.
     (
         b"%FSLAX46Y46*%\n%MOMM*%\nG36*\nG74*\nG02*\nX1000000Y1000000I1000000J0D01*\nG75*\nX2000000Y0I0J-1000000D01*\nX0I9999999999D01*\nG37*\nM02*\n",
         &[
@@ -267,12 +268,12 @@ const DRAWN: [(&[u8], &[Part]); 27] = [
             Part::Corner(0, 0),
         ],
     ),
-    // The copies of a block are not told.
+    // Of a block the first copy alone is drawn.
     (
         b"%FSLAX46Y46*%\n%MOMM*%\n%ADD10C,0.2*%\nD10*\n%SRX2Y3I5J5*%\nX0Y0D02*\nX1000000D01*\n%SR*%\nM02*\n",
         &[Part::Line(0, 0, 1_000_000_000, 0, 200_000_000)],
     ),
-    // A line wider than 10 m is not told; one of no width is.
+    // A line wider than 10 m is not drawn; one of no width is.
     (
         b"%FSLAX46Y46*%\n%MOMM*%\n%ADD10C,10000.1*%\n%ADD11C,0*%\nD10*\nX1000000Y0D01*\nD11*\nX0D01*\nM02*\n",
         &[Part::Line(1_000_000_000, 0, 0, 0, 0)],
@@ -326,6 +327,11 @@ const DRAWN: [(&[u8], &[Part]); 27] = [
         b"%FSLAX24Y24*%\n%MOIN*%\n%AMDOT*1,1,$1,0.1,0*%\n%ADD10DOT,0.01*%\nD10*\nX10000Y0D03*\nM02*\n",
         &[Part::Flash(25_400_000_000, 0, 127_000_000, &[(2_540_000_000, 0)])],
     ),
+    // An aperture numbered 9,999 may have the shape of a macro, and one numbered 10,000 has none.
+    (
+        b"%FSLAX46Y46*%\n%MOMM*%\n%AMDOT*1,1,$1,0,0*%\n%ADD9999DOT,0.6*%\n%ADD10000DOT,0.8*%\nD10000*\nX0Y0D03*\nD9999*\nX1000000D03*\nM02*\n",
+        &[Part::Flash(1_000_000_000, 0, 300_000_000, &[(0, 0)])],
+    ),
     // An aperture that is defined before the unit has no shape.
     (
         b"%FSLAX46Y46*%\n%AMDOT*1,1,$1,0,0*%\n%ADD10DOT,0.6*%\n%MOMM*%\n%ADD11DOT,0.6*%\nD10*\nX0Y0D03*\nD11*\nX0D03*\nM02*\n",
@@ -336,7 +342,7 @@ const DRAWN: [(&[u8], &[Part]); 27] = [
         b"%FSLAX46Y46*%\n%MOMM*%\n%AMDOT*1,1,0.2,1,0*%\n%ADD10DOT*%\nD10*\nX9999000000Y0D03*\nX9999000001D03*\nM02*\n",
         &[Part::Flash(9_999_000_000_000, 0, 100_000_000, &[(1_000_000_000, 0)])],
     ),
-    // The copies of a block are not told. A macro draws no line.
+    // Of a block the first copy alone is drawn. A macro draws no line.
     (
         b"%FSLAX46Y46*%\n%MOMM*%\n%AMDOT*1,1,$1,0,0*%\n%ADD10DOT,0.6*%\nD10*\n%SRX2Y1I5J0*%\nX0Y0D03*\n%SR*%\nX1000000D01*\nM02*\n",
         &[Part::Flash(0, 0, 300_000_000, &[(0, 0)])],
@@ -348,4 +354,23 @@ fn layers_draw_lines_arcs_flashes_and_contours(rt: HostRuntime) {
     for (place, &(text, expected)) in DRAWN.iter().enumerate() {
         assert!(rt; draws(rt.alloc(), text, expected), "at {place}");
     }
+}
+
+/// Whether a layer draws these parts that flashes a disc of 1 mm by a macro, whose comment goes on with these bytes after its `0`.
+fn draws_disc(alloc: Global, comment: &[u8], expected: &[Part]) -> bool {
+    let before = b"%FSLAX46Y46*%\n%MOMM*%\n%AMDOT*0".as_slice();
+    let after = b"*1,1,1,0,0*%\n%ADD10DOT*%\nD10*\nX0Y0D03*\nM02*\n".as_slice();
+    match joined(alloc, &[before, comment, after]) {
+        Some(text) => draws(alloc, &text, expected),
+        None => false,
+    }
+}
+
+/// `0`, the comment, `*`, and `1,1,1,0,0*`: with 4,084 bytes of comment the macro has 4,096, the most that it may have.
+#[test]
+fn macros_of_more_than_4096_bytes_have_no_shape(rt: HostRuntime) {
+    let comment = [b' '; 4_085];
+    let disc = [Part::Flash(0, 0, 500_000_000, &[(0, 0)])];
+    assert!(rt; draws_disc(rt.alloc(), &comment[1..], &disc), "4,096 bytes");
+    assert!(rt; draws_disc(rt.alloc(), &comment, &[]), "4,097 bytes");
 }

@@ -8,8 +8,8 @@ use std::marker::Model;
 /// A run of layers: the numbers of its first and its last, both included. Layers are numbered from 1.
 #[derive(Clone, Copy, Debug, PartialEq, Eq)]
 pub struct Span {
-    first: usize,
-    last: usize,
+    first: u32,
+    last: u32,
 }
 
 impl Model for Span {
@@ -26,7 +26,7 @@ impl Model for Span {
 
 impl Span {
     /// The layers from this number to that one, both included, or `None` where the first is 0 or above the last.
-    pub fn new(first: usize, last: usize) -> Option<Span>
+    pub fn new(first: u32, last: u32) -> Option<Span>
         ensures valid { IsSome result ↔ IsSpan first last }
         ensures value { IfSome result (λ s. s ≡ record { first = first; last = last }) }
     {
@@ -38,7 +38,7 @@ impl Span {
     }
 
     /// The number of the first layer.
-    pub fn first(&self) -> usize
+    pub fn first(&self) -> u32
         ensures value { result ≡ self.now.first }
         ensures in_range { IsSpan result self.now.last }
     {
@@ -46,7 +46,7 @@ impl Span {
     }
 
     /// The number of the last layer.
-    pub fn last(&self) -> usize
+    pub fn last(&self) -> u32
         ensures value { result ≡ self.now.last }
         ensures in_range { IsSpan self.now.first result }
     {
@@ -59,7 +59,7 @@ pub fn is_in_span(layer: usize, span: Option<Span>) -> bool
     ensures { result ≡ is_in_span layer span }
 {
     match span {
-        Some(span) => span.first() - 1 <= layer && layer < span.last(),
+        Some(span) => span.first() as usize - 1 <= layer && layer < span.last() as usize,
         None => true,
     }
 }

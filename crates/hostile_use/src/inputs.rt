@@ -205,7 +205,7 @@ pub(crate) struct Board {
     pub(crate) bottom: Option<Copper>,
     pub(crate) role: Role,
     pub(crate) drill: Holes,
-    pub(crate) span: Option<(usize, usize)>,
+    pub(crate) span: Option<(u32, u32)>,
 }
 
 const BOARD: Board = Board {

@@ -137,7 +137,7 @@ fn a_table_and_a_canonical_text_are_asked_for(rt: HostRuntime) {
     }
 }
 
-const REFUSED: [&str; 36] = [
+const REFUSED: [&str; 40] = [
     "check --ring -1 --gap 0.2 m.csv",
     // other words
     "",
@@ -170,6 +170,10 @@ const REFUSED: [&str; 36] = [
     "report --ring=0.125 --gap=0.2 --max m.csv",
     "draw",
     "draw --max 2 m.csv",
+    "draw --outline edge.gbr",
+    "draw --outline=edge.gbr --outline=edge.gbr m.csv",
+    "report --ring=0.125 --gap=0.2 --outline m.csv",
+    "measure --outline=edge.gbr m.csv",
     // a format is named once, and of two commands
     "measure m.csv --format",
     "measure --format json",
@@ -231,17 +235,19 @@ const HELP: [(&str, Parts); 10] = [
         "report --help",
         &[
             "ringcheck report --ring <MM> --gap <MM> [--max <N>] [--waive <FILE>]\n",
-            " [--format <text|html|json|waivers>] <MANIFEST>\n",
+            " [--outline <FILE>] [--format <text|html|json|waivers>]\n",
             "Tell of each finding by how much, and why",
-            "--max <N>        Most findings to show; all if it is not given\n",
-            "--waive <FILE>   File of waivers: findings that are accepted\n",
-            "--format <NAME>  text, for people; html, a page for a browser;\n",
+            "--max <N>         Most findings to show; all if it is not given\n",
+            "--waive <FILE>    File of waivers: findings that are accepted\n",
+            "--outline <FILE>  Gerber file of the board's edge, for --format html\n",
+            "--format <NAME>   text, for people; html, a page for a browser;\n",
         ],
     ),
     (
         "draw --help",
         &[
-            "ringcheck draw [--ring <MM> --gap <MM>] <MANIFEST>",
+            "ringcheck draw [--ring <MM> --gap <MM>] [--outline <FILE>] <MANIFEST>",
+            "--outline <FILE>  Gerber file of the board's edge, drawn as a thin line\n",
             "Draw a package as an SVG picture",
         ],
     ),
@@ -337,48 +343,53 @@ fn a_measure_is_asked_for(rt: HostRuntime) {
     }
 }
 
-const REPORTS: [(&str, &str); 10] = [
+const REPORTS: [(&str, &str); 11] = [
     (
         "report --ring 0.125 --gap 0.2 m.csv",
-        "Report { ring: \"0.125\", gap: \"0.2\", limit: None, waive: None, format: None, manifest: \"m.csv\" }",
+        "Report { ring: \"0.125\", gap: \"0.2\", limit: None, waive: None, outline: None, format: None, manifest: \"m.csv\" }",
     ),
     (
         "report --ring 0.125 --gap 0.2 --max 2 m.csv",
-        "Report { ring: \"0.125\", gap: \"0.2\", limit: Some(\"2\"), waive: None, format: None, manifest: \"m.csv\" }",
+        "Report { ring: \"0.125\", gap: \"0.2\", limit: Some(\"2\"), waive: None, outline: None, format: None, manifest: \"m.csv\" }",
     ),
     (
         "report --max 2 m.csv --gap 0.2 --ring 0.125",
-        "Report { ring: \"0.125\", gap: \"0.2\", limit: Some(\"2\"), waive: None, format: None, manifest: \"m.csv\" }",
+        "Report { ring: \"0.125\", gap: \"0.2\", limit: Some(\"2\"), waive: None, outline: None, format: None, manifest: \"m.csv\" }",
     ),
     // in a format
     (
         "report --ring 0.125 --gap 0.2 --format json m.csv",
-        "Report { ring: \"0.125\", gap: \"0.2\", limit: None, waive: None, format: Some(\"json\"), manifest: \"m.csv\" }",
+        "Report { ring: \"0.125\", gap: \"0.2\", limit: None, waive: None, outline: None, format: Some(\"json\"), manifest: \"m.csv\" }",
     ),
     (
         "report --ring 0.125 --gap 0.2 --max 2 --format json m.csv",
-        "Report { ring: \"0.125\", gap: \"0.2\", limit: Some(\"2\"), waive: None, format: Some(\"json\"), manifest: \"m.csv\" }",
+        "Report { ring: \"0.125\", gap: \"0.2\", limit: Some(\"2\"), waive: None, outline: None, format: Some(\"json\"), manifest: \"m.csv\" }",
     ),
     (
         "report --format=json m.csv --gap 0.2 --max=2 --ring 0.125",
-        "Report { ring: \"0.125\", gap: \"0.2\", limit: Some(\"2\"), waive: None, format: Some(\"json\"), manifest: \"m.csv\" }",
+        "Report { ring: \"0.125\", gap: \"0.2\", limit: Some(\"2\"), waive: None, outline: None, format: Some(\"json\"), manifest: \"m.csv\" }",
     ),
     (
         "report m.csv --gap 0.2 --ring 0.125 --format text",
-        "Report { ring: \"0.125\", gap: \"0.2\", limit: None, waive: None, format: Some(\"text\"), manifest: \"m.csv\" }",
+        "Report { ring: \"0.125\", gap: \"0.2\", limit: None, waive: None, outline: None, format: Some(\"text\"), manifest: \"m.csv\" }",
     ),
     // with waivers
     (
         "report --ring 0.125 --gap 0.2 --waive w.csv m.csv",
-        "Report { ring: \"0.125\", gap: \"0.2\", limit: None, waive: Some(\"w.csv\"), format: None, manifest: \"m.csv\" }",
+        "Report { ring: \"0.125\", gap: \"0.2\", limit: None, waive: Some(\"w.csv\"), outline: None, format: None, manifest: \"m.csv\" }",
     ),
     (
         "report --ring 0.125 --gap 0.2 --max 2 --waive w.csv --format json m.csv",
-        "Report { ring: \"0.125\", gap: \"0.2\", limit: Some(\"2\"), waive: Some(\"w.csv\"), format: Some(\"json\"), manifest: \"m.csv\" }",
+        "Report { ring: \"0.125\", gap: \"0.2\", limit: Some(\"2\"), waive: Some(\"w.csv\"), outline: None, format: Some(\"json\"), manifest: \"m.csv\" }",
     ),
     (
         "report m.csv --format=waivers --waive=w.csv --gap 0.2 --ring 0.125",
-        "Report { ring: \"0.125\", gap: \"0.2\", limit: None, waive: Some(\"w.csv\"), format: Some(\"waivers\"), manifest: \"m.csv\" }",
+        "Report { ring: \"0.125\", gap: \"0.2\", limit: None, waive: Some(\"w.csv\"), outline: None, format: Some(\"waivers\"), manifest: \"m.csv\" }",
+    ),
+    // with an outline
+    (
+        "report --outline edge.gbr --format html --ring 0.125 --gap 0.2 m.csv",
+        "Report { ring: \"0.125\", gap: \"0.2\", limit: None, waive: None, outline: Some(\"edge.gbr\"), format: Some(\"html\"), manifest: \"m.csv\" }",
     ),
 ];
 
@@ -389,18 +400,26 @@ fn a_report_is_asked_for(rt: HostRuntime) {
     }
 }
 
-const PICTURES: [(&str, &str); 3] = [
+const PICTURES: [(&str, &str); 5] = [
     (
         "draw m.csv",
-        "Draw { ring: None, gap: None, manifest: \"m.csv\" }",
+        "Draw { ring: None, gap: None, outline: None, manifest: \"m.csv\" }",
     ),
     (
         "draw --ring 0.125 --gap 0.2 m.csv",
-        "Draw { ring: Some(\"0.125\"), gap: Some(\"0.2\"), manifest: \"m.csv\" }",
+        "Draw { ring: Some(\"0.125\"), gap: Some(\"0.2\"), outline: None, manifest: \"m.csv\" }",
     ),
     (
         "draw --ring 0.125 m.csv",
-        "Draw { ring: Some(\"0.125\"), gap: None, manifest: \"m.csv\" }",
+        "Draw { ring: Some(\"0.125\"), gap: None, outline: None, manifest: \"m.csv\" }",
+    ),
+    (
+        "draw --outline edge.gbr m.csv",
+        "Draw { ring: None, gap: None, outline: Some(\"edge.gbr\"), manifest: \"m.csv\" }",
+    ),
+    (
+        "draw m.csv --gap 0.2 --outline=edge.gbr --ring 0.125",
+        "Draw { ring: Some(\"0.125\"), gap: Some(\"0.2\"), outline: Some(\"edge.gbr\"), manifest: \"m.csv\" }",
     ),
 ];
 

@@ -212,7 +212,7 @@ fn names_are_text(rt: HostRuntime) {
 }
 
 /// The span of a record, if it has one.
-type LayerRange = Option<(usize, usize)>;
+type LayerRange = Option<(u32, u32)>;
 
 fn layers_of(span: Option<Span>) -> LayerRange {
     match span {

@@ -20,4 +20,3 @@ pub mod UniquePads
 pub mod FlashedPads
 pub mod PadExamples
 pub mod DrawnLemmas
-pub mod MacroFields

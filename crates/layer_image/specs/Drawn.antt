@@ -1,5 +1,5 @@
 -- What the commands of a layer draw: lines and arcs, flashes of macros, and the contours of regions (docs/FORMATS.md, Pictures).
-use Rattle.std.specs.Prelude.{ℕ, nat_eq, ℤ, pos, ◌+ℤ◌, Bool, true, false, not, ◌&&◌, ◌||◌, ◌==◌, List, Option, None, Some, unwrap_or, if◌then◌else◌}
+use Rattle.std.specs.Prelude.{ℕ, nat_eq, nat_le, ◌+◌, ℤ, pos, ◌+ℤ◌, Bool, true, false, not, ◌&&◌, ◌||◌, ◌==◌, List, length, sum_by, Option, None, Some, unwrap_or, if◌then◌else◌}
 use Rattle.std.specs.Option.{option_and_then, option_map}
 use Rattle.std.specs.Ordering.{int_eq}
 use Rattle.std.specs.List.{filter_map, list_all}
@@ -10,11 +10,9 @@ use Rattle.grid_units.specs.Numbers.{is_too_far, picometres}
 use Rattle.grid_units.specs.declared.lengths.Unit.{Unit as Units}
 use Rattle.grid_units.specs.declared.lengths.Unit.TheVariants.{Millimetre}
 use Rattle.pad_shapes.specs.Rounded.{GridRounded, corners}
-use Rattle.macro_shapes.specs.Values.{lookup}
 use Rattle.macro_shapes.specs.Primitives.{primitives_of}
 use Rattle.macro_shapes.specs.Shapes.{shape_of}
-use Rattle.macro_shapes.specs.Inner.Pieces.{fields_from, parameters_of}
-use Rattle.macro_shapes.specs.declared.fields.Fields.{Fields}
+use Rattle.macro_shapes.specs.Macros.{fields_of}
 use Rattle.gerber_commands.specs.declared.command.Action.{Action}
 use Rattle.gerber_commands.specs.declared.command.Action.TheVariants as action
 use Rattle.gerber_commands.specs.declared.command.Interpolation.{Interpolation}
@@ -63,14 +61,26 @@ abbrev pub macro_set : List ℕ → Command → Option (List (List ℕ))
 macro_set name (command.Macro other pieces) = if pointwise nat_eq other name then Some pieces else None
 macro_set name _ = None
 
--- the primitives that the pieces of a macro spell with the parameters of an aperture, where each field has an exact value: the list that
--- `IsMacro` allows, if there is one (Gerber format, Aperture macro AM)
-abbrev pub macro_fields : List (List ℕ) → Option (List ℕ) → Option (List Fields)
-macro_fields pieces parameters = option_and_then (λ values. fields_from (lookup values) pieces) (parameters_of parameters)
+-- the length of a macro in bytes, each piece with the `*` that ends it
+abbrev pub macro_len : List (List ℕ) → ℕ
+macro_len pieces = sum_by (λ piece. length piece + 1) pieces
+
+-- the length of the longest macro that gives a shape
+abbrev pub max_macro_len : ℕ
+max_macro_len = 4096
+
+-- the greatest number of an aperture that has the shape of a macro
+abbrev pub max_shape_number : ℕ
+max_shape_number = 9999
+
+-- the macro that an aperture of this number names, where both are within their limits: more and longer ones would take too long to read
+abbrev pub within_limits : ℕ → Option (List (List ℕ)) → Option (List (List ℕ))
+within_limits number None = None
+within_limits number (Some pieces) = if nat_le number max_shape_number && nat_le (macro_len pieces) max_macro_len then Some pieces else None
 
 -- the shape of a macro with the parameters of an aperture, about the point of a flash, where it has one (Gerber format, Aperture macro AM)
 abbrev pub macro_shape : Units → List (List ℕ) → Option (List ℕ) → Option GridRounded
-macro_shape unit pieces parameters = option_and_then shape_of (option_and_then (primitives_of unit) (macro_fields pieces parameters))
+macro_shape unit pieces parameters = option_and_then shape_of (option_and_then (primitives_of unit) (fields_of pieces parameters))
 
 -- an aperture of this shape, where it has one
 abbrev pub shaped : Option GridRounded → DrawnAperture
@@ -82,16 +92,16 @@ abbrev pub by_macro : Option Units → Option (List (List ℕ)) → Option (List
 by_macro (Some unit) (Some pieces) parameters = shaped (macro_shape unit pieces parameters)
 by_macro _ _ parameters = drawn_aperture.Other
 
--- what an aperture draws, by the unit and the macros before it: a disc without a hole, by its diameter in units of 10^-8, draws lines, and
+-- what the aperture of a number draws, by the unit and the macros before it: a disc without a hole, by its diameter in units of 10^-8, draws lines, and
 -- the shape of a macro is flashed (Gerber format, Circle; Aperture macro AM)
-abbrev pub drawn_aperture_of : Option Units → (List ℕ → Option (List (List ℕ))) → Template → DrawnAperture
-drawn_aperture_of unit macros (template.Standard standard.Circle sizes) = if has_hole sizes 1 then drawn_aperture.Other else drawn_aperture.Round (size_at sizes 0)
-drawn_aperture_of unit macros (template.Named name parameters) = by_macro unit (macros name) parameters
-drawn_aperture_of unit macros _ = drawn_aperture.Other
+abbrev pub drawn_aperture_of : Option Units → (List ℕ → Option (List (List ℕ))) → ℕ → Template → DrawnAperture
+drawn_aperture_of unit macros number (template.Standard standard.Circle sizes) = if has_hole sizes 1 then drawn_aperture.Other else drawn_aperture.Round (size_at sizes 0)
+drawn_aperture_of unit macros number (template.Named name parameters) = by_macro unit (within_limits number (macros name)) parameters
+drawn_aperture_of unit macros number _ = drawn_aperture.Other
 
 -- the aperture that a command gives this number: `%ADD10C,0.5*%` gives one to 10 (Gerber format, Aperture definition AD)
 abbrev pub drawn_aperture_set : Option Units → (List ℕ → Option (List (List ℕ))) → ℕ → Command → Option DrawnAperture
-drawn_aperture_set unit macros number (command.Define other template) = if number == other then Some (drawn_aperture_of unit macros template) else None
+drawn_aperture_set unit macros number (command.Define other template) = if number == other then Some (drawn_aperture_of unit macros other template) else None
 drawn_aperture_set unit macros number _ = None
 
 -- the macro of a name is the last one that was defined under it (Gerber format, Aperture macro AM)
@@ -178,7 +188,7 @@ moved n offset = n +ℤ unwrap_or offset (pos 0)
 abbrev pub moved_point : DrawState → Option ℤ → Option ℤ → Option GridPoint
 moved_point s i j = point_of s (moved s.x i) (moved s.y j)
 
--- the centre of an arc in this mode of quadrants, told under `G75*` alone (Gerber format, G75 and G74)
+-- the centre of an arc in this mode of quadrants: there is one under `G75*` alone (Gerber format, G75 and G74)
 abbrev pub centre_in : Option QuadrantMode → DrawState → Option ℤ → Option ℤ → Option GridPoint
 centre_in (Some quadrant.Multi) s i j = moved_point s i j
 centre_in _ s i j = None
@@ -276,7 +286,7 @@ abbrev pub operated : DrawState → Action → Option GridPoint → Option GridP
 operated s action to centre = if s.in_region then inside_region s action to centre else outside_region s action to centre
 
 -- What a command draws in the state that it meets. A region begins with a contour at the current point, in case its first operation is `D01`.
--- Copies of a step and repeat block are not told.
+-- Of a step and repeat block the first copy alone is drawn.
 abbrev pub drawn_by : DrawState → Command → Option Drawn
 drawn_by s command.RegionStart = option_map drawn.Contour (current_point s)
 drawn_by s (command.Operate action x y i j) = operated s action (operation_point s x y) (arc_centre s i j)

@@ -46,7 +46,7 @@ pub enum Drawn {
     },
     /// The first corner of a contour of a region.
     Contour(Point),
-    /// The next corner of the contour, to which it goes straight; also the end of an arc whose centre is not told.
+    /// The next corner of the contour, to which it goes straight; also the end of an arc that is drawn as its chord.
     Corner(Point),
     /// The next part of the contour, an arc. Where both ends are one point it is a full circle.
     Bend {

@@ -1,11 +1,12 @@
 //! What draws and flashes need of the apertures that a file defines.
 
-ghost use Rattle.std.specs.Prelude.{◌≡◌, ◌==◌, ℕ, None, Some, OnOk, IfOk, if◌then◌else◌};
+ghost use Rattle.std.specs.Prelude.{◌≡◌, ◌==◌, ℕ, nat_le, None, Some, OnOk, IfOk, if◌then◌else◌};
 ghost use Rattle.std.specs.Option.{option_copied, option_or};
 ghost use Rattle.gerber_commands.specs.declared.command.Standard.TheVariants as standard;
 ghost use Rattle.gerber_commands.specs.declared.command.Template.TheVariants as template;
-ghost use Rattle.layer_image.specs.Drawn.{by_macro, drawn_aperture_of, macro_fields, macro_shape, shape_in, shaped};
+ghost use Rattle.layer_image.specs.Drawn.{by_macro, drawn_aperture_of, macro_len, macro_shape, max_macro_len, shape_in, shaped, within_limits};
 ghost use Rattle.layer_image.specs.Inner.Pencils.{macro_at};
+ghost use Rattle.macro_shapes.specs.Macros.{fields_of};
 
 use crate::aperture::{has_hole, size_at};
 use crate::macros::Macros;
@@ -17,6 +18,12 @@ use macro_shapes::{Macro, macro_shape as shape_of_primitives, read_macro, read_p
 use pad_shapes::Rounded;
 use std::alloc::{AllocError, Global};
 use std::collections::BTreeMap;
+
+/// The length of the longest macro that gives a shape, in bytes.
+const MAX_MACRO_LEN: usize = 4_096;
+
+/// The greatest number of an aperture that has the shape of a macro.
+const MAX_SHAPE_NUMBER: u32 = 9_999;
 
 /// An aperture as draws and flashes need it.
 #[derive(Drop)]
@@ -41,27 +48,29 @@ impl DrawnAperture {
     }
 }
 
-/// What an aperture draws, by the unit and the macros before it.
+/// What the aperture of a number draws, by the unit and the macros before it.
 pub(crate) fn drawn_aperture_of(
     alloc: Global,
     unit: Option<Unit>,
     macros: &Macros,
+    number: u32,
     template: &Template,
 ) -> Result<DrawnAperture, AllocError>
-    ensures { IfOk result (λ aperture. aperture ≡ drawn_aperture_of unit (macro_at macros.now) template.now) }
+    ensures { IfOk result (λ aperture. aperture ≡ drawn_aperture_of unit (macro_at macros.now) number template.now) }
 {
     match template {
         Template::Standard(Standard::Circle, sizes) => Ok(round_of(sizes)),
         Template::Standard(_, _) => Ok(DrawnAperture::Other),
         Template::Named(name, parameters) => {
-            by_macro(alloc, unit, macros.get(name), bytes_of(parameters))
+            let pieces = within_limits(number, macros.get(name));
+            by_macro(alloc, unit, pieces, bytes_of(parameters))
         }
     }
 }
 
 /// A disc, unless it has a hole.
 fn round_of(sizes: &Sizes) -> DrawnAperture
-    ensures { result ≡ drawn_aperture_of None (λ _. None) (template.Standard standard.Circle sizes.now) }
+    ensures { result ≡ drawn_aperture_of None (λ _. None) 0 (template.Standard standard.Circle sizes.now) }
 {
     if has_hole(sizes, 1) {
         DrawnAperture::Other
@@ -77,6 +86,33 @@ fn bytes_of(text: &Option<Text>) -> Option<&[u8]>
     match text {
         Some(text) => Some(text.bytes()),
         None => None,
+    }
+}
+
+/// Whether a macro is no longer than the longest that gives a shape, counting the `*` after each piece.
+fn is_short(texts: &[Text]) -> bool
+    ensures { result ≡ nat_le (macro_len texts.now) max_macro_len }
+{
+    let mut left = MAX_MACRO_LEN;
+    for text in texts {
+        let len = text.bytes().len();
+        if left <= len {
+            return false;
+        }
+        left -= len + 1;
+    }
+    true
+}
+
+/// The macro that an aperture of this number names, where both are within their limits.
+fn within_limits(number: u32, pieces: Option<&Pieces>) -> Option<&Pieces>
+    ensures { option_copied result ≡ within_limits number (option_copied pieces.entry) }
+{
+    let pieces = pieces?;
+    if number <= MAX_SHAPE_NUMBER && is_short(pieces.texts()) {
+        Some(pieces)
+    } else {
+        None
     }
 }
 
@@ -114,7 +150,7 @@ fn macro_fields(
     pieces: &Pieces,
     parameters: Option<&[u8]>,
 ) -> Result<Option<Macro>, AllocError>
-    ensures { IfOk result (λ answer. answer ≡ macro_fields pieces.now (option_copied parameters.entry)) }
+    ensures { IfOk result (λ answer. answer ≡ fields_of pieces.now (option_copied parameters.entry)) }
 {
     read_macro(alloc, pieces.texts(), parameters)
 }

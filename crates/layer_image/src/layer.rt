@@ -82,8 +82,8 @@ impl Layer {
         }
     }
 
-    /// What the commands draw, in order: lines and arcs, flashes of macros that have a shape, and the contours of regions. Copies of
-    /// a step and repeat block are not told. Nothing where the commands are not kept.
+    /// What the commands draw, in order: lines and arcs, flashes of macros that have a shape, and the contours of regions. Of a
+    /// step and repeat block the first copy alone is drawn. Nothing where the commands are not kept.
     ///
     /// # Errors
     ///

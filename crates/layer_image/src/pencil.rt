@@ -103,7 +103,7 @@ impl Pencil {
     fn define(&mut self, number: u32, template: &Template) -> Result<(), AllocError>
         ensures { OnOk result (draw_state self.new ≡ after_command (command.Define number template.now) (draw_state self.old)) }
     {
-        let aperture = drawn_aperture_of(self.alloc, self.unit, &self.macros, template)?;
+        let aperture = drawn_aperture_of(self.alloc, self.unit, &self.macros, number, template)?;
         self.apertures.insert(number, aperture)
     }
 
@@ -272,7 +272,7 @@ impl Pencil {
         )
     }
 
-    /// The centre of an arc, told where it is near and the mode is that of several quadrants.
+    /// The centre of an arc, if it is near and the mode is that of several quadrants.
     fn arc_centre(&self, i: Option<i64>, j: Option<i64>) -> Option<Point>
         ensures { result ≡ arc_centre (draw_state self.now) i j }
     {

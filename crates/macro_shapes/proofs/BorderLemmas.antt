@@ -15,7 +15,9 @@ use Rattle.pad_shapes.specs.Rounded.{GridRounded, Edge, edges, corners, cross, a
 use Rattle.pad_shapes.specs.Inner.Identities.{is_z, is_n, is_add, is_sub, is_mul, same, length_is}
 use Rattle.pad_shapes.specs.Inner.Fan.{edge}
 use Rattle.macro_shapes.specs.Primitives.{IsInPrimitive, IsInLine, is_same}
-use Rattle.macro_shapes.specs.Shapes.{diameter_at, width_along, greatest, least, disc_at, line_along, discs_at}
+use Rattle.macro_shapes.specs.Shapes.{diameter_at, width_along, disc_at, line_along}
+use Rattle.macro_shapes.specs.Inner.Borders.{greatest, least, discs_in_turn}
+use Rattle.macro_shapes.proofs.BordersInTurn.{disc_is, line_is}
 use Rattle.macro_shapes.specs.declared.primitive.Primitive.{Primitive}
 use Rattle.macro_shapes.specs.declared.primitive.Primitive.TheVariants as primitive
 
@@ -200,22 +202,22 @@ IsInSome qs p = (q : Primitive) × Contains qs q × IsInPrimitive q p
 
 pub near_corner : (qs : List Primitive) (v p : GridPoint) (size : ℕ) → IsAtLeast (disc_at qs v) size → square_distance p v ≤ square (size / 2) → IsInSome qs p
 near_corner qs v p size h near =
-    let g = given (diameter_at v) qs h.size h.found in
+    let g = given (diameter_at v) qs h.size (disc_is qs v ∙ h.found) in
     (g.q, g.among, circle_at v p size h.size g.q g.gives h.enough near)
 
 pub near_edge : (qs : List Primitive) (e : Edge) (p : GridPoint) (size : ℕ) → IsAtLeast (line_along qs e) size → is_beside e (size / 2) p ≡ true → IsInSome qs p
 near_edge qs e p size h near =
-    let g = given (width_along e) qs h.size h.found in
+    let g = given (width_along e) qs h.size (line_is qs e ∙ h.found) in
     (g.q, g.among, line_at e p size h.size g.q g.gives h.enough near)
 
-pub corners_given : (qs : List Primitive) (r : GridRounded) (size : ℕ) → discs_at qs r ≡ Some size → All (λ v. IsAtLeast (disc_at qs v) size) (corners r)
+pub corners_given : (qs : List Primitive) (r : GridRounded) (size : ℕ) → discs_in_turn qs r ≡ Some size → All (λ v. IsAtLeast (disc_at qs v) size) (corners r)
 corners_given qs r size h =
     let f = fold_least (disc_at qs) (disc_at qs r.first) r.others size h in
     All-cons (λ v. IsAtLeast (disc_at qs v) size) r.first r.others f.0 f.1
 
-pub edges_given : (qs : List Primitive) (r : GridRounded) (size : ℕ) → fold (λ found e. least found (line_along qs e)) (discs_at qs r) (edges r) ≡ Some size
+pub edges_given : (qs : List Primitive) (r : GridRounded) (size : ℕ) → fold (λ found e. least found (line_along qs e)) (discs_in_turn qs r) (edges r) ≡ Some size
     → All (λ v. IsAtLeast (disc_at qs v) size) (corners r) × All (λ e. IsAtLeast (line_along qs e) size) (edges r)
 edges_given qs r size h =
-    let f = fold_least (line_along qs) (discs_at qs r) (edges r) size h in
+    let f = fold_least (line_along qs) (discs_in_turn qs r) (edges r) size h in
     let c = corners_given qs r f.0.size f.0.found in
     (λ k d l. weaker (disc_at qs _) f.0.size size f.0.enough (c k d l), f.1)

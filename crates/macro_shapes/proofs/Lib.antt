@@ -1,13 +1,14 @@
 pub mod ArithmeticLemmas
 pub mod ExactLemmas
 pub mod FramesLemmas
-pub mod ReadingLemmas
 pub mod ScanLemmas
 pub mod VariablesLemmas
 pub mod SplitLemmas
-pub mod PiecesLemmas
 pub mod GridLemmas
+pub mod BordersInTurn
 pub mod BorderLemmas
 pub mod ShapeLemmas
 pub mod RectangleLemmas
 pub mod OutlineLemmas
+pub mod RunsOfPoints
+pub mod OneAnswer

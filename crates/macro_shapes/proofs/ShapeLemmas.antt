@@ -20,7 +20,9 @@ use Rattle.pad_shapes.specs.Inner.RoundedLaws.{left_of}
 use Rattle.pad_shapes.specs.Inner.RoundedSets.{one_corner_is_disc, polygon_is_left_of_edges}
 use Rattle.pad_shapes.proofs.PartsLemmas.{parts_of, area_of, at_least_0, times_no, no_times, no_cross}
 use Rattle.macro_shapes.specs.Primitives.{IsInLine, grid_point, is_same, rounded_of}
-use Rattle.macro_shapes.specs.Shapes.{least, disc_at, line_along, discs_at, border, rectangle_of, rectangle_about, rectangle_along, other_end, rounded_or_along, or_0, with_border, ShapeIsInPrimitives}
+use Rattle.macro_shapes.specs.Inner.Borders.{least, discs_in_turn}
+use Rattle.macro_shapes.specs.Shapes.{disc_at, line_along, border, rectangle_of, rectangle_about, rectangle_along, other_end, rounded_or_along, or_0, with_border, ShapeIsInPrimitives}
+use Rattle.macro_shapes.proofs.BordersInTurn.{border_is}
 use Rattle.macro_shapes.proofs.BorderLemmas.{IsAtLeast, IsInSome, in_circle, near_corner, near_edge, corners_given, edges_given}
 use Rattle.macro_shapes.specs.declared.primitive.Primitive.{Primitive}
 use Rattle.macro_shapes.specs.declared.primitive.Primitive.TheVariants as primitive
@@ -43,8 +45,8 @@ rounded_parts first others size s h =
 some_edges : (n : ℕ) → eqb (suc n) 0 ≡ false
 some_edges n = grind (arith, nat_tests)
 
-with_edges : (qs : List Primitive) (r : GridRounded) (size : ℕ) (t : Bool) → t ≡ false → cond t (discs_at qs r) (fold (λ found e. least found (line_along qs e)) (discs_at qs r) (edges r)) ≡ Some size
-    → fold (λ found e. least found (line_along qs e)) (discs_at qs r) (edges r) ≡ Some size
+with_edges : (qs : List Primitive) (r : GridRounded) (size : ℕ) (t : Bool) → t ≡ false → cond t (discs_in_turn qs r) (fold (λ found e. least found (line_along qs e)) (discs_in_turn qs r) (edges r)) ≡ Some size
+    → fold (λ found e. least found (line_along qs e)) (discs_in_turn qs r) (edges r) ≡ Some size
 with_edges qs r size true none h = absurd (false≢true (sym none))
 with_edges qs r size false none h = h
 
@@ -52,10 +54,10 @@ with_edges qs r size false none h = h
 bordered : (qs : List Primitive) (first : GridPoint) (others : List GridPoint) (size : ℕ) → border qs (with_radius first others 0) ≡ Some size → is_outline first others ≡ true → (p : GridPoint) → IsInRounded (with_radius first others (size / 2)) p
     → IsInSome qs p ⊎ (is_deep_inside (with_radius first others 0) 0 p ≡ true)
 bordered qs first [] size h outline p inside =
-    let all = corners_given qs (with_radius first [] 0) size h in
+    let all = corners_given qs (with_radius first [] 0) size (border_is qs (with_radius first [] 0) ∙ h) in
     inl (near_corner qs first p size (All-contains (λ v. IsAtLeast (disc_at qs v) size) (first ∷ []) first all (0, omega arith, refl)) ((one_corner_is_disc first (size / 2) p).0 inside))
 bordered qs first (b ∷ bs) size h outline p inside =
-    let all = edges_given qs (with_radius first (b ∷ bs) 0) size (with_edges qs (with_radius first (b ∷ bs) 0) size (eqb (suc (length bs)) 0) (some_edges (length bs)) h) in
+    let all = edges_given qs (with_radius first (b ∷ bs) 0) size (with_edges qs (with_radius first (b ∷ bs) 0) size (eqb (suc (length bs)) 0) (some_edges (length bs)) (border_is qs (with_radius first (b ∷ bs) 0) ∙ h)) in
     elim (parts_of (with_radius first (b ∷ bs) (size / 2)) outline p inside) [
       | inl deep ↦ inr deep
       | inr rim ↦ elim rim [
@@ -403,6 +405,7 @@ polygon_inside : (r : GridRounded) → is_convex r ≡ true → (p : GridPoint) 
 polygon_inside r convex p h = and_from (has_area r) (is_deep_left_of_all r 0 p) (area_of r convex) ((polygon_is_left_of_edges r convex p).0 h)
 
 outline_inside : (qs : List Primitive) (r : GridRounded) (o : Option ℕ) (s : GridRounded) → border (primitive.Outline r ∷ qs) r ≡ o → with_border r (or_0 o) ≡ Some s → (p : GridPoint) → IsInRounded s p → IsInSome (primitive.Outline r ∷ qs) p
+unfolding border
 outline_inside qs r None s e h p inside = by r.others (cond_is (nat_lt 1 (length r.others) || nat_lt 0 0) (rounded_of r.first r.others 0) s h) refl
   where
     by : (others : List GridPoint) → ((nat_lt 1 (length others) || nat_lt 0 0) ≡ true) × (rounded_of r.first others 0 ≡ Some s) → others ≡ r.others → IsInSome (primitive.Outline r ∷ qs) p

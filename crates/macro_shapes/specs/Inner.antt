@@ -2,3 +2,7 @@ pub mod Reading
 pub mod State
 pub mod Parts
 pub mod Pieces
+pub mod Borders
+pub mod ReadingLemmas
+pub mod PiecesLemmas
+pub mod MacroAnswers

@@ -5,3 +5,4 @@ pub mod Primitives
 pub mod Shapes
 pub mod Laws
 pub mod Inner
+pub mod Macros

@@ -1,6 +1,6 @@
 -- The pieces of a macro: comments, definitions of variables, and primitives with the values of their fields (Gerber format, Aperture
 -- macro AM).
-use Rattle.std.specs.Prelude.{◌≡◌, ℕ, ℤ, ◌≤◌, Bool, false, not, ◌&&◌, ◌||◌, ◌==◌, nat_le, List, [], ◌∷◌, length, drop, map, if◌then◌else◌, Option, None, Some, option_map, Ok, MatchOption, codes, take_while}
+use Rattle.std.specs.Prelude.{◌≡◌, ◌↔◌, ℕ, ℤ, ◌≤◌, Bool, false, not, ◌&&◌, ◌||◌, ◌==◌, nat_le, List, [], ◌∷◌, length, drop, map, if◌then◌else◌, Option, None, Some, option_map, Ok, MatchOption, codes, take_while}
 use Rattle.std.specs.Bool.{MatchBool}
 use Rattle.std.specs.List.{prefix_len, slice_split, AllZip}
 use Rattle.std.specs.Str.{bytes_eq}
@@ -91,3 +91,8 @@ SpellPrimitives variables (piece ∷ pieces) found =
 -- the primitives of a macro with these parameters
 abbrev pub IsMacro : List (List ℕ) → Option (List ℕ) → List Fields → Type 0
 IsMacro pieces parameters found = (values : List (Option ℤ)) × AreParameters parameters values × SpellPrimitives (lookup values) pieces found
+
+-- An answer on a macro with these parameters: its primitives, or None where it has none. There is just one.
+pub record MacroAnswer (pieces : List (List ℕ)) (parameters : Option (List ℕ)) : Type 0 where
+  pub primitives : Option (List Fields)
+  pub exact : (found : List Fields) → (primitives ≡ Some found) ↔ IsMacro pieces parameters found

@@ -1,9 +1,9 @@
 -- The primitives of a macro that are judged, all of them dark, and their points (Gerber format, Aperture macro AM). Lengths are whole picometres, and
 -- points lie about the point of the flash.
-use Rattle.std.specs.Prelude.{◌≡◌, ℕ, ℤ, pos, ◌-◌, ◌*◌, ◌/◌, ◌%◌, ◌<◌, ◌≤◌, ◌≤ℤ◌, neg_ℤ, Bool, true, not, ◌&&◌, ◌==◌, nat_le, nat_lt, int_lt, unsigned_abs, List, [], ◌∷◌, length, take, reverse, get_or, if◌then◌else◌, Option, None, Some, option_map, option_and_then}
+use Rattle.std.specs.Prelude.{◌≡◌, ℕ, ℤ, pos, ◌-◌, ◌*◌, ◌/◌, ◌%◌, ◌<◌, ◌≤◌, ◌≤ℤ◌, neg_ℤ, Bool, true, not, ◌&&◌, ◌==◌, nat_le, nat_lt, int_lt, unsigned_abs, List, [], ◌∷◌, length, take, drop, zip, reverse, get_or, if◌then◌else◌, Option, None, Some, option_map, option_and_then}
 use Rattle.std.specs.Option.{option_or}
 use Rattle.std.specs.Result.{result_ok}
-use Rattle.std.specs.List.{list_any}
+use Rattle.std.specs.List.{filter_map, list_any}
 use Rattle.std.specs.Ordering.{int_eq}
 use Rattle.grid_units.specs.Points.{GridPoint, max_coordinate, square, abs_diff, square_distance}
 use Rattle.grid_units.specs.Numbers.{picometres, within_limit}
@@ -160,14 +160,17 @@ point_at run k = get_or run k (record { x = pos 0; y = pos 0 })
 abbrev pub is_closed : List GridPoint → Bool
 is_closed run = not (length run == 0) && is_same (point_at run 0) (point_at run (length run - 1))
 
--- those points that are not the same as the one before them
-abbrev pub moves_from : GridPoint → List GridPoint → List GridPoint
-moves_from before [] = []
-moves_from before (p ∷ ps) = if is_same p before then moves_from p ps else p ∷ moves_from p ps
+-- the second of two points that follow one another, where it is another than the first
+abbrev pub moved : GridPoint × GridPoint → Option GridPoint
+moved pair = if is_same pair.1 pair.0 then None else Some pair.1
+
+-- the points of a run that are not the same as the one before them
+abbrev pub moves : List GridPoint → List GridPoint
+moves run = filter_map moved (zip run (drop 1 run))
 
 -- the points of a closed run, each once, or its one point
 abbrev pub stops : List GridPoint → List GridPoint
-stops run = if length (moves_from (point_at run 0) run) == 0 then point_at run 0 ∷ [] else moves_from (point_at run 0) run
+stops run = if length (moves run) == 0 then point_at run 0 ∷ [] else moves run
 
 -- no two points are equal
 abbrev pub are_different : List GridPoint → Bool

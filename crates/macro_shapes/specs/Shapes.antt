@@ -1,10 +1,10 @@
 -- The shape of a macro: a rounded polygon that is inside of its primitives.
-use Rattle.std.specs.Prelude.{◌≡◌, ℕ, ℤ, pos, ◌+ℤ◌, ◌-ℤ◌, ◌/◌, max, min, ◌&&◌, ◌||◌, ◌==◌, not, nat_le, nat_lt, List, [], ◌∷◌, length, if◌then◌else◌, Option, None, Some, option_and_then}
+use Rattle.std.specs.Prelude.{◌≡◌, ℕ, ℤ, pos, ◌+ℤ◌, ◌-ℤ◌, ◌/◌, max, min, ◌&&◌, ◌||◌, ◌==◌, not, nat_le, nat_lt, List, [], ◌∷◌, ◌++◌, length, map, if◌then◌else◌, Option, None, Some, is_none, option_and_then}
 use Rattle.std.specs.Int.{int_min, int_max}
-use Rattle.std.specs.List.{fold, Contains}
+use Rattle.std.specs.List.{filter_map, list_any, reduce, Contains}
 use Rattle.std.specs.Ordering.{int_eq}
 use Rattle.grid_units.specs.Points.{GridPoint, max_coordinate}
-use Rattle.pad_shapes.specs.Rounded.{GridRounded, Edge, edges, IsInRounded}
+use Rattle.pad_shapes.specs.Rounded.{GridRounded, Edge, corners, edges, IsInRounded}
 use Rattle.macro_shapes.specs.Primitives.{IsInPrimitive, grid_point, is_same, rounded_of}
 use Rattle.macro_shapes.specs.declared.primitive.Primitive.{Primitive}
 use Rattle.macro_shapes.specs.declared.primitive.Primitive.TheVariants as primitive
@@ -25,33 +25,25 @@ width_along e (primitive.VectorLine from to width) = if (is_same from e.from && 
 width_along e (primitive.CentreLine centre width height) = None
 width_along e (primitive.Outline corners) = None
 
--- the greater of two sizes, of which one or both may lack
-abbrev pub greatest : Option ℕ → Option ℕ → Option ℕ
-greatest None b = b
-greatest (Some a) None = Some a
-greatest (Some a) (Some b) = Some (max a b)
-
--- the lesser of two sizes, where none lacks
-abbrev pub least : Option ℕ → Option ℕ → Option ℕ
-least None b = None
-least (Some a) None = None
-least (Some a) (Some b) = Some (min a b)
-
 -- the greatest diameter of the circles at a point
-abbrev pub disc_at : List Primitive → GridPoint → Option ℕ
-disc_at qs v = fold (λ found q. greatest found (diameter_at v q)) None qs
+unfoldable pub disc_at : List Primitive → GridPoint → Option ℕ
+disc_at qs v = reduce max (filter_map (diameter_at v) qs)
 
 -- the greatest width of the vector lines along an edge
-abbrev pub line_along : List Primitive → Edge → Option ℕ
-line_along qs e = fold (λ found q. greatest found (width_along e q)) None qs
+unfoldable pub line_along : List Primitive → Edge → Option ℕ
+line_along qs e = reduce max (filter_map (width_along e) qs)
 
--- the least of the circles at the corners
-abbrev pub discs_at : List Primitive → GridRounded → Option ℕ
-discs_at qs r = fold (λ found v. least found (disc_at qs v)) (disc_at qs r.first) r.others
+-- the edges; one corner has none
+abbrev pub sides : GridRounded → List Edge
+sides r = if length r.others == 0 then [] else edges r
 
--- the least of the circles at the corners and of the vector lines along the edges, where none of them lacks; one corner has no edge
-abbrev pub border : List Primitive → GridRounded → Option ℕ
-border qs r = if length r.others == 0 then discs_at qs r else fold (λ found e. least found (line_along qs e)) (discs_at qs r) (edges r)
+-- the least of some sizes, where none of them lacks
+abbrev pub least_of : List (Option ℕ) → Option ℕ
+least_of sizes = if list_any is_none sizes then None else reduce min (filter_map (λ size. size) sizes)
+
+-- the least of the circles at the corners and of the vector lines along the edges, where none of them lacks
+unfoldable pub border : List Primitive → GridRounded → Option ℕ
+border qs r = least_of (map (disc_at qs) (corners r) ++ map (line_along qs) (sides r))
 
 -- ---- rectangles
 

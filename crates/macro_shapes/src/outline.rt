@@ -1,8 +1,8 @@
 //! Outlines of a macro: the polygons that closed runs of points go round.
 
-ghost use Rattle.std.specs.Prelude.{◌≡◌, ◌<◌, IfOk, option_map, reverse, length};
-ghost use Rattle.macro_shapes.specs.Primitives.{is_same, is_count, run_of, is_closed, moves_from, stops, are_different, rounded_of, polygon_of, either_way, outline_of, outline_at, outline};
-ghost use Rattle.std.specs.List.{list_any};
+ghost use Rattle.std.specs.Prelude.{◌≡◌, ◌<◌, ◌∷◌, IfOk, option_map, reverse, length, zip};
+ghost use Rattle.macro_shapes.specs.Primitives.{is_same, is_count, run_of, is_closed, point_at, moved, moves, stops, are_different, rounded_of, polygon_of, either_way, outline_of, outline_at, outline};
+ghost use Rattle.std.specs.List.{filter_map, list_any};
 
 use crate::primitive::{Primitive, dark_turns, placed};
 use grid_units::{Dec, Point, Unit};
@@ -64,7 +64,7 @@ fn is_closed(run: &[Point]) -> bool
 
 /// Those points that are not the same as the one before them.
 fn moves_from(alloc: Global, before: Point, run: &[Point]) -> Result<Vec<Point>, AllocError>
-    ensures { IfOk result (λ kept. kept.items ≡ moves_from before run.now) }
+    ensures { IfOk result (λ kept. kept.items ≡ filter_map moved (zip (before ∷ run.now) run.now)) }
 {
     let mut kept = Vec::new(alloc);
     let mut last = before;
@@ -78,6 +78,7 @@ fn moves_from(alloc: Global, before: Point, run: &[Point]) -> Result<Vec<Point>,
 }
 
 /// The points of a closed run, each once, or its one point.
+#[tactic(auto, using(crate::proofs::RunsOfPoints::moves_from_first))]
 fn stops(alloc: Global, run: &[Point]) -> Result<Vec<Point>, AllocError>
     requires { 0 < length run.now }
     ensures { IfOk result (λ found. found.items ≡ stops run.now) }

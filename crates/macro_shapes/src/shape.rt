@@ -1,7 +1,8 @@
 //! The shape of a macro: a rounded polygon that is inside of its primitives.
 
 ghost use Rattle.std.specs.Prelude.{◌≡◌, IfOk};
-ghost use Rattle.macro_shapes.specs.Shapes.{diameter_at, width_along, greatest, least, disc_at, line_along, discs_at, border, rectangle_of, rectangle_about, rectangle_along, other_end, rounded_or_along, line_shape, or_0, with_border, shape_from, shape_of};
+ghost use Rattle.macro_shapes.specs.Shapes.{diameter_at, width_along, disc_at, line_along, border, rectangle_of, rectangle_about, rectangle_along, other_end, rounded_or_along, line_shape, or_0, with_border, shape_from, shape_of};
+ghost use Rattle.macro_shapes.specs.Inner.Borders.{greatest, least, disc_in_turn, line_in_turn, discs_in_turn, border_in_turn};
 
 use crate::outline::{is_same, rounded_of};
 use crate::primitive::{Primitive, grid_point};
@@ -92,7 +93,7 @@ fn line_along(primitives: &[Primitive], start: Point, end: Point) -> Option<u64>
 
 /// The least of the circles at the corners, where none lacks.
 fn discs_at(primitives: &[Primitive], first: Point, others: &[Point]) -> Option<u64>
-    ensures { result ≡ discs_at primitives.now (record { first = first; others = others.now; radius = 0 }) }
+    ensures { result ≡ discs_in_turn primitives.now (record { first = first; others = others.now; radius = 0 }) }
 {
     let mut found = disc_at(primitives, first);
     for corner in others {
@@ -103,7 +104,7 @@ fn discs_at(primitives: &[Primitive], first: Point, others: &[Point]) -> Option<
 
 /// The least of the circles at the corners and of the vector lines along the edges, where none of them lacks.
 fn border(primitives: &[Primitive], first: Point, others: &[Point]) -> Option<u64>
-    ensures { result ≡ border primitives.now (record { first = first; others = others.now; radius = 0 }) }
+    ensures { result ≡ border_in_turn primitives.now (record { first = first; others = others.now; radius = 0 }) }
 {
     let mut found = discs_at(primitives, first, others);
     if others.is_empty() {
@@ -243,6 +244,7 @@ fn with_border(alloc: Global, corners: &Rounded, size: u64) -> Result<Option<Rou
 }
 
 /// The shape of an outline.
+#[tactic(auto, using(crate::proofs::BordersInTurn::border_is))]
 fn outline_shape(
     alloc: Global,
     primitives: &[Primitive],

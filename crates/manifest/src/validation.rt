@@ -195,13 +195,13 @@ fn span_of_numbers(first: &str, last: &str) -> Option<Span>
 }
 
 /// The number of a layer that one to nine digits spell.
-fn layer_number(text: &str) -> Option<usize>
+fn layer_number(text: &str) -> Option<u32>
     ensures { result ≡ reading.layer_number text.now }
 {
     if !is_digits(text.as_bytes()) || text.len() > 9 {
         return None;
     }
-    Some(capped_value(text.as_bytes(), 999_999_999) as usize)
+    Some(capped_value(text.as_bytes(), 999_999_999) as u32)
 }
 
 fn is_copper_role(role: Role) -> bool
@@ -254,7 +254,7 @@ fn exceeds_layers(layer_count: usize, span: Option<Span>) -> bool
     ensures { result ≡ naming.exceeds_layers layer_count span }
 {
     match span {
-        Some(span) => span.last() > layer_count,
+        Some(span) => span.last() as usize > layer_count,
         None => false,
     }
 }

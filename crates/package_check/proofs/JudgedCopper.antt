@@ -1,5 +1,5 @@
 -- A copper file whose pads are tried as they are read.
-use Rattle.std.proofs.Common.{◌≡◌, ◌++◌, ℕ, List, [], Ok, Err, false, true, ap, inl, subst, sym, inr, refl, ◌∙◌, length}
+use Rattle.std.proofs.Common.{◌≡◌, ◌++◌, ℕ, List, [], None, Ok, Err, false, true, ap, inl, subst, sym, inr, refl, ◌∙◌, length}
 use Rattle.grid_units.specs.Holes.{GridRules}
 use Rattle.grid_units.specs.Results.{Answers, IfFault}
 use Rattle.grid_units.specs.declared.fault.Fault.{Fault}
@@ -13,12 +13,12 @@ use Rattle.layer_image.specs.declared.reader.LayerReader.{LayerReader}
 use Rattle.pad_shapes.specs.Pads.{pad_covers}
 use Rattle.pad_shapes.specs.declared.pad.Pad.{Pad}
 use Rattle.ring_rules.specs.Findings.{layer_findings}
-use Rattle.ring_rules.specs.Search.{HasTried}
 use Rattle.ring_rules.specs.declared.finding.Drilled.{Drilled}
-use Rattle.ring_rules.specs.declared.layer_search.LayerSearch.{LayerSearch}
-use Rattle.ring_rules.specs.declared.ring_index.RingIndex.{RingIndex}
+use Rattle.ring_rules.specs.declared.finding.Finding.{Finding}
+use Rattle.std.specs.Global.{Vec}
 use Rattle.package_check.specs.FileTexts.{is_copper_function, layer_view}
-use Rattle.package_check.specs.Judging.{HasTriedPadsOf, JudgesCopper}
+use Rattle.package_check.specs.HoleViews.{HolesView}
+use Rattle.package_check.specs.Judging.{HasTriedIn, HasTriedPadsOf, JudgesCopper}
 use Rattle.package_check.specs.Package.{not_copper}
 use Rattle.package_check.specs.declared.contents.Content.TheVariants as content
 use Rattle.package_check.specs.declared.FileSum.TheVariants as sum
@@ -31,9 +31,9 @@ fault_of_longer law text more whole fails.Memory is h = tt
 fault_of_longer law text more whole (fails.Refused f) is h = subst (λ (t : List ℕ). layers.ReadsLayer t (Err f)) is (law text more f h)
 
 -- the next pads are tried, and then dropped
-pub tried_more : (holes : List Drilled) (layer : ℕ) (index : RingIndex) (reader after : LayerReader) (old new : LayerSearch) (text : List ℕ) (dropped pads : List Pad) → pads ≡ held_pads reader
-    → LayerStandsAfterPads after keep.Pads (dropped ++ held_pads reader) text → HasTried pad_covers holes layer (dropped ++ pads) index new → HasTriedPadsOf holes layer index after new text
-tried_more holes layer index reader after old new text dropped pads is stands tried = record {
+pub tried_more : (holes : HolesView) (layer : ℕ) (reader after : LayerReader) (text : List ℕ) (dropped pads : List Pad) → pads ≡ held_pads reader
+    → LayerStandsAfterPads after keep.Pads (dropped ++ held_pads reader) text → HasTriedIn holes.holes holes.index layer (dropped ++ pads) holes.search → HasTriedPadsOf holes layer after text
+tried_more holes layer reader after text dropped pads is stands tried = record {
   dropped = dropped ++ pads;
   read = subst (λ (ps : List Pad). LayerStandsAfterPads after keep.Pads (dropped ++ ps) text) (sym is) stands;
   tried = tried;
@@ -75,6 +75,11 @@ fault_of_file rules holes layer text fails.Memory h = tt
 fault_of_file rules holes layer text (fails.Refused f) h = inl h
 
 -- no pad was dropped so far, and none tried
-pub none_tried : (holes : List Drilled) (layer : ℕ) (index : RingIndex) (reader : LayerReader) (search : LayerSearch) (text : List ℕ) → LayerStandsAfterPads reader keep.Pads [] text → HasTried pad_covers holes layer [] index search
-    → HasTriedPadsOf holes layer index reader search text
-none_tried holes layer index reader search text stands tried = record { dropped = []; read = stands; tried = tried }
+pub none_tried : (holes : HolesView) (layer : ℕ) (reader : LayerReader) (text : List ℕ) → LayerStandsAfterPads reader keep.Pads [] text → holes.search ≡ None → HasTriedPadsOf holes layer reader text
+none_tried holes layer reader text stands none = record { dropped = []; read = stands; tried = subst (HasTriedIn holes.holes holes.index layer []) (sym none) refl }
+
+-- the findings at the holes as they stand later are those at the holes as they stood
+pub rings_there : (later rules : GridRules) (there holes : List Drilled) (layer : ℕ) (dropped tried pads : List Pad) (rings : Vec Finding) → later ≡ rules → there ≡ holes → tried ≡ pads
+    → rings.items ≡ layer_findings pad_covers later.ring there layer (dropped ++ tried) → rings.items ≡ layer_findings pad_covers rules.ring holes layer (dropped ++ pads)
+rings_there later rules there holes layer dropped tried pads rings same_rules same_holes same_pads is =
+    is ∙ (λ j. layer_findings pad_covers (same_rules j).ring (same_holes j) layer (dropped ++ same_pads j))

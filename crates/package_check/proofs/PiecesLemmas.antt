@@ -1,18 +1,12 @@
 -- Texts that come in pieces.
-use Rattle.std.proofs.Common.{◌≡◌, ℕ, ◌+◌, ◌<◌, List, [], ◌∷◌, ◌++◌, length, map, take, drop, get_or, Err, sym, ap, subst, ◌∙◌, Bor}
+use Rattle.std.proofs.Common.{◌≡◌, ℕ, ◌+◌, ◌<◌, List, [], ◌∷◌, ◌++◌, length, map, take, drop, get_or, sym, ap, subst, ◌∙◌, Bor}
 use Rattle.std.specs.List.{concat}
 use Rattle.std.proofs.lemmas.List.{append-nil, map-append, take-append-drop, take_more}
 use Rattle.std.proofs.lemmas.List.Folds.{concat-append}
 use Rattle.grid_units.specs.declared.fault.Fault.{Fault}
 use Rattle.grid_units.specs.declared.fault.Fail.{Fail}
 use Rattle.grid_units.specs.declared.fault.Fail.TheVariants as fails
-use Rattle.grid_units.specs.Results.{Answers, IfFault}
-use Rattle.drill_text.specs.declared.kept.Keep.{Keep as DrillKeep}
-use Rattle.drill_text.specs.Outcome.{DrillFile, file_of}
-use Rattle.drill_text.specs.Reading.{Shows, Reads}
-use Rattle.drill_text.specs.Texts.{ReadsAs}
-use Rattle.layer_image.specs.declared.keep.Keep.{Keep}
-use Rattle.layer_image.specs.Layers.{LayerImage, ReadsKept, ReadsLayer}
+use Rattle.grid_units.specs.Results.{IfFault}
 use Rattle.layer_image.specs.Holding.{ShowsLayerFault}
 
 -- ---- joining
@@ -44,18 +38,6 @@ joined_all xs i d lt =
     ∙ (ap concat (sym (map-append (λ (p : Bor (List ℕ)). p.now) (take (i + 1) xs) (drop (i + 1) xs))) ∙ ap joined (take-append-drop (i + 1) xs)))
 
 -- ---- a text goes on
-
--- the fault that a drill text shows so far is that of the whole text
-pub drill_joined : (keep : DrillKeep) → ((text more : List ℕ) (f : Fault) → Shows text (Err f) → Reads (text ++ more) (Err f)) → (text more whole : List ℕ) (e : Fail) → text ++ more ≡ whole → IfFault (λ f. Shows text (Err f)) e
-    → Answers {T = DrillFile} (λ drill. drill) (ReadsAs (file_of keep) whole) (Err e)
-drill_joined keep law text more whole fails.Memory is h = tt
-drill_joined keep law text more whole (fails.Refused f) is h = subst (λ (t : List ℕ). Reads t (Err f)) is (law text more f h)
-
--- the fault that a layer's text shows so far is that of the whole text, whatever is kept of it
-pub layer_joined : (keep : Keep) → ((text more : List ℕ) (f : Fault) → ShowsLayerFault text f → ReadsLayer (text ++ more) (Err f)) → (text more whole : List ℕ) (e : Fail) → text ++ more ≡ whole → IfFault (ShowsLayerFault text) e
-    → Answers {T = LayerImage} (λ layer. layer) (ReadsKept keep whole) (Err e)
-layer_joined keep law text more whole fails.Memory is h = tt
-layer_joined keep law text more whole (fails.Refused f) is h = subst (λ (t : List ℕ). ReadsLayer t (Err f)) is (law text more f h)
 
 -- the fault that the text so far shows is shown by the whole piece
 pub fault_stays_in_longer : ((text more : List ℕ) (f : Fault) → ShowsLayerFault text f → ShowsLayerFault (text ++ more) f) → (text more whole : List ℕ) (e : Fail) → text ++ more ≡ whole → IfFault (ShowsLayerFault text) e → IfFault (ShowsLayerFault whole) e

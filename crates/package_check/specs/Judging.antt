@@ -1,5 +1,5 @@
 -- What a check keeps of a file, where the rings of a layer are looked for as its file is read, and its pads are dropped.
-use Rattle.std.specs.Prelude.{◌≡◌, ℕ, List, [], Result, Ok, Err}
+use Rattle.std.specs.Prelude.{◌≡◌, ℕ, List, [], Option, None, Some, Result, Ok, Err}
 use Rattle.grid_units.specs.Holes.{GridRules}
 use Rattle.grid_units.specs.declared.fault.Fault.{Fault}
 use Rattle.layer_image.specs.Holding.{LayerStandsAfterPads}
@@ -13,16 +13,22 @@ use Rattle.ring_rules.specs.declared.finding.Drilled.{Drilled}
 use Rattle.ring_rules.specs.declared.finding.Finding.{Finding}
 use Rattle.ring_rules.specs.declared.layer_search.LayerSearch.{LayerSearch}
 use Rattle.ring_rules.specs.declared.ring_index.RingIndex.{RingIndex}
+use Rattle.package_check.specs.HoleViews.{HolesView}
 use Rattle.package_check.specs.Package.{FileView, Reads, ReadsCopper, sum_of}
 use Rattle.package_check.specs.declared.contents.Content.{Content}
 use Rattle.package_check.specs.declared.contents.Content.TheVariants as content
 use Rattle.package_check.specs.declared.judged.Judged.{Judged}
 
+-- just these pads of a layer were tried at the holes of an index; none where no search has begun
+abbrev pub HasTriedIn : List Drilled → RingIndex → ℕ → List Pad → Option LayerSearch → Type 0
+HasTriedIn holes index layer pads None = pads ≡ []
+HasTriedIn holes index layer pads (Some search) = HasTried pad_covers holes layer pads index search
+
 -- a reader has read this text of a layer and dropped the first of its pads, and just these were tried
-pub record HasTriedPadsOf (holes : List Drilled) (layer : ℕ) (index : RingIndex) (reader : LayerReader) (search : LayerSearch) (text : List ℕ) : Type 0 where
+pub record HasTriedPadsOf (holes : HolesView) (layer : ℕ) (reader : LayerReader) (text : List ℕ) : Type 0 where
   pub dropped : List Pad
   pub read : LayerStandsAfterPads reader keep.Pads dropped text
-  pub tried : HasTried pad_covers holes layer dropped index search
+  pub tried : HasTriedIn holes.holes holes.index layer dropped holes.search
 
 -- the findings of rings on the layer of a file with this content, by the layer's number from 0; a drill file has none
 abbrev pub rings_of : GridRules → List Drilled → ℕ → Content → List Finding

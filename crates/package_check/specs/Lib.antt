@@ -14,3 +14,4 @@ pub mod HoleViews
 pub mod Inner
 pub mod CheckViews
 pub mod Checking
+pub mod OpenFiles

@@ -1,17 +1,18 @@
 //! The check of a package whose drill files are read before its copper files.
 
-ghost use Rattle.std.specs.Prelude.{◌≡◌, ◌++◌, ◌∷◌, ℕ, List, [], Err, IfOk, Ok, OnErr, OnOk, Result, Some, alloc_error, false, length, map};
+ghost use Rattle.std.specs.Prelude.{◌≡◌, ◌++◌, ◌∷◌, ℕ, List, [], Err, IfOk, Ok, OnErr, OnOk, Option, Result, Some, alloc_error, false, length, map};
 ghost use Rattle.std.specs.List.{concat, flat_map, sum_by};
 ghost use Rattle.grid_units.specs.Holes.{GridRules};
-ghost use Rattle.grid_units.specs.Results.{Answers};
+ghost use Rattle.grid_units.specs.Spans.{LayerSpan};
 ghost use Rattle.grid_units.specs.declared.fault.Fault.{Fault as TheFault};
 ghost use Rattle.layer_image.specs.declared.keep.Keep.{Keep as TheKeep};
 ghost use Rattle.manifest.specs.declared.Role.TheVariants as role;
-ghost use Rattle.package_check.specs.CheckViews.{holes_in_slot, is_drill_in};
+ghost use Rattle.package_check.specs.CheckViews.{CheckView, holes_in_slot, holes_of, is_drill_in};
 ghost use Rattle.package_check.specs.Checking.{HasJudged, HasJudgedAll, TakesCopper};
 ghost use Rattle.package_check.specs.Holding.{HasTaken, ReadsInto, copper_files, is_kind_at, kept_at};
 ghost use Rattle.package_check.specs.Inner.Leftovers.{count_in, holes_in, layer_indexes_in, left_in, left_report, rings_in, sums_in};
 ghost use Rattle.package_check.specs.Judging.{Judges};
+ghost use Rattle.package_check.specs.OpenFiles.{HasOpenedCopper, HasReadCopper};
 ghost use Rattle.package_check.specs.Package.{FileView, IsAnswer, NamesItsPlaces, ReturnsExactly, ReturnsReport, unnamed_file};
 ghost use Rattle.package_check.specs.Reports.{ReportView};
 ghost use Rattle.package_check.specs.Soundness.{IsSound};
@@ -20,11 +21,12 @@ ghost use Rattle.package_check.specs.declared.PackageFault.TheVariants as stop;
 ghost use Rattle.package_check.specs.declared.judged.Judged.{Judged as TheJudged};
 
 use crate::board::{push_holes, sum_of};
-use crate::contents::{Content, bad_span};
+use crate::contents::Content;
 use crate::indexed_holes::IndexedHoles;
 use crate::judged::Judged;
 use crate::laws::{findings_name_their_places, passing_is_sound, unique_answer, unique_reading};
 use crate::lists::push;
+use crate::open_copper::{CopperReading, OpenCopper};
 use crate::package_reader::{is_wanted, next_stop, outcome};
 use crate::report::report_of;
 use crate::slots::{Kept, put};
@@ -53,7 +55,15 @@ impl Model for PackageCheck {
 
     ghost Value = { CheckView };
 
-    ghost view = { λ c. record { layers = c.layers; holes = c.holes.holes; rules = c.holes.rules; slots = c.slots.items; stopped = c.stopped } };
+    ghost view = { λ c. record {
+      layers = c.layers;
+      holes = c.holes.holes;
+      rules = c.holes.rules;
+      index = c.holes.index;
+      search = c.holes.search;
+      slots = c.slots.items;
+      stopped = c.stopped;
+    } };
 
     ghost invariant = { λ c. sum_by holes_in_slot c.slots.items ≡ length c.holes.holes };
 }
@@ -149,24 +159,6 @@ fn has_drill(slots: &[Option<Judged>], index: usize) -> bool
     }
 }
 
-/// What is left of the copper file whose text comes in these pieces, or its fault.
-fn judge_file(
-    alloc: Global,
-    holes: &mut IndexedHoles,
-    layer: usize,
-    span: Option<Span>,
-    pieces: &[&[u8]],
-) -> Result<Judged, Fail>
-    ensures judged { (layers : ℕ) → Answers (λ x. x) (Judges holes.old.rules holes.old.holes layer (unnamed_file role.Copper span layers (concat (map (λ piece. piece.now) pieces.now)))) result }
-    ensures holes { holes.new.holes ≡ holes.old.holes }
-    ensures rules { holes.new.rules ≡ holes.old.rules }
-{
-    match span {
-        Some(_) => Err(bad_span()),
-        None => holes.judge_copper(alloc, layer, pieces),
-    }
-}
-
 impl PackageCheck {
     /// Takes the copper file at this index of the package, from 0, whose layer has this number among the copper files, from 0.
     ///
@@ -191,30 +183,101 @@ impl PackageCheck {
         ensures failed { self.old.stopped ≡ Some stop.Memory → result ≡ Err alloc_error }
         ensures fails { OnErr result (self.new.stopped ≡ Some stop.Memory) }
     {
+        let mut file = self.begin(index, layer, span);
+        self.read_pieces(&mut file, pieces);
+        self.end(file)
+    }
+
+    /// Opens the copper file at this index of the package, from 0, whose layer has this number among the copper files, from 0, so that it
+    /// can take its text piece by piece. One file is open at a time: each that is opened ends what was read of the one before. The check
+    /// has taken the file once it was ended, as [`PackageCheck::end`] says.
+    pub fn begin(&mut self, index: usize, layer: usize, span: Option<Span>) -> OpenCopper
+        ensures { HasOpenedCopper self.old self.new index layer span result [] }
+    {
+        self.holes.forget_search();
+        let reading = if is_wanted(self.stopped, index) {
+            CopperReading::begin(self.alloc, span)
+        } else {
+            CopperReading::Skipped
+        };
+        OpenCopper {
+            index,
+            layer,
+            reading,
+        }
+    }
+
+    /// Takes the next piece of the text of the file that is open. A fault of the text is no error here, and what follows it is passed over.
+    ///
+    /// # Errors
+    ///
+    /// An `AllocError` where there is no memory. A file that has failed so fails again.
+    pub fn take_piece(&mut self, file: &mut OpenCopper, piece: &[u8]) -> Result<(), AllocError>
+        ensures { (start : CheckView) (index layer : ℕ) (span : Option LayerSpan) (text : List ℕ) → HasOpenedCopper start self.old index layer span file.old text → HasOpenedCopper start self.new index layer span file.new (text ++ piece.now) }
+    {
+        self.read_piece(file, piece);
+        if file.is_out_of_memory() {
+            return Err(AllocError);
+        }
+        Ok(())
+    }
+
+    /// Reads the next piece of the file that is open, unless it has failed.
+    fn read_piece(&mut self, file: &mut OpenCopper, piece: &[u8])
+        ensures { (start : CheckView) (index layer : ℕ) (span : Option LayerSpan) (text : List ℕ) → HasOpenedCopper start self.old index layer span file.old text → HasOpenedCopper start self.new index layer span file.new (text ++ piece.now) }
+    {
+        file.read(self.alloc, &mut self.holes, piece);
+    }
+
+    /// Reads the next pieces of the file that is open.
+    fn read_pieces(&mut self, file: &mut OpenCopper, pieces: &[&[u8]])
+        ensures { (start : CheckView) (index layer : ℕ) (span : Option LayerSpan) (text : List ℕ) → HasOpenedCopper start self.old index layer span file.old text → HasOpenedCopper start self.new index layer span file.new (text ++ concat (map (λ piece. piece.now) pieces.now)) }
+    {
+        for piece in pieces {
+            self.read_piece(file, piece);
+        }
+    }
+
+    /// Ends the file that is open and has taken its whole text: with that the check has taken it, as [`PackageCheck::take`] says.
+    ///
+    /// # Errors
+    ///
+    /// An `AllocError` where there is no memory. A check that has failed so fails again.
+    pub fn end(&mut self, file: OpenCopper) -> Result<(), AllocError>
+        ensures stands { (start : CheckView) (index layer : ℕ) (span : Option LayerSpan) (text name : List ℕ) → HasOpenedCopper start self.old index layer span file text → OnOk result (TakesCopper start self.new index layer (record {
+          role = role.Copper;
+          name = name;
+          span = span;
+          bytes = text;
+          layers = start.layers;
+        })) }
+        ensures layers { self.new.layers ≡ self.old.layers }
+        ensures failed { self.old.stopped ≡ Some stop.Memory → result ≡ Err alloc_error }
+        ensures fails { OnErr result (self.new.stopped ≡ Some stop.Memory) }
+    {
+        let index = file.index;
         if !is_wanted(self.stopped, index) {
             return outcome(self.stopped);
         }
-        let read = self.read_at(index, layer, span, pieces);
+        let read = self.put_file(file);
         self.stopped = next_stop(self.stopped, index, read);
         outcome(self.stopped)
     }
 
-    /// Reads the copper file at this index, looks for the rings that are lacking on its layer, and puts what is left of it into its
-    /// slot, unless a drill file was taken at this index.
-    fn read_at(
-        &mut self,
-        index: usize,
-        layer: usize,
-        span: Option<Span>,
-        pieces: &[&[u8]],
-    ) -> Result<(), Fail>
-        ensures read { is_drill_in (kept_at self.old.slots index) ≡ false → ReadsInto (λ one. Judges self.old.rules self.old.holes layer (unnamed_file role.Copper span self.old.layers (concat (map (λ piece. piece.now) pieces.now))) (Ok one)) index (unnamed_file role.Copper span self.old.layers (concat (map (λ piece. piece.now) pieces.now))) self.old.slots self.new.slots result }
+    /// Puts what is left of a copper file that was read into its slot, unless a drill file was taken at its index.
+    fn put_file(&mut self, file: OpenCopper) -> Result<(), Fail>
+        ensures read { (span : Option LayerSpan) (text : List ℕ) → HasReadCopper (holes_of self.old) file.layer span self.old.layers file.reading text → is_drill_in (kept_at self.old.slots file.index) ≡ false → ReadsInto (λ one. Judges self.old.rules self.old.holes file.layer (unnamed_file role.Copper span self.old.layers text) (Ok one)) file.index (unnamed_file role.Copper span self.old.layers text) self.old.slots self.new.slots result }
         ensures layers { self.new.layers ≡ self.old.layers }
         ensures holes { self.new.holes ≡ self.old.holes }
         ensures rules { self.new.rules ≡ self.old.rules }
         ensures stopped { self.new.stopped ≡ self.old.stopped }
     {
-        let judged = judge_file(self.alloc, &mut self.holes, layer, span, pieces)?;
+        let OpenCopper {
+            index,
+            layer,
+            reading,
+        } = file;
+        let judged = reading.finish(self.alloc, &mut self.holes, layer)?;
         if has_drill(&self.slots, index) {
             return Ok(());
         }

@@ -1,18 +1,21 @@
 // What the check reads of a file of a package.
-ghost use Rattle.std.specs.Prelude.{◌≡◌, ℕ, List, Ok, OnOk, map, true};
-ghost use Rattle.std.specs.List.{concat};
+ghost use Rattle.std.specs.Prelude.{◌≡◌, ℕ, List, Ok, OnOk, true};
 ghost use Rattle.grid_units.specs.Results.{Answers};
 ghost use Rattle.grid_units.specs.declared.fault.Fail.TheVariants as fails;
+ghost use Rattle.drill_text.specs.Holding.{StandsAfter};
+ghost use Rattle.drill_text.specs.declared.kept.Keep.TheVariants as drill_keep;
+ghost use Rattle.layer_image.specs.Holding.{LayerStandsAfter};
 ghost use Rattle.layer_image.specs.KeptFlashes.{keeps_commands, keeps_flashes};
 ghost use Rattle.layer_image.specs.Layers.{ReadsFlashes};
 ghost use Rattle.package_check.specs.FileTexts.{Draws, ReadsLayer};
 ghost use Rattle.package_check.specs.Holding.{is_kind};
-ghost use Rattle.package_check.specs.Package.{Reads, ReadsCopper, ReadsHoles, bad_span, is_bad_span, is_copper, not_copper, unnamed_file};
+ghost use Rattle.package_check.specs.Package.{ReadsCopper, ReadsHoles, bad_span, is_bad_span, is_copper, not_copper};
 
 use crate::Role;
 use crate::readers::{Drill, Layer, Shown, read_holes, read_layer_view};
+use drill_text::DrillReader;
 use grid_units::{Fail, Fault, Reason};
-use layer_image::Keep;
+use layer_image::{Keep, LayerReader};
 use ring_rules::Span;
 use std::alloc::Global;
 
@@ -60,30 +63,30 @@ fn require_copper(layer: Layer) -> Result<Content, Fail>
     }
 }
 
-/// The content of a copper file. What is kept of it to be shown is put into `shown`.
-fn read_copper(
+/// The content of the copper file whose text the reader has read. What is kept of it to be shown is put into `shown`.
+pub(crate) fn read_copper(
     alloc: Global,
     keep: Keep,
     shown: &mut Shown,
-    pieces: &[&[u8]],
+    reader: LayerReader,
 ) -> Result<Content, Fail>
-    ensures copper { Answers (λ x. x) (ReadsCopper (concat (map (λ piece. piece.now) pieces.now))) result }
-    ensures flashes { keeps_flashes keep ≡ true → OnOk result (ReadsFlashes (concat (map (λ piece. piece.now) pieces.now)) (Ok shown.new.flashes.items)) }
-    ensures drawn { keeps_commands keep ≡ true → OnOk result (Draws (concat (map (λ piece. piece.now) pieces.now)) shown.new.drawn.items) }
+    ensures copper { (text : List ℕ) → LayerStandsAfter reader keep text → Answers (λ x. x) (ReadsCopper text) result }
+    ensures flashes { (text : List ℕ) → LayerStandsAfter reader keep text → keeps_flashes keep ≡ true → OnOk result (ReadsFlashes text (Ok shown.new.flashes.items)) }
+    ensures drawn { (text : List ℕ) → LayerStandsAfter reader keep text → keeps_commands keep ≡ true → OnOk result (Draws text shown.new.drawn.items) }
 {
-    let layer = read_layer_view(alloc, keep, shown, pieces)?;
+    let layer = read_layer_view(alloc, keep, shown, reader)?;
     require_copper(layer)
 }
 
-fn read_drill_content(
-    alloc: Global,
+/// The content of the drill file whose text the reader has read.
+pub(crate) fn read_drill_content(
     plated: bool,
     span: Option<Span>,
-    pieces: &[&[u8]],
+    reader: DrillReader,
 ) -> Result<Content, Fail>
-    ensures { Answers (λ x. x) (ReadsHoles plated span (concat (map (λ piece. piece.now) pieces.now))) result }
+    ensures { (text : List ℕ) → StandsAfter reader drill_keep.Holes text → Answers (λ x. x) (ReadsHoles plated span text) result }
 {
-    let drill = read_holes(alloc, pieces)?;
+    let drill = read_holes(reader)?;
     Ok(Content::Drill {
         plated,
         span,
@@ -105,36 +108,11 @@ pub(crate) fn is_kind(role: Role, copper: bool) -> bool
 }
 
 /// Whether this span is bad for a file of this role: it is copper, or the span ends above the number of copper files.
-fn is_bad_span(role: Role, span: Option<Span>, layers: usize) -> bool
+pub(crate) fn is_bad_span(role: Role, span: Option<Span>, layers: usize) -> bool
     ensures { result ≡ is_bad_span role span layers }
 {
     match span {
-        Some(span) => is_copper(role) || layers < span.last(),
+        Some(span) => is_copper(role) || layers < span.last() as usize,
         None => false,
-    }
-}
-
-/// The content of a file of this role and span, in a package of so many copper files, or its fault. Its bytes come in pieces. What is
-/// kept of a copper file to be shown is put into `shown`.
-pub(crate) fn read_file(
-    alloc: Global,
-    keep: Keep,
-    shown: &mut Shown,
-    role: Role,
-    span: &Option<Span>,
-    layers: usize,
-    pieces: &[&[u8]],
-) -> Result<Content, Fail>
-    ensures content { Answers (λ x. x) (Reads (unnamed_file role span.now layers (concat (map (λ piece. piece.now) pieces.now)))) result }
-    ensures flashes { keeps_flashes keep ≡ true → is_copper role ≡ true → OnOk result (ReadsFlashes (concat (map (λ piece. piece.now) pieces.now)) (Ok shown.new.flashes.items)) }
-    ensures drawn { keeps_commands keep ≡ true → is_copper role ≡ true → OnOk result (Draws (concat (map (λ piece. piece.now) pieces.now)) shown.new.drawn.items) }
-{
-    if is_bad_span(role, *span, layers) {
-        return Err(bad_span());
-    }
-    match role {
-        Role::Copper => read_copper(alloc, keep, shown, pieces),
-        Role::Plated => read_drill_content(alloc, true, *span, pieces),
-        Role::Unplated => read_drill_content(alloc, false, *span, pieces),
     }
 }

@@ -1,18 +1,24 @@
 //! The holes of a package, with an index to look them up.
 
-ghost use Rattle.std.specs.Prelude.{◌≡◌, ◌++◌, IfOk, map};
-ghost use Rattle.std.specs.List.{concat};
-ghost use Rattle.grid_units.specs.Results.{Answers};
-ghost use Rattle.package_check.specs.Judging.{JudgesCopper};
-ghost use Rattle.ring_rules.specs.Findings.{gap_findings};
+ghost use Rattle.std.specs.Prelude.{◌≡◌, ◌++◌, ℕ, List, IfErr, IfOk, IfSome, None, OnOk, false};
+ghost use Rattle.grid_units.specs.Results.{Answers, IfFault};
+ghost use Rattle.layer_image.specs.Holding.{ShowsLayerFault};
+ghost use Rattle.pad_shapes.specs.Pads.{pad_covers};
+ghost use Rattle.pad_shapes.specs.declared.pad.Pad.{Pad as ThePad};
+ghost use Rattle.package_check.specs.CheckViews.{is_drill_sum};
+ghost use Rattle.package_check.specs.Judging.{HasTriedIn, HasTriedPadsOf, JudgesCopper};
+ghost use Rattle.ring_rules.specs.Findings.{gap_findings, layer_findings};
+ghost use Rattle.ring_rules.specs.Search.{HasTried, IsRingIndexOf, IsSearchOver};
 
-use crate::judged::{Judged, judge_rest_of_copper};
+use crate::FileSum;
+use crate::contents::not_copper;
+use crate::judged::Judged;
 use crate::pad_size::{PadSize, are_unlike, likely_size, mean_size};
-use crate::readers::PIECE;
+use crate::readers::{PIECE, is_copper_function};
 use grid_units::{Fail, Rules};
-use layer_image::{Keep, LayerReader, shown_faults};
+use layer_image::{LayerReader, shown_faults};
 use pad_shapes::Pad;
-use ring_rules::{Drilled, Finding, RingIndex};
+use ring_rules::{Drilled, Finding, LayerSearch, RingIndex};
 use std::alloc::{AllocError, Global};
 use std::marker::Model;
 
@@ -23,19 +29,23 @@ pub(crate) struct IndexedHoles {
     index: RingIndex,
     /// The size of the pads for which the index is quick. It is right for all.
     size: PadSize,
+    /// How many pads were tried by the index.
+    tried: usize,
     rules: Rules,
+    /// The search on the layer that is being read, if one has begun.
+    search: Option<LayerSearch>,
 }
 
 impl Model for IndexedHoles {
-    ghost use Rattle.std.specs.Prelude.{◌≡◌};
+    ghost use Rattle.std.specs.Prelude.{◌≡◌, IfSome};
     ghost use Rattle.package_check.specs.HoleViews.{HolesView};
-    ghost use Rattle.ring_rules.specs.Search.{IsRingIndexOf};
+    ghost use Rattle.ring_rules.specs.Search.{IsRingIndexOf, IsSearchOver};
 
     ghost Value = { HolesView };
 
-    ghost view = { λ h. record { holes = h.holes.items; rules = h.index.rules } };
+    ghost view = { λ h. record { holes = h.holes.items; rules = h.index.rules; index = h.index; search = h.search } };
 
-    ghost invariant = { λ h. IsRingIndexOf h.holes.items h.index × (h.rules ≡ h.index.rules) };
+    ghost invariant = { λ h. IsRingIndexOf h.holes.items h.index × (h.rules ≡ h.index.rules) × IfSome h.search (IsSearchOver h.index) };
 }
 
 impl IndexedHoles {
@@ -54,63 +64,184 @@ impl IndexedHoles {
             holes,
             index,
             size,
+            tried: 0,
             rules,
+            search: None,
         })
     }
 
-    /// Makes the index anew where most of these pads, the first ones of a layer, are of another shape than those for which it is quick.
-    fn suit(&mut self, alloc: Global, pads: &[Pad]) -> Result<(), AllocError>
+    /// Whether a new index is worth its time: no pad of the layer was tried, or an eighth as many by this index as there are holes.
+    fn is_worth_another(&self) -> bool {
+        self.search.is_none() || self.holes.len() / 8 <= self.tried
+    }
+
+    /// The search on the layer that is being read, if one has begun, over another index of these holes. It is taken out.
+    fn take_search_over(
+        &mut self,
+        alloc: Global,
+        index: &RingIndex,
+    ) -> Result<Option<LayerSearch>, AllocError>
+        requires index { IsRingIndexOf self.old.holes index.now }
+        requires rules { index.now.rules ≡ self.old.rules }
+        ensures over { IfOk result (λ search. IfSome search (IsSearchOver index.now)) }
+        ensures tried { (layer : ℕ) (pads : List ThePad) → HasTriedIn self.old.holes self.old.index layer pads self.old.search → IfOk result (λ search. HasTriedIn self.old.holes index.now layer pads search) }
         ensures holes { self.new.holes ≡ self.old.holes }
         ensures rules { self.new.rules ≡ self.old.rules }
     {
-        let Some(size) = mean_size(pads) else {
-            return Ok(());
-        };
-        if size.is_shaped_like(self.size) || !are_unlike(pads, self.size) {
-            return Ok(());
+        match self.search.take() {
+            Some(search) => {
+                let over = search.over::<Pad>(alloc, &self.index, &self.holes, index)?;
+                Ok(Some(over))
+            }
+            None => Ok(None),
         }
-        self.index = RingIndex::new(alloc, &self.holes, self.rules, size.width, size.height)?;
+    }
+
+    /// Makes the index anew, as quick as can be for pads of this size. A search that has begun goes on over it.
+    fn index_for(&mut self, alloc: Global, size: PadSize) -> Result<(), AllocError>
+        ensures tried { (layer : ℕ) (tried : List ThePad) → HasTriedIn self.old.holes self.old.index layer tried self.old.search → OnOk result (HasTriedIn self.new.holes self.new.index layer tried self.new.search) }
+        ensures holes { self.new.holes ≡ self.old.holes }
+        ensures rules { self.new.rules ≡ self.old.rules }
+    {
+        let index = RingIndex::new(alloc, &self.holes, self.rules, size.width, size.height)?;
+        self.search = self.take_search_over(alloc, &index)?;
+        self.index = index;
         self.size = size;
+        self.tried = 0;
         Ok(())
     }
 
-    /// What is left of the copper file whose text is this piece and the further ones, or its fault. The index is fitted to the pads among
-    /// its first bytes.
-    fn judge_from(
+    /// Forgets the search on a layer, so that the next pads are the first ones of another.
+    pub(crate) fn forget_search(&mut self)
+        ensures search { self.new.search ≡ None }
+        ensures holes { self.new.holes ≡ self.old.holes }
+        ensures rules { self.new.rules ≡ self.old.rules }
+    {
+        self.search = None;
+    }
+
+    /// The search on a layer of this number, which is taken out; one that has tried no pad, where none has begun.
+    fn take_search(&mut self, alloc: Global, layer: usize) -> Result<LayerSearch, AllocError>
+        ensures over { IfOk result (IsSearchOver self.new.index) }
+        ensures tried { (pads : List ThePad) → HasTriedIn self.old.holes self.old.index layer pads self.old.search → IfOk result (λ search. HasTried pad_covers self.old.holes layer pads self.old.index search) }
+        ensures index { self.new.index ≡ self.old.index }
+        ensures holes { self.new.holes ≡ self.old.holes }
+        ensures rules { self.new.rules ≡ self.old.rules }
+    {
+        match self.search.take() {
+            Some(search) => Ok(search),
+            None => LayerSearch::new::<Pad>(alloc, &self.index, &self.holes, layer),
+        }
+    }
+
+    /// Fits the index to the next pads of a layer, where most of them are of another shape than those for which it is quick.
+    fn suit(&mut self, alloc: Global, pads: &[Pad]) -> Result<(), AllocError>
+        ensures tried { (layer : ℕ) (tried : List ThePad) → HasTriedIn self.old.holes self.old.index layer tried self.old.search → OnOk result (HasTriedIn self.new.holes self.new.index layer tried self.new.search) }
+        ensures holes { self.new.holes ≡ self.old.holes }
+        ensures rules { self.new.rules ≡ self.old.rules }
+    {
+        if !self.is_worth_another() {
+            return Ok(());
+        }
+        match mean_size(pads) {
+            Some(size) if !size.is_shaped_like(self.size) && are_unlike(pads, self.size) => {
+                self.index_for(alloc, size)
+            }
+            _ => Ok(()),
+        }
+    }
+
+    /// Tries the next pads of a layer of this number, by an index that suits them.
+    fn try_pads(&mut self, alloc: Global, layer: usize, pads: &[Pad]) -> Result<(), AllocError>
+        ensures tried { (tried : List ThePad) → HasTriedIn self.old.holes self.old.index layer tried self.old.search → OnOk result (HasTriedIn self.new.holes self.new.index layer (tried ++ pads.now) self.new.search) }
+        ensures holes { self.new.holes ≡ self.old.holes }
+        ensures rules { self.new.rules ≡ self.old.rules }
+    {
+        if pads.is_empty() {
+            return Ok(());
+        }
+        self.suit(alloc, pads)?;
+        let mut search = self.take_search(alloc, layer)?;
+        search.try_pads(&self.index, pads);
+        self.search = Some(search);
+        self.tried = self.tried.saturating_add(pads.len());
+        Ok(())
+    }
+
+    /// Feeds a chunk of a layer to the reader, tries the pads that it ends, and drops them.
+    fn feed_chunk(
         &mut self,
         alloc: Global,
         layer: usize,
-        first: &[u8],
-        more: &[&[u8]],
-    ) -> Result<Judged, Fail>
-        ensures judged { Answers (λ x. x) (JudgesCopper self.old.rules self.old.holes layer (first.now ++ concat (map (λ piece. piece.now) more.now))) result }
+        reader: &mut LayerReader,
+        chunk: &[u8],
+    ) -> Result<(), Fail>
+        ensures ok { (text : List ℕ) → HasTriedPadsOf self.old layer reader.old text → OnOk result (HasTriedPadsOf self.new layer reader.new (text ++ chunk.now)) }
+        ensures err { (text : List ℕ) → HasTriedPadsOf self.old layer reader.old text → IfErr result (IfFault (ShowsLayerFault (text ++ chunk.now))) }
+        ensures holes { self.new.holes ≡ self.old.holes }
+        ensures rules { self.new.rules ≡ self.old.rules }
+    {
+        reader.feed(chunk)?;
+        self.try_pads(alloc, layer, reader.pads())?;
+        reader.clear_pads();
+        Ok(())
+    }
+
+    /// Feeds a piece of a layer of this number to the reader, [`PIECE`] bytes at a time, and tries and drops its pads.
+    pub(crate) fn feed(
+        &mut self,
+        alloc: Global,
+        layer: usize,
+        reader: &mut LayerReader,
+        piece: &[u8],
+    ) -> Result<(), Fail>
+        ensures ok { (text : List ℕ) → HasTriedPadsOf self.old layer reader.old text → OnOk result (HasTriedPadsOf self.new layer reader.new (text ++ piece.now)) }
+        ensures err { (text : List ℕ) → HasTriedPadsOf self.old layer reader.old text → IfErr result (IfFault (ShowsLayerFault (text ++ piece.now))) }
         ensures holes { self.new.holes ≡ self.old.holes }
         ensures rules { self.new.rules ≡ self.old.rules }
     {
         shown_faults();
-        let (start, rest) = first.split_at(first.len().min(PIECE));
-        let mut reader = LayerReader::keeping(alloc, Keep::Pads);
-        reader.feed(start)?;
-        self.suit(alloc, reader.pads())?;
-        judge_rest_of_copper(alloc, &self.holes, &self.index, layer, reader, rest, more)
+        for chunk in piece.chunks(PIECE) {
+            self.feed_chunk(alloc, layer, reader, chunk)?;
+        }
+        Ok(())
     }
 
-    /// What is left of the copper file whose text comes in these pieces, or its fault. Its layer has this number among the copper files,
-    /// from 0.
-    pub(crate) fn judge_copper(
-        &mut self,
-        alloc: Global,
-        layer: usize,
-        pieces: &[&[u8]],
-    ) -> Result<Judged, Fail>
-        ensures judged { Answers (λ x. x) (JudgesCopper self.old.rules self.old.holes layer (concat (map (λ piece. piece.now) pieces.now))) result }
+    /// The findings of rings on a layer of this number, whose pads were all tried. The search ends.
+    fn rings(&mut self, alloc: Global, layer: usize) -> Result<Vec<Finding>, AllocError>
+        ensures rings { (pads : List ThePad) → HasTriedIn self.old.holes self.old.index layer pads self.old.search → IfOk result (λ rings. rings.items ≡ layer_findings pad_covers self.old.rules.ring self.old.holes layer pads) }
         ensures holes { self.new.holes ≡ self.old.holes }
         ensures rules { self.new.rules ≡ self.old.rules }
     {
-        match pieces.split_first() {
-            Some((first, more)) => self.judge_from(alloc, layer, first, more),
-            None => self.judge_from(alloc, layer, &[], pieces),
+        let search = self.take_search(alloc, layer)?;
+        let mut rings = Vec::new(alloc);
+        search.push_findings::<Pad>(alloc, &self.index, &self.holes, &mut rings)?;
+        Ok(rings)
+    }
+
+    /// What is left of a copper file whose text the reader has read: the rest of its pads are tried. Its layer has this number.
+    pub(crate) fn judge(
+        &mut self,
+        alloc: Global,
+        layer: usize,
+        reader: LayerReader,
+    ) -> Result<Judged, Fail>
+        ensures layer { IfOk result (λ one. is_drill_sum one.sum ≡ false) }
+        ensures judged { (text : List ℕ) → HasTriedPadsOf self.old layer reader text → Answers (λ x. x) (JudgesCopper self.old.rules self.old.holes layer text) result }
+        ensures holes { self.new.holes ≡ self.old.holes }
+        ensures rules { self.new.rules ≡ self.old.rules }
+    {
+        let rest = reader.finish()?;
+        self.try_pads(alloc, layer, rest.pads())?;
+        let rings = self.rings(alloc, layer)?;
+        if !is_copper_function(rest.file_function()) {
+            return Err(not_copper());
         }
+        let sum = FileSum::Layer {
+            pads: rest.pad_count(),
+            other: rest.other(),
+        };
+        Ok(Judged { sum, rings })
     }
 
     /// The findings of gaps between these holes.

@@ -1,16 +1,19 @@
 //! A package whose files are taken in any order.
 
-ghost use Rattle.std.specs.Prelude.{◌≡◌, ℕ, List, true, false, Some, Err, OnOk, OnErr, alloc_error, map};
+ghost use Rattle.std.specs.Prelude.{◌≡◌, ℕ, List, [], Option, true, false, Some, Err, OnOk, OnErr, alloc_error, map};
 ghost use Rattle.std.specs.List.{concat};
+ghost use Rattle.grid_units.specs.Spans.{LayerSpan};
 ghost use Rattle.layer_image.specs.KeptFlashes.{keeps_commands, keeps_flashes};
 ghost use Rattle.layer_image.specs.declared.keep.Keep.{Keep as TheKeep};
 ghost use Rattle.layer_image.specs.declared.keep.Keep.TheVariants as keep;
+ghost use Rattle.manifest.specs.declared.Role.{Role as TheRole};
 ghost use Rattle.package_check.specs.Boards.{ReturnsBoard, ReturnsDrawnBoard, ReturnsFlashedBoard};
 ghost use Rattle.package_check.specs.Package.{FileView, unnamed_file};
 ghost use Rattle.package_check.specs.Holding.{ReadsAt, is_wanted, next_stop};
+ghost use Rattle.package_check.specs.OpenFiles.{HasOpened, HasReadText};
 ghost use Rattle.package_check.specs.declared.PackageFault.TheVariants as stop;
 
-use crate::contents::read_file;
+use crate::open_file::{OpenFile, Reading};
 use crate::readers::Shown;
 use crate::slots::{Kept, board_of_slots, put};
 use crate::{Board, PackageFault, Role};
@@ -81,37 +84,76 @@ impl PackageReader {
         ensures failed { IsOutOfMemory self.old → result ≡ Err alloc_error }
         ensures fails { OnErr result (IsOutOfMemory self.new) }
     {
+        let mut file = self.begin(index, role, span);
+        file.read_pieces(pieces);
+        self.end(file)
+    }
+
+    /// Opens the file at this index of the package, from 0, so that it can take its text piece by piece. The reader has taken it once it
+    /// was ended, as [`PackageReader::end`] says.
+    pub fn begin(&self, index: usize, role: Role, span: Option<Span>) -> OpenFile
+        ensures { HasOpened self.now index role span result [] }
+    {
+        let reading = self.start(index, role, &span);
+        OpenFile {
+            index,
+            role,
+            span,
+            reading,
+        }
+    }
+
+    /// The file at this index, of which nothing was read; it is skipped where it stands after one that is refused.
+    fn start(&self, index: usize, role: Role, span: &Option<Span>) -> Reading
+        ensures { is_wanted self.now.stopped index ≡ true → HasReadText self.now.keep role span.now self.now.layers result [] }
+    {
+        if !is_wanted(self.stopped, index) {
+            return Reading::Skipped;
+        }
+        Reading::begin(self.alloc, self.keep, role, span, self.layers)
+    }
+
+    /// Ends a file that was opened and has taken its whole text: with that the reader has taken it, as [`PackageReader::take`] says.
+    ///
+    /// # Errors
+    ///
+    /// An `AllocError` where there is no memory. A reader that has failed so fails again.
+    pub fn end(&mut self, file: OpenFile) -> Result<(), AllocError>
+        ensures stands { (index : ℕ) (role : TheRole) (span : Option LayerSpan) (text name : List ℕ) → HasOpened self.old index role span file text → OnOk result (TakesFile self.old self.new index (record {
+          role = role;
+          name = name;
+          span = span;
+          bytes = text;
+          layers = copper_files self.old;
+        })) }
+        ensures layers { copper_files self.new ≡ copper_files self.old }
+        ensures failed { IsOutOfMemory self.old → result ≡ Err alloc_error }
+        ensures fails { OnErr result (IsOutOfMemory self.new) }
+    {
+        let index = file.index;
         if !is_wanted(self.stopped, index) {
             return outcome(self.stopped);
         }
-        let read = self.read_at(index, role, span, pieces);
+        let read = self.put_file(file);
         self.stopped = next_stop(self.stopped, index, read);
         outcome(self.stopped)
     }
 
-    /// Reads the file at this index, and puts what is kept of it into its slot.
-    fn read_at(
-        &mut self,
-        index: usize,
-        role: Role,
-        span: Option<Span>,
-        pieces: &[&[u8]],
-    ) -> Result<(), Fail>
-        ensures read { ReadsAt self.old.keep index (unnamed_file role span self.old.layers (concat (map (λ piece. piece.now) pieces.now))) self.old.slots.items self.new.slots.items result }
+    /// Puts what is kept of a file into its slot.
+    fn put_file(&mut self, file: OpenFile) -> Result<(), Fail>
+        ensures read { (text : List ℕ) → HasReadText self.old.keep file.role file.span self.old.layers file.reading text → ReadsAt self.old.keep file.index (unnamed_file file.role file.span self.old.layers text) self.old.slots.items self.new.slots.items result }
         ensures layers { self.new.layers ≡ self.old.layers }
         ensures keep { self.new.keep ≡ self.old.keep }
         ensures stopped { self.new.stopped ≡ self.old.stopped }
     {
+        let OpenFile {
+            index,
+            span,
+            reading,
+            ..
+        } = file;
         let mut shown = Shown::nothing(self.alloc);
-        let content = read_file(
-            self.alloc,
-            self.keep,
-            &mut shown,
-            role,
-            &span,
-            self.layers,
-            pieces,
-        )?;
+        let content = reading.finish(self.alloc, self.keep, &mut shown, span)?;
         put(&mut self.slots, index, Kept { content, shown })?;
         Ok(())
     }

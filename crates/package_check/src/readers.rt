@@ -1,21 +1,20 @@
 //! What the check keeps of a file as it reads it: pads of a layer, holes of a drill file.
 
-ghost use Rattle.std.specs.Prelude.{◌≡◌, ◌≤◌, ◌++◌, ◌∷◌, [], ◌==◌, not, ℕ, List, Ok, Err, IfErr, IfOk, OnOk, length, map, true};
-ghost use Rattle.std.specs.List.{concat, prefix_len, take_while};
+ghost use Rattle.std.specs.Prelude.{◌≡◌, ◌++◌, ◌∷◌, [], ◌==◌, not, ℕ, List, Ok, IfErr, IfOk, OnOk, true};
+ghost use Rattle.std.specs.List.{take_while};
 ghost use Rattle.std.specs.Option.{option_copied};
 ghost use Rattle.grid_units.specs.Results.{Answers, IfFault};
 ghost use Rattle.layer_image.specs.Flashes.{pads_of};
-ghost use Rattle.drill_text.specs.Outcome.{file_of};
-ghost use Rattle.drill_text.specs.Texts.{ReadsAs};
+ghost use Rattle.drill_text.specs.Holding.{StandsAfter};
 ghost use Rattle.drill_text.specs.declared.kept.Keep.TheVariants as drill_keep;
 ghost use Rattle.layer_image.specs.Holding.{LayerStandsAfter, ShowsLayerFault};
 ghost use Rattle.layer_image.specs.KeptFlashes.{keeps_commands, keeps_flashes};
-ghost use Rattle.layer_image.specs.Layers.{ReadsFlashes, ReadsKept};
+ghost use Rattle.layer_image.specs.Layers.{ReadsFlashes};
 ghost use Rattle.layer_image.specs.declared.keep.Keep.{Keep as TheKeep};
+ghost use Rattle.layer_image.specs.declared.keep.Keep.TheVariants as keep;
 ghost use Rattle.package_check.specs.FileTexts.{Draws, ReadsLayer, ReadsDrill, is_copper_function};
 
 use drill_text::DrillReader;
-use drill_text::laws::faults_stay;
 use grid_units::numbers::len_before;
 use grid_units::{Fail, Hole};
 use layer_image::{Drawn, Flash, Keep, LayerReader, What, shown_faults};
@@ -135,7 +134,7 @@ fn first_field(text: &[u8]) -> &[u8]
 }
 
 /// Feeds a piece of a layer to the reader, [`PIECE`] bytes at a time.
-fn feed_layer(reader: &mut LayerReader, piece: &[u8]) -> Result<(), Fail>
+pub(crate) fn feed_layer(reader: &mut LayerReader, piece: &[u8]) -> Result<(), Fail>
     ensures ok { (keep : TheKeep) (text : List ℕ) → LayerStandsAfter reader.old keep text → OnOk result (LayerStandsAfter reader.new keep (text ++ piece.now)) }
     ensures err { (keep : TheKeep) (text : List ℕ) → LayerStandsAfter reader.old keep text → IfErr result (IfFault (ShowsLayerFault (text ++ piece.now))) }
 {
@@ -146,23 +145,11 @@ fn feed_layer(reader: &mut LayerReader, piece: &[u8]) -> Result<(), Fail>
     Ok(())
 }
 
-/// The layer whose text comes in these pieces, of which just this is kept.
-fn read_layer(alloc: Global, keep: Keep, pieces: &[&[u8]]) -> Result<layer_image::Layer, Fail>
-    ensures { Answers (λ layer. layer) (ReadsKept keep (concat (map (λ piece. piece.now) pieces.now))) result }
+/// What the check keeps of the copper file whose text the reader has read, or its fault.
+fn read_pads(reader: LayerReader) -> Result<Layer, Fail>
+    ensures { (text : List ℕ) → LayerStandsAfter reader keep.Pads text → Answers (λ x. x) (ReadsLayer text) result }
 {
-    shown_faults();
-    let mut reader = LayerReader::keeping(alloc, keep);
-    for piece in pieces {
-        feed_layer(&mut reader, piece)?;
-    }
-    reader.finish()
-}
-
-/// What the check keeps of the copper file whose text comes in these pieces, or its fault.
-fn read_pads(alloc: Global, pieces: &[&[u8]]) -> Result<Layer, Fail>
-    ensures { Answers (λ x. x) (ReadsLayer (concat (map (λ piece. piece.now) pieces.now))) result }
-{
-    let layer = read_layer(alloc, Keep::Pads, pieces)?;
+    let layer = reader.finish()?;
     let other = layer.other();
     let is_copper = is_copper_function(layer.file_function());
     Ok(Layer {
@@ -198,13 +185,12 @@ fn pads_among(alloc: Global, flashes: &[Flash], count: usize) -> Result<Vec<Pad>
 
 /// What [`read_pads`] gives of a copper file, and its flashes; also what its commands draw, where these are kept. The commands are
 /// dropped then.
-fn read_shown(alloc: Global, keep: Keep, shown: &mut Shown, pieces: &[&[u8]]) -> Result<Layer, Fail>
-    requires { keeps_flashes keep ≡ true }
-    ensures image { Answers (λ x. x) (ReadsLayer (concat (map (λ piece. piece.now) pieces.now))) result }
-    ensures flashes { OnOk result (ReadsFlashes (concat (map (λ piece. piece.now) pieces.now)) (Ok shown.new.flashes.items)) }
-    ensures drawn { keeps_commands keep ≡ true → OnOk result (Draws (concat (map (λ piece. piece.now) pieces.now)) shown.new.drawn.items) }
+fn read_shown(alloc: Global, shown: &mut Shown, reader: LayerReader) -> Result<Layer, Fail>
+    ensures image { (keep : TheKeep) (text : List ℕ) → LayerStandsAfter reader keep text → keeps_flashes keep ≡ true → Answers (λ x. x) (ReadsLayer text) result }
+    ensures flashes { (keep : TheKeep) (text : List ℕ) → LayerStandsAfter reader keep text → keeps_flashes keep ≡ true → OnOk result (ReadsFlashes text (Ok shown.new.flashes.items)) }
+    ensures drawn { (keep : TheKeep) (text : List ℕ) → LayerStandsAfter reader keep text → keeps_commands keep ≡ true → OnOk result (Draws text shown.new.drawn.items) }
 {
-    let layer = read_layer(alloc, keep, pieces)?;
+    let layer = reader.finish()?;
     let other = layer.other();
     let count = layer.flashes().len().saturating_sub(other);
     let pads = pads_among(alloc, layer.flashes(), count)?;
@@ -219,40 +205,29 @@ fn read_shown(alloc: Global, keep: Keep, shown: &mut Shown, pieces: &[&[u8]]) ->
     })
 }
 
-/// What the check keeps of the copper file whose text comes in these pieces, or its fault. What is kept to be shown is put into `shown`.
+/// What the check keeps of the copper file whose text the reader has read, or its fault. What is kept to be shown is put into `shown`.
 pub(crate) fn read_layer_view(
     alloc: Global,
     keep: Keep,
     shown: &mut Shown,
-    pieces: &[&[u8]],
+    reader: LayerReader,
 ) -> Result<Layer, Fail>
-    ensures image { Answers (λ x. x) (ReadsLayer (concat (map (λ piece. piece.now) pieces.now))) result }
-    ensures flashes { keeps_flashes keep ≡ true → OnOk result (ReadsFlashes (concat (map (λ piece. piece.now) pieces.now)) (Ok shown.new.flashes.items)) }
-    ensures drawn { keeps_commands keep ≡ true → OnOk result (Draws (concat (map (λ piece. piece.now) pieces.now)) shown.new.drawn.items) }
+    ensures image { (text : List ℕ) → LayerStandsAfter reader keep text → Answers (λ x. x) (ReadsLayer text) result }
+    ensures flashes { (text : List ℕ) → LayerStandsAfter reader keep text → keeps_flashes keep ≡ true → OnOk result (ReadsFlashes text (Ok shown.new.flashes.items)) }
+    ensures drawn { (text : List ℕ) → LayerStandsAfter reader keep text → keeps_commands keep ≡ true → OnOk result (Draws text shown.new.drawn.items) }
 {
     match keep {
-        Keep::Pads => read_pads(alloc, pieces),
-        Keep::All | Keep::Flashes => read_shown(alloc, keep, shown, pieces),
+        Keep::Pads => read_pads(reader),
+        Keep::All => read_shown(alloc, shown, reader),
+        Keep::Flashes => read_shown(alloc, shown, reader),
     }
 }
 
-/// The drill file whose text comes in these pieces, of which no command is kept.
-fn read_drill(alloc: Global, pieces: &[&[u8]]) -> Result<drill_text::Drill, Fail>
-    ensures { Answers (λ drill. drill) (ReadsAs (file_of drill_keep.Holes) (concat (map (λ piece. piece.now) pieces.now))) result }
+/// What the check keeps of the drill file whose text the reader has read, or its fault.
+pub(crate) fn read_holes(reader: DrillReader) -> Result<Drill, Fail>
+    ensures { (text : List ℕ) → StandsAfter reader drill_keep.Holes text → Answers (λ x. x) (ReadsDrill text) result }
 {
-    faults_stay();
-    let mut reader = DrillReader::keeping(alloc, drill_text::Keep::Holes);
-    for piece in pieces {
-        reader.feed(piece)?;
-    }
-    reader.finish()
-}
-
-/// What the check keeps of the drill file whose text comes in these pieces, or its fault.
-pub(crate) fn read_holes(alloc: Global, pieces: &[&[u8]]) -> Result<Drill, Fail>
-    ensures { Answers (λ x. x) (ReadsDrill (concat (map (λ piece. piece.now) pieces.now))) result }
-{
-    let drill = read_drill(alloc, pieces)?;
+    let drill = reader.finish()?;
     Ok(Drill {
         holes: drill.into_holes(),
     })

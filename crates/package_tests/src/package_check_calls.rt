@@ -2,8 +2,9 @@
 
 use grid_units::{Fault, Reason, Rules};
 use package_check::{
-    Board, CheckText, File, FileLines, FileSum, Keep, PackageFault, PackageReader, PiecedFile,
-    Report, Role, Span, check_bytes, check_pieces, read_package, write_report,
+    Board, CheckText, File, FileLines, FileSum, Keep, PackageCheck, PackageFault, PackageReader,
+    PiecedFile, Report, Role, Span, check_bytes, check_pieces, layer_count, read_package,
+    write_report,
 };
 use std::alloc::{AllocError, Global};
 
@@ -38,6 +39,9 @@ const LAYER: &[u8] = b"%FSLAX46Y46*%\n%MOMM*%\n%ADD10C,0.65*%\nD10*\nX0Y0D03*\nM
 
 const MOVED: &[u8] = b"%FSLAX46Y46*%\n%MOMM*%\n%ADD10C,0.65*%\nD10*\nX1Y0D03*\nM02*\n";
 
+/// A layer that selects an aperture that is not defined, and goes on.
+const UNKNOWN: &[u8] = b"%FSLAX46Y46*%\n%MOMM*%\n%ADD10C,0.65*%\nD11*\nX0Y0D03*\nM02*\n";
+
 const DRILL: &[u8] = b"M48\nMETRIC\nT1C0.4\n%\nT1\nX0.0Y0.0\nM30\n";
 
 const OBROUND: &[u8] = b"%FSLAX46Y46*%\n%MOMM*%\n%ADD10O,2.75X0.75*%\nD10*\nX1000000Y0D03*\nM02*\n";
@@ -54,7 +58,7 @@ const OBLIQUE: &[u8] = b"M48\nMETRIC\nT1C0.5\n%\nT1\nX0.0Y5.0G85X2.0Y6.0\nM30\n"
 const RULES: &str = "rules ring=0.125000000 gap=0.250000000\n";
 
 /// A file: its role, its name, the first and the last layer of its span, and its bytes.
-type FileRow<'a> = (Role, &'a str, Option<(usize, usize)>, &'a [u8]);
+type FileRow<'a> = (Role, &'a str, Option<(u32, u32)>, &'a [u8]);
 
 const TOP: FileRow = (Role::Copper, "top", None, LAYER);
 
@@ -160,10 +164,15 @@ fn is_report_on(
     lines: &str,
 ) -> Result<bool, RowFail> {
     let report = check_bytes(alloc, files, rules()?)?;
-    is_written(alloc, files, names, &report, lines)
+    let in_bytes = checked_in_bytes(alloc, files)??;
+    Ok(
+        is_written(alloc, files, names, &report, lines)?
+            && is_written(alloc, files, names, &in_bytes, lines)?,
+    )
 }
 
-/// Whether the report on the files has this text after its first line, written as bytes and printed by the names of the files.
+/// Whether the report on the files, which are also taken byte by byte, has this text after its first line, written as bytes and printed by
+/// the names of the files.
 fn is_reported(alloc: Global, rows: &[FileRow], lines: &str) -> Result<bool, RowFail> {
     let files = files_of(alloc, rows)?;
     let names = names_of(alloc, rows)?;
@@ -319,15 +328,92 @@ fn pieces_give_the_report_of_the_whole(rt: HostRuntime) {
     assert!(rt; are_pieces_alike(rt.alloc()) == Ok(true));
 }
 
+/// Takes a file byte by byte.
+fn take_in_bytes(reader: &mut PackageReader, index: usize, file: &File) -> Result<(), AllocError> {
+    let mut open = reader.begin(index, file.role, file.span);
+    for piece in file.bytes.chunks(1) {
+        open.take(piece)?;
+    }
+    reader.end(open)
+}
+
+/// Takes the files of a package byte by byte, but for its copper files where these are left to a check.
+fn take_all_in_bytes(
+    reader: &mut PackageReader,
+    files: &[File],
+    with_copper: bool,
+) -> Result<(), AllocError> {
+    for (index, file) in files.iter().enumerate() {
+        if with_copper || file.role != Role::Copper {
+            take_in_bytes(reader, index, file)?;
+        }
+    }
+    Ok(())
+}
+
+/// Takes a copper file byte by byte, whose layer has this number.
+fn check_in_bytes(
+    check: &mut PackageCheck,
+    index: usize,
+    layer: usize,
+    file: &File,
+) -> Result<(), AllocError> {
+    let mut open = check.begin(index, layer, file.span);
+    for piece in file.bytes.chunks(1) {
+        check.take_piece(&mut open, piece)?;
+    }
+    check.end(open)
+}
+
+fn check_all_in_bytes(check: &mut PackageCheck, files: &[File]) -> Result<(), AllocError> {
+    let mut layer: usize = 0;
+    for (index, file) in files.iter().enumerate() {
+        if file.role == Role::Copper {
+            check_in_bytes(check, index, layer, file)?;
+            layer = layer.saturating_add(1);
+        }
+    }
+    Ok(())
+}
+
+/// The report on a package whose files are taken byte by byte, or its refusal.
+fn checked_in_bytes(
+    alloc: Global,
+    files: &[File],
+) -> Result<Result<Report, PackageFault>, RowFail> {
+    let mut reader = PackageReader::new(alloc, layer_count(files));
+    take_all_in_bytes(&mut reader, files, false)?;
+    let mut check = reader.checking(rules()?)?;
+    check_all_in_bytes(&mut check, files)?;
+    Ok(check.finish())
+}
+
+/// The board of a package whose files are taken byte by byte, or its refusal.
+fn board_in_bytes(
+    alloc: Global,
+    files: &[File],
+) -> Result<Result<Board, PackageFault>, AllocError> {
+    let mut reader = PackageReader::new(alloc, layer_count(files));
+    take_all_in_bytes(&mut reader, files, true)?;
+    Ok(reader.board())
+}
+
 /// A file's number, from 0, and the reason why the package is refused for it, in place of a report and of a board.
 fn is_refused(alloc: Global, rows: &[FileRow], fault: PackageFault) -> Result<bool, RowFail> {
     let files = files_of(alloc, rows)?;
+    let fault = Some(fault);
     let report = check_bytes(alloc, &files, rules()?).err();
-    Ok(report == Some(fault) && read_package(alloc, &files, Keep::Pads).err() == Some(fault))
+    let board = read_package(alloc, &files, Keep::Pads).err();
+    Ok(
+        report == fault
+            && board == fault
+            && checked_in_bytes(alloc, &files)?.err() == fault
+            && board_in_bytes(alloc, &files)?.err() == fault,
+    )
 }
 
 /// A span has layers of the package, and no layer has one. The first file that is refused counts, whatever stands after it.
-const REFUSALS: [(&[FileRow], usize, Fault); 5] = [
+const REFUSALS: [(&[FileRow], usize, Fault); 6] = [
     (&[TOP, (Role::Plated, "pth", Some((1, 2)), DRILL)], 1, FAULT),
     (&[(Role::Unplated, "pth", Some((2, 2)), b""), TOP], 0, FAULT),
     (&[(Role::Plated, "pth", Some((1, 1)), DRILL)], 0, FAULT),
@@ -342,6 +428,15 @@ const REFUSALS: [(&[FileRow], usize, Fault); 5] = [
             place: 1,
             byte: 0,
             reason: Reason::Truncated,
+        },
+    ),
+    (
+        &[PTH, (Role::Copper, "top", None, UNKNOWN), BOTTOM],
+        1,
+        Fault {
+            place: 4,
+            byte: 37,
+            reason: Reason::UnknownAperture,
         },
     ),
 ];

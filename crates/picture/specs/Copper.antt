@@ -7,6 +7,7 @@ use Rattle.pad_shapes.specs.Rounded.{GridRounded}
 use Rattle.layer_image.specs.declared.drawn.Drawn.{Drawn}
 use Rattle.layer_image.specs.declared.drawn.Drawn.TheVariants as drawn
 use Rattle.picture.specs.Elements.{after}
+use Rattle.picture.specs.declared.frame.Frame.{Frame}
 
 -- ---- arcs
 
@@ -135,19 +136,36 @@ corner_text (drawn.Contour at) = first_corner at.x (neg_ℤ at.y)
 corner_text (drawn.Corner at) = next_corner at.x (neg_ℤ at.y)
 corner_text (drawn.Bend from to centre clockwise) = arc_way from to centre clockwise
 
--- the start of the group of what is drawn, which is pale, since it is not judged
-abbrev pub copper_start : List ℕ
-copper_start = codes "<g class=\"drawn\" fill=\"none\" stroke=\"#f0dcc0\" stroke-linecap=\"round\"><title>drawn copper, not judged</title>\n"
+-- the start of a picture within the panel, by the box that it fills, at which all in it is cut: `<svg class="drawn" x="1.4" y="-88.6" width="107.2" height="87.2`
+unfoldable pub cut_start : ℤ → ℤ → ℤ → ℤ → List ℕ
+cut_start x y width height =
+    after (codes "<svg class=\"drawn\" x=\"") x ++ (after (codes "\" y=\"") y ++ (after (codes "\" width=\"") width ++ after (codes "\" height=\"") height))
+
+-- the part of the board that it shows, by its box; where that is the box that it fills, nothing is moved or scaled: `" viewBox="1.4 -88.6 107.2 87.2`
+unfoldable pub view_box : ℤ → ℤ → ℤ → ℤ → List ℕ
+view_box x y width height = after (codes "\" viewBox=\"") x ++ (after (codes " ") y ++ (after (codes " ") width ++ after (codes " ") height))
+
+-- the box of the board, at which what is drawn is cut
+abbrev pub cut_at : Frame → List ℕ
+cut_at f = cut_start f.left (neg_ℤ f.top) f.width f.height ++ view_box f.left (neg_ℤ f.top) f.width f.height
+
+-- the colours of what is drawn, which is pale, since it is not judged
+abbrev pub copper_colours : List ℕ
+copper_colours = codes "\" fill=\"none\" stroke=\"#f0dcc0\" stroke-linecap=\"round\"><title>drawn copper, not judged</title>\n"
+
+-- the start of what is drawn
+abbrev pub copper_start : Frame → List ℕ
+copper_start f = cut_at f ++ copper_colours
 
 -- the start of the group of contours, and of a path without a corner
 abbrev pub contours_start : List ℕ
 contours_start = codes "<g fill=\"#f0dcc0\" fill-rule=\"evenodd\" stroke=\"none\">\n<path d=\""
 
--- the end of the last path, and of both groups
+-- the end of the last path, of the group and of what is drawn
 abbrev pub copper_end : List ℕ
-copper_end = codes "\"/>\n</g>\n</g>\n"
+copper_end = codes "\"/>\n</g>\n</svg>\n"
 
--- what is drawn: the lines, arcs and flashes, then the contours, each a path of its own; nothing where nothing is drawn
-abbrev pub copper : List Drawn → List ℕ
-copper parts =
-    if length parts == 0 then [] else (((copper_start ++ flat_map line_text parts) ++ contours_start) ++ flat_map corner_text parts) ++ copper_end
+-- what is drawn, cut at the box of the board: the lines, arcs and flashes, then the contours, each a path of its own; nothing where nothing is drawn
+abbrev pub copper : Frame → List Drawn → List ℕ
+copper f parts =
+    if length parts == 0 then [] else (((copper_start f ++ flat_map line_text parts) ++ contours_start) ++ flat_map corner_text parts) ++ copper_end

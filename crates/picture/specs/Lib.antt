@@ -1,5 +1,6 @@
 pub mod Elements
 pub mod Copper
 pub mod Escapes
+pub mod Outlines
 pub mod Panels
 pub mod Scenes

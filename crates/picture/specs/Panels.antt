@@ -13,6 +13,7 @@ use Rattle.picture.specs.declared.scene.DrawnFinding.TheVariants.{Ring, Gap}
 use Rattle.picture.specs.declared.scene.Scene.{Scene}
 use Rattle.picture.specs.Copper.{copper}
 use Rattle.picture.specs.Escapes.{escaped}
+use Rattle.picture.specs.Outlines.{outline_text}
 use Rattle.picture.specs.Elements.{after, crosses, finding_text, hole_paths, mark, number, pad_paths, text_start}
 
 -- the place of a panel on the page: `" transform="translate(5.5 109.5)">`
@@ -87,10 +88,14 @@ marks_text pen place lacks = flat_map (mark pen place) lacks ++ flat_map (number
 abbrev pub lacks_text : Pen → Place → List DrawnFinding → List ℕ
 lacks_text pen place lacks = flat_map (finding_text pen place) lacks ++ marks_text pen place (marked lacks)
 
--- the contents of a panel: what is drawn, pads, crosses, holes and findings
-abbrev pub scene_text : Pen → Place → List Drawn → List Pad → List GridPoint → List Drilled → List DrawnFinding → List ℕ
-scene_text pen place drawn pads points holes lacks =
-    (((copper drawn ++ pad_paths pads) ++ crosses pen points) ++ hole_paths pen holes) ++ lacks_text pen place lacks
+-- what stands below the pads: what is drawn, cut at the box, and the outline of the board
+unfoldable pub ground_text : Pen → Frame → List Drawn → List Drawn → List ℕ
+ground_text pen frame drawn outline = copper frame drawn ++ outline_text pen outline
+
+-- the contents of a panel: what stands below the pads, then pads, crosses, holes and findings
+abbrev pub scene_text : Pen → Place → Frame → List Drawn → List Drawn → List Pad → List GridPoint → List Drilled → List DrawnFinding → List ℕ
+scene_text pen place frame drawn outline pads points holes lacks =
+    (((ground_text pen frame drawn outline ++ pad_paths pads) ++ crosses pen points) ++ hole_paths pen holes) ++ lacks_text pen place lacks
 
 -- the end of a panel
 abbrev pub panel_end : List ℕ
@@ -100,5 +105,5 @@ panel_end = codes "</g>\n"
 abbrev pub panel_text : Place → Frame → Pen → Scene → List ℕ
 panel_text place frame pen scene =
     ((((panel_start place ++ name_start pen frame) ++ escaped place.name.now) ++ after_name pen frame scene)
-    ++ scene_text pen place scene.drawn.now scene.pads.items scene.crosses.items scene.holes.now scene.lacks.items)
+    ++ scene_text pen place frame scene.drawn.now scene.outline.now scene.pads.items scene.crosses.items scene.holes.now scene.lacks.items)
     ++ panel_end

@@ -6,7 +6,9 @@ ghost use Rattle.std.specs.List.{flat_map};
 ghost use Rattle.grid_units.specs.Points.{IsCoordinate};
 ghost use Rattle.picture.specs.Copper.{arc_radius, arc_to, arc_way, copper, corner_text, corner_x, corner_y, drawn_arc, drawn_dot, drawn_flash, drawn_line, drawn_polygon, first_corner, flag, flash_corner, flash_width, floor_root, is_circle, is_large, is_left, line_text, next_corner, open_way, opposite};
 
+use crate::cut::Cut;
 use crate::elements::down;
+use crate::frame::Frame;
 use grid_units::{Point, square_length};
 use layer_image::Drawn;
 use pad_shapes::Rounded;
@@ -70,7 +72,7 @@ fn offset(at: i64, centre: i64) -> i64
 }
 
 /// The radius of an arc: the distance of its start from its centre, rounded down.
-fn arc_radius(from: &Point, centre: &Point) -> i64
+pub(crate) fn arc_radius(from: &Point, centre: &Point) -> i64
     ensures { result ≡ pos (arc_radius from.now centre.now) }
 {
     let across = offset(from.x(), centre.x()).unsigned_abs();
@@ -88,7 +90,7 @@ fn product(a: i64, b: i64) -> i128
 }
 
 /// Whether, as seen from the centre, the second point lies less than half a turn counterclockwise of the first.
-fn is_left(from: &Point, to: &Point, centre: &Point) -> bool
+pub(crate) fn is_left(from: &Point, to: &Point, centre: &Point) -> bool
     ensures { result ≡ is_left from.now to.now centre.now }
 {
     let (x, y) = (offset(from.x(), centre.x()), offset(from.y(), centre.y()));
@@ -155,7 +157,7 @@ fn is_circle(from: &Point, to: &Point) -> bool
 
 /// The way along an arc from its start on.
 #[derive(Clone, Copy)]
-struct ArcWay {
+pub(crate) struct ArcWay {
     from: Point,
     to: Point,
     centre: Point,
@@ -220,7 +222,7 @@ impl Display for ArcWay {
 }
 
 /// The way along an arc from point to point.
-fn way_of(from: &Point, to: &Point, centre: &Point, clockwise: bool) -> ArcWay
+pub(crate) fn way_of(from: &Point, to: &Point, centre: &Point, clockwise: bool) -> ArcWay
     ensures { arc_way result.from result.to result.centre result.clockwise ≡ arc_way from.now to.now centre.now clockwise }
 {
     ArcWay {
@@ -411,7 +413,7 @@ fn write_first_corner<W: fmt::Write>(f: &mut Formatter<W>, at: &Point) -> fmt::R
 
 /// Writes the next corner of a contour.
 #[tactic(auto, unfolding(crate::specs::Copper::next_corner))]
-fn write_next_corner<W: fmt::Write>(f: &mut Formatter<W>, at: &Point) -> fmt::Result
+pub(crate) fn write_next_corner<W: fmt::Write>(f: &mut Formatter<W>, at: &Point) -> fmt::Result
     ensures { DisplaysOnOk W.write_str_gives f.old result (Some (next_corner at.now.x (neg_ℤ at.now.y))) f.new }
 {
     let (x, y) = (ShortMillimetres(at.x()), ShortMillimetres(down(at.y())));
@@ -441,28 +443,32 @@ impl Line<ContourPaths> for Drawn {
     }
 }
 
-/// What a layer draws: a group of its lines, arcs and flashes, and of its contours; nothing where it draws nothing.
+/// What a layer draws, cut at the box of the board: its lines, arcs and flashes, then its contours; nothing where it draws nothing.
 #[derive(Clone, Copy)]
-pub(crate) struct Copper<'a>(pub(crate) &'a [Drawn]);
+pub(crate) struct Copper<'a> {
+    pub(crate) frame: &'a Frame,
+    pub(crate) drawn: &'a [Drawn],
+}
 
 impl Display for Copper<'_> {
-    ghost output = { λ drawn. Some (copper drawn.0.now) };
+    ghost output = { λ all. Some (copper all.frame.now all.drawn.now) };
 
     fn fmt<W: fmt::Write>(&self, f: &mut Formatter<W>) -> fmt::Result {
-        if self.0.is_empty() {
+        if self.drawn.is_empty() {
             return Ok(());
         }
+        let cut = Cut(self.frame);
         let lines = Lines {
             page: &LineElements,
-            lines: self.0,
+            lines: self.drawn,
         };
         let contours = Lines {
             page: &ContourPaths,
-            lines: self.0,
+            lines: self.drawn,
         };
         write!(
             f,
-            "<g class=\"drawn\" fill=\"none\" stroke=\"#f0dcc0\" stroke-linecap=\"round\"><title>drawn copper, not judged</title>\n{lines}<g fill=\"#f0dcc0\" fill-rule=\"evenodd\" stroke=\"none\">\n<path d=\"{contours}\"/>\n</g>\n</g>\n"
+            "{cut}\" fill=\"none\" stroke=\"#f0dcc0\" stroke-linecap=\"round\"><title>drawn copper, not judged</title>\n{lines}<g fill=\"#f0dcc0\" fill-rule=\"evenodd\" stroke=\"none\">\n<path d=\"{contours}\"/>\n</g>\n</svg>\n"
         )
     }
 }

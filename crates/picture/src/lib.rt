@@ -4,12 +4,14 @@
 #![tactic(auto)]
 
 mod copper;
+mod cut;
 mod elements;
 mod findings;
 mod frame;
 mod holes;
 mod laws;
 mod names;
+mod outlines;
 mod pads;
 mod panel;
 mod pen;
@@ -21,6 +23,7 @@ mod widths;
 pub use frame::Frame;
 pub use laws::{escaped_names, one_path_per_size};
 pub use names::Escaped;
+pub use outlines::{long_radius, shown_outline};
 pub use panel::Panel;
 pub use pen::Pen;
 pub use place::Place;

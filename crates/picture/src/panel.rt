@@ -3,7 +3,7 @@
 ghost use Rattle.std.specs.Prelude.{◌≡◌, ◌≤◌, ◌^◌, ◌++◌, ◌+ℤ◌, ◌==◌, neg_ℤ, pos, Some, if◌then◌else◌};
 ghost use Rattle.std.specs.Fmt.{DisplaysOnOk};
 ghost use Rattle.picture.specs.Escapes.{escaped};
-ghost use Rattle.picture.specs.Panels.{after_name, board_box, drawn_words, lacking_words, name_start, note, panel_start, panel_text, ring_count, scene_text};
+ghost use Rattle.picture.specs.Panels.{after_name, board_box, drawn_words, ground_text, lacking_words, name_start, note, panel_start, panel_text, ring_count, scene_text};
 
 use crate::copper::Copper;
 use crate::elements::{TextStart, down};
@@ -11,6 +11,7 @@ use crate::findings::Findings;
 use crate::frame::Frame;
 use crate::holes::{Crosses, HolePaths};
 use crate::names::Escaped;
+use crate::outlines::Outline;
 use crate::pads::Paths;
 use crate::pen::Pen;
 use crate::place::Place;
@@ -128,20 +129,47 @@ impl Display for Note<'_> {
     }
 }
 
-/// The contents of a panel: what is drawn, pads, crosses, holes and findings.
+/// What stands below the pads of a panel: what is drawn, cut at the box, and the outline of the board.
+#[derive(Clone, Copy)]
+struct Ground<'a> {
+    pen: &'a Pen,
+    frame: &'a Frame,
+    scene: &'a Scene<'a>,
+}
+
+impl Display for Ground<'_> {
+    ghost output = { λ ground. Some (ground_text ground.pen.now ground.frame.now ground.scene.now.drawn.now ground.scene.now.outline.now) };
+
+    #[tactic(auto, unfolding(crate::specs::Panels::ground_text))]
+    fn fmt<W: fmt::Write>(&self, f: &mut Formatter<W>) -> fmt::Result {
+        let (pen, scene) = (self.pen, self.scene);
+        let copper = Copper {
+            frame: self.frame,
+            drawn: scene.drawn,
+        };
+        let outline = Outline {
+            pen,
+            parts: scene.outline,
+        };
+        write!(f, "{copper}{outline}")
+    }
+}
+
+/// The contents of a panel: what stands below the pads, then pads, crosses, holes and findings.
 #[derive(Clone, Copy)]
 struct Contents<'a> {
     pen: &'a Pen,
     place: &'a Place<'a>,
+    frame: &'a Frame,
     scene: &'a Scene<'a>,
 }
 
 impl Display for Contents<'_> {
-    ghost output = { λ all. Some (scene_text all.pen.now all.place.now all.scene.now.drawn.now all.scene.now.pads.items all.scene.now.crosses.items all.scene.now.holes.now all.scene.now.lacks.items) };
+    ghost output = { λ all. Some (scene_text all.pen.now all.place.now all.frame.now all.scene.now.drawn.now all.scene.now.outline.now all.scene.now.pads.items all.scene.now.crosses.items all.scene.now.holes.now all.scene.now.lacks.items) };
 
     fn fmt<W: fmt::Write>(&self, f: &mut Formatter<W>) -> fmt::Result {
-        let (pen, scene) = (self.pen, self.scene);
-        let copper = Copper(scene.drawn);
+        let (pen, frame, scene) = (self.pen, self.frame, self.scene);
+        let ground = Ground { pen, frame, scene };
         let pads = Paths(&scene.pads);
         let crosses = Crosses {
             pen,
@@ -158,7 +186,7 @@ impl Display for Contents<'_> {
             },
             lacks: &scene.lacks,
         };
-        write!(f, "{copper}{pads}{crosses}{holes}{findings}")
+        write!(f, "{ground}{pads}{crosses}{holes}{findings}")
     }
 }
 
@@ -209,8 +237,8 @@ impl Display for AfterName<'_> {
     }
 }
 
-/// The panel of a layer, printed as an element `g` of SVG: its name, a note, the box of the board, and what is drawn, pads, crosses,
-/// holes and findings. Lengths are printed in millimetres.
+/// The panel of a layer, printed as an element `g` of SVG: its name, a note, the box of the board, what is drawn, cut at that box, the
+/// outline of the board, pads, crosses, holes and findings. Lengths are printed in millimetres.
 #[derive(Clone, Copy)]
 pub struct Panel<'a> {
     /// The file, and the place of the panel on the page.
@@ -230,7 +258,12 @@ impl Display for Panel<'_> {
         let (place, frame, pen, scene) = (self.place, self.frame, self.pen, self.scene);
         let head = PanelHead { place, frame, pen };
         let rest = AfterName { frame, pen, scene };
-        let contents = Contents { pen, place, scene };
+        let contents = Contents {
+            pen,
+            place,
+            frame,
+            scene,
+        };
         write!(f, "{head}{rest}{contents}</g>\n")
     }
 }

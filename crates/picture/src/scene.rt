@@ -41,6 +41,8 @@ pub struct Scene<'a> {
     pub crowded: bool,
     /// What the layer draws, in order; nothing in a crowded panel, or where it is more than 100,000 parts.
     pub drawn: &'a [Drawn],
+    /// The outline of the board: what a file of its edge draws, in order.
+    pub outline: &'a [Drawn],
     /// The pads in order of kind and size, so that pads alike stand next to each other.
     pub pads: Vec<Pad>,
     /// The points of the flashes that are no pads.
@@ -76,7 +78,7 @@ fn drawn_holes(crowded: bool, holes: &[Drilled]) -> &[Drilled]
 }
 
 /// What a panel shows of what its layer draws: nothing in a crowded panel, or above the limit.
-fn shown_copper(crowded: bool, drawn: &[Drawn]) -> &[Drawn]
+pub(crate) fn shown_copper(crowded: bool, drawn: &[Drawn]) -> &[Drawn]
     ensures { result.now ≡ shown_copper crowded drawn.now }
 {
     if crowded || drawn.len() > DRAWN_LIMIT {
@@ -250,6 +252,7 @@ fn drawn_findings(
 /// The contents of a layer's panel, by the layer's place among the copper files, from 0: what it draws, unless that is more than 100,000
 /// parts; its pads in order of kind and size, its other flashes and all holes, or none of all these where the flashes and holes are more
 /// than 100,000; and the insufficient rings and gaps, numbered from 1 in the order of the findings. A layer or a hole in a finding is a place in the lists that were checked.
+/// The parts of the board's outline stand there as they are.
 ///
 /// # Errors
 ///
@@ -259,11 +262,13 @@ pub fn scene_of<'a>(
     layer: usize,
     flashes: &[Flash],
     drawn: &'a [Drawn],
+    outline: &'a [Drawn],
     holes: &'a [Drilled],
     findings: &[Finding],
 ) -> Result<Scene<'a>, AllocError>
     ensures crowded { IfOk result (λ scene. scene.crowded ≡ is_crowded flashes.now holes.now) }
     ensures drawn { IfOk result (λ scene. scene.drawn.now ≡ shown_copper scene.crowded drawn.now) }
+    ensures outline { IfOk result (λ scene. scene.outline.now ≡ outline.entry.now) }
     ensures pads { IfOk result (λ scene. IsPermutation (pads_of (unless_crowded scene.crowded flashes.now)) scene.pads.items) }
     ensures order { IfOk result (λ scene. AreSortedBySize scene.pads.items) }
     ensures crosses { IfOk result (λ scene. scene.crosses.items ≡ crosses_of (unless_crowded scene.crowded flashes.now)) }
@@ -275,6 +280,7 @@ pub fn scene_of<'a>(
     Ok(Scene {
         crowded,
         drawn: shown_copper(crowded, drawn),
+        outline,
         pads: sorted_pads(alloc, shown)?,
         crosses: crosses_of(alloc, shown)?,
         holes: drawn_holes(crowded, holes),

@@ -2,6 +2,7 @@
 
 ghost use Rattle.std.specs.Prelude.{◌≡◌, ◌≤◌, ◌^◌, ◌*◌, ◌/◌, pos};
 ghost use Rattle.picture.specs.Elements.{arm, rim, ring_rim};
+ghost use Rattle.picture.specs.Outlines.{outline_width};
 
 use crate::pen::Pen;
 
@@ -49,4 +50,11 @@ pub(crate) fn gap_width(pen: &Pen) -> i64
     ensures { result ≡ pos (pen.now.unit * 3 / 10) }
 {
     (pen.unit * 3 / 10) as i64
+}
+
+/// The width of the lines of an outline: a tenth of a unit.
+pub(crate) fn outline_width(pen: &Pen) -> i64
+    ensures { result ≡ pos (outline_width pen.now) }
+{
+    (pen.unit / 10) as i64
 }

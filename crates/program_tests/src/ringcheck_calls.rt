@@ -1,4 +1,4 @@
-ghost use Rattle.std.specs.Prelude.{◌≡◌, ◌≢◌, ◌≤◌, ◌<◌, List, ℕ, IfSome, IfOk, IfErr, map, length};
+ghost use Rattle.std.specs.Prelude.{◌≡◌, ◌≢◌, ◌≤◌, ◌<◌, ◌++◌, List, ℕ, IfSome, IfErr, OnOk, map, length};
 ghost use Rattle.std.specs.List.{Contains};
 
 use ringcheck::*;
@@ -37,7 +37,7 @@ ring layer=1 drill=2 diameter=0.400000000 holes=1 bare=0 least=0.125000000 hole=
 meets ring=0.125000000 gap=any held=0.125000000
 ";
 
-/// Files at hand, by their names. The call numbered `fails_at` fails.
+/// Files at hand, by their names. The call numbered `fails_at` fails, once it has handed on the first half of its file.
 #[derive(Drop)]
 struct Shelf<'a> {
     files: &'a [(&'a str, &'a str)],
@@ -80,11 +80,21 @@ impl Loader for Shelf<'_> {
 
     ghost failed = { λ s. s.failures };
 
-    fn load(&mut self, alloc: Global, name: &str, limit: u64) -> Result<Vec<u8>, LoadFault> {
+    fn load_into<S: Sink>(
+        &mut self,
+        _alloc: Global,
+        name: &str,
+        limit: u64,
+        sink: &mut S,
+    ) -> Result<(), LoadFault> {
         self.calls = self.calls.saturating_add(1);
         match self.text_of(name) {
-            Some(text) if self.calls != self.fails_at => copied(alloc, text.as_bytes(), limit),
-            _ => {
+            Some(text) if self.calls != self.fails_at => hand_over(text.as_bytes(), limit, sink),
+            Some(text) => {
+                self.failures = self.failures.saturating_add(1);
+                Err(break_off(text.as_bytes(), sink))
+            }
+            None => {
                 self.failures = self.failures.saturating_add(1);
                 Err(LoadFault::Device)
             }
@@ -96,15 +106,38 @@ impl Loader for Shelf<'_> {
     }
 }
 
-fn copied(alloc: Global, bytes: &[u8], limit: u64) -> Result<Vec<u8>, LoadFault>
-    ensures gives { IfOk result (λ v. (v.items ≡ bytes.now) × (length bytes.now ≤ limit)) }
+/// Hands bytes to a sink in two pieces, of which the first is the shorter.
+fn take_in_two<S: Sink>(bytes: &[u8], sink: &mut S) -> Result<(), AllocError>
+    ensures { (start : S) (text : List ℕ) → S.has_taken start sink.old text → OnOk result (S.has_taken start sink.new (text ++ bytes.now)) }
+{
+    let (first, rest) = bytes.split_at(bytes.len() / 3);
+    sink.take(first)?;
+    sink.take(rest)
+}
+
+/// Hands bytes to a sink in two pieces, if there are at most `limit`.
+fn hand_over<S: Sink>(bytes: &[u8], limit: u64, sink: &mut S) -> Result<(), LoadFault>
+    ensures gives { OnOk result ((length bytes.now ≤ limit) × ((start : S) (text : List ℕ) → S.has_taken start sink.old text → S.has_taken start sink.new (text ++ bytes.now))) }
     ensures fails { IfErr result (λ e. e ≢ LoadFault.Device) }
     ensures too_long { IfErr result (λ e. e ≡ LoadFault.TooLong → limit < length bytes.now) }
 {
     if bytes.len() as u64 > limit {
         return Err(LoadFault::TooLong);
     }
-    Vec::from_slice(alloc, bytes).map_err(|_| LoadFault::Memory)
+    match take_in_two(bytes, sink) {
+        Ok(()) => Ok(()),
+        Err(_) => Err(LoadFault::Memory),
+    }
+}
+
+/// Hands the first half of bytes to a sink, and returns how that ends.
+fn break_off<S: Sink>(bytes: &[u8], sink: &mut S) -> LoadFault
+    ensures { result ≢ LoadFault.TooLong }
+{
+    match sink.take(&bytes[..bytes.len() / 2]) {
+        Ok(()) => LoadFault::Device,
+        Err(_) => LoadFault::Memory,
+    }
 }
 
 /// Files at hand, and under one name any text of this length.
@@ -123,11 +156,17 @@ impl Loader for LongShelf<'_> {
 
     ghost failed = { λ s. s.shelf.failures };
 
-    fn load(&mut self, alloc: Global, name: &str, limit: u64) -> Result<Vec<u8>, LoadFault> {
+    fn load_into<S: Sink>(
+        &mut self,
+        alloc: Global,
+        name: &str,
+        limit: u64,
+        sink: &mut S,
+    ) -> Result<(), LoadFault> {
         if name == self.name && self.length > limit {
             return Err(LoadFault::TooLong);
         }
-        self.shelf.load(alloc, name, limit)
+        self.shelf.load_into(alloc, name, limit, sink)
     }
 
     fn failures(&self) -> u64 {

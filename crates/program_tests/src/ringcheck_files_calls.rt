@@ -1,6 +1,7 @@
 //! Readers that are read up to a limit, and how they fail.
 
 use ringcheck_files::*;
+use std::alloc::AllocError;
 use std::io::{Error, ErrorKind, Read, Result as IoResult};
 use std::test::Fail;
 
@@ -170,4 +171,59 @@ fn reads_are_called_no_more_than_so_often(rt: HostRuntime) {
             "of {limit}"
         );
     }
+}
+
+/// A sink that counts the pieces that it takes, and their bytes.
+#[derive(Drop)]
+struct Counts {
+    pieces: usize,
+    bytes: usize,
+}
+
+impl Sink for Counts {
+    ghost has_taken = { λ start now text. Unit {0} };
+
+    fn take(&mut self, piece: &[u8]) -> Result<(), AllocError> {
+        self.pieces = self.pieces.saturating_add(1);
+        self.bytes = self.bytes.saturating_add(piece.len());
+        Ok(())
+    }
+}
+
+/// How many pieces and bytes of a reader are handed on, and how that failed, if it did.
+fn handed<R: Read>(
+    rt: HostRuntime,
+    reader: &mut R,
+    limit: u64,
+) -> (usize, usize, Option<ReadFail>) {
+    let mut counts = Counts {
+        pieces: 0,
+        bytes: 0,
+    };
+    if limit > MAX_LIMIT {
+        return (0, 0, None);
+    }
+    let failed = read_into(rt.alloc(), reader, limit, &mut counts).err();
+    (counts.pieces, counts.bytes, failed)
+}
+
+#[test]
+fn bytes_are_handed_on_as_they_are_read(rt: HostRuntime) {
+    let mut hesitant = Hesitant {
+        bytes: b"abcd",
+        gives: false,
+    };
+    assert!(rt; handed(rt, &mut hesitant, 4) == (4, 4, None));
+    let mut failing = Failing { calls: 0 };
+    let fault = Some(ReadFail::ReadFault);
+    assert!(rt; handed(rt, &mut failing, 4) == (1, 2, fault));
+}
+
+#[test]
+fn bytes_above_the_limit_are_not_handed_on(rt: HostRuntime) {
+    let too_long = Some(ReadFail::TooLong);
+    let mut endless = Endless { calls: 0 };
+    assert!(rt; handed(rt, &mut endless, 1000) == (1000, 1000, too_long));
+    let mut whole: &[u8] = b"abcd";
+    assert!(rt; handed(rt, &mut whole, 3) == (0, 0, too_long));
 }

@@ -1,12 +1,11 @@
 -- The factor by which the fewest holes would be bare.
-use Rattle.std.proofs.Common.{◌≡◌, ◌↔◌, ℕ, ◌*◌, ◌<◌, ◌≤◌, Bool, true, false, inl, inr, List, [], ◌∷◌, ◌++◌, length, get_or, sym, subst, ap, ◌∙◌, arith}
+use Rattle.std.proofs.Common.{◌≡◌, ◌↔◌, ℕ, ◌*◌, ◌<◌, ◌≤◌, Bool, true, false, inl, inr, List, [], ◌∷◌, ◌++◌, length, get_or, sym, ap, ◌∙◌, arith}
 use Rattle.std.proofs.lemmas.Bool.{cases_lt}
 use Rattle.std.proofs.lemmas.List.{get_or_append_left, length-append}
 use Rattle.std.proofs.Math.Seq.{get_or-append_seam}
 use Rattle.pad_shapes.specs.declared.pad.Pad.{Pad}
 use Rattle.ring_rules.specs.declared.finding.Drilled.{Drilled}
 use Rattle.report.specs.declared.UnitFactor.{UnitFactor}
-use Rattle.report.specs.declared.UnitFactor.TheVariants as kind
 use Rattle.report.specs.declared.UnitMistake.{UnitMistake}
 use Rattle.report.specs.declared.fewest.Fewest.{Fewest}
 use Rattle.report.specs.UnitMistakes.{IsFirstFewest, IsUnitMistake, bare_count, bare_count_with, factors, round_count}
@@ -29,7 +28,7 @@ module _ (count : UnitFactor → ℕ) where
     };
   }
 
-  module _ (tried : List UnitFactor) (old next : Fewest) (was : IsFewest count tried old) (counted : next.bare ≡ count next.factor) where
+  module _ (tried : List UnitFactor) (old next : Fewest) (was : IsFewest count tried old) where
     abbrev pub all : List UnitFactor
     all = tried ++ next.factor ∷ []
 
@@ -43,8 +42,8 @@ module _ (count : UnitFactor → ℕ) where
         ap (λ (n : ℕ). get_or all n d) last ∙ get_or-append_seam tried next.factor [] d
 
     -- the next has fewer
-    pub next_taken : next.bare < old.bare → IsFewest count all next
-    next_taken fewer = record {
+    pub next_taken : next.bare ≡ count next.factor → next.bare < old.bare → IsFewest count all next
+    next_taken counted fewer = record {
       bare = counted;
       first = record {
         place = length tried;
@@ -63,7 +62,7 @@ module _ (count : UnitFactor → ℕ) where
     }
 
     -- or no fewer
-    pub old_kept : old.bare ≤ next.bare → IsFewest count all old
+    pub old_kept : old.bare ≤ count next.factor → IsFewest count all old
     old_kept no_fewer = record {
       bare = was.bare;
       first = record {
@@ -76,28 +75,10 @@ module _ (count : UnitFactor → ℕ) where
             omega (arith, here, was.first.before d k less));
         fewest = λ d k inside. elim (cases_lt k (length tried)) [
           | inl less ↦ (let here : count (get_or all k d) ≡ count (get_or tried k d) = ap count (early d k less) in omega (arith, here, was.first.fewest d k less))
-          | inr more ↦ (let here : count (get_or all k d) ≡ count next.factor = ap count (late d k inside more) in omega (arith, here, was.bare, counted, no_fewer))
+          | inr more ↦ (let here : count (get_or all k d) ≡ count next.factor = ap count (late d k inside more) in omega (arith, here, was.bare, no_fewer))
         ];
       };
     }
-
--- of the factor so far and the next the one with fewer, whatever is counted and whatever was tried
-abbrev pub IsLesser : Fewest → Fewest → Fewest → Type 0
-IsLesser old next result = (count : UnitFactor → ℕ) (tried : List UnitFactor) → IsFewest count tried old → next.bare ≡ count next.factor → IsFewest count (tried ++ next.factor ∷ []) result
-
--- how many holes one factor leaves bare
-abbrev pub IsCounted : (UnitFactor → ℕ) → UnitFactor → Fewest → Type 0
-IsCounted count factor fewest = (fewest.factor ≡ factor) × (fewest.bare ≡ count factor)
-
--- the fewest of all factors
-pub fewest_all : (count : UnitFactor → ℕ) (ten tenth inch per_inch one two three : Fewest) → IsCounted count kind.Ten ten → IsCounted count kind.Tenth tenth → IsCounted count kind.Inch inch → IsCounted count kind.PerInch per_inch
-    → IsLesser ten tenth one → IsLesser one inch two → IsLesser two per_inch three → IsFewest count factors three
-fewest_all count ten tenth inch per_inch one two three a b c d e f g =
-    let counted = λ (x : Fewest) (k : UnitFactor) (h : IsCounted count k x). h.1 ∙ ap count (sym h.0) in
-    let first = only_one count ten kind.Ten a.0 a.1 in
-    let second = subst (λ (k : UnitFactor). IsFewest count (kind.Ten ∷ k ∷ []) one) b.0 (e count (kind.Ten ∷ []) first (counted tenth kind.Tenth b)) in
-    let third = subst (λ (k : UnitFactor). IsFewest count (kind.Ten ∷ kind.Tenth ∷ k ∷ []) two) c.0 (f count (kind.Ten ∷ kind.Tenth ∷ []) second (counted inch kind.Inch c)) in
-    subst (λ (k : UnitFactor). IsFewest count (kind.Ten ∷ kind.Tenth ∷ kind.Inch ∷ k ∷ []) three) d.0 (g count (kind.Ten ∷ kind.Tenth ∷ kind.Inch ∷ []) third (counted per_inch kind.PerInch d))
 
 both : (t : Bool) → t ≡ true → t ≡ false → ⊥
 both true e f = cc

@@ -1,15 +1,17 @@
 -- Files whose holes are tried at other places, and their lines.
-use Rattle.std.proofs.Common.{◌≡◌, ◌↔◌, ℕ, ◌+◌, ◌*◌, ◌<◌, ◌≤◌, ◌++◌, ◌∷◌, [], inl, inr, Bool, true, false, Some, None, Option, List, length, map, take, get_or, refl, sym, subst, ap, ◌∙◌, arith}
+use Rattle.std.proofs.Common.{◌≡◌, ◌↔◌, ℕ, ◌+◌, ◌*◌, ◌<◌, ◌≤◌, ◌==◌, ◌⊎◌, if◌then◌else◌, ◌++◌, ◌∷◌, [], inl, inr, Bool, true, false, Some, None, Option, List, length, map, take, get_or, refl, sym, subst, ap, ◌∙◌, arith}
 use Rattle.std.specs.List.{All, slice_range}
+use Rattle.std.proofs.lemmas.Bool.Decides.{Decides-eqb}
 use Rattle.std.proofs.lemmas.List.Elements.{All-map}
 use Rattle.pad_shapes.specs.declared.pad.Pad.{Pad}
 use Rattle.ring_rules.specs.declared.finding.Drilled.{Drilled}
 use Rattle.report.specs.declared.UnitFactor.{UnitFactor}
 use Rattle.report.specs.declared.UnitMistake.{UnitMistake}
 use Rattle.report.specs.UnitMistakes.{AreUnitMistakes, IsUnitMistake, IsUnitMistakeOrNone, bare_count_with, factors, holes_in}
-use Rattle.report.specs.Inner.RescaledCounts.{AreCounted, AreSuspects, AreHoleRanges, IsSuspect, IsFewest, holes_of}
+use Rattle.report.specs.Inner.RescaledCounts.{AreCounted, AreSuspects, AreHoleRanges, AreTried, IsSuspect, IsFewest, IsTried, holes_of, open_part}
 use Rattle.report.specs.declared.counts.HoleRange.{HoleRange}
 use Rattle.report.specs.declared.fewest.Fewest.{Fewest}
+use Rattle.report.specs.declared.fewest.Tried.{Tried}
 use Rattle.report.specs.declared.mistakes.Suspect.{Suspect}
 use Rattle.report.specs.declared.mistakes.FileRange.{FileRange}
 use Rattle.report.proofs.FewestLemmas.{too_many}
@@ -41,6 +43,41 @@ module _ (pads : List Pad) (holes : List Drilled) where
 
   pub from_lines : (files : List FileRange) (lines : List (Option UnitMistake)) → AreUnitMistakes pads holes files lines → PairedLists IsLineOf files lines
   from_lines files lines is = record { size = is.size; each = is.each }
+
+  pub as_tried : (ranges : List HoleRange) (earlier : List UnitFactor) (tried : List Tried) → PairedLists (IsTried pads holes earlier) ranges tried → AreTried pads holes ranges earlier tried
+  as_tried ranges earlier tried is = record { size = is.size; each = is.each }
+
+  pub from_tried : (ranges : List HoleRange) (earlier : List UnitFactor) (tried : List Tried) → AreTried pads holes ranges earlier tried → PairedLists (IsTried pads holes earlier) ranges tried
+  from_tried ranges earlier tried is = record { size = is.size; each = is.each }
+
+  -- ---- open holes
+
+  within : (none_left : Bool) (start end : ℕ) → (start ≤ end) × (end ≤ length holes) → (start ≤ (if none_left then start else end)) × ((if none_left then start else end) ≤ length holes)
+  within true start end is = (omega arith, omega (arith, is.0, is.1))
+  within false start end is = is
+
+  -- the open holes of each stretch are in the list
+  pub open_fit : (ranges : List HoleRange) (earlier : List UnitFactor) (tried : List Tried) → AreHoleRanges holes ranges → AreTried pads holes ranges earlier tried → AreHoleRanges holes (map open_part tried)
+  open_fit ranges earlier tried fit are =
+      All-map (λ (s : HoleRange). (s.start ≤ s.end) × (s.end ≤ length holes)) open_part tried
+      (λ k d less. (
+      let size = are.size in
+      let inside : k < length ranges = omega (arith, less, size) in
+      let none : HoleRange = record { start = 0; end = 0 } in
+      let one = get_or tried k d in
+      let own = subst (λ (s : HoleRange). (s.start ≤ s.end) × (s.end ≤ length holes)) (sym (are.each k none d inside).range) (fit k none inside) in
+      within (one.fewest.bare == 0) one.range.start one.range.end own))
+
+  counted_or_none : (none_left : Bool) (range : HoleRange) (factor : UnitFactor) (bare count : ℕ) → (none_left ≡ true → bare ≡ 0)
+      → count ≡ bare_count_with pads (holes_of holes (record { start = range.start; end = if none_left then range.start else range.end })) factor
+      → (count ≡ bare_count_with pads (holes_of holes range) factor) ⊎ (bare ≡ 0)
+  counted_or_none true range factor bare count none is = inr (none refl)
+  counted_or_none false range factor bare count none is = inl is
+
+  -- all holes of a stretch are counted, or none is bare by a factor before
+  pub open_counted : (one : Tried) (factor : UnitFactor) (count : ℕ) → count ≡ bare_count_with pads (holes_of holes (open_part one)) factor
+      → (count ≡ bare_count_with pads (holes_of holes one.range) factor) ⊎ (one.fewest.bare ≡ 0)
+  open_counted one factor count is = counted_or_none (one.fewest.bare == 0) one.range factor one.fewest.bare count (Decides-eqb one.fewest.bare 0).0 is
 
   -- ---- doubted holes
 

@@ -1,11 +1,11 @@
 //! The factor by which the fewest holes would be bare.
 
-ghost use Rattle.std.specs.Prelude.{◌≡◌, ◌<◌, ◌++◌, ◌∷◌, [], ℕ, List, length, get_or, IfOk};
+ghost use Rattle.std.specs.Prelude.{◌≡◌, ◌++◌, ◌∷◌, [], ◌⊎◌, ℕ, List, length, map, IfOk};
 ghost use Rattle.pad_shapes.specs.declared.pad.Pad.{Pad as ThePad};
 ghost use Rattle.ring_rules.specs.declared.finding.Drilled.{Drilled as TheDrilled};
 ghost use Rattle.report.specs.declared.UnitFactor.{UnitFactor as TheFactor};
-ghost use Rattle.report.specs.UnitMistakes.{bare_count_with, factors};
-ghost use Rattle.report.specs.Inner.RescaledCounts.{AreAllCounted, AreHoleRanges, IsFewest, holes_of};
+ghost use Rattle.report.specs.UnitMistakes.{factors};
+ghost use Rattle.report.specs.Inner.RescaledCounts.{AreCounted, AreHoleRanges, AreTried, IsFewest, open_part};
 ghost use Rattle.report.specs.declared.counts.HoleRange.{HoleRange as TheRange};
 
 use crate::UnitFactor;
@@ -21,36 +21,35 @@ pub(crate) struct Fewest {
     pub(crate) bare: usize,
 }
 
-/// How many holes of each stretch would be bare, factor by factor.
-#[derive(Drop)]
-pub(crate) struct Counts {
-    ten: Vec<usize>,
-    tenth: Vec<usize>,
-    inch: Vec<usize>,
-    per_inch: Vec<usize>,
+/// A stretch of holes, and the first of the factors tried so far by which the fewest of them would be bare.
+#[derive(Clone, Copy)]
+pub(crate) struct Tried {
+    pub(crate) range: HoleRange,
+    pub(crate) fewest: Fewest,
 }
 
-/// How many holes of each stretch are round and would be bare by each factor.
-pub(crate) fn counts_of(
-    alloc: Global,
-    pads: &[Pad],
-    holes: &[Drilled],
-    ranges: &[HoleRange],
-) -> Result<Counts, AllocError>
-    requires { AreHoleRanges holes.now ranges.now }
-    ensures { IfOk result (AreAllCounted pads.now holes.now ranges.now) }
+/// The holes of a stretch that a further factor is tried at: none where none would be bare by a factor before, since no factor leaves fewer.
+fn open_part(tried: &Tried) -> HoleRange
+    ensures { result ≡ open_part tried.now }
 {
-    Ok(Counts {
-        ten: counts_by(alloc, pads, holes, ranges, UnitFactor::Ten)?,
-        tenth: counts_by(alloc, pads, holes, ranges, UnitFactor::Tenth)?,
-        inch: counts_by(alloc, pads, holes, ranges, UnitFactor::Inch)?,
-        per_inch: counts_by(alloc, pads, holes, ranges, UnitFactor::PerInch)?,
-    })
+    let HoleRange { start, end } = tried.range;
+    if tried.fewest.bare == 0 {
+        HoleRange { start, end: start }
+    } else {
+        HoleRange { start, end }
+    }
 }
 
-/// The factor with the fewest so far, or the next one where it has fewer.
+/// The holes of each stretch that a further factor is tried at.
+fn open_parts(alloc: Global, tried: &[Tried]) -> Result<Vec<HoleRange>, AllocError>
+    ensures { IfOk result (λ parts. parts.items ≡ map open_part tried.now) }
+{
+    tried.iter().map(|one| open_part(one)).collect(alloc)
+}
+
+/// The factor with the fewest so far, or the next one where it has fewer. Where none would be bare so far, the next need not be counted.
 fn lesser(fewest: Fewest, next: Fewest) -> Fewest
-    ensures { (count : TheFactor → ℕ) (tried : List TheFactor) → IsFewest count tried fewest → next.bare ≡ count next.factor → IsFewest count (tried ++ next.factor ∷ []) result }
+    ensures { (count : TheFactor → ℕ) (tried : List TheFactor) → IsFewest count tried fewest → (next.bare ≡ count next.factor) ⊎ (fewest.bare ≡ 0) → IsFewest count (tried ++ next.factor ∷ []) result }
 {
     if next.bare < fewest.bare {
         next
@@ -59,42 +58,85 @@ fn lesser(fewest: Fewest, next: Fewest) -> Fewest
     }
 }
 
-/// The first of the factors with the fewest, given how many holes would be bare by each.
-fn fewest_of(ten: usize, tenth: usize, inch: usize, per_inch: usize) -> Fewest
-    ensures { (count : TheFactor → ℕ) → ten ≡ count UnitFactor.Ten → tenth ≡ count UnitFactor.Tenth → inch ≡ count UnitFactor.Inch → per_inch ≡ count UnitFactor.PerInch → IsFewest count factors result }
+/// Each stretch with the first factor.
+fn with_first(
+    alloc: Global,
+    ranges: &[HoleRange],
+    counts: &[usize],
+) -> Result<Vec<Tried>, AllocError>
+    requires { length counts.now ≡ length ranges.now }
+    ensures { IfOk result (λ tried. (pads : List ThePad) (holes : List TheDrilled) → AreCounted pads holes ranges.now UnitFactor.Ten counts.now
+        → AreTried pads holes ranges.now (UnitFactor.Ten ∷ []) tried.items) }
 {
-    let ten = Fewest {
-        factor: UnitFactor::Ten,
-        bare: ten,
-    };
-    let tenth = Fewest {
-        factor: UnitFactor::Tenth,
-        bare: tenth,
-    };
-    let inch = Fewest {
-        factor: UnitFactor::Inch,
-        bare: inch,
-    };
-    let per_inch = Fewest {
-        factor: UnitFactor::PerInch,
-        bare: per_inch,
-    };
-    lesser(lesser(lesser(ten, tenth), inch), per_inch)
+    let mut tried = Vec::new(alloc);
+    for (place, range) in ranges.iter().enumerate() {
+        let fewest = Fewest {
+            factor: UnitFactor::Ten,
+            bare: counts[place],
+        };
+        tried.push(Tried {
+            range: *range,
+            fewest,
+        })?;
+    }
+    Ok(tried)
 }
 
-impl Counts {
-    /// The first of the factors by which the fewest holes of the stretch at a place would be bare.
-    pub(crate) fn fewest(&self, ranges: &[HoleRange], place: usize) -> Fewest
-        requires counted { (pads : List ThePad) × (holes : List TheDrilled) × AreAllCounted pads holes ranges.now self.now }
-        requires place { place < length ranges.now }
-        ensures { (pads : List ThePad) (holes : List TheDrilled) (d : TheRange) → AreAllCounted pads holes ranges.now self.now
-            → IsFewest (bare_count_with pads (holes_of holes (get_or ranges.now place d))) factors result }
-    {
-        fewest_of(
-            self.ten[place],
-            self.tenth[place],
-            self.inch[place],
-            self.per_inch[place],
-        )
+/// Each stretch with one more factor, given how many of its open holes would be bare by it.
+fn with_next(
+    alloc: Global,
+    tried: &[Tried],
+    factor: UnitFactor,
+    counts: &[usize],
+) -> Result<Vec<Tried>, AllocError>
+    requires { length counts.now ≡ length tried.now }
+    ensures { IfOk result (λ all. (pads : List ThePad) (holes : List TheDrilled) (ranges : List TheRange) (earlier : List TheFactor) → AreTried pads holes ranges earlier tried.now
+        → AreCounted pads holes (map open_part tried.now) factor counts.now → AreTried pads holes ranges (earlier ++ factor ∷ []) all.items) }
+{
+    let mut all = Vec::new(alloc);
+    for (place, one) in tried.iter().enumerate() {
+        let next = Fewest {
+            factor,
+            bare: counts[place],
+        };
+        all.push(Tried {
+            range: one.range,
+            fewest: lesser(one.fewest, next),
+        })?;
     }
+    Ok(all)
+}
+
+/// Tries one more factor at the stretches that it could still leave fewer bare of.
+fn try_next(
+    alloc: Global,
+    pads: &[Pad],
+    holes: &[Drilled],
+    tried: &[Tried],
+    factor: UnitFactor,
+) -> Result<Vec<Tried>, AllocError>
+    requires { (ranges : List TheRange) × (earlier : List TheFactor) × AreHoleRanges holes.now ranges × AreTried pads.now holes.now ranges earlier tried.now }
+    ensures { IfOk result (λ all. (ranges : List TheRange) (earlier : List TheFactor) → AreTried pads.now holes.now ranges earlier tried.now
+        → AreTried pads.now holes.now ranges (earlier ++ factor ∷ []) all.items) }
+{
+    let parts = open_parts(alloc, tried)?;
+    let counts = counts_by(alloc, pads, holes, &parts, factor)?;
+    with_next(alloc, tried, factor, &counts)
+}
+
+/// Each stretch with the first of the factors by which the fewest of its holes would be bare.
+pub(crate) fn try_factors(
+    alloc: Global,
+    pads: &[Pad],
+    holes: &[Drilled],
+    ranges: &[HoleRange],
+) -> Result<Vec<Tried>, AllocError>
+    requires { AreHoleRanges holes.now ranges.now }
+    ensures { IfOk result (λ tried. AreTried pads.now holes.now ranges.now factors tried.items) }
+{
+    let counts = counts_by(alloc, pads, holes, ranges, UnitFactor::Ten)?;
+    let ten = with_first(alloc, ranges, &counts)?;
+    let tenth = try_next(alloc, pads, holes, &ten, UnitFactor::Tenth)?;
+    let inch = try_next(alloc, pads, holes, &tenth, UnitFactor::Inch)?;
+    try_next(alloc, pads, holes, &inch, UnitFactor::PerInch)
 }

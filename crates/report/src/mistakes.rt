@@ -6,13 +6,13 @@ ghost use Rattle.pad_shapes.specs.declared.pad.Pad.{Pad as ThePad};
 ghost use Rattle.ring_rules.specs.declared.finding.Drilled.{Drilled as TheDrilled};
 ghost use Rattle.margins.specs.BestPads.{AreBestPads};
 ghost use Rattle.report.specs.UnitMistakes.{AreFileRanges, AreUnitMistakes, IsUnitMistakeOrNone, bare_count_with, factors, holes_in};
-ghost use Rattle.report.specs.Inner.RescaledCounts.{AreAllCounted, AreSuspects, IsSuspect, IsFewest, holes_of};
+ghost use Rattle.report.specs.Inner.RescaledCounts.{AreSuspects, AreTried, IsSuspect, IsFewest, holes_of};
 ghost use Rattle.report.specs.declared.mistakes.FileRange.{FileRange as TheFileRange};
 
 use crate::UnitMistake;
 use crate::bare::{bare_among, round_among};
 use crate::counts::HoleRange;
-use crate::fewest::{Counts, Fewest, counts_of};
+use crate::fewest::{Fewest, Tried, try_factors};
 use margins::BestPad;
 use pad_shapes::Pad;
 use ring_rules::Drilled;
@@ -119,23 +119,21 @@ fn line_of(drill: usize, suspect: Suspect, fewest: Fewest) -> Option<UnitMistake
     })
 }
 
-/// The line of each file, given how many of its holes would be bare by each factor.
+/// The line of each file, given the factor by which the fewest of its holes would be bare.
 fn lines_by(
     alloc: Global,
     files: &[FileRange],
     suspects: &[Suspect],
-    ranges: &[HoleRange],
-    counts: &Counts,
+    tried: &[Tried],
 ) -> Result<Vec<Option<UnitMistake>>, AllocError>
     requires suspects { length suspects.now ≡ length files.now }
-    requires ranges { ranges.now ≡ map (λ suspect. suspect.range) suspects.now }
-    requires counted { (pads : List ThePad) × (holes : List TheDrilled) × AreAllCounted pads holes ranges.now counts.now }
-    ensures { (pads : List ThePad) (holes : List TheDrilled) → AreSuspects pads holes files.now suspects.now → AreAllCounted pads holes ranges.now counts.now
+    requires tried { length tried.now ≡ length files.now }
+    ensures { (pads : List ThePad) (holes : List TheDrilled) → AreSuspects pads holes files.now suspects.now → AreTried pads holes (map (λ suspect. suspect.range) suspects.now) factors tried.now
         → IfOk result (λ lines. AreUnitMistakes pads holes files.now lines.items) }
 {
     let mut lines = Vec::new(alloc);
     for (place, file) in files.iter().enumerate() {
-        let fewest = counts.fewest(ranges, place);
+        let fewest = tried[place].fewest;
         lines.push(line_of(file.drill, suspects[place], fewest))?;
     }
     Ok(lines)
@@ -144,7 +142,8 @@ fn lines_by(
 /// The line of each of some drill files, in their order, by the pads of the first layer, all holes and their best
 /// pads there. A file has a line where more than half of its round holes are bare, and less than half of these would
 /// be by a factor. The line names the first of the factors by which the fewest would be. Bare holes are looked for
-/// once for each of the four factors, among the holes of all files that have more than half of theirs bare.
+/// at most once for each of the four factors, among the holes of all files that have more than half of theirs bare; those of a
+/// file no more once none of them would be by a factor.
 ///
 /// # Errors
 ///
@@ -162,8 +161,8 @@ pub fn unit_mistakes(
 {
     let suspects = suspects_of(alloc, holes, bests, files)?;
     let ranges = ranges_of(alloc, &suspects)?;
-    let counts = counts_of(alloc, pads, holes, &ranges)?;
-    lines_by(alloc, files, &suspects, &ranges, &counts)
+    let tried = try_factors(alloc, pads, holes, &ranges)?;
+    lines_by(alloc, files, &suspects, &tried)
 }
 
 /// The line of one drill file, as [`unit_mistakes`] says, by its own holes and the best pad for each of them.

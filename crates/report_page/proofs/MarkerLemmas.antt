@@ -19,11 +19,13 @@ use Rattle.ring_rules.specs.declared.finding.Finding.TheVariants as finding
 use Rattle.pad_shapes.specs.Pads.{pad_covers}
 use Rattle.ring_rules.specs.Findings.{gap_findings, ring_findings}
 use Rattle.ring_rules.specs.WithoutFindings.{GapsNamePlaces, NamesPlaces, RingsNamePlaces}
+use Rattle.layer_image.specs.declared.drawn.Drawn.{Drawn}
 use Rattle.package_check.specs.Boards.{BoardView, board_findings, numbered, reported}
 use Rattle.package_check.specs.Package.{FindingsNameTheirPlaces}
 use Rattle.package_check.proofs.BoardsLemmas.{reported_on}
 use Rattle.board_report.specs.BoardReport.{is_gap}
 use Rattle.picture.specs.Elements.{finding_start, finding_text, finding_words, group_end, lack, naming}
+use Rattle.picture.specs.Outlines.{shown_outline}
 use Rattle.picture.specs.Panels.{lacks_text, panel_text}
 use Rattle.picture.specs.Scenes.{drawn_finding, drawn_findings, drawn_gap, drawn_ring}
 use Rattle.picture.specs.declared.frame.Frame.{Frame}
@@ -134,14 +136,14 @@ in_panel place frame pen scene shown part c h =
     in_front _ _ part (in_rest _ _ part (in_rest _ _ part all))
 
 -- what a layer's panel shows of a finding stands in the picture
-in_picture : (names : List (List ℕ)) (board : BoardView) (rules : GridRules) (drawing : Drawing) (layer : ℕ) (shown : DrawnFinding) (part : List ℕ) → IsPage names board (Some rules) drawing
+in_picture : (names : List (List ℕ)) (board : BoardView) (edge : List Drawn) (rules : GridRules) (drawing : Drawing) (layer : ℕ) (shown : DrawnFinding) (part : List ℕ) → IsPage names board edge (Some rules) drawing
     → layer < length board.layer_indexes → Contains (drawn_findings layer board.holes (board_findings rules board)) shown
     → ((place : Place) → place.first ≡ (layer == 0) → HasSubslice (finding_text drawing.layout.pen place shown) part) → HasSubslice (svg_text drawing) part
-in_picture names board rules drawing layer shown part page lt c marked =
+in_picture names board edge rules drawing layer shown part page lt c marked =
     let l = drawing.layout in
     let findings = board_findings rules board in
     let indexes = enumerate_from 0 board.layer_indexes in
-    let found = beside (IsPanel names board findings l) indexes drawing.panels.items layer (layer, 0) page.drawn (omega (arith, lt, length-enumerate_from 0 board.layer_indexes)) in
+    let found = beside (IsPanel names board edge findings l) indexes drawing.panels.items layer (layer, 0) page.drawn (omega (arith, lt, length-enumerate_from 0 board.layer_indexes)) in
     let panel = found.0 in
     let is = found.2 in
     let at : (get_or indexes layer (layer, 0)).0 ≡ layer = ap (λ (p : ℕ × ℕ). p.0) (get_or-enumerate_from 0 board.layer_indexes layer (layer, 0) lt) ∙ omega arith in
@@ -151,25 +153,25 @@ in_picture names board rules drawing layer shown part page lt c marked =
     (in_rest (before_panels l drawing.rules drawing.count) (flat_map (text_of_panel l) drawing.panels.items) part (in_texts (text_of_panel l) part drawing.panels.items panel found.1 text))
 
 -- a finding of a board has its marker in the picture
-finding_marked : (names : List (List ℕ)) (board : BoardView) (rules : GridRules) (drawing : Drawing) (layers holes i : ℕ) (found : Finding) → IsPage names board (Some rules) drawing
+finding_marked : (names : List (List ℕ)) (board : BoardView) (edge : List Drawn) (rules : GridRules) (drawing : Drawing) (layers holes i : ℕ) (found : Finding) → IsPage names board edge (Some rules) drawing
     → 0 < length board.layer_indexes → i < length (board_findings rules board) → get_or (board_findings rules board) i found ≡ found
     → NamesPlaces (length board.layer_indexes) holes found → NamesPlaces layers (length board.holes) found → HasSubslice (svg_text drawing) (marker_start (i + 1))
-finding_marked names board rules drawing layers holes i (finding.Ring layer hole) page some lt e first second =
+finding_marked names board edge rules drawing layers holes i (finding.Ring layer hole) page some lt e first second =
     let at = reads board.holes hole second.1 in
-    in_picture names board rules drawing layer (Ring (i + 1) at.0.hole) (marker_start (i + 1)) page first.0
+    in_picture names board edge rules drawing layer (Ring (i + 1) at.0.hole) (marker_start (i + 1)) page first.0
     (shown_at layer board.holes (board_findings rules board) i (finding.Ring layer hole) (Ring (i + 1) at.0.hole) lt e (ring_alone layer hole i board.holes at.0 at.1))
     (λ place first. ring_marked drawing.layout.pen place (i + 1) at.0.hole)
-finding_marked names board rules drawing layers holes i (finding.Oblique layer hole) page some lt e first second =
+finding_marked names board edge rules drawing layers holes i (finding.Oblique layer hole) page some lt e first second =
     let at = reads board.holes hole second.1 in
-    in_picture names board rules drawing layer (Ring (i + 1) at.0.hole) (marker_start (i + 1)) page first.0
+    in_picture names board edge rules drawing layer (Ring (i + 1) at.0.hole) (marker_start (i + 1)) page first.0
     (shown_at layer board.holes (board_findings rules board) i (finding.Oblique layer hole) (Ring (i + 1) at.0.hole) lt e (oblique_alone layer hole i board.holes at.0 at.1))
     (λ place first. ring_marked drawing.layout.pen place (i + 1) at.0.hole)
-finding_marked names board rules drawing layers holes i (finding.Gap one other) page some lt e first second =
+finding_marked names board edge rules drawing layers holes i (finding.Gap one other) page some lt e first second =
     let near = second.0 in
     let in_bounds = second.1 in
     let a = reads board.holes one (omega (arith, near, in_bounds)) in
     let b = reads board.holes other in_bounds in
-    in_picture names board rules drawing 0 (Gap (i + 1) a.0.hole b.0.hole) (marker_start (i + 1)) page some
+    in_picture names board edge rules drawing 0 (Gap (i + 1) a.0.hole b.0.hole) (marker_start (i + 1)) page some
     (shown_at 0 board.holes (board_findings rules board) i (finding.Gap one other) (Gap (i + 1) a.0.hole b.0.hole) lt e (gap_alone 0 one other i board.holes a.0 b.0 a.1 b.1))
     (λ place first. gap_marked drawing.layout.pen place (i + 1) a.0.hole b.0.hole first)
 
@@ -186,21 +188,21 @@ parted R S found rings gaps are_rings are_gaps =
     sym (length-filter_both (λ finding. not (is_gap finding)) is_gap (λ finding. twice (is_gap finding)) found)
     ∙ ap₂ (λ (n k : ℕ). n + k) (sym (AllZip-long R (filter (λ finding. not (is_gap finding)) found) rings are_rings)) (sym (AllZip-long S (filter is_gap found) gaps are_gaps))
 
-marked_at : (names : List (List ℕ)) (board : BoardView) (rules : GridRules) (drawing : Drawing) (layers holes i : ℕ) (findings : List Finding) → findings ≡ board_findings rules board → IsPage names board (Some rules) drawing
+marked_at : (names : List (List ℕ)) (board : BoardView) (edge : List Drawn) (rules : GridRules) (drawing : Drawing) (layers holes i : ℕ) (findings : List Finding) → findings ≡ board_findings rules board → IsPage names board edge (Some rules) drawing
     → 0 < length board.layer_indexes → i < length findings → All (NamesPlaces (length board.layer_indexes) holes) findings → All (NamesPlaces layers (length board.holes)) findings
     → HasSubslice (svg_text drawing) (marker_start (i + 1))
-marked_at names board rules drawing layers holes i [] is page some lt first second = absurd (omega (arith, lt))
-marked_at names board rules drawing layers holes i (f ∷ fs) is page some lt first second =
+marked_at names board edge rules drawing layers holes i [] is page some lt first second = absurd (omega (arith, lt))
+marked_at names board edge rules drawing layers holes i (f ∷ fs) is page some lt first second =
     let findings = f ∷ fs in
     let found = get_or findings i f in
-    finding_marked names board rules drawing layers holes i found page some (subst (λ (xs : List Finding). i < length xs) is lt)
+    finding_marked names board edge rules drawing layers holes i found page some (subst (λ (xs : List Finding). i < length xs) is lt)
     (subst (λ (xs : List Finding). get_or xs i found ≡ found) is (read_again findings i f lt)) (first i f lt) (second i f lt)
   where
     read_again : (xs : List Finding) (k : ℕ) (d : Finding) → k < length xs → get_or xs k (get_or xs k d) ≡ get_or xs k d
     read_again xs k d k_lt = get_or_default xs k (get_or xs k d) d k_lt
 
 pub each_row_has_its_marker : RingsNamePlaces pad_covers → GapsNamePlaces → FindingsNameTheirPlaces → EachRowHasItsMarker
-each_row_has_its_marker rings gaps named sources names board report accepted text is_board some is_report page k d lt =
+each_row_has_its_marker rings gaps named sources names board outline report accepted text is_board some is_report page k d lt =
     let rules = report.rules in
     let findings = board_findings rules board in
     let numbers = numbers_each_once report in
@@ -210,5 +212,5 @@ each_row_has_its_marker rings gaps named sources names board report accepted tex
     (rings rules.ring board.layers board.holes) (gaps rules.gap (length board.layers) board.holes) in
     let drawing = page.drawn.drawing in
     let is_svg : svg_text drawing ≡ page.svg = sym (front_rest (declaration ++ page.svg) declaration (svg_text drawing) page.drawn.is) ∙ front_rest (declaration ++ page.svg) declaration page.svg refl in
-    let here = marked_at names board rules drawing (length board.layers) (length (numbered board)) k findings refl page.drawn.shows some (omega (arith, lt, count, numbers.all)) first second in
+    let here = marked_at names board (shown_outline outline) rules drawing (length board.layers) (length (numbered board)) k findings refl page.drawn.shows some (omega (arith, lt, count, numbers.all)) first second in
     subst (λ (n : ℕ). HasSubslice page.svg (marker_start n)) (sym (numbers.at k d lt)) (subst (λ (svg : List ℕ). HasSubslice svg (marker_start (k + 1))) is_svg here)

@@ -4,6 +4,7 @@ use Rattle.std.specs.List.{All}
 use Rattle.std.specs.Str.Iter.{HasSubslice}
 use Rattle.report.specs.declared.Acceptances.{Acceptances}
 use Rattle.report.specs.declared.BoardReport.{BoardReport}
+use Rattle.layer_image.specs.declared.drawn.Drawn.{Drawn}
 use Rattle.package_check.specs.Boards.{BoardView, IsBoard}
 use Rattle.package_check.specs.Package.{FileView}
 use Rattle.board_report.specs.BoardReport.{IsBoardReport}
@@ -16,6 +17,6 @@ marker_start number = codes "<g class=\"finding\" id=\"f" ++ (decimal number ++ 
 -- where a page is that of the report on a package's board, and the package has a copper file, each row has its marker in the picture
 abbrev pub EachRowHasItsMarker : Type 0
 EachRowHasItsMarker =
-    (sources : List FileView) (names : List (List ℕ)) (board : BoardView) (report : BoardReport) (accepted : Acceptances) (text : List ℕ)
-    → IsBoard sources board → 0 < length board.layer_indexes → IsBoardReport report.rules board report → (page : IsHtmlPage names board report accepted text)
+    (sources : List FileView) (names : List (List ℕ)) (board : BoardView) (outline : List Drawn) (report : BoardReport) (accepted : Acceptances) (text : List ℕ)
+    → IsBoard sources board → 0 < length board.layer_indexes → IsBoardReport report.rules board report → (page : IsHtmlPage names board outline report accepted text)
     → All (λ number. HasSubslice page.svg (marker_start number)) (row_numbers report)

@@ -19,6 +19,7 @@ use Rattle.print_text.specs.Causes.{kind_of, kind_words}
 use Rattle.print_text.specs.Texts.{number_of, rule_words, waived_words}
 use Rattle.package_check.specs.Boards.{BoardView}
 use Rattle.picture.specs.Escapes.{escaped}
+use Rattle.layer_image.specs.declared.drawn.Drawn.{Drawn}
 use Rattle.drawing.specs.Drawings.{IsDrawn, declaration, number_of as file_number, svg_text}
 use Rattle.report_page.specs.declared.frame.TheConstants.{BEFORE_RULES, BEFORE_SCRIPT, BEFORE_STYLE, BODY, CAPTION, COLUMNS, END, FIGURE, HEAD, TOOLS}
 use Rattle.report_page.specs.declared.page.HtmlReport.{HtmlReport}
@@ -200,8 +201,8 @@ html_text names report accepted svg =
 abbrev pub page_text : HtmlReport → List ℕ
 page_text page = html_text (map (λ name. name.now) page.names.now) page.report.now page.accepted.now (svg_text page.drawing)
 
--- a text is the page of a report, with the drawing of a board under the rules of the report
-pub record IsHtmlPage (names : List (List ℕ)) (board : BoardView) (report : BoardReport) (accepted : Acceptances) (text : List ℕ) : Type 0 where
+-- a text is the page of a report, with the drawing of a board under the rules of the report and with the outline that these parts draw
+pub record IsHtmlPage (names : List (List ℕ)) (board : BoardView) (outline : List Drawn) (report : BoardReport) (accepted : Acceptances) (text : List ℕ) : Type 0 where
   pub svg : List ℕ
-  pub drawn : IsDrawn names board (Some report.rules) (declaration ++ svg)
+  pub drawn : IsDrawn names board outline (Some report.rules) (declaration ++ svg)
   pub is : text ≡ html_text names report accepted svg

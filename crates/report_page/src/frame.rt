@@ -56,7 +56,7 @@ pub const FIGURE: &str = "\
 pub const CAPTION: &str = "\
 </figure>
 <template id=\"sheet\"><div class=\"sheet\"><h2><span></span> <small></small></h2><div class=\"sight\"><div class=\"markers\" role=\"group\"></div><div class=\"bar\" aria-hidden=\"true\"></div></div></div></template>
-<p id=\"told\" role=\"status\"></p>
+<p id=\"spoken\" role=\"status\"></p>
 </section>
 <section aria-label=\"findings\">
 <p id=\"selected\" aria-live=\"polite\">No finding is selected.</p>

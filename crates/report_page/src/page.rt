@@ -13,6 +13,7 @@ use crate::script::SCRIPT;
 use crate::style::STYLE;
 use crate::verdict::{CountWords, RulesWords, Verdict};
 use drawing::{Drawing, Svg};
+use layer_image::Drawn;
 use package_check::Board;
 use picture::Escaped;
 use printing::{Line, Lines, name_of};
@@ -97,7 +98,7 @@ pub struct HtmlReport<'a> {
 
 impl<'a> HtmlReport<'a> {
     /// The page of a report on a board, with the reasons why findings are waived. `names` are those of the package's files. All memory is
-    /// taken here, for the drawing of the board under the rules of the report; printing takes none.
+    /// taken here, for the drawing of the board under the rules of the report, with the outline that these parts draw; printing takes none.
     ///
     /// # Errors
     ///
@@ -106,12 +107,13 @@ impl<'a> HtmlReport<'a> {
         alloc: Global,
         names: &'a [&'a str],
         board: &'a Board,
+        outline: &'a [Drawn],
         report: &'a BoardReport,
         accepted: &'a Acceptances<'a>,
     ) -> Result<HtmlReport<'a>, AllocError>
-        ensures { IfOk result (λ page. IsHtmlPage (map (λ name. name.now) names.now) board.now report.now accepted.now (page_text page)) }
+        ensures { IfOk result (λ page. IsHtmlPage (map (λ name. name.now) names.now) board.now outline.now report.now accepted.now (page_text page)) }
     {
-        let drawing = Drawing::new(alloc, names, board, Some(report.rules))?;
+        let drawing = Drawing::new(alloc, names, board, outline, Some(report.rules))?;
         Ok(HtmlReport {
             names,
             report,

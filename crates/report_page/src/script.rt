@@ -8,7 +8,7 @@ pub const SCRIPT: &str = "\
 (() => {
 'use strict';
 document.documentElement.className = '';
-const picture = document.getElementById('picture'), told = document.getElementById('told');
+const picture = document.getElementById('picture'), spoken = document.getElementById('spoken');
 const drawing = picture.querySelector('svg'), table = document.querySelector('table');
 const rows = Array.from(table.tBodies[0].rows), heads = table.tHead.rows[0].cells;
 const panels = Array.from(drawing.querySelectorAll('.layer'));
@@ -249,7 +249,7 @@ function partGroup(sheet, group) {
   view = {x: (left + right) / 2, y: (top + bottom) / 2 + reach, part};
   draw();
   const parted = sheet.groups.filter(it => it.some(one => group.includes(one))).length;
-  told.textContent = `zoomed in: ${group.length} findings, markers: ${parted}`;
+  spoken.textContent = `zoomed in: ${group.length} findings, markers: ${parted}`;
 }
 
 function chooseNext(group) {

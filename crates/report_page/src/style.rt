@@ -20,6 +20,7 @@ main .drawn g{fill:#4d4232}
 main circle.ring{fill:#ff6673;stroke:#ff6673}
 main path.ring{stroke:#ff6673}
 main .gap{stroke:#c99aff}
+main .outline{stroke:#ccc}
 }
 body{margin:0;font:16px/1.4 sans-serif;color:var(--ink);background:var(--paper);display:flex;flex-direction:column;height:100vh}
 header{padding:.5em 1em;border-bottom:1px solid var(--edge)}
@@ -38,8 +39,10 @@ details p{margin:0}
 h2{font-size:.9em;margin:0;padding:.1em .4em;white-space:nowrap;overflow:hidden;text-overflow:ellipsis}
 small{font-weight:normal;color:var(--faint)}
 .sight{flex:1;min-height:0;position:relative;overflow:hidden;overflow:clip;touch-action:none;user-select:none;cursor:grab}
-.sight svg,.markers{position:absolute;inset:0;width:100%;height:100%}
+.sight>svg,.markers{position:absolute;inset:0;width:100%;height:100%}
 .sight .name,.sight .note,.sight .mark,.sight .number{display:none}
+.sight .board{stroke-width:1px;vector-effect:non-scaling-stroke}
+.sight .outline path{stroke-width:1.5px;vector-effect:non-scaling-stroke}
 .markers{pointer-events:none}
 .marker{position:absolute;transform:translate(-50%,calc(-100% - 4px));pointer-events:auto;box-sizing:border-box;min-width:20px;height:20px;padding:0 3px;border:1px solid var(--lack);border-radius:10px;font:bold 11px/18px sans-serif;white-space:nowrap;color:var(--lack);background:var(--paper);cursor:pointer}
 .marker::after{content:'';position:absolute;left:50%;top:100%;margin-left:-4px;border:4px solid transparent;border-top-color:var(--lack);border-bottom:0}
@@ -50,7 +53,7 @@ small{font-weight:normal;color:var(--faint)}
 .bar{position:absolute;left:6px;bottom:6px;border:1px solid;border-top:0;font-size:.7em;line-height:1.2;text-align:center;white-space:nowrap;pointer-events:none}
 .key{flex:none;width:100%;max-width:26rem;height:3.2rem}
 #selected{height:4.2em;overflow:auto;overflow-wrap:anywhere}
-#told{position:absolute;width:1px;height:1px;margin:0;overflow:hidden;clip-path:inset(50%);white-space:nowrap}
+#spoken{position:absolute;width:1px;height:1px;margin:0;overflow:hidden;clip-path:inset(50%);white-space:nowrap}
 #rows{flex:1;min-height:0;overflow:auto;border:1px solid var(--edge)}
 table{table-layout:fixed;width:100%;min-width:62em;border-collapse:collapse;font-size:.8em}
 caption{text-align:left;padding:.3em;font-weight:bold}

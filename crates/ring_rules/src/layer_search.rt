@@ -93,13 +93,53 @@ impl LayerSearch {
         ensures { IfOk result (λ search. HasTried S.covers holes.now layer [] index.now search) }
     {
         let needing = first_marks(alloc, layer, holes)?;
-        let marks = marks_of_spots(alloc, &index.cells.spots, &needing)?;
+        LayerSearch::from_marks(alloc, index, holes, layer, &needing)
+    }
+
+    /// A search on a layer over an index, where these are the marks of the holes.
+    fn from_marks(
+        alloc: Global,
+        index: &RingIndex,
+        holes: &[Drilled],
+        layer: usize,
+        marks: &[bool],
+    ) -> Result<LayerSearch, AllocError>
+        requires index { IsRingIndexOf holes.now index.now }
+        requires size { length marks.now ≡ length holes.now }
+        ensures over { IfOk result (IsSearchOver index.now) }
+        ensures layer { IfOk result (λ search. search.layer ≡ layer) }
+        ensures marks { IfOk result (λ search. (test : Drilled → Bool) → marks.now ≡ map test holes.now → AreMarkedBy test holes.now index.now search.marks.items) }
+    {
+        let marks = marks_of_spots(alloc, &index.cells.spots, marks)?;
         let open_nodes = vec![in alloc; true; index.nodes.len()]?;
         Ok(LayerSearch {
             layer,
             marks,
             open_nodes,
         })
+    }
+
+    /// The same search over another index of the same holes under the same rules. The index is the one that the search was made over.
+    ///
+    /// # Errors
+    ///
+    /// Where there is no memory.
+    pub fn over<S: PadShape>(
+        &self,
+        alloc: Global,
+        index: &RingIndex,
+        holes: &[Drilled],
+        other: &RingIndex,
+    ) -> Result<LayerSearch, AllocError>
+        requires index { IsRingIndexOf holes.now index.now }
+        requires other { IsRingIndexOf holes.now other.now }
+        requires rules { other.now.rules ≡ index.now.rules }
+        requires over { IsSearchOver index.now self.now }
+        ensures over { IfOk result (IsSearchOver other.now) }
+        ensures tried { (layer : ℕ) (pads : List S) → HasTried S.covers holes.now layer pads index.now self.now → IfOk result (λ search. HasTried S.covers holes.now layer pads other.now search) }
+    {
+        let lacking = lacking(alloc, index, holes, &self.marks)?;
+        LayerSearch::from_marks(alloc, other, holes, self.layer, &lacking)
     }
 
     /// Tries the next pads of the layer. The index is the one that the search was made over.

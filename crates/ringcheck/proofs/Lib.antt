@@ -1,6 +1,7 @@
 pub mod LoadSteps
 pub mod LoadedFiles
 pub mod Outcomes
+pub mod OutlinedReports
 pub mod ParseCountLemmas
 pub mod RequestLemmas
 pub mod RewrittenPackages

@@ -1,5 +1,5 @@
 -- Files of a package that were loaded, whatever their order.
-use Rattle.std.proofs.Common.{◌≡◌, cond, ◌≢◌, ◌<◌, ◌≤◌, ◌↔◌, ◌+◌, ◌||◌, ◌&&◌, eqb, ltb, ℕ, zero, suc, Bool, true, false, not, List, [], ◌∷◌, length, map, take, set, get_or, slice_get, Option, Some, None, inl, inr, arith, refl, sym, ap, subst, ◌∙◌}
+use Rattle.std.proofs.Common.{◌≡◌, cond, ◌≢◌, ◌<◌, ◌≤◌, ◌↔◌, ◌+◌, ◌||◌, ◌&&◌, eqb, ltb, ℕ, zero, suc, Bool, true, false, not, List, [], ◌∷◌, length, map, take, set, get_or, slice_get, Option, Some, None, Result, Ok, Err, inl, inr, arith, refl, sym, ap, subst, ◌∙◌}
 use Rattle.std.proofs.lemmas.Bool.{and_left, and_right, both_ways, cases_lt, eqb-true, le-ltb, lt-ltb, or_cases, or_from}
 use Rattle.std.specs.Option.{option_or, unwrap_or}
 use Rattle.std.proofs.lemmas.List.{get_or-set_other, get_or-set_same, length-set, length-take-le, take_all}
@@ -10,18 +10,18 @@ use Rattle.layer_image.specs.declared.keep.Keep.{Keep}
 use Rattle.manifest.specs.declared.Entry.{Entry}
 use Rattle.grid_units.specs.Holes.{GridRules}
 use Rattle.package_check.specs.CheckViews.{CheckView}
-use Rattle.package_check.specs.Checking.{HasJudged, drill_files, layer_number}
+use Rattle.package_check.specs.Checking.{HasJudged, HasJudgedAll, drill_files, layer_number}
 use Rattle.package_check.specs.Holding as taking
 use Rattle.package_check.specs.Holding.{HasTaken, HasTakenAll, copper_files, is_kind}
 use Rattle.package_check.specs.Package.{FileView, is_copper}
 use Rattle.package_check.specs.declared.package_reader.PackageReader.{PackageReader}
-use Rattle.package_check.proofs.CheckSteps.{judged_alike}
+use Rattle.package_check.proofs.CheckSteps.{judged_alike, judged_all}
 use Rattle.package_check.proofs.TakeSteps.{all_below, none_below, none_more, one_more, or_none, or_together, taken_alike}
 use Rattle.ringcheck_files.specs.LoaderRelation.{file_limit, within}
 use Rattle.ringcheck_files.specs.Outcomes.{HasRisen}
 use Rattle.ringcheck.specs.CheckStatus.{HasFiles, RefusedFile, file_views_among, long_file, sources}
-use Rattle.ringcheck.specs.Inner.Halting.{Halts, refusal}
-use Rattle.ringcheck.specs.Inner.Loading.{AreFirstOf, EndsAt, HasLoaded, LoadsCopper, LoadsCopperTo, LoadsFile, LoadsKind, RefusesLong, copper_entries, is_kind_at, is_kind_of, source}
+use Rattle.ringcheck.specs.Inner.Halting.{Halts, OfFiles, refusal}
+use Rattle.ringcheck.specs.Inner.Loading.{AreFirstOf, EndsAt, HasLoaded, LoadsCopper, LoadsCopperTo, LoadsFile, LoadsKind, OfCheckedCopper, RefusesLong, copper_entries, is_kind_at, is_kind_of, source}
 use Rattle.ringcheck.specs.Refusals.{Refusal, of_archive}
 use Rattle.ringcheck.proofs.Outcomes.{risen_since}
 use Rattle.ringcheck.specs.declared.refusals.Halt.{Halt}
@@ -262,6 +262,13 @@ halts_weaker Is Is' Risen Risen' to rise (halt.Refused what why) is = to (refusa
 halts_weaker Is Is' Risen Risen' to rise (halt.Archive what why name) is = to (of_archive name.now (refusal what why)) is
 halts_weaker Is Is' Risen Risen' to rise (halt.Unread what) risen = rise risen
 
+-- what halts a loader that has no more, by a count that rose since a later time, halts one that has more
+pub halts_since : (later has : List ℕ → List ℕ → Type 0) → ((n b : List ℕ) → later n b → has n b) → (index : ℕ) (entry : Entry) (old middle new : ℕ) → old ≤ middle → (h : Halt)
+    → Halts (RefusesLong later index entry) (HasRisen middle new) h → Halts (RefusesLong has index entry) (HasRisen old new) h
+halts_since later has to index entry old middle new le =
+    halts_weaker (RefusesLong later index entry) (RefusesLong has index entry) (HasRisen middle new) (HasRisen old new)
+    (λ why long. record { bytes = long.bytes; loaded = to entry.file long.bytes long.loaded; long = long.long; is = long.is }) (risen_since old middle new le)
+
 module _ (has : List ℕ → List ℕ → Type 0) (all : List Entry) (Taken : List FileView → (ℕ → Bool) → Type 0) (drills copper : ℕ) (le : copper ≤ drills) (h : HasLoaded has all Taken (done_to all drills copper)) where
   files_before : HasFiles (within file_limit has) (take copper all) (take copper h.files)
   files_before = has_first (within file_limit has) copper all h.files h.size (λ i e lt at. h.loaded i e (done_below all drills copper i le lt (slice_get_within all i e at)) at)
@@ -344,13 +351,18 @@ check_passes has later same all keep rules start middle check last drills copper
     (two rules done (counted ∙ (stays ∙ layers)) (λ i kind. and_right (ltb i drills) (is_kind_at false all i) (one_entry_kind all i kind))
     (loaded_along has all later (λ n b. (same n b).1) (λ files. HasJudged check files rules) done checked))
 
--- all entries are the first of them, where there are no more
-module _ (all : List Entry) (drills : ℕ) (ends : drills ≡ length all) where
-  all_first : take drills all ≡ all
-  all_first = take_all drills all (omega (arith, ends))
-
-  pub within_all : (copper : ℕ) → copper ≤ length all → copper ≤ length (take drills all)
-  within_all copper le = let size = ap length all_first in omega (arith, le, size)
-
-  pub ends_among_all : (later : List ℕ → List ℕ → Type 0) (Risen : Type 0) (copper : ℕ) (second : Option Halt) → EndsAt later all Risen copper second → EndsAt later (take drills all) Risen copper second
-  ends_among_all later Risen copper second h = subst (λ (es : List Entry). EndsAt later es Risen copper second) (sym all_first) h
+-- what came of the copper files is what came of all, where all drill files were loaded before
+pub all_checked : (has later : List ℕ → List ℕ → Type 0) → ((n b : List ℕ) → later n b ↔ has n b) → (all : List Entry) (keep : Keep) (rules : GridRules) (start middle : PackageReader) (check : CheckView) (drills old between new : ℕ) → drills ≡ length all
+    → copper_files start ≡ copper_entries all → copper_files middle ≡ copper_files start → check.layers ≡ copper_files middle → ((sources : List FileView) → HasTaken start keep sources (λ i. false))
+    → LoadsKind has all start middle false drills → ((files : List FileView) → HasTaken middle keep files (taking.is_kind_at false files) → HasJudged check files rules (taking.is_kind_at false files))
+    → old ≤ between → (r : Result CheckView Halt) → OfCheckedCopper later all check (HasRisen between new) r → OfFiles has all (HasRisen old new) (λ it files. HasJudgedAll it files rules) r
+all_checked has later same all keep rules start middle check drills old between new ends layers stays counted stands one goes rises (Ok last) two =
+    let Taken = λ (files : List FileView) (done : ℕ → Bool). HasJudged last files rules done in
+    let loaded = check_passes has later same all keep rules start middle check last drills (length all) ends layers stays counted stands one goes two in
+    all_loaded has all Taken drills (length all) (omega (arith, ends)) loaded (λ files. HasJudgedAll last files rules) (λ files p. judged_all last files rules p) (omega arith)
+all_checked has later same all keep rules start middle check drills old between new ends layers stays counted stands one goes rises (Err stop) (copper, (entry, at, halts), last, two) =
+    let Taken = λ (files : List FileView) (done : ℕ → Bool). HasJudged last files rules done in
+    let loaded = check_passes has later same all keep rules start middle check last drills copper ends layers stays counted stands one goes two in
+    let inside = slice_get_within all copper entry at in
+    halts_weaker (RefusesLong later copper entry) (RefusedFile has all) (HasRisen between new) (HasRisen old new)
+    (λ why long. long_refused has all Taken drills copper (omega (arith, ends, inside)) loaded later (λ n b. (same n b).0) entry why at long) (risen_since old between new rises) stop halts

@@ -1,34 +1,45 @@
 -- What a status says of the picture of a package.
-use Rattle.std.specs.Prelude.{◌≡◌, ℕ, Bool, true, List, [], map, Option, Some, Result, Ok, Err}
+use Rattle.std.specs.Prelude.{◌≡◌, ◌⊎◌, ℕ, Bool, true, List, [], map, Option, None, Some, Result, Ok, Err}
 use Rattle.std.specs.Io.KnownBytes.{Appends}
 use Rattle.grid_units.specs.Holes.{GridRules}
 use Rattle.grid_units.specs.declared.fault.Reason.{Reason}
 use Rattle.drawing.specs.Drawings.{IsDrawn}
+use Rattle.layer_image.specs.declared.drawn.Drawn.{Drawn}
 use Rattle.package_check.specs.Boards.{BoardView, IsDrawnBoard, board_findings}
 use Rattle.package_check.specs.Package.{FileView}
 use Rattle.package_check.specs.Soundness.{IsSound}
 use Rattle.ringcheck_files.specs.declared.Status.{Status}
+use Rattle.ringcheck_files.specs.declared.Status.TheVariants as status
 use Rattle.ringcheck.specs.declared.refusals.RefusalStyle.TheVariants as style
 use Rattle.ringcheck.specs.CheckStatus.{SaysPackage}
+use Rattle.ringcheck.specs.Outlining.{HasOutline, PrintsOutlineRefusal}
 use Rattle.ringcheck_files.specs.LoaderRelation.{Relation}
 use Rattle.ringcheck_files.specs.Words.{IsUsageStatus}
 
--- the writer got just the picture of the files' board, with what the copper files draw, and what is found under the rules, if there are any; without
--- findings the files are sound
-pub record PrintsPicture (rules : Option GridRules) (before after : Option (List ℕ)) (passes : Bool) (all : List FileView) : Type 0 where
+-- the writer got just the picture of the files' board, with what the copper files draw, an outline of these parts, and what is found under the rules, if
+-- there are any; without findings the files are sound
+pub record PrintsPicture (rules : Option GridRules) (outline : List Drawn) (before after : Option (List ℕ)) (passes : Bool) (all : List FileView) : Type 0 where
   pub board : BoardView
   pub read : IsDrawnBoard all board
   pub text : List ℕ
-  pub is : IsDrawn (map (λ source. source.name) all) board rules text
+  pub is : IsDrawn (map (λ source. source.name) all) board outline rules text
   pub written : Appends before after text
   pub sound : (required : GridRules) → rules ≡ Some required → board_findings required board ≡ [] → IsSound all required
   pub passed : passes ≡ true
 
--- what a status says of the picture of a package; it is never Findings
-abbrev pub IsDrawStatus : Relation → List ℕ → Option GridRules → Option (List ℕ) → Option (List ℕ) → Status → Type 0
-IsDrawStatus has name rules before after s = SaysPackage has name (PrintsPicture rules before after) style.Line before after s
+-- what a status says of the picture of a package with an outline of these parts; it is never Findings
+abbrev pub IsDrawStatus : Relation → List ℕ → Option GridRules → List Drawn → Option (List ℕ) → Option (List ℕ) → Status → Type 0
+IsDrawStatus has name rules outline before after s = SaysPackage has name (PrintsPicture rules outline before after) style.Line before after s
 
--- what a status says of a picture under the rules that words name, or where these are refused
-abbrev pub IsParsedDrawStatus : Relation → List ℕ → Result (Option GridRules) Reason → Option (List ℕ) → Option (List ℕ) → Status → Type 0
-IsParsedDrawStatus has name (Ok rules) before after s = IsDrawStatus has name rules before after s
-IsParsedDrawStatus has name (Err why) before after s = IsUsageStatus why before after s
+-- what a status says of a picture for which the file of an outline may be named: without one the picture has no outline; with one that
+-- file is refused, or the status is Device, or the file has an outline and the picture is made with it
+abbrev pub IsOutlinedDrawStatus : Relation → List ℕ → Option GridRules → Option (List ℕ) → Option (List ℕ) → Option (List ℕ) → Status → Type 0
+IsOutlinedDrawStatus has name rules None before after s = IsDrawStatus has name rules [] before after s
+IsOutlinedDrawStatus has name rules (Some file) before after s =
+    ((s ≡ status.Refused) × PrintsOutlineRefusal has file before after)
+    ⊎ ((s ≡ status.Device) ⊎ ((outline : List Drawn) × HasOutline has file outline × IsDrawStatus has name rules outline before after s))
+
+-- what a status says of a picture under the rules that words name, or where these are refused; `outline` is the file of an outline, if there is one
+abbrev pub IsParsedDrawStatus : Relation → List ℕ → Result (Option GridRules) Reason → Option (List ℕ) → Option (List ℕ) → Option (List ℕ) → Status → Type 0
+IsParsedDrawStatus has name (Ok rules) outline before after s = IsOutlinedDrawStatus has name rules outline before after s
+IsParsedDrawStatus has name (Err why) outline before after s = IsUsageStatus why before after s

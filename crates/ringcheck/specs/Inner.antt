@@ -1,3 +1,4 @@
 pub mod Halting
 pub mod Jobs
 pub mod Loading
+pub mod Outlines

@@ -2,6 +2,7 @@ pub mod CheckStatus
 pub mod DrawStatus
 pub mod Inner
 pub mod MeasureStatus
+pub mod Outlining
 pub mod ParsedWords
 pub mod Refusals
 pub mod ReportStatus

@@ -38,12 +38,14 @@ unfoldable pub parse_limit : Option (List ℕ) → Result (Option ℕ) Reason
 parse_limit None = Ok None
 parse_limit (Some word) = parse_count word >>= λ n. Ok (Some n)
 
--- the format of a report: `text`, also without a word, `html`, `json`, or `waivers`, which is BadRole where a file of waivers is given too
-unfoldable pub parse_report_format : Bool → Option (List ℕ) → Result ReportFormat Reason
-parse_report_format waives None = Ok format.Text
-parse_report_format waives (Some word) =
-    if bytes_eq word (codes "text") then Ok format.Text
-    else if bytes_eq word (codes "html") then Ok format.Html
+-- the format of a report: `text`, also without a word, `html`, `json`, or `waivers`, which is BadRole where a file of waivers is given too; where an
+-- outline is given, each but `html` is BadRole
+unfoldable pub parse_report_format : Bool → Bool → Option (List ℕ) → Result ReportFormat Reason
+parse_report_format waives outlined None = if outlined then Err BadRole else Ok format.Text
+parse_report_format waives outlined (Some word) =
+    if bytes_eq word (codes "html") then Ok format.Html
+    else if outlined then Err BadRole
+    else if bytes_eq word (codes "text") then Ok format.Text
     else if bytes_eq word (codes "json") then Ok format.Json
     else if bytes_eq word (codes "waivers") && not waives then Ok format.Waivers else Err BadRole
 
@@ -53,9 +55,11 @@ parse_format None = Ok measures.Text
 parse_format (Some word) =
     if bytes_eq word (codes "text") then Ok measures.Text else if bytes_eq word (codes "json") then Ok measures.Json else Err BadRole
 
--- the rules, the limit of findings and the format of a report, or the first refusal in this order; `waive` is the file of waivers, if there is one
-unfoldable pub parse_report : List ℕ → List ℕ → Option (List ℕ) → Option (List ℕ) → Option (List ℕ) → Result (GridRules × Option ℕ × ReportFormat) Reason
-parse_report ring gap limit waive form = parse_rules ring gap >>= λ rules. (parse_limit limit >>= λ n. (parse_report_format (is_some waive) form >>= λ f. Ok (rules, n, f)))
+-- the rules, the limit of findings and the format of a report, or the first refusal in this order; `waive` is the file of waivers and
+-- `outline` that of an outline, if there is one
+unfoldable pub parse_report : List ℕ → List ℕ → Option (List ℕ) → Option (List ℕ) → Option (List ℕ) → Option (List ℕ) → Result (GridRules × Option ℕ × ReportFormat) Reason
+parse_report ring gap limit waive outline form =
+    parse_rules ring gap >>= λ rules. (parse_limit limit >>= λ n. (parse_report_format (is_some waive) (is_some outline) form >>= λ f. Ok (rules, n, f)))
 
 -- the rules of a picture: those of a ring and a gap, or none; one of these alone is BadRule
 unfoldable pub parse_draw : Option (List ℕ) → Option (List ℕ) → Result (Option GridRules) Reason

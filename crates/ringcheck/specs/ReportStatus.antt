@@ -3,6 +3,7 @@ use Rattle.std.specs.Prelude.{◌≡◌, ◌⊎◌, ◌==◌, ◌&&◌, ℕ, Boo
 use Rattle.std.specs.Io.KnownBytes.{Appends}
 use Rattle.grid_units.specs.Holes.{GridRules}
 use Rattle.grid_units.specs.declared.fault.Reason.{Reason}
+use Rattle.layer_image.specs.declared.drawn.Drawn.{Drawn}
 use Rattle.package_check.specs.Package.{FileView}
 use Rattle.package_check.specs.Soundness.{IsSound}
 use Rattle.layer_image.specs.declared.keep.Keep.{Keep}
@@ -25,23 +26,24 @@ use Rattle.ringcheck.specs.Refusals.{Refusal, PrintsRefusal}
 use Rattle.ringcheck_files.specs.LoaderRelation.{Relation}
 use Rattle.ringcheck_files.specs.Words.{IsExplainedUsage}
 use Rattle.ringcheck.specs.CheckStatus.{SaysPackage}
+use Rattle.ringcheck.specs.Outlining.{HasOutline, PrintsOutlineRefusal}
 use Rattle.ringcheck.specs.Waiving.{HasWaivers, RefusedWaivers}
 use Rattle.waivers.specs.Findings.{findings_text}
 use Rattle.waivers.specs.Waiving.{AreReasons, IsWaived, are_all_waived}
 use Rattle.waivers.specs.declared.Waiver.{Waiver}
 use Rattle.waivers.specs.declared.waiving.Waived.{Waived}
 
--- the writer got just the page of the report on a board
-abbrev pub PrintsPage : List (List ℕ) → BoardView → BoardReport → Acceptances → Option (List ℕ) → Option (List ℕ) → Type 0
-PrintsPage names board report accepted before after = (page : List ℕ) × IsHtmlPage names board report accepted page × Appends before after page
+-- the writer got just the page of the report on a board, with an outline of these parts
+abbrev pub PrintsPage : List (List ℕ) → BoardView → List Drawn → BoardReport → Acceptances → Option (List ℕ) → Option (List ℕ) → Type 0
+PrintsPage names board outline report accepted before after = (page : List ℕ) × IsHtmlPage names board outline report accepted page × Appends before after page
 
--- the writer got just a report on a board with the reasons why findings are waived: its text with at most `limit` findings, or its page, its
--- JSON or its file of waivers with all of them
-abbrev pub PrintsReport : ReportFormat → List (List ℕ) → BoardView → BoardReport → Option ℕ → Acceptances → Option (List ℕ) → Option (List ℕ) → Type 0
-PrintsReport format.Text names board report limit accepted before after = Appends before after (waived_report_text names report limit accepted)
-PrintsReport format.Html names board report limit accepted before after = PrintsPage names board report accepted before after
-PrintsReport format.Json names board report limit accepted before after = Appends before after (json_text (waived_report_value names board.files report accepted))
-PrintsReport format.Waivers names board report limit accepted before after = Appends before after (findings_text names report)
+-- the writer got just a report on a board with the reasons why findings are waived: its text with at most `limit` findings, or its page with an
+-- outline of these parts, its JSON or its file of waivers with all of them
+abbrev pub PrintsReport : ReportFormat → List (List ℕ) → BoardView → List Drawn → BoardReport → Option ℕ → Acceptances → Option (List ℕ) → Option (List ℕ) → Type 0
+PrintsReport format.Text names board outline report limit accepted before after = Appends before after (waived_report_text names report limit accepted)
+PrintsReport format.Html names board outline report limit accepted before after = PrintsPage names board outline report accepted before after
+PrintsReport format.Json names board outline report limit accepted before after = Appends before after (json_text (waived_report_value names board.files report accepted))
+PrintsReport format.Waivers names board outline report limit accepted before after = Appends before after (findings_text names report)
 
 -- whether a report has no finding
 abbrev pub has_none : BoardReport → Bool
@@ -61,8 +63,9 @@ kept_for format.Json = keep.Flashes
 kept_for format.Waivers = keep.Flashes
 
 -- the writer got just the report of the files under the rules, in a format, judged with the waivers of a file, if there is one; its findings
--- are those of the check of them, one for one, and without a finding they are sound; a page shows what the copper files draw
-pub record Reports (rules : GridRules) (limit : Option ℕ) (form : ReportFormat) (waivers : Option (List Waiver)) (before after : Option (List ℕ)) (passes : Bool) (all : List FileView) : Type 0 where
+-- are those of the check of them, one for one, and without a finding they are sound; a page shows what the copper files draw, and an outline
+-- of these parts
+pub record Reports (rules : GridRules) (limit : Option ℕ) (form : ReportFormat) (waivers : Option (List Waiver)) (outline : List Drawn) (before after : Option (List ℕ)) (passes : Bool) (all : List FileView) : Type 0 where
   pub report : BoardReport
   pub is : IsBoardReportOf all rules report
   pub drawn : form ≡ format.Html → IsDrawnBoard all is.board
@@ -70,7 +73,7 @@ pub record Reports (rules : GridRules) (limit : Option ℕ) (form : ReportFormat
   pub sound : has_none report ≡ true → IsSound all rules
   pub accepted : Acceptances
   pub judged : Judges waivers (map (λ source. source.name) all) report passes accepted
-  pub written : PrintsReport form (map (λ source. source.name) all) is.board report limit accepted before after
+  pub written : PrintsReport form (map (λ source. source.name) all) is.board outline report limit accepted before after
 
 -- how a refusal is printed in place of a report or a measure: by a line with its page, as JSON, or by a line alone
 abbrev pub report_style : ReportFormat → RefusalStyle
@@ -84,18 +87,27 @@ abbrev pub PrintsWaiversRefusal : Relation → List ℕ → RefusalStyle → Opt
 PrintsWaiversRefusal has file refusal_style before after = (why : Refusal) × RefusedWaivers has file why × PrintsRefusal refusal_style why before after
 
 -- what a status says of the report on a package
-abbrev pub IsReportStatus : Relation → List ℕ → GridRules → Option ℕ → ReportFormat → Option (List Waiver) → Option (List ℕ) → Option (List ℕ) → Status → Type 0
-IsReportStatus has name rules limit form waivers before after s = SaysPackage has name (Reports rules limit form waivers before after) (report_style form) before after s
+abbrev pub IsReportStatus : Relation → List ℕ → GridRules → Option ℕ → ReportFormat → Option (List Waiver) → List Drawn → Option (List ℕ) → Option (List ℕ) → Status → Type 0
+IsReportStatus has name rules limit form waivers outline before after s = SaysPackage has name (Reports rules limit form waivers outline before after) (report_style form) before after s
+
+-- what a status says of a report for which the file of an outline may be named: that file is refused, or the status is Device, or the file
+-- has an outline and the report is made with it
+abbrev pub IsOutlinedReportStatus : Relation → List ℕ → GridRules → Option ℕ → ReportFormat → Option (List Waiver) → Option (List ℕ) → Option (List ℕ) → Option (List ℕ) → Status → Type 0
+IsOutlinedReportStatus has name rules limit form waivers None before after s = IsReportStatus has name rules limit form waivers [] before after s
+IsOutlinedReportStatus has name rules limit form waivers (Some file) before after s =
+    ((s ≡ status.Refused) × PrintsOutlineRefusal has file before after)
+    ⊎ ((s ≡ status.Device) ⊎ ((outline : List Drawn) × HasOutline has file outline × IsReportStatus has name rules limit form waivers outline before after s))
 
 -- what a status says of a report for which a file of waivers may be named: that file is refused, or the status is Device,
--- or the file has waivers and the report is made with them
-abbrev pub IsWaivingReportStatus : Relation → List ℕ → GridRules → Option ℕ → ReportFormat → Option (List ℕ) → Option (List ℕ) → Option (List ℕ) → Status → Type 0
-IsWaivingReportStatus has name rules limit form None before after s = IsReportStatus has name rules limit form None before after s
-IsWaivingReportStatus has name rules limit form (Some file) before after s =
-    ((s ≡ status.Refused) × PrintsWaiversRefusal has file (report_style form) before after) ⊎ ((s ≡ status.Device) ⊎ ((waivers : List Waiver) × HasWaivers has file waivers × IsReportStatus has name rules limit form (Some waivers) before after s))
+-- or the file has waivers and the report is made with them; `outline` is the file of an outline, if there is one
+abbrev pub IsWaivingReportStatus : Relation → List ℕ → GridRules → Option ℕ → ReportFormat → Option (List ℕ) → Option (List ℕ) → Option (List ℕ) → Option (List ℕ) → Status → Type 0
+IsWaivingReportStatus has name rules limit form None outline before after s = IsOutlinedReportStatus has name rules limit form None outline before after s
+IsWaivingReportStatus has name rules limit form (Some file) outline before after s =
+    ((s ≡ status.Refused) × PrintsWaiversRefusal has file (report_style form) before after)
+    ⊎ ((s ≡ status.Device) ⊎ ((waivers : List Waiver) × HasWaivers has file waivers × IsOutlinedReportStatus has name rules limit form (Some waivers) outline before after s))
 
 -- what a status says of a report with the rules, the limit and the format that words name, or where these are refused and `below` stands
--- below their line
-abbrev pub IsParsedReportStatus : Relation → List ℕ → Result (GridRules × Option ℕ × ReportFormat) Reason → List ℕ → Option (List ℕ) → Option (List ℕ) → Option (List ℕ) → Status → Type 0
-IsParsedReportStatus has name (Ok (rules, limit, form)) below waive before after s = IsWaivingReportStatus has name rules limit form waive before after s
-IsParsedReportStatus has name (Err why) below waive before after s = IsExplainedUsage why below before after s
+-- below their line; `waive` is the file of waivers, and `outline` that of an outline, if there is one
+abbrev pub IsParsedReportStatus : Relation → List ℕ → Result (GridRules × Option ℕ × ReportFormat) Reason → List ℕ → Option (List ℕ) → Option (List ℕ) → Option (List ℕ) → Option (List ℕ) → Status → Type 0
+IsParsedReportStatus has name (Ok (rules, limit, form)) below waive outline before after s = IsWaivingReportStatus has name rules limit form waive outline before after s
+IsParsedReportStatus has name (Err why) below waive outline before after s = IsExplainedUsage why below before after s

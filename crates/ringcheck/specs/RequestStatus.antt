@@ -1,5 +1,5 @@
 -- What a status says of a request of the command line, and of any words (docs/FORMATS.md, The program).
-use Rattle.std.specs.Prelude.{⊤, ◌≡◌, ◌++◌, ◌⊎◌, ℕ, List, Option, Result, Ok, Err, codes, map, option_map}
+use Rattle.std.specs.Prelude.{⊤, ◌≡◌, ◌++◌, ◌⊎◌, ℕ, List, Option, Result, Ok, Err, codes, is_some, map, option_map}
 use Rattle.std.specs.Borrow.{Bor}
 use Rattle.std.specs.Io.KnownBytes.{Appends}
 use Rattle.std.specs.String.{string_bytes}
@@ -30,10 +30,11 @@ word_bytes word = option_map (λ w. w.now) word
 abbrev pub IsRequestStatus : Request → Relation → ℕ → ℕ → Option (List ℕ) → Option (List ℕ) → Status → Type 0
 IsRequestStatus (Check ring gap manifest) has failed_before failed_after before after s = IsParsedCheckStatus has manifest.now (parse_rules ring.now gap.now) before after s
 IsRequestStatus (Measure format manifest) has failed_before failed_after before after s = IsParsedMeasureStatus has manifest.now (parse_format (word_bytes format)) (below_measure (word_bytes format)) before after s
-IsRequestStatus (Report ring gap limit waive format manifest) has failed_before failed_after before after s =
-    IsParsedReportStatus has manifest.now (parse_report ring.now gap.now (word_bytes limit) (word_bytes waive) (word_bytes format)) (below_report ring.now gap.now (word_bytes limit) (word_bytes format))
-    (word_bytes waive) before after s
-IsRequestStatus (Draw ring gap manifest) has failed_before failed_after before after s = IsParsedDrawStatus has manifest.now (parse_draw (word_bytes ring) (word_bytes gap)) before after s
+IsRequestStatus (Report ring gap limit waive outline format manifest) has failed_before failed_after before after s =
+    IsParsedReportStatus has manifest.now (parse_report ring.now gap.now (word_bytes limit) (word_bytes waive) (word_bytes outline) (word_bytes format))
+    (below_report ring.now gap.now (word_bytes limit) (is_some (word_bytes outline)) (word_bytes format)) (word_bytes waive) (word_bytes outline) before after s
+IsRequestStatus (Draw ring gap outline manifest) has failed_before failed_after before after s =
+    IsParsedDrawStatus has manifest.now (parse_draw (word_bytes ring) (word_bytes gap)) (word_bytes outline) before after s
 IsRequestStatus (Show kind file) has failed_before failed_after before after s = IsParsedFileStatus job.Show (parse_kind kind.now) has file.now before after s
 IsRequestStatus (Rewrite kind file) has failed_before failed_after before after s = IsParsedFileStatus job.Rewrite (parse_kind kind.now) has file.now before after s
 IsRequestStatus (Manifest why files) has failed_before failed_after before after s =
@@ -44,8 +45,8 @@ IsRequestStatus (Explain word) has failed_before failed_after before after s = I
 abbrev pub IsLegalRequest : Request → Relation → Status → Type 0
 IsLegalRequest (Check ring gap manifest) has s = IsLegalStatus has manifest.now s
 IsLegalRequest (Measure format manifest) has s = ⊤
-IsLegalRequest (Report ring gap limit waive format manifest) has s = ⊤
-IsLegalRequest (Draw ring gap manifest) has s = ⊤
+IsLegalRequest (Report ring gap limit waive outline format manifest) has s = ⊤
+IsLegalRequest (Draw ring gap outline manifest) has s = ⊤
 IsLegalRequest (Show kind file) has s = ⊤
 IsLegalRequest (Rewrite kind file) has s = ⊤
 IsLegalRequest (Manifest why files) has s = ⊤

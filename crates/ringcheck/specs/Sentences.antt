@@ -55,11 +55,16 @@ abbrev pub measure_format_sentence : Option (List ℕ) → List ℕ
 measure_format_sentence None = codes "--format is text or json"
 measure_format_sentence (Some word) = codes "--format is text or json, not " ++ word
 
--- what is said of the words of a report that are refused, by the first of them that is
-abbrev pub report_sentence : List ℕ → List ℕ → Option (List ℕ) → Option (List ℕ) → List ℕ
-report_sentence ring gap limit form =
+-- what is said of an outline that is given to a report without a picture
+abbrev pub outline_sentence : List ℕ
+outline_sentence = codes "--outline belongs to the picture of --format html; draw has it too"
+
+-- what is said of the words of a report that are refused, by the first of them that is; `outlined` says whether an outline is given
+abbrev pub report_sentence : List ℕ → List ℕ → Option (List ℕ) → Bool → Option (List ℕ) → List ℕ
+report_sentence ring gap limit outlined form =
     if not (is_ok (parse_rules ring gap)) then rules_sentence ring gap
-    else if not (is_ok (parse_limit limit)) then count_sentence limit else report_format_sentence form
+    else if not (is_ok (parse_limit limit)) then count_sentence limit
+    else if outlined then outline_sentence else report_format_sentence form
 
 -- whether what is printed is for people who see it at once: not where the format is `html`, `json` or `waivers`, which go to a program or into a file
 abbrev pub is_for_people : Option (List ℕ) → Bool
@@ -67,8 +72,8 @@ is_for_people None = true
 is_for_people (Some word) = not (bytes_eq word (codes "html")) && (not (bytes_eq word (codes "json")) && not (bytes_eq word (codes "waivers")))
 
 -- what stands below the line of a report whose words are refused
-abbrev pub below_report : List ℕ → List ℕ → Option (List ℕ) → Option (List ℕ) → List ℕ
-below_report ring gap limit form = if is_for_people form then sentence_line (report_sentence ring gap limit form) else []
+abbrev pub below_report : List ℕ → List ℕ → Option (List ℕ) → Bool → Option (List ℕ) → List ℕ
+below_report ring gap limit outlined form = if is_for_people form then sentence_line (report_sentence ring gap limit outlined form) else []
 
 -- what stands below the line of a measure whose format is refused
 abbrev pub below_measure : Option (List ℕ) → List ℕ

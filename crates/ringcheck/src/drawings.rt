@@ -7,26 +7,26 @@ ghost use Rattle.package_check.specs.Package.{FileView};
 ghost use Rattle.ringcheck.specs.DrawStatus.{PrintsPicture};
 ghost use Rattle.ringcheck.specs.Inner.Halting.{OfTaken};
 
+use crate::jobs::PictureOrder;
 use crate::refusals::{Halt, refused};
 use crate::{PackageFault, PackageReader};
 use drawing::Drawing;
-use grid_units::Rules;
 use package_check::laws::passing_is_sound;
 use ringcheck_files::Failure;
 use std::alloc::Global;
 use std::io::Write;
 
-/// Prints the picture of the files of these names, which a reader has taken, with what its copper files draw and what is found under the
-/// rules, if there are any.
+/// Prints the picture of the files of these names, which a reader has taken, with what its copper files draw, and with the outline and what
+/// is found under the rules, if it is asked for these.
 pub(crate) fn draw<'a, W: Write>(
     alloc: Global,
     reader: PackageReader,
     names: &[&'a str],
-    rules: Option<Rules>,
+    order: &PictureOrder,
     out: &mut W,
 ) -> Result<Result<bool, Halt<'a>>, Failure>
     ensures answers { (all : List FileView) → map (λ name. name.now) names.now ≡ map (λ source. source.name) all → HasTakenAll reader keep.All all
-        → IfOk result (OfTaken (PrintsPicture rules (W.contents out.old) (W.contents out.new)) all) }
+        → IfOk result (OfTaken (PrintsPicture order.now.rules order.now.outline.items (W.contents out.old) (W.contents out.new)) all) }
     ensures silent { IfOk result (λ done. IfErr done (λ halt. W.contents out.new ≡ W.contents out.old)) }
 {
     passing_is_sound();
@@ -37,7 +37,8 @@ pub(crate) fn draw<'a, W: Write>(
             return Ok(Err(refused(names, index, fault)));
         }
     };
-    let drawing = Drawing::new(alloc, names, &board, rules)?;
+    let outline = order.outline.as_slice();
+    let drawing = Drawing::new(alloc, names, &board, outline, order.rules)?;
     write!(out, "{drawing}")?;
     Ok(Ok(true))
 }

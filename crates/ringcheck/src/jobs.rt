@@ -8,6 +8,7 @@ ghost use Rattle.ringcheck.specs.ReportStatus.{kept_for, report_style};
 use crate::parsed_words::{MeasureFormat, ReportFormat};
 use crate::refusals::RefusalStyle;
 use grid_units::Rules;
+use layer_image::Drawn;
 use package_check::Keep;
 use waivers::Waiver;
 
@@ -21,6 +22,17 @@ pub(crate) struct Order {
     pub(crate) format: ReportFormat,
     /// The waivers of the file that was named, if one was named.
     pub(crate) waivers: Option<Vec<Waiver>>,
+    /// What the file of the board's outline draws; nothing where none was named.
+    pub(crate) outline: Vec<Drawn>,
+}
+
+/// What a picture is asked for.
+#[derive(Drop)]
+pub(crate) struct PictureOrder {
+    /// The ring and the gap under which findings are drawn, in pm, if there are any.
+    pub(crate) rules: Option<Rules>,
+    /// What the file of the board's outline draws; nothing where none was named.
+    pub(crate) outline: Vec<Drawn>,
 }
 
 /// What is done with a package.
@@ -32,8 +44,8 @@ pub(crate) enum Job {
     Measure(MeasureFormat),
     /// A report on its findings is printed.
     Report(Order),
-    /// Its picture is printed, with what is found under the rules, if there are any.
-    Draw(Option<Rules>),
+    /// Its picture is printed.
+    Draw(PictureOrder),
 }
 
 /// How a refusal is printed in place of a measure in this format.

@@ -6,6 +6,7 @@ mod drawings;
 mod jobs;
 mod load_package;
 mod measures;
+mod outlines;
 mod packages;
 mod parsed_words;
 mod program;
@@ -21,5 +22,7 @@ pub use package_check::{
 };
 pub use parsed_words::{MeasureFormat, ReportFormat};
 pub use program::run;
-pub use ringcheck_files::{LoadFault, Loader, MAX_LIMIT, ReadFail, Status, read_all};
+pub use ringcheck_files::{
+    LoadFault, Loader, MAX_LIMIT, ReadFail, Sink, Status, read_all, read_into,
+};
 pub use single_files::{Kind, rewrite_bytes, show_drill, show_layer};

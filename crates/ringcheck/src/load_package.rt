@@ -1,6 +1,6 @@
 //! The manifest, the waivers and the files of a package, from a loader.
 
-ghost use Rattle.std.specs.Prelude.{◌≡◌, ◌≤◌, ◌↔◌, ℕ, List, length, true, IfOk, Result};
+ghost use Rattle.std.specs.Prelude.{◌≡◌, ◌++◌, ◌≤◌, ◌↔◌, ℕ, List, length, true, IfOk, Result};
 ghost use Rattle.grid_units.specs.Results.{Answers};
 ghost use Rattle.grid_units.specs.declared.fault.Fault.{Fault as TheFault};
 ghost use Rattle.manifest.specs.Manifest.{manifest};
@@ -9,15 +9,15 @@ ghost use Rattle.package_check.specs.Holding.{HasTakenAll, copper_files, is_kind
 ghost use Rattle.package_check.specs.Package.{is_copper};
 ghost use Rattle.ringcheck_files.specs.Outcomes.{HasRisen};
 ghost use Rattle.ringcheck.specs.Inner.Halting.{OfFiles, OfTable};
-ghost use Rattle.ringcheck.specs.Inner.Loading.{EndsAt, LoadsCopperTo, LoadsKind, OfCheckedFile, OfFile, OfTakenFile, copper_entries};
+ghost use Rattle.ringcheck.specs.Inner.Loading.{EndsAt, LoadsKind, OfCheckedCopper, OfCheckedFile, OfHandedFile, OfTakenFile, copper_entries};
 ghost use Rattle.waivers.specs.Reading.{waivers};
 
 use crate::refusals::{Halt, Subject, refused_table};
 use crate::{Entry, LoadFault, Loader, PackageReader, Role, read_manifest};
 use grid_units::{Fail, Rules};
-use package_check::{Keep, PackageCheck};
-use ringcheck_files::{ABOVE_LIMIT, FILE_LIMIT, Failure};
-use std::alloc::Global;
+use package_check::{Keep, OpenCopper, OpenFile, PackageCheck};
+use ringcheck_files::{ABOVE_LIMIT, FILE_LIMIT, Failure, Sink};
+use std::alloc::{AllocError, Global};
 use waivers::{Waiver, read_waivers};
 
 /// The most bytes of a manifest, and of a file of waivers.
@@ -97,28 +97,45 @@ fn layer_count(entries: &[Entry]) -> usize
     entries.iter().filter(|entry| is_copper(entry.role)).count()
 }
 
-/// The bytes of the file of an entry at this index, or why they cannot be loaded.
-fn load_file<'a, L: Loader>(
+/// Hands the file of an entry at this index to a sink, piece by piece; or returns why it cannot be loaded.
+fn hand_file<'a, L: Loader, S: Sink>(
     alloc: Global,
     loader: &mut L,
     index: usize,
     entry: &'a Entry,
-) -> Result<Result<Vec<u8>, Halt<'a>>, Failure>
+    sink: &mut S,
+) -> Result<Option<Halt<'a>>, Failure>
     ensures keeps { (n b : List ℕ) → L.has loader.new n b ↔ L.has loader.old n b }
     ensures counts { L.failed loader.old ≤ L.failed loader.new }
-    ensures loaded { IfOk result (OfFile (L.has loader.old) index entry.now (HasRisen (L.failed loader.old) (L.failed loader.new))) }
+    ensures loaded { IfOk result (OfHandedFile (L.has loader.old) index entry.now (λ bytes. (start : S) (text : List ℕ) → S.has_taken start sink.old text → S.has_taken start sink.new (text ++ bytes)) (HasRisen (L.failed loader.old) (L.failed loader.new))) }
 {
     let name = entry.name.as_str();
     let file = Subject::File { index, name };
-    match loader.load(alloc, entry.file.as_str(), FILE_LIMIT) {
-        Ok(bytes) => Ok(Ok(bytes)),
-        Err(LoadFault::Device) => Ok(Err(Halt::Unread(file))),
+    match loader.load_into(alloc, entry.file.as_str(), FILE_LIMIT, sink) {
+        Ok(()) => Ok(None),
+        Err(LoadFault::Device) => Ok(Some(Halt::Unread(file))),
         Err(LoadFault::Memory) => Err(Failure::Memory),
-        Err(LoadFault::TooLong) => Ok(Err(Halt::Refused(file, ABOVE_LIMIT))),
+        Err(LoadFault::TooLong) => Ok(Some(Halt::Refused(file, ABOVE_LIMIT))),
     }
 }
 
-/// Loads the file of an entry at this index, and hands it to the reader; or returns why the file cannot be loaded.
+/// A file of a package that takes its bytes from a loader.
+#[derive(Drop)]
+struct FileSink {
+    file: OpenFile,
+}
+
+impl Sink for FileSink {
+    ghost use Rattle.ringcheck.specs.Inner.Loading.{GoesOn};
+
+    ghost has_taken = { λ start now text. GoesOn start.file now.file text };
+
+    fn take(&mut self, piece: &[u8]) -> Result<(), AllocError> {
+        self.file.take(piece)
+    }
+}
+
+/// Loads the file of an entry at this index, and hands it to the reader as it is loaded; or returns why the file cannot be loaded.
 fn take_file<'a, L: Loader>(
     alloc: Global,
     loader: &mut L,
@@ -131,12 +148,14 @@ fn take_file<'a, L: Loader>(
     ensures layers { copper_files reader.new ≡ copper_files reader.old }
     ensures taken { IfOk result (OfTakenFile (L.has loader.old) reader.old reader.new index entry.now (HasRisen (L.failed loader.old) (L.failed loader.new))) }
 {
-    match load_file(alloc, loader, index, entry)? {
-        Ok(bytes) => {
-            reader.take(index, entry.role, entry.span, &[bytes.as_slice()])?;
+    let file = reader.begin(index, entry.role, entry.span);
+    let mut sink = FileSink { file };
+    match hand_file(alloc, loader, index, entry, &mut sink)? {
+        None => {
+            reader.end(sink.file)?;
             Ok(None)
         }
-        Err(halt) => Ok(Some(halt)),
+        Some(halt) => Ok(Some(halt)),
     }
 }
 
@@ -150,7 +169,7 @@ struct Pass<'a> {
 }
 
 /// Loads those of the files that are copper, or those that are not, as `copper` says, up to the first that cannot be loaded, and hands
-/// each to the reader. The bytes of each are freed before the next is loaded.
+/// each to the reader as it is loaded.
 fn take_kind<'a, L: Loader>(
     alloc: Global,
     loader: &mut L,
@@ -200,60 +219,71 @@ pub(crate) fn take_files<'a, L: Loader>(
     }
 }
 
-/// Loads the copper file of an entry at this index, and hands it to the check, as the layer of this number; or returns why the file cannot
-/// be loaded.
+/// A check, and its copper file that takes its bytes from a loader.
+#[derive(Drop)]
+struct CheckSink {
+    check: PackageCheck,
+    file: OpenCopper,
+}
+
+impl Sink for CheckSink {
+    ghost use Rattle.ringcheck.specs.Inner.Loading.{CopperGoesOn};
+
+    ghost has_taken = { λ start now text. CopperGoesOn start now text };
+
+    fn take(&mut self, piece: &[u8]) -> Result<(), AllocError> {
+        self.check.take_piece(&mut self.file, piece)
+    }
+}
+
+/// Loads the copper file of an entry at this index, and hands it to the check as it is loaded, as the layer of this number; or returns why
+/// the file cannot be loaded.
 fn check_file<'a, L: Loader>(
     alloc: Global,
     loader: &mut L,
     index: usize,
     layer: usize,
     entry: &'a Entry,
-    check: &mut PackageCheck,
-) -> Result<Option<Halt<'a>>, Failure>
+    mut check: PackageCheck,
+) -> Result<Result<PackageCheck, Halt<'a>>, Failure>
     ensures keeps { (n b : List ℕ) → L.has loader.new n b ↔ L.has loader.old n b }
     ensures counts { L.failed loader.old ≤ L.failed loader.new }
-    ensures layers { check.new.layers ≡ check.old.layers }
-    ensures taken { is_copper entry.now.role ≡ true → IfOk result (OfCheckedFile (L.has loader.old) check.old check.new index layer entry.now (HasRisen (L.failed loader.old) (L.failed loader.new))) }
+    ensures taken { is_copper entry.now.role ≡ true → IfOk result (OfCheckedFile (L.has loader.old) check index layer entry.now (HasRisen (L.failed loader.old) (L.failed loader.new))) }
 {
-    match load_file(alloc, loader, index, entry)? {
-        Ok(bytes) => {
-            check.take(index, layer, entry.span, &[bytes.as_slice()])?;
-            Ok(None)
+    let file = check.begin(index, layer, entry.span);
+    let mut sink = CheckSink { check, file };
+    match hand_file(alloc, loader, index, entry, &mut sink)? {
+        None => {
+            let CheckSink { mut check, file } = sink;
+            check.end(file)?;
+            Ok(Ok(check))
         }
-        Err(halt) => Ok(Some(halt)),
+        Some(halt) => Ok(Err(halt)),
     }
 }
 
-/// Loads the copper files up to the first that cannot be loaded, and hands each to the check. The bytes of each are freed before the next
-/// is loaded.
+/// Loads the copper files, and hands each to the check as it is loaded; or returns why the first that cannot be loaded cannot be.
 fn check_copper<'a, L: Loader>(
     alloc: Global,
     loader: &mut L,
     entries: &'a [Entry],
-    check: &mut PackageCheck,
-) -> Result<Pass<'a>, Failure>
+    mut check: PackageCheck,
+) -> Result<Result<PackageCheck, Halt<'a>>, Failure>
     ensures keeps { (n b : List ℕ) → L.has loader.new n b ↔ L.has loader.old n b }
     ensures counts { L.failed loader.old ≤ L.failed loader.new }
-    ensures within { IfOk result (λ pass. pass.end ≤ length entries.now) }
-    ensures ends { IfOk result (λ pass. EndsAt (L.has loader.old) entries.now (HasRisen (L.failed loader.old) (L.failed loader.new)) pass.end pass.halt) }
-    ensures loaded { IfOk result (λ pass. LoadsCopperTo (L.has loader.old) entries.now check.old check.new pass.end) }
+    ensures taken { IfOk result (OfCheckedCopper (L.has loader.old) entries.now check (HasRisen (L.failed loader.old) (L.failed loader.new))) }
 {
     let mut layer = 0;
     for (index, entry) in entries.iter().enumerate() {
         if is_copper(entry.role) {
-            if let Some(halt) = check_file(alloc, loader, index, layer, entry, check)? {
-                return Ok(Pass {
-                    end: index,
-                    halt: Some(halt),
-                });
+            match check_file(alloc, loader, index, layer, entry, check)? {
+                Ok(checked) => check = checked,
+                Err(halt) => return Ok(Err(halt)),
             }
             layer += 1;
         }
     }
-    Ok(Pass {
-        end: entries.len(),
-        halt: None,
-    })
+    Ok(Ok(check))
 }
 
 /// A check that has taken the files of the entries, the drill files before the copper files. As in [`take_files`], the first file that
@@ -272,10 +302,6 @@ pub(crate) fn check_files<'a, L: Loader>(
         let before = take_kind(alloc, loader, &entries[..drills.end], true, &mut reader)?;
         return Ok(Err(before.halt.unwrap_or(halt)));
     }
-    let mut check = reader.checking(rules)?;
-    let copper = check_copper(alloc, loader, entries, &mut check)?;
-    match copper.halt {
-        Some(halt) => Ok(Err(halt)),
-        None => Ok(Ok(check)),
-    }
+    let check = reader.checking(rules)?;
+    check_copper(alloc, loader, entries, check)
 }

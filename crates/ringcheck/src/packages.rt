@@ -1,26 +1,29 @@
 //! The commands on the package of a manifest: each does a job on it, or prints why it cannot be done.
 
-ghost use Rattle.std.specs.Prelude.{◌≡◌, ◌++◌, ℕ, IfErr, IfOk, OnOk, Some, map, option_map, slice_get};
+ghost use Rattle.std.specs.Prelude.{◌≡◌, ◌++◌, [], ℕ, IfErr, IfOk, OnOk, Some, is_some, map, option_map, slice_get};
 ghost use Rattle.std.specs.Io.KnownBytes.{Appends};
 ghost use Rattle.manifest.specs.declared.Entry.{Entry as TheEntry};
 ghost use Rattle.ringcheck_files.specs.Outcomes.{HasCause, HasRisen};
-ghost use Rattle.ringcheck.specs.DrawStatus.{IsParsedDrawStatus};
+ghost use Rattle.ringcheck.specs.DrawStatus.{IsDrawStatus, IsOutlinedDrawStatus, IsParsedDrawStatus};
 ghost use Rattle.ringcheck.specs.Inner.Halting.{IsUnreadAt, OfFiles};
-ghost use Rattle.ringcheck.specs.Inner.Jobs.{Holds, SaysJob};
+ghost use Rattle.ringcheck.specs.Inner.Jobs.{Holds, SaysJob, given};
 ghost use Rattle.ringcheck.specs.MeasureStatus.{IsParsedMeasureStatus};
 ghost use Rattle.ringcheck.specs.ParsedWords as named;
-ghost use Rattle.ringcheck.specs.ReportStatus.{IsParsedReportStatus};
+ghost use Rattle.ringcheck.specs.ReportStatus.{IsOutlinedReportStatus, IsParsedReportStatus};
 ghost use Rattle.ringcheck.specs.CheckStatus.{IsLegalStatus, IsParsedCheckStatus, status_of};
 ghost use Rattle.ringcheck.specs.Sentences.{below_measure, below_report};
 ghost use Rattle.ringcheck_files.specs.Words.{usage_line};
 
-use crate::jobs::{Job, Order, kept_for, report_style};
+use crate::jobs::{Job, Order, PictureOrder, kept_for, report_style};
 use crate::load_package::{check_files, load_table, take_files};
-use crate::parsed_words::{ReportWords, parse_draw, parse_format, parse_report, parse_rules};
+use crate::outlines::{load_outline, print_no_outline};
+use crate::parsed_words::{
+    ReportFormat, ReportWords, parse_draw, parse_format, parse_report, parse_rules,
+};
 use crate::refusals::{Halt, Subject, print_halt};
 use crate::sentences::{NoMeasureFormat, NoReport, is_for_people};
 use crate::{Entry, Loader, checks, drawings, measures, reports};
-use grid_units::Reason;
+use grid_units::{Reason, Rules};
 use package_check::Keep;
 use ringcheck_files::{Failure, Status, refuse_word};
 use std::alloc::{AllocError, Global};
@@ -67,8 +70,8 @@ fn answer<'a, L: Loader, W: Write>(
                 Err(halt) => Ok(Err(halt)),
             }
         }
-        Job::Draw(rules) => match take_files(alloc, Keep::All, loader, entries)? {
-            Ok(reader) => drawings::draw(alloc, reader, names, *rules, out),
+        Job::Draw(order) => match take_files(alloc, Keep::All, loader, entries)? {
+            Ok(reader) => drawings::draw(alloc, reader, names, order, out),
             Err(halt) => Ok(Err(halt)),
         },
     }
@@ -157,7 +160,7 @@ fn refuse_report<W: Write>(
     reason: Reason,
     unparsed: &ReportWords,
 ) -> Result<(), Failure>
-    ensures { OnOk result (Appends (W.contents out.old) (W.contents out.new) (usage_line reason ++ below_report unparsed.now.ring.now unparsed.now.gap.now (option_map (λ w. w.now) unparsed.now.limit) (option_map (λ w. w.now) unparsed.now.format))) }
+    ensures { OnOk result (Appends (W.contents out.old) (W.contents out.new) (usage_line reason ++ below_report unparsed.now.ring.now unparsed.now.gap.now (option_map (λ w. w.now) unparsed.now.limit) (is_some (option_map (λ w. w.now) unparsed.now.outline)) (option_map (λ w. w.now) unparsed.now.format))) }
 {
     refuse_word(out, reason)?;
     if is_for_people(unparsed.format) {
@@ -208,20 +211,79 @@ pub(crate) fn measure<L: Loader, W: Write>(
     }
 }
 
-/// Prints the picture of the package of a manifest, with what is found under the rules that two words name, if they are given.
-pub(crate) fn draw<L: Loader, W: Write>(
+/// Prints the picture of the package of a manifest, without an outline.
+fn draw_plain<L: Loader, W: Write>(
     alloc: Global,
-    ring: Option<&str>,
-    gap: Option<&str>,
+    rules: Option<Rules>,
     name: &str,
     loader: &mut L,
     out: &mut W,
 ) -> Result<Status, Failure>
-    ensures says { IfOk result (IsParsedDrawStatus (L.has loader.old) name.now (named.parse_draw (option_map (λ w. w.now) ring.entry) (option_map (λ w. w.now) gap.entry)) (W.contents out.old) (W.contents out.new)) }
+    ensures says { IfOk result (IsDrawStatus (L.has loader.old) name.now rules [] (W.contents out.old) (W.contents out.new)) }
+    ensures cause { IfOk result (HasCause (L.failed loader.old) (L.failed loader.new)) }
+{
+    let order = PictureOrder {
+        rules,
+        outline: Vec::new(alloc),
+    };
+    run_job(alloc, &Job::Draw(order), name, loader, out)
+}
+
+/// Prints the picture of the package of a manifest, with the outline of a file, which is loaded first.
+fn draw_outlined<L: Loader, W: Write>(
+    alloc: Global,
+    rules: Option<Rules>,
+    file: &str,
+    name: &str,
+    loader: &mut L,
+    out: &mut W,
+) -> Result<Status, Failure>
+    ensures says { IfOk result (IsOutlinedDrawStatus (L.has loader.old) name.now rules (Some file.now) (W.contents out.old) (W.contents out.new)) }
+    ensures cause { IfOk result (HasCause (L.failed loader.old) (L.failed loader.new)) }
+{
+    match load_outline(alloc, loader, file)? {
+        Ok(outline) => {
+            let order = PictureOrder { rules, outline };
+            run_job(alloc, &Job::Draw(order), name, loader, out)
+        }
+        Err(why) => print_no_outline(out, why),
+    }
+}
+
+/// Prints the picture of the package of a manifest, with the outline of a file, if one is named.
+fn draw_under<L: Loader, W: Write>(
+    alloc: Global,
+    rules: Option<Rules>,
+    outline: Option<&str>,
+    name: &str,
+    loader: &mut L,
+    out: &mut W,
+) -> Result<Status, Failure>
+    ensures says { IfOk result (IsOutlinedDrawStatus (L.has loader.old) name.now rules (option_map (λ w. w.now) outline.entry) (W.contents out.old) (W.contents out.new)) }
+    ensures cause { IfOk result (HasCause (L.failed loader.old) (L.failed loader.new)) }
+{
+    match outline {
+        Some(file) => draw_outlined(alloc, rules, file, name, loader, out),
+        None => draw_plain(alloc, rules, name, loader, out),
+    }
+}
+
+/// Prints the picture of the package of a manifest, with what is found under the rules that two words name, if they are given, and the
+/// outline of a file, if one is named.
+pub(crate) fn draw<L: Loader, W: Write>(
+    alloc: Global,
+    ring: Option<&str>,
+    gap: Option<&str>,
+    outline: Option<&str>,
+    name: &str,
+    loader: &mut L,
+    out: &mut W,
+) -> Result<Status, Failure>
+    ensures says { IfOk result (IsParsedDrawStatus (L.has loader.old) name.now (named.parse_draw (option_map (λ w. w.now) ring.entry) (option_map (λ w. w.now) gap.entry)) (option_map (λ w. w.now) outline.entry) (W.contents out.old) (W.contents out.new)) }
     ensures cause { IfOk result (HasCause (L.failed loader.old) (L.failed loader.new)) }
 {
     match parse_draw(ring, gap) {
-        Ok(rules) => run_job(alloc, &Job::Draw(rules), name, loader, out),
+        Ok(rules) => draw_under(alloc, rules, outline, name, loader, out),
         Err(reason) => {
             refuse_word(out, reason)?;
             Ok(Status::Usage)
@@ -229,8 +291,50 @@ pub(crate) fn draw<L: Loader, W: Write>(
     }
 }
 
+/// Prints a report on the package of a manifest: its findings under the rules, with what waives them, in a format. The file of an outline, if
+/// one is named, is loaded first.
+fn report_outlined<L: Loader, W: Write>(
+    alloc: Global,
+    named: (Rules, Option<usize>, ReportFormat),
+    waivers: Option<Vec<Waiver>>,
+    outline: Option<&str>,
+    name: &str,
+    loader: &mut L,
+    out: &mut W,
+) -> Result<Status, Failure>
+    ensures says { IfOk result (IsOutlinedReportStatus (L.has loader.old) name.now named.0 named.1 named.2 (given waivers) (option_map (λ w. w.now) outline.entry) (W.contents out.old) (W.contents out.new)) }
+    ensures cause { IfOk result (HasCause (L.failed loader.old) (L.failed loader.new)) }
+{
+    let (rules, limit, format) = named;
+    match outline {
+        None => {
+            let order = Order {
+                rules,
+                limit,
+                format,
+                waivers,
+                outline: Vec::new(alloc),
+            };
+            run_job(alloc, &Job::Report(order), name, loader, out)
+        }
+        Some(file) => match load_outline(alloc, loader, file)? {
+            Ok(outline) => {
+                let order = Order {
+                    rules,
+                    limit,
+                    format,
+                    waivers,
+                    outline,
+                };
+                run_job(alloc, &Job::Report(order), name, loader, out)
+            }
+            Err(why) => print_no_outline(out, why),
+        },
+    }
+}
+
 /// Reports on the package of a manifest as these words ask: each finding under the rules, what is lacking, why, and whether it is
-/// waived. A file of waivers is loaded first.
+/// waived. A file of waivers is loaded first, and then the file of an outline.
 pub(crate) fn report<L: Loader, W: Write>(
     alloc: Global,
     unparsed: &ReportWords,
@@ -238,39 +342,26 @@ pub(crate) fn report<L: Loader, W: Write>(
     loader: &mut L,
     out: &mut W,
 ) -> Result<Status, Failure>
-    ensures says { IfOk result (IsParsedReportStatus (L.has loader.old) name.now (named.parse_report unparsed.now.ring.now unparsed.now.gap.now (option_map (λ w. w.now) unparsed.now.limit) (option_map (λ w. w.now) unparsed.now.waive) (option_map (λ w. w.now) unparsed.now.format)) (below_report unparsed.now.ring.now unparsed.now.gap.now (option_map (λ w. w.now) unparsed.now.limit) (option_map (λ w. w.now) unparsed.now.format)) (option_map (λ w. w.now) unparsed.now.waive) (W.contents out.old) (W.contents out.new)) }
+    ensures says { IfOk result (IsParsedReportStatus (L.has loader.old) name.now (named.parse_report unparsed.now.ring.now unparsed.now.gap.now (option_map (λ w. w.now) unparsed.now.limit) (option_map (λ w. w.now) unparsed.now.waive) (option_map (λ w. w.now) unparsed.now.outline) (option_map (λ w. w.now) unparsed.now.format)) (below_report unparsed.now.ring.now unparsed.now.gap.now (option_map (λ w. w.now) unparsed.now.limit) (is_some (option_map (λ w. w.now) unparsed.now.outline)) (option_map (λ w. w.now) unparsed.now.format)) (option_map (λ w. w.now) unparsed.now.waive) (option_map (λ w. w.now) unparsed.now.outline) (W.contents out.old) (W.contents out.new)) }
     ensures cause { IfOk result (HasCause (L.failed loader.old) (L.failed loader.new)) }
 {
-    let (rules, limit, format) = match parse_report(unparsed) {
+    let named = match parse_report(unparsed) {
         Ok(named) => named,
         Err(reason) => {
             refuse_report(out, reason, unparsed)?;
             return Ok(Status::Usage);
         }
     };
+    let outline = unparsed.outline;
     match unparsed.waive {
-        None => {
-            let options = Order {
-                rules,
-                limit,
-                format,
-                waivers: None,
-            };
-            run_job(alloc, &Job::Report(options), name, loader, out)
-        }
+        None => report_outlined(alloc, named, None, outline, name, loader, out),
         Some(file) => match load_table::<L, Waiver>(alloc, loader, file, Subject::Waivers)? {
             Ok(waivers) => {
-                let options = Order {
-                    rules,
-                    limit,
-                    format,
-                    waivers: Some(waivers),
-                };
-                run_job(alloc, &Job::Report(options), name, loader, out)
+                report_outlined(alloc, named, Some(waivers), outline, name, loader, out)
             }
             Err(halt) => {
                 let is_folder = is_unread_folder(loader, halt, file);
-                print_halt(out, report_style(format), halt, file, is_folder)
+                print_halt(out, report_style(named.2), halt, file, is_folder)
             }
         },
     }

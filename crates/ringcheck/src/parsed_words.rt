@@ -53,14 +53,20 @@ pub enum ReportFormat {
     Waivers,
 }
 
-/// The format of a report that a word names; text where there is no word. `waivers` is refused where a file of waivers is given.
+/// The format of a report that a word names; text where there is no word. `waivers` is refused where a file of waivers is given, and all but
+/// `html` where an outline is.
 #[tactic(auto, unfolding(crate::specs::ParsedWords::parse_report_format))]
-fn parse_report_format(waives: bool, word: Option<&str>) -> Result<ReportFormat, Reason>
-    ensures { result ≡ words.parse_report_format waives (option_map (λ w. w.now) word.entry) }
+fn parse_report_format(
+    waives: bool,
+    outlined: bool,
+    word: Option<&str>,
+) -> Result<ReportFormat, Reason>
+    ensures { result ≡ words.parse_report_format waives outlined (option_map (λ w. w.now) word.entry) }
 {
     match word {
-        None | Some("text") => Ok(ReportFormat::Text),
         Some("html") => Ok(ReportFormat::Html),
+        _ if outlined => Err(Reason::BadRole),
+        None | Some("text") => Ok(ReportFormat::Text),
         Some("json") => Ok(ReportFormat::Json),
         Some(word) if word == "waivers" && !waives => Ok(ReportFormat::Waivers),
         Some(_) => Err(Reason::BadRole),
@@ -108,6 +114,7 @@ pub(crate) struct ReportWords<'a> {
     pub(crate) gap: &'a str,
     pub(crate) limit: Option<&'a str>,
     pub(crate) waive: Option<&'a str>,
+    pub(crate) outline: Option<&'a str>,
     pub(crate) format: Option<&'a str>,
 }
 
@@ -116,11 +123,12 @@ pub(crate) struct ReportWords<'a> {
 pub(crate) fn parse_report(
     unparsed: &ReportWords,
 ) -> Result<(Rules, Option<usize>, ReportFormat), Reason>
-    ensures { result ≡ words.parse_report unparsed.now.ring.now unparsed.now.gap.now (option_map (λ w. w.now) unparsed.now.limit) (option_map (λ w. w.now) unparsed.now.waive) (option_map (λ w. w.now) unparsed.now.format) }
+    ensures { result ≡ words.parse_report unparsed.now.ring.now unparsed.now.gap.now (option_map (λ w. w.now) unparsed.now.limit) (option_map (λ w. w.now) unparsed.now.waive) (option_map (λ w. w.now) unparsed.now.outline) (option_map (λ w. w.now) unparsed.now.format) }
 {
     let rules = parse_rules(unparsed.ring, unparsed.gap)?;
     let limit = parse_limit(unparsed.limit)?;
-    let format = parse_report_format(unparsed.waive.is_some(), unparsed.format)?;
+    let (waives, outlined) = (unparsed.waive.is_some(), unparsed.outline.is_some());
+    let format = parse_report_format(waives, outlined, unparsed.format)?;
     Ok((rules, limit, format))
 }
 

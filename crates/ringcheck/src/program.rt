@@ -1,6 +1,6 @@
 //! The whole program, over a loader and a writer.
 
-ghost use Rattle.std.specs.Prelude.{◌≡◌, ◌++◌, ◌∷◌, ◌⊎◌, [], map, true, ℕ, Bool, IfOk, IfSome, List, Option, Some, None, codes, option_map};
+ghost use Rattle.std.specs.Prelude.{◌≡◌, ◌++◌, ◌∷◌, ◌⊎◌, [], map, true, ℕ, Bool, IfOk, IfSome, List, Option, Some, None, codes, is_some, option_map};
 ghost use Rattle.std.specs.Io.KnownBytes.{Appends};
 ghost use Rattle.command_line.specs.ProgramArgs.{are_plain_rules, are_plain_words, check_words, draw_words, explain_words, file_words, is_plain_if_some, is_plain_word, manifest_words, measure_words, report_words};
 ghost use Rattle.ringcheck.specs.RequestStatus.{IsLegalRequest, IsProgramStatus, IsRequestStatus};
@@ -46,6 +46,7 @@ fn carry_out<L: Loader, W: Write>(
             gap,
             limit,
             waive,
+            outline,
             format,
             manifest,
         } => {
@@ -54,6 +55,7 @@ fn carry_out<L: Loader, W: Write>(
                 gap,
                 limit: *limit,
                 waive: *waive,
+                outline: *outline,
                 format: *format,
             };
             report(alloc, &unparsed, manifest, loader, out)
@@ -62,8 +64,9 @@ fn carry_out<L: Loader, W: Write>(
         Request::Draw {
             ring,
             gap,
+            outline,
             manifest,
-        } => draw(alloc, *ring, *gap, manifest, loader, out),
+        } => draw(alloc, *ring, *gap, *outline, manifest, loader, out),
         Request::Show { kind, file } => print(alloc, FileJob::Show, kind, file, loader, out),
         Request::Rewrite { kind, file } => print(alloc, FileJob::Rewrite, kind, file, loader, out),
         Request::Manifest { why, files } => {
@@ -124,12 +127,13 @@ pub fn run<L: Loader, W: Write>(
         → is_plain_word m ≡ true → IsParsedCheckStatus (L.has loader.old) m (named.parse_rules r g) (W.contents out.old) (W.contents out.new) result }
     ensures legal { (r g m : List ℕ) → map (λ w. w.now) words.now ≡ check_words r g m → is_plain_word r ≡ true → is_plain_word g ≡ true
         → is_plain_word m ≡ true → IsLegalStatus (L.has loader.old) m result }
-    ensures report { (r g : List ℕ) (limit waive format : Option (List ℕ)) (m : List ℕ) → map (λ w. w.now) words.now ≡ report_words r g limit waive format m → is_plain_word r ≡ true → is_plain_word g ≡ true
-        → is_plain_if_some limit ≡ true → is_plain_if_some waive ≡ true → is_plain_if_some format ≡ true → is_plain_word m ≡ true → IsParsedReportStatus (L.has loader.old) m (named.parse_report r g limit waive format) (below_report r g limit format) waive (W.contents out.old) (W.contents out.new) result }
+    ensures report { (r g : List ℕ) (limit waive outline format : Option (List ℕ)) (m : List ℕ) → map (λ w. w.now) words.now ≡ report_words r g limit waive outline format m → is_plain_word r ≡ true → is_plain_word g ≡ true
+        → is_plain_if_some limit ≡ true → is_plain_if_some waive ≡ true → is_plain_if_some outline ≡ true → is_plain_if_some format ≡ true → is_plain_word m ≡ true
+        → IsParsedReportStatus (L.has loader.old) m (named.parse_report r g limit waive outline format) (below_report r g limit (is_some outline) format) waive outline (W.contents out.old) (W.contents out.new) result }
     ensures measure { (format : Option (List ℕ)) (m : List ℕ) → map (λ w. w.now) words.now ≡ measure_words format m → is_plain_if_some format ≡ true → is_plain_word m ≡ true
         → IsParsedMeasureStatus (L.has loader.old) m (named.parse_format format) (below_measure format) (W.contents out.old) (W.contents out.new) result }
-    ensures draw { (rules : Option (List ℕ × List ℕ)) (m : List ℕ) → map (λ w. w.now) words.now ≡ draw_words rules m → are_plain_rules rules ≡ true → is_plain_word m ≡ true
-        → IsParsedDrawStatus (L.has loader.old) m (named.parse_draw (option_map (λ both. both.0) rules) (option_map (λ both. both.1) rules)) (W.contents out.old) (W.contents out.new) result }
+    ensures draw { (rules : Option (List ℕ × List ℕ)) (outline : Option (List ℕ)) (m : List ℕ) → map (λ w. w.now) words.now ≡ draw_words rules outline m → are_plain_rules rules ≡ true
+        → is_plain_if_some outline ≡ true → is_plain_word m ≡ true → IsParsedDrawStatus (L.has loader.old) m (named.parse_draw (option_map (λ both. both.0) rules) (option_map (λ both. both.1) rules)) outline (W.contents out.old) (W.contents out.new) result }
     ensures show { (k f : List ℕ) → map (λ w. w.now) words.now ≡ file_words (codes "show") k f → is_plain_word k ≡ true → is_plain_word f ≡ true
         → IsParsedFileStatus FileJob.Show (parse_kind k) (L.has loader.old) f (W.contents out.old) (W.contents out.new) result }
     ensures rewrite { (k f : List ℕ) → map (λ w. w.now) words.now ≡ file_words (codes "rewrite") k f → is_plain_word k ≡ true → is_plain_word f ≡ true

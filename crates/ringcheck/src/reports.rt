@@ -14,6 +14,7 @@ use crate::refusals::{Halt, refused};
 use crate::{PackageFault, PackageReader};
 use board_report::report_laws::report_agrees_with_check;
 use board_report::report_on;
+use layer_image::Drawn;
 use package_check::Board;
 use print_json::ReportJson;
 use print_text::ReportText;
@@ -24,18 +25,19 @@ use std::alloc::Global;
 use std::io::Write;
 use waivers::{Waiver, WaiverText, idle, reasons, waive};
 
-/// Prints the page of a report on a board, with the reasons why findings are waived.
+/// Prints the page of a report on a board, with its outline and the reasons why findings are waived.
 fn print_page<W: Write>(
     alloc: Global,
     names: &[&str],
     board: &Board,
+    outline: &[Drawn],
     report: &BoardReport,
     accepted: &Acceptances,
     out: &mut W,
 ) -> Result<(), Failure>
-    ensures { OnOk result (PrintsPage (map (λ name. name.now) names.now) board.now report.now accepted.now (W.contents out.old) (W.contents out.new)) }
+    ensures { OnOk result (PrintsPage (map (λ name. name.now) names.now) board.now outline.now report.now accepted.now (W.contents out.old) (W.contents out.new)) }
 {
-    let page = HtmlReport::new(alloc, names, board, report, accepted)?;
+    let page = HtmlReport::new(alloc, names, board, outline, report, accepted)?;
     write!(out, "{page}")?;
     Ok(())
 }
@@ -50,14 +52,17 @@ fn print<W: Write>(
     accepted: &Acceptances,
     out: &mut W,
 ) -> Result<(), Failure>
-    ensures { OnOk result (PrintsReport options.now.format (map (λ name. name.now) names.now) board.now report.now options.now.limit accepted.now (W.contents out.old) (W.contents out.new)) }
+    ensures { OnOk result (PrintsReport options.now.format (map (λ name. name.now) names.now) board.now options.now.outline.items report.now options.now.limit accepted.now (W.contents out.old) (W.contents out.new)) }
 {
     match options.format {
         ReportFormat::Text => {
             let text = ReportText::new(alloc, names, report, options.limit, accepted)?;
             write!(out, "{text}")?;
         }
-        ReportFormat::Html => print_page(alloc, names, board, report, accepted, out)?,
+        ReportFormat::Html => {
+            let outline = options.outline.as_slice();
+            print_page(alloc, names, board, outline, report, accepted, out)?;
+        }
         ReportFormat::Json => {
             let json = ReportJson {
                 names,
@@ -90,7 +95,7 @@ fn print_waived<W: Write>(
     out: &mut W,
 ) -> Result<bool, Failure>
     ensures { IfOk result (λ passes. (accepted : TheAcceptances) × Judges (Some waivers.now) (map (λ name. name.now) names.now) report.now passes accepted
-        × PrintsReport options.now.format (map (λ name. name.now) names.now) board.now report.now options.now.limit accepted (W.contents out.old) (W.contents out.new)) }
+        × PrintsReport options.now.format (map (λ name. name.now) names.now) board.now options.now.outline.items report.now options.now.limit accepted (W.contents out.old) (W.contents out.new)) }
 {
     let waived = waive(alloc, names, report, waivers)?;
     let rings = reasons(alloc, waivers, waived.rings.as_slice())?;
@@ -115,7 +120,7 @@ fn print_judged<W: Write>(
     out: &mut W,
 ) -> Result<bool, Failure>
     ensures { IfOk result (λ passes. (accepted : TheAcceptances) × Judges (given options.now.waivers) (map (λ name. name.now) names.now) report.now passes accepted
-        × PrintsReport options.now.format (map (λ name. name.now) names.now) board.now report.now options.now.limit accepted (W.contents out.old) (W.contents out.new)) }
+        × PrintsReport options.now.format (map (λ name. name.now) names.now) board.now options.now.outline.items report.now options.now.limit accepted (W.contents out.old) (W.contents out.new)) }
 {
     match &options.waivers {
         Some(waivers) => {
@@ -150,7 +155,7 @@ pub(crate) fn report<'a, W: Write>(
     out: &mut W,
 ) -> Result<Result<bool, Halt<'a>>, Failure>
     ensures answers { (all : List FileView) → map (λ name. name.now) names.now ≡ map (λ source. source.name) all → HasTakenAll reader (kept_for options.now.format) all
-        → IfOk result (OfTaken (Reports options.now.rules options.now.limit options.now.format (given options.now.waivers) (W.contents out.old) (W.contents out.new)) all) }
+        → IfOk result (OfTaken (Reports options.now.rules options.now.limit options.now.format (given options.now.waivers) options.now.outline.items (W.contents out.old) (W.contents out.new)) all) }
     ensures silent { IfOk result (λ done. IfErr done (λ halt. W.contents out.new ≡ W.contents out.old)) }
 {
     report_agrees_with_check();

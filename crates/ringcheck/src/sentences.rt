@@ -1,6 +1,6 @@
 //! What is said below the line of refused words: which word, why, and what to write instead.
 
-ghost use Rattle.std.specs.Prelude.{◌≡◌, Some, option_map};
+ghost use Rattle.std.specs.Prelude.{◌≡◌, Some, is_some, option_map};
 ghost use Rattle.ringcheck.specs.Sentences as sentences;
 
 use crate::parsed_words::{ReportWords, parse_length, parse_limit, parse_rules};
@@ -127,7 +127,7 @@ impl Display for NoMeasureFormat<'_> {
 pub(crate) struct NoReport<'a>(pub(crate) &'a ReportWords<'a>);
 
 impl Display for NoReport<'_> {
-    ghost output = { λ it. Some (sentences.report_sentence it.0.now.ring.now it.0.now.gap.now (option_map (λ w. w.now) it.0.now.limit) (option_map (λ w. w.now) it.0.now.format)) };
+    ghost output = { λ it. Some (sentences.report_sentence it.0.now.ring.now it.0.now.gap.now (option_map (λ w. w.now) it.0.now.limit) (is_some (option_map (λ w. w.now) it.0.now.outline)) (option_map (λ w. w.now) it.0.now.format)) };
 
     fn fmt<W: fmt::Write>(&self, f: &mut Formatter<W>) -> fmt::Result {
         let words = self.0;
@@ -136,6 +136,8 @@ impl Display for NoReport<'_> {
             write!(f, "{}", NoRules { ring, gap })
         } else if parse_limit(words.limit).is_err() {
             write!(f, "{}", NoCount(words.limit))
+        } else if words.outline.is_some() {
+            f.write_str("--outline belongs to the picture of --format html; draw has it too")
         } else {
             write!(f, "{}", NoReportFormat(words.format))
         }

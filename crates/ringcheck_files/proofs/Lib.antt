@@ -1,2 +1,3 @@
 pub mod ManifestStatus
 pub mod Appending
+pub mod HandingOn

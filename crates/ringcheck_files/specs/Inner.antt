@@ -24,3 +24,10 @@ IsNextRead before after block (Err e) = e ≡ fails.ReadFault
 -- a ReadFault has a cause: a read has failed, or as many were made as may be
 abbrev pub HasReadCause : ReadCounter → ℕ → ReadFail → Type 0
 HasReadCause read_counter limit e = e ≡ fails.ReadFault → (read_counter.has_failed ≡ true) ⊎ (read_counter.made ≡ limit + extra_reads)
+
+-- So many bytes were the next ones that a reader had, and were handed on, so that `IsTaken` is true of them.
+pub record HasHandedOn (before after : Option (List ℕ)) (IsTaken : List ℕ → Type 0) (total : ℕ) : Type 0 where
+  pub bytes : List ℕ
+  pub size : length bytes ≡ total
+  pub read : Consumes before after bytes
+  pub taken : IsTaken bytes

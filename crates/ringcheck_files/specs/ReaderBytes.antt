@@ -17,3 +17,13 @@ ReadsAll (Some left) limit (Ok v) = (v.items ≡ left) × (length left ≤ limit
 ReadsAll (Some left) limit (Err TooLong) = limit < length left
 ReadsAll (Some left) limit (Err ReadFault) = Unit {0}
 ReadsAll (Some left) limit (Err Memory) = Unit {0}
+
+-- All that the reader had left, and within the limit, was handed on, so that this is true of it; TooLong means that more than the limit were
+-- left. Of a reader whose contracts do not name its bytes, only this is said: no more bytes are handed on than the limit.
+abbrev pub HandsAll : Option (List ℕ) → ℕ → (List ℕ → Type 0) → Result (Unit {0}) ReadFail → Type 0
+HandsAll None limit IsTaken (Ok _) = (bytes : List ℕ) × (length bytes ≤ limit) × IsTaken bytes
+HandsAll None limit IsTaken (Err e) = Unit {0}
+HandsAll (Some left) limit IsTaken (Ok _) = (length left ≤ limit) × IsTaken left
+HandsAll (Some left) limit IsTaken (Err TooLong) = limit < length left
+HandsAll (Some left) limit IsTaken (Err ReadFault) = Unit {0}
+HandsAll (Some left) limit IsTaken (Err Memory) = Unit {0}

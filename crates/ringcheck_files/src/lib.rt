@@ -13,6 +13,7 @@ mod outcomes;
 mod proposed_manifest;
 mod read_counter;
 mod reader_bytes;
+mod sink;
 
 pub use containers::Container;
 pub use explanation_pages::explain;
@@ -21,7 +22,8 @@ pub use limits::{ABOVE_LIMIT, FILE_LIMIT};
 pub use loader::{LoadFault, Loader};
 pub use outcomes::{Failure, refuse_word};
 pub use proposed_manifest::print_manifest;
-pub use reader_bytes::{MAX_LIMIT, ReadFail, read_all};
+pub use reader_bytes::{MAX_LIMIT, ReadFail, read_all, read_into};
+pub use sink::Sink;
 
 /// How a run ended.
 #[derive(Clone, Copy, Debug, PartialEq, Eq)]

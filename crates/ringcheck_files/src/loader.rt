@@ -1,7 +1,8 @@
 //! The trait of a loader, which gives the bytes of files by their names.
 
-ghost use Rattle.std.specs.Prelude.{◌≡◌, ◌<◌, ◌≤◌, ◌⊎◌, ◌↔◌, ◌-◌, ◌^◌, ℕ, List, IfOk, IfErr, length};
+ghost use Rattle.std.specs.Prelude.{◌≡◌, ◌++◌, ◌<◌, ◌≤◌, ◌⊎◌, ◌↔◌, ◌-◌, ◌^◌, ℕ, List, IfOk, IfErr, OnOk, length};
 
+use crate::Sink;
 use std::alloc::Global;
 use thiserror::Error;
 
@@ -27,7 +28,27 @@ pub trait Loader {
     /// How many loads have failed so far.
     ghost failed: { Self → ℕ };
 
-    /// All bytes of a file, if there are at most `limit`.
+    /// Hands all bytes of a file to a sink, in order and in pieces of any size, if there are at most `limit`. After an error the sink may
+    /// have taken the first of them.
+    ///
+    /// # Errors
+    ///
+    /// [`LoadFault::Device`] where the file cannot be read, which is then counted as a failure; [`LoadFault::TooLong`] where it
+    /// has more than `limit` bytes; [`LoadFault::Memory`] where there is no memory, also where the sink has none.
+    fn load_into<S: Sink>(
+        &mut self,
+        alloc: Global,
+        name: &str,
+        limit: u64,
+        sink: &mut S,
+    ) -> Result<(), LoadFault>
+        ensures keeps { (n b : List ℕ) → has self.new n b ↔ has self.old n b }
+        ensures gives { OnOk result ((bytes : List ℕ) × has self.old name.now bytes × (length bytes ≤ limit) × ((start : S) (text : List ℕ) → S.has_taken start sink.old text → S.has_taken start sink.new (text ++ bytes))) }
+        ensures too_long { IfErr result (λ e. e ≡ LoadFault.TooLong → (b : List ℕ) × has self.old name.now b × (limit < length b)) }
+        ensures counts { failed self.old ≤ failed self.new }
+        ensures device { IfErr result (λ e. e ≡ LoadFault.Device → (failed self.old < failed self.new) ⊎ (failed self.new ≡ 2 ^ 64 - 1)) };
+
+    /// All bytes of a file, if there are at most `limit`. A loader needs no body of its own.
     ///
     /// # Errors
     ///
@@ -38,7 +59,12 @@ pub trait Loader {
         ensures gives { IfOk result (λ v. has self.old name.now v.items × (length v.items ≤ limit)) }
         ensures too_long { IfErr result (λ e. e ≡ LoadFault.TooLong → (b : List ℕ) × has self.old name.now b × (limit < length b)) }
         ensures counts { failed self.old ≤ failed self.new }
-        ensures device { IfErr result (λ e. e ≡ LoadFault.Device → (failed self.old < failed self.new) ⊎ (failed self.new ≡ 2 ^ 64 - 1)) };
+        ensures device { IfErr result (λ e. e ≡ LoadFault.Device → (failed self.old < failed self.new) ⊎ (failed self.new ≡ 2 ^ 64 - 1)) }
+    {
+        let mut bytes = Vec::new(alloc);
+        self.load_into(alloc, name, limit, &mut bytes)?;
+        Ok(bytes)
+    }
 
     /// Whether a name is that of a folder, as far as the loader knows. It is asked where a load has failed, so that this can be said. A
     /// loader without folders needs no body of its own.

@@ -1,11 +1,12 @@
 //! All bytes of a reader, within a limit.
 
-ghost use Rattle.std.specs.Prelude.{◌≡◌, ◌≢◌, ◌<◌, ◌≤◌, ◌+◌, ◌++◌, length, OnOk, IfOk, IfErr, vec_len, vec_capacity, max, ◌/◌};
+ghost use Rattle.std.specs.Prelude.{◌≡◌, ◌≢◌, ◌<◌, ◌≤◌, ◌+◌, ◌++◌, ℕ, List, length, OnOk, IfOk, IfErr, vec_len};
 ghost use Rattle.std.specs.Io.KnownBytes.{IsAtEnd};
 ghost use Rattle.ringcheck_files.specs.Inner.{HasReadCause, IsFresh, extra_reads};
-ghost use Rattle.ringcheck_files.specs.ReaderBytes.{ReadsAll, max_limit};
+ghost use Rattle.ringcheck_files.specs.ReaderBytes.{HandsAll, ReadsAll, max_limit};
 ghost use Rattle.ringcheck_files.specs.declared.reader_bytes.ReadFail.TheVariants as fails;
 
+use crate::Sink;
 use crate::read_counter::ReadCounter;
 use std::alloc::{AllocError, Global};
 use std::io::Read;
@@ -54,15 +55,31 @@ pub fn read_all<R: Read>(alloc: Global, reader: &mut R, limit: u64) -> Result<Ve
     ensures exact { ReadsAll (R.remaining reader.old) limit result }
     ensures end { OnOk result (IsAtEnd (R.remaining reader.new)) }
 {
+    let mut bytes = Vec::new(alloc);
+    read_into(alloc, reader, limit, &mut bytes)?;
+    Ok(bytes)
+}
+
+/// Hands all that a reader has left to a sink, if that is not more than `limit` bytes, in pieces of at most 65,536 bytes, each as soon as
+/// it is read; a limit is at most [`MAX_LIMIT`]. After an error the sink may have taken the first bytes. A read that was interrupted is
+/// called again.
+///
+/// # Errors
+///
+/// As those of [`read_all`]; [`ReadFail::Memory`] also where the sink has no memory.
+pub fn read_into<R: Read, S: Sink>(
+    alloc: Global,
+    reader: &mut R,
+    limit: u64,
+    sink: &mut S,
+) -> Result<(), ReadFail>
+    requires limit { limit ≤ max_limit }
+    ensures exact { HandsAll (R.remaining reader.old) limit (λ bytes. (start : S) (text : List ℕ) → S.has_taken start sink.old text → S.has_taken start sink.new (text ++ bytes)) result }
+    ensures end { OnOk result (IsAtEnd (R.remaining reader.new)) }
+{
     let mut block = zero_block(alloc, BLOCK)?;
     let mut read_counter = ReadCounter::new();
-    read_in_blocks(
-        alloc,
-        reader,
-        &mut read_counter,
-        block.as_mut_slice(),
-        limit,
-    )
+    read_in_blocks(reader, &mut read_counter, block.as_mut_slice(), limit, sink)
 }
 
 /// A block of so many zeros.
@@ -72,27 +89,27 @@ fn zero_block(alloc: Global, count: usize) -> Result<Vec<u8>, AllocError>
     vec![in alloc; 0u8; count]
 }
 
-/// All that a reader has left, as `read_all` says; each read fills the block and is counted.
-fn read_in_blocks<R: Read>(
-    alloc: Global,
+/// Hands all that a reader has left to a sink, as `read_into` says; each read fills the block and is counted.
+fn read_in_blocks<R: Read, S: Sink>(
     reader: &mut R,
     read_counter: &mut ReadCounter,
     block: &mut [u8],
     limit: u64,
-) -> Result<Vec<u8>, ReadFail>
+    sink: &mut S,
+) -> Result<(), ReadFail>
     requires limit { limit ≤ max_limit }
     requires block { 0 < length block.old }
     requires unread { IsFresh read_counter.old }
-    ensures exact { ReadsAll (R.remaining reader.old) limit result }
+    ensures exact { HandsAll (R.remaining reader.old) limit (λ bytes. (start : S) (text : List ℕ) → S.has_taken start sink.old text → S.has_taken start sink.new (text ++ bytes)) result }
     ensures end { OnOk result (IsAtEnd (R.remaining reader.new)) }
     ensures made { read_counter.new.made ≤ limit + extra_reads }
     ensures fault { IfErr result (HasReadCause read_counter.new limit) }
 {
-    let mut bytes = Vec::new(alloc);
+    let mut total: u64 = 0;
     while read_counter.made() < limit + EXTRA_READS {
         match read_counter.read(reader, block) {
-            Ok(Some(0)) => return Ok(bytes),
-            Ok(Some(count)) => append(&mut bytes, &block[..count], limit)?,
+            Ok(Some(0)) => return Ok(()),
+            Ok(Some(count)) => total = hand_on(&block[..count], limit, total, sink)?,
             Ok(None) => {}
             Err(fail) => return Err(fail),
         }
@@ -100,30 +117,17 @@ fn read_in_blocks<R: Read>(
     Err(ReadFail::ReadFault)
 }
 
-/// Appends bytes, if the limit has room for them.
-fn append(bytes: &mut Vec<u8>, more: &[u8], limit: u64) -> Result<(), ReadFail>
-    requires { vec_len bytes.old ≤ limit }
-    ensures ok { OnOk result ((bytes.new.items ≡ bytes.old.items ++ more.now) × (vec_len bytes.new ≤ limit)) }
-    ensures long { IfErr result (λ e. e ≡ ReadFail.TooLong → limit < vec_len bytes.old + length more.now) }
+/// Hands a piece to the sink, if the limit has room for it after `total` bytes; returns how many bytes the sink has taken then.
+fn hand_on<S: Sink>(piece: &[u8], limit: u64, total: u64, sink: &mut S) -> Result<u64, ReadFail>
+    requires { total ≤ limit }
+    ensures taken { (start : S) (text : List ℕ) → S.has_taken start sink.old text → OnOk result (S.has_taken start sink.new (text ++ piece.now)) }
+    ensures total { IfOk result (λ sum. (sum ≡ total + length piece.now) × (sum ≤ limit)) }
+    ensures long { IfErr result (λ e. e ≡ ReadFail.TooLong → limit < total + length piece.now) }
     ensures no_fault { IfErr result (λ e. e ≢ ReadFail.ReadFault) }
 {
-    if more.len() as u64 > limit - bytes.len() as u64 {
+    if piece.len() as u64 > limit - total {
         return Err(ReadFail::TooLong);
     }
-    make_room(bytes, more.len())?;
-    bytes.extend_from_slice(more)?;
-    Ok(())
-}
-
-/// Makes room for so many more bytes. A vector that has to grow does so by a sixteenth at least: so it holds little more
-/// than its bytes, and is seldom moved.
-fn make_room(bytes: &mut Vec<u8>, count: usize) -> Result<(), AllocError>
-    ensures items { bytes.new.items ≡ bytes.old.items }
-    ensures room { OnOk result (vec_len bytes.new + count ≤ vec_capacity bytes.new) }
-    ensures little { OnOk result (vec_capacity bytes.new ≤ max (vec_capacity bytes.old) (vec_len bytes.old + max count (vec_len bytes.old / 16))) }
-{
-    if count <= bytes.capacity() - bytes.len() {
-        return Ok(());
-    }
-    bytes.reserve_exact(count.max(bytes.len() / 16))
+    sink.take(piece)?;
+    Ok(total + piece.len() as u64)
 }

@@ -6,7 +6,7 @@ ghost use Rattle.std.specs.Process.{exit_status};
 ghost use Rattle.std.specs.String.{string_bytes};
 ghost use Rattle.ringcheck_files.specs.ExitCodes.{code_of};
 
-use ringcheck::{LoadFault, Loader, MAX_LIMIT, ReadFail, Status, read_all, run};
+use ringcheck::{LoadFault, Loader, MAX_LIMIT, ReadFail, Sink, Status, read_into, run};
 use std::alloc::{AllocError, Global};
 use std::io::{BufWriter, Write};
 use std::process::ExitCode;
@@ -26,13 +26,19 @@ impl<R: Files> Loader for Disk<'_, R> {
 
     ghost failed = { λ s. s.failures };
 
-    fn load(&mut self, alloc: Global, name: &str, limit: u64) -> Result<Vec<u8>, LoadFault> {
+    fn load_into<S: Sink>(
+        &mut self,
+        alloc: Global,
+        name: &str,
+        limit: u64,
+        sink: &mut S,
+    ) -> Result<(), LoadFault> {
         let Ok(mut file) = fs::open(self.rt, name) else {
             self.failures = self.failures.saturating_add(1);
             return Err(LoadFault::Device);
         };
-        match read_all(alloc, &mut file, limit.min(MAX_LIMIT)) {
-            Ok(bytes) => Ok(bytes),
+        match read_into(alloc, &mut file, limit.min(MAX_LIMIT), sink) {
+            Ok(()) => Ok(()),
             Err(ReadFail::TooLong) => Err(LoadFault::TooLong),
             Err(ReadFail::Memory) => Err(LoadFault::Memory),
             Err(ReadFail::ReadFault) => {

@@ -488,7 +488,7 @@ fn rings_through(alloc: Global, span: Option<Span>) -> Result<Vec<Finding>, Fail
 }
 
 /// Spans, and the findings of rings on two layers.
-const SPANS: [(Option<(usize, usize)>, &[Finding]); 3] = [
+const SPANS: [(Option<(u32, u32)>, &[Finding]); 3] = [
     (Some((1, 1)), &[]),
     (Some((1, 2)), &[Finding::Ring { layer: 1, hole: 0 }]),
     (None, &[Finding::Ring { layer: 1, hole: 0 }]),

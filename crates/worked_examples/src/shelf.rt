@@ -1,9 +1,9 @@
 //! The files of an example, as a loader.
 
-ghost use Rattle.std.specs.Prelude.{ℕ, List};
+ghost use Rattle.std.specs.Prelude.{◌≡◌, ◌≢◌, ◌≤◌, ◌<◌, ◌++◌, ℕ, List, IfErr, OnOk, length};
 
 use crate::draft::Draft;
-use ringcheck::{LoadFault, Loader};
+use ringcheck::{LoadFault, Loader, Sink};
 use std::alloc::{AllocError, Global};
 
 /// A file and its text.
@@ -71,19 +71,44 @@ impl Shelf {
     }
 }
 
+/// Hands a text to a sink in two pieces.
+fn take_in_two<S: Sink>(text: &[u8], sink: &mut S) -> Result<(), AllocError>
+    ensures { (start : S) (before : List ℕ) → S.has_taken start sink.old before → OnOk result (S.has_taken start sink.new (before ++ text.now)) }
+{
+    let (first, rest) = text.split_at(text.len() / 2);
+    sink.take(first)?;
+    sink.take(rest)
+}
+
+/// Hands a text to a sink in two pieces, if it has at most `limit` bytes.
+fn hand_over<S: Sink>(text: &[u8], limit: u64, sink: &mut S) -> Result<(), LoadFault>
+    ensures gives { OnOk result ((length text.now ≤ limit) × ((start : S) (before : List ℕ) → S.has_taken start sink.old before → S.has_taken start sink.new (before ++ text.now))) }
+    ensures fails { IfErr result (λ e. e ≢ LoadFault.Device) }
+    ensures too_long { IfErr result (λ e. e ≡ LoadFault.TooLong → limit < length text.now) }
+{
+    if text.len() as u64 > limit {
+        return Err(LoadFault::TooLong);
+    }
+    match take_in_two(text, sink) {
+        Ok(()) => Ok(()),
+        Err(_) => Err(LoadFault::Memory),
+    }
+}
+
 impl Loader for Shelf {
     ghost has = { λ s n b. Unit {0} };
 
     ghost failed = { λ s. s.failures };
 
-    fn load(&mut self, alloc: Global, name: &str, limit: u64) -> Result<Vec<u8>, LoadFault> {
+    fn load_into<S: Sink>(
+        &mut self,
+        alloc: Global,
+        name: &str,
+        limit: u64,
+        sink: &mut S,
+    ) -> Result<(), LoadFault> {
         match self.text_of(alloc, name) {
-            Ok(Some(text)) => {
-                if text.len() as u64 > limit {
-                    return Err(LoadFault::TooLong);
-                }
-                Ok(text)
-            }
+            Ok(Some(text)) => hand_over(text.as_slice(), limit, sink),
             Ok(None) => {
                 self.failures = self.failures.saturating_add(1);
                 Err(LoadFault::Device)

@@ -115,7 +115,7 @@ fn part(draws: &mut Draws, layers: u32) -> (Role, Option<Span>) {
         0 => (Role::Unplated, None),
         1 => (
             Role::Plated,
-            Span::new(first as usize + 1, last as usize + 1),
+            Span::new(first.saturating_add(1), last.saturating_add(1)),
         ),
         _ => (Role::Plated, None),
     }

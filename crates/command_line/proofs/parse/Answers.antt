@@ -29,8 +29,8 @@ returns-in-Some c =
           c.in-Some.ensures.check r g m (rows_of all) (parsed.1 ∙ ap₂ subcommand_of c.in-Ok.ensures e ∙ (λ i. (check_answer r g m p q s i).1))
           (first_is (codes "ring") all, first_is (codes "gap") all, first_is (codes "manifest") all);
       measure = λ o m e t s. is_measure o m c.in-Some.request (asks _ _ e (measure_answer o m t s));
-      report = λ r g n l o m e p q t v u s. is_report r g n l o m c.in-Some.request (asks _ _ e (report_answer r g n l o m p q t v u s));
-      draw = λ o m e p s. is_draw o m c.in-Some.request (asks _ _ e (draw_answer o m p s));
+      report = λ r g n v l o m e p q t w x u s. is_report r g n v l o m c.in-Some.request (asks _ _ e (report_answer r g n v l o m p q t w x u s));
+      draw = λ o l m e p t s. is_draw o l m c.in-Some.request (asks _ _ e (draw_answer o l m p t s));
       show = λ k f e p q. is_show k f c.in-Some.request (asks _ _ e (show_answer k f p q));
       rewrite = λ k f e p q. is_rewrite k f c.in-Some.request (asks _ _ e (rewrite_answer k f p q));
       manifest = λ why fs e p.
@@ -53,8 +53,8 @@ returns c =
       exact = exact;
       check = λ r g m e p q s. rw (memory _ _ e (check_answer r g m p q s)) tt;
       measure = λ o m e t s. rw (memory _ _ e (measure_answer o m t s)) tt;
-      report = λ r g n l o m e p q t v u s. rw (memory _ _ e (report_answer r g n l o m p q t v u s)) tt;
-      draw = λ o m e p s. rw (memory _ _ e (draw_answer o m p s)) tt;
+      report = λ r g n v l o m e p q t w x u s. rw (memory _ _ e (report_answer r g n v l o m p q t w x u s)) tt;
+      draw = λ o l m e p t s. rw (memory _ _ e (draw_answer o l m p t s)) tt;
       show = λ k f e p q. rw (memory _ _ e (show_answer k f p q)) tt;
       rewrite = λ k f e p q. rw (memory _ _ e (rewrite_answer k f p q)) tt;
       manifest = λ why fs e p.

@@ -12,7 +12,8 @@ abbrev pub file_commands_of : App → App
 file_commands_of a =
     with_subcommand (with_subcommand (with_subcommand (with_subcommand a manifest_app.top) explain_app.top) (file_app (codes "show")).top) (file_app (codes "rewrite")).top
 
--- a command with `[--max N] [--waive FILE] [--format F] MANIFEST` added
+-- a command with `[--max N] [--waive FILE] [--outline FILE] [--format F] MANIFEST` added
 abbrev pub report_args_of : App → App
 report_args_of a =
-    with_rule (with_rule (with_rule (with_rule a (optional_option (codes "max"))) (optional_option (codes "waive"))) (optional_option (codes "format"))) (positional (codes "manifest"))
+    with_rule (with_rule (with_rule (with_rule (with_rule a (optional_option (codes "max"))) (optional_option (codes "waive"))) (optional_option (codes "outline"))) (optional_option (codes "format")))
+    (positional (codes "manifest"))

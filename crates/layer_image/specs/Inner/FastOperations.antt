@@ -1,4 +1,4 @@
--- What is in force for most operations.
+-- What holds for most operations.
 use Rattle.std.specs.Prelude.{◌≡◌, ◌<◌, ◌+◌, ◌/◌, ◌^◌, ◌∷◌, [], ℕ, ℤ, pos, ◌*ℤ◌, Bool, true, false, ◌&&◌, nat_le, unsigned_abs, Option, None, is_none, unwrap_or}
 use Rattle.std.specs.Option.{option_map_or}
 use Rattle.std.specs.List.{find, list_any}

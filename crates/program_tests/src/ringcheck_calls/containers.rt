@@ -19,8 +19,14 @@ impl Loader for FolderShelf<'_> {
 
     ghost failed = { λ s. s.shelf.failures };
 
-    fn load(&mut self, alloc: Global, name: &str, limit: u64) -> Result<Vec<u8>, LoadFault> {
-        self.shelf.load(alloc, name, limit)
+    fn load_into<S: Sink>(
+        &mut self,
+        alloc: Global,
+        name: &str,
+        limit: u64,
+        sink: &mut S,
+    ) -> Result<(), LoadFault> {
+        self.shelf.load_into(alloc, name, limit, sink)
     }
 
     fn is_folder(&self, name: &str) -> bool {

@@ -53,7 +53,7 @@ fn what_is_measured_passes_under_just_its_rules(rt: HostRuntime) {
 /// Whether a report finds nothing on a package of three files at hand. Then the files that its manifest names, as they stand,
 /// are sound.
 fn is_told_sound<'x>(alloc: Global, records: &'x str, layer: &'x str, drill: &'x str) -> bool
-    ensures { IsTrue result → (asked : GridRules × Option ℕ × TheFormat) × (parse_report (codes "0.125") (codes "0.25") None None None ≡ Ok asked) × (entries : List TheEntry) × (manifest records.now ≡ Ok entries) × (files : List (List ℕ))
+    ensures { IsTrue result → (asked : GridRules × Option ℕ × TheFormat) × (parse_report (codes "0.125") (codes "0.25") None None None None ≡ Ok asked) × (entries : List TheEntry) × (manifest records.now ≡ Ok entries) × (files : List (List ℕ))
         × HasFiles (λ n b. Contains {X = List ℕ × List ℕ} ((codes "m.csv", records.now) ∷ (codes "top.gbr", layer.now) ∷ (codes "pth.drl", drill.now) ∷ []) (n, b)) entries files
         × IsSound (sources entries files) asked.0 }
 {

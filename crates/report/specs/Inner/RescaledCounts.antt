@@ -1,17 +1,16 @@
 -- How bare holes are counted, those of all files at once.
-use Rattle.std.specs.Prelude.{◌≡◌, ℕ, ◌+◌, ◌*◌, ◌<◌, ◌≤◌, ◌++◌, ◌⊎◌, ◌&&◌, true, false, Option, Some, None, List, [], ◌∷◌, length, get_or}
+use Rattle.std.specs.Prelude.{◌≡◌, ℕ, ◌+◌, ◌*◌, ◌<◌, ◌≤◌, ◌++◌, ◌⊎◌, ◌==◌, ◌&&◌, true, false, Option, Some, None, List, [], ◌∷◌, length, get_or, if◌then◌else◌}
 use Rattle.std.specs.List.{All, slice_range}
 use Rattle.grid_units.specs.Points.{GridPoint}
 use Rattle.grid_units.specs.Holes.{is_round}
 use Rattle.pad_shapes.specs.declared.pad.Pad.{Pad}
 use Rattle.ring_rules.specs.declared.finding.Drilled.{Drilled}
 use Rattle.report.specs.declared.UnitFactor.{UnitFactor}
-use Rattle.report.specs.declared.UnitFactor.TheVariants as kind
 use Rattle.report.specs.declared.UnitMistake.{UnitMistake}
 use Rattle.report.specs.declared.counts.RescaledHoles.{RescaledHoles}
 use Rattle.report.specs.declared.counts.HoleRange.{HoleRange}
-use Rattle.report.specs.declared.fewest.Counts.{Counts}
 use Rattle.report.specs.declared.fewest.Fewest.{Fewest}
+use Rattle.report.specs.declared.fewest.Tried.{Tried}
 use Rattle.report.specs.declared.mistakes.Suspect.{Suspect}
 use Rattle.report.specs.declared.mistakes.FileRange.{FileRange}
 use Rattle.report.specs.UnitMistakes.{IsFirstFewest, IsUnitMistake, bare_count, bare_count_with, holes_in, is_on_grid, round_count, scaled_point}
@@ -69,12 +68,19 @@ pub record AreCounted (pads : List Pad) (holes : List Drilled) (ranges : List Ho
   pub size : length counts ≡ length ranges
   pub each : (k : ℕ) (s : HoleRange) (n : ℕ) → k < length ranges → get_or counts k n ≡ bare_count_with pads (holes_of holes (get_or ranges k s)) factor
 
--- how many holes of each stretch are round and would be bare by each factor
-pub record AreAllCounted (pads : List Pad) (holes : List Drilled) (ranges : List HoleRange) (counts : Counts) : Type 0 where
-  pub ten : AreCounted pads holes ranges kind.Ten counts.ten.items
-  pub tenth : AreCounted pads holes ranges kind.Tenth counts.tenth.items
-  pub inch : AreCounted pads holes ranges kind.Inch counts.inch.items
-  pub per_inch : AreCounted pads holes ranges kind.PerInch counts.per_inch.items
+-- the holes of a stretch that a further factor is tried at: none where none would be bare by a factor before
+abbrev pub open_part : Tried → HoleRange
+open_part tried = record { start = tried.range.start; end = if tried.fewest.bare == 0 then tried.range.start else tried.range.end }
+
+-- a stretch with the first of some factors by which the fewest of its holes would be bare
+pub record IsTried (pads : List Pad) (holes : List Drilled) (factors : List UnitFactor) (stretch : HoleRange) (tried : Tried) : Type 0 where
+  pub range : tried.range ≡ stretch
+  pub fewest : IsFewest (bare_count_with pads (holes_of holes stretch)) factors tried.fewest
+
+-- the same of each stretch, in their order
+pub record AreTried (pads : List Pad) (holes : List Drilled) (ranges : List HoleRange) (factors : List UnitFactor) (tried : List Tried) : Type 0 where
+  pub size : length tried ≡ length ranges
+  pub each : (k : ℕ) (s : HoleRange) (t : Tried) → k < length ranges → IsTried pads holes factors (get_or ranges k s) (get_or tried k t)
 
 -- more than half of the round holes of a file are bare, so all its holes are to be tried at other places
 pub record IsSuspected (pads : List Pad) (own : List Drilled) (file : FileRange) (suspect : Suspect) : Type 0 where

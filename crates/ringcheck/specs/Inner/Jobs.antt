@@ -23,14 +23,14 @@ abbrev pub job_style : Job → RefusalStyle
 job_style (job.Check rules) = style.Line
 job_style (job.Measure form) = measure_style form
 job_style (job.Report options) = report_style options.format
-job_style (job.Draw rules) = style.Line
+job_style (job.Draw order) = style.Line
 
 -- what is said of files where a job on them passes, or does not
 abbrev pub Holds : Job → Option (List ℕ) → Option (List ℕ) → Bool → List FileView → Type 0
 Holds (job.Check rules) before after = Checks rules before after
 Holds (job.Measure form) before after = PrintsMeasure form before after
-Holds (job.Report options) before after = Reports options.rules options.limit options.format (given options.waivers) before after
-Holds (job.Draw rules) before after = PrintsPicture rules before after
+Holds (job.Report options) before after = Reports options.rules options.limit options.format (given options.waivers) options.outline.items before after
+Holds (job.Draw order) before after = PrintsPicture order.rules order.outline.items before after
 
 -- what a status says of a job on the package under a name
 abbrev pub SaysJob : Job → Relation → List ℕ → Option (List ℕ) → Option (List ℕ) → Status → Type 0

@@ -1,19 +1,23 @@
 -- The files of a package while they are loaded, those of one kind before those of the other.
-use Rattle.std.specs.Prelude.{◌≡◌, ◌<◌, ◌||◌, ◌&&◌, nat_lt, ℕ, Bool, true, false, List, [], length, get_or, slice_get, Option, None, Some, Result, Ok, Err}
+use Rattle.std.specs.Prelude.{◌≡◌, ◌<◌, ◌++◌, ◌||◌, ◌&&◌, nat_lt, ℕ, Bool, true, false, List, [], length, get_or, slice_get, Option, None, Some, Result, Ok, Err}
 use Rattle.std.specs.List.{count_by}
-use Rattle.std.specs.Global.{Vec}
 use Rattle.grid_units.specs.Holes.{GridRules}
+use Rattle.grid_units.specs.Spans.{LayerSpan}
 use Rattle.layer_image.specs.declared.keep.Keep.{Keep}
 use Rattle.manifest.specs.declared.Entry.{Entry}
+use Rattle.manifest.specs.declared.Role.{Role}
 use Rattle.package_check.specs.CheckViews.{CheckView}
 use Rattle.package_check.specs.Checking.{HasJudged, TakesCopper}
 use Rattle.package_check.specs.Holding.{HasTaken, TakesFile, copper_files, is_kind}
+use Rattle.package_check.specs.OpenFiles.{HasOpened, HasOpenedCopper}
 use Rattle.package_check.specs.Package.{FileView, is_copper}
+use Rattle.package_check.specs.declared.open_file.OpenFile.{OpenFile}
 use Rattle.package_check.specs.declared.package_reader.PackageReader.{PackageReader}
 use Rattle.ringcheck_files.specs.LoaderRelation.{Relation, file_limit, too_long, within}
 use Rattle.ringcheck.specs.CheckStatus.{sources}
 use Rattle.ringcheck.specs.Inner.Halting.{Halts}
 use Rattle.ringcheck.specs.Refusals.{Refusal, of_file}
+use Rattle.ringcheck.specs.declared.load_package.CheckSink.{CheckSink}
 use Rattle.ringcheck.specs.declared.refusals.Halt.{Halt}
 
 -- how many of the entries are copper
@@ -44,10 +48,19 @@ pub record RefusesLong (has : Relation) (index : ℕ) (entry : Entry) (why : Ref
   pub long : file_limit < length bytes
   pub is : why ≡ of_file index entry.name too_long
 
--- what came of the file of an entry: its bytes, or why they cannot be loaded
-abbrev pub OfFile : Relation → ℕ → Entry → Type 0 → Result (Vec ℕ) Halt → Type 0
-OfFile has index entry Risen (Ok bytes) = within file_limit has entry.file bytes.items
-OfFile has index entry Risen (Err halt) = Halts (RefusesLong has index entry) Risen halt
+-- what came of handing on the file of an entry: its bytes were taken, as `IsTaken` says; or why it cannot be loaded
+abbrev pub OfHandedFile : Relation → ℕ → Entry → (List ℕ → Type 0) → Type 0 → Option Halt → Type 0
+OfHandedFile has index entry IsTaken Risen None = (bytes : List ℕ) × within file_limit has entry.file bytes × IsTaken bytes
+OfHandedFile has index entry IsTaken Risen (Some halt) = Halts (RefusesLong has index entry) Risen halt
+
+-- between two states an open file has read just these bytes, whatever file of whatever package it is
+abbrev pub GoesOn : OpenFile → OpenFile → List ℕ → Type 0
+GoesOn start now bytes = (reader : PackageReader) (index : ℕ) (of : Role) (span : Option LayerSpan) (text : List ℕ) → HasOpened reader index of span start text → HasOpened reader index of span now (text ++ bytes)
+
+-- between two states the open copper file of a check has read just these bytes, whatever file it is
+abbrev pub CopperGoesOn : CheckSink → CheckSink → List ℕ → Type 0
+CopperGoesOn start now bytes =
+    (first : CheckView) (index layer : ℕ) (span : Option LayerSpan) (text : List ℕ) → HasOpenedCopper first start.check index layer span start.file text → HasOpenedCopper first now.check index layer span now.file (text ++ bytes)
 
 -- the file of an entry was loaded, and a reader has taken it
 abbrev pub LoadsFile : Relation → PackageReader → PackageReader → ℕ → Entry → Type 0
@@ -83,12 +96,18 @@ LoadsKind has entries before after copper end = (all : List Entry) (keep : Keep)
 abbrev pub LoadsCopper : Relation → CheckView → CheckView → ℕ → ℕ → Entry → Type 0
 LoadsCopper has before after index layer entry = (bytes : List ℕ) × within file_limit has entry.file bytes × TakesCopper before after index layer (source before.layers entry bytes)
 
--- what came of handing the copper file of an entry to a check: that it has taken it, or why the file cannot be loaded
-abbrev pub OfCheckedFile : Relation → CheckView → CheckView → ℕ → ℕ → Entry → Type 0 → Option Halt → Type 0
-OfCheckedFile has before after index layer entry Risen None = LoadsCopper has before after index layer entry
-OfCheckedFile has before after index layer entry Risen (Some halt) = Halts (RefusesLong has index entry) Risen halt × (after ≡ before)
+-- what came of handing the copper file of an entry to a check: the check, which has taken it; or why the file cannot be loaded
+abbrev pub OfCheckedFile : Relation → CheckView → ℕ → ℕ → Entry → Type 0 → Result CheckView Halt → Type 0
+OfCheckedFile has before index layer entry Risen (Ok after) = LoadsCopper has before after index layer entry × (after.layers ≡ before.layers)
+OfCheckedFile has before index layer entry Risen (Err halt) = Halts (RefusesLong has index entry) Risen halt
 
 -- between two states of a check the copper files of these entries below an index were loaded, and the check has taken them; other files were loaded before
 abbrev pub LoadsCopperTo : Relation → List Entry → CheckView → CheckView → ℕ → Type 0
 LoadsCopperTo has entries before after end = (rules : GridRules) (done : ℕ → Bool) → before.layers ≡ copper_entries entries → ((i : ℕ) → is_kind_at true entries i ≡ true → done i ≡ false)
     → HasLoaded has entries (λ all. HasJudged before all rules) done → HasLoaded has entries (λ all. HasJudged after all rules) (λ i. done i || (nat_lt i end && is_kind_at true entries i))
+
+-- what came of handing the copper files of these entries to a check: the check, which has taken them; or why the first of them that cannot be loaded
+-- cannot be, those before it having been taken
+abbrev pub OfCheckedCopper : Relation → List Entry → CheckView → Type 0 → Result CheckView Halt → Type 0
+OfCheckedCopper has entries before Risen (Ok after) = LoadsCopperTo has entries before after (length entries)
+OfCheckedCopper has entries before Risen (Err halt) = (end : ℕ) × EndsAt has entries Risen end (Some halt) × (last : CheckView) × LoadsCopperTo has entries before last end

@@ -7,5 +7,6 @@ pub returns : goal.returns
 returns c =
     let limit = c.in_ok-arg.ensures.shape c.optional_option_arg.ensures.global ∙ ap₂ with_rule refl c.optional_option_arg.ensures.rule in
     let waive = c.in_ok-arg-2.ensures.shape c.optional_option_arg-2.ensures.global ∙ ap₂ with_rule limit c.optional_option_arg-2.ensures.rule in
-    let format = c.in_ok-arg-3.ensures.shape c.optional_option_arg-3.ensures.global ∙ ap₂ with_rule waive c.optional_option_arg-3.ensures.rule in
-    IfOk-weaker c.arg-4.result _ _ (λ x h. h.shape c.required_arg.ensures.global ∙ ap₂ with_rule format c.required_arg.ensures.rule) c.arg-4.ensures
+    let outline = c.in_ok-arg-3.ensures.shape c.optional_option_arg-3.ensures.global ∙ ap₂ with_rule waive c.optional_option_arg-3.ensures.rule in
+    let format = c.in_ok-arg-4.ensures.shape c.optional_option_arg-4.ensures.global ∙ ap₂ with_rule outline c.optional_option_arg-4.ensures.rule in
+    IfOk-weaker c.arg-5.result _ _ (λ x h. h.shape c.required_arg.ensures.global ∙ ap₂ with_rule format c.required_arg.ensures.rule) c.arg-5.ensures

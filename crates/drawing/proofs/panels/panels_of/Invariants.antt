@@ -4,4 +4,4 @@ use Rattle.drawing.specs.Drawings.{IsPanel}
 use Rattle.drawing.proofs.panels.panels_of.Given as goal
 
 abbrev pub invariant-loop-layer : goal.invariant-loop-layer
-invariant-loop-layer l = AllZip (IsPanel (map (λ name. name.now) l.names) l.board l.findings l.layout) (take l.layer (enumerate_from 0 l.files)) l.panels.items
+invariant-loop-layer l = AllZip (IsPanel (map (λ name. name.now) l.names) l.board l.edge l.findings l.layout) (take l.layer (enumerate_from 0 l.files)) l.panels.items

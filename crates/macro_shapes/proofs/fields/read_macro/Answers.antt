@@ -5,7 +5,7 @@ use Rattle.macro_shapes.specs.Values.{lookup}
 use Rattle.macro_shapes.specs.Pieces.{IsMacro}
 use Rattle.macro_shapes.specs.Inner.Pieces.{fields_from, parameters_of}
 use Rattle.macro_shapes.specs.declared.fields.Fields.{Fields}
-use Rattle.macro_shapes.proofs.PiecesLemmas.{macro_exactly, no_macro}
+use Rattle.macro_shapes.specs.Inner.PiecesLemmas.{macro_exactly, no_macro}
 use Rattle.macro_shapes.proofs.fields.read_macro.Goals as goal
 
 pub returns-in-Some : goal.returns-in-Some

@@ -1,10 +1,11 @@
 use Rattle.std.proofs.Common.{◌≡◌, drop}
 use Rattle.std.specs.List.{fold}
 use Rattle.pad_shapes.specs.Rounded.{edges_back}
-use Rattle.macro_shapes.specs.Shapes.{line_along, least, discs_at}
+use Rattle.macro_shapes.specs.Shapes.{line_along}
+use Rattle.macro_shapes.specs.Inner.Borders.{least, discs_in_turn}
 use Rattle.macro_shapes.proofs.shape.border.Given as goal
 
 abbrev pub invariant-loop-to : goal.invariant-loop-to
 invariant-loop-to l =
     fold (λ found e. least found (line_along l.primitives e)) l.found (edges_back l.fn.first l.from (drop l.to-index l.others))
-    ≡ fold (λ found e. least found (line_along l.primitives e)) (discs_at l.primitives (record { first = l.fn.first; others = l.others; radius = 0 })) (edges_back l.fn.first l.fn.first l.others)
+    ≡ fold (λ found e. least found (line_along l.primitives e)) (discs_in_turn l.primitives (record { first = l.fn.first; others = l.others; radius = 0 })) (edges_back l.fn.first l.fn.first l.others)

@@ -1,6 +1,6 @@
 use Rattle.std.proofs.Common.{◌≡◌, take}
-use Rattle.macro_shapes.specs.Shapes.{disc_at}
+use Rattle.macro_shapes.specs.Inner.Borders.{disc_in_turn}
 use Rattle.macro_shapes.proofs.shape.disc_at.Given as goal
 
 abbrev pub invariant-loop-primitive : goal.invariant-loop-primitive
-invariant-loop-primitive l = l.found ≡ disc_at (take l.primitive-index l.primitives) l.point
+invariant-loop-primitive l = l.found ≡ disc_in_turn (take l.primitive-index l.primitives) l.point

@@ -3,7 +3,7 @@ use Rattle.std.specs.Prelude.{option_map}
 use Rattle.std.specs.Option.{option_copied}
 use Rattle.macro_shapes.specs.Inner.Parts.{split_by_if}
 use Rattle.macro_shapes.specs.Inner.Pieces.{all_decimals}
-use Rattle.macro_shapes.proofs.PiecesLemmas.{decimals_next}
+use Rattle.macro_shapes.specs.Inner.PiecesLemmas.{decimals_next}
 use Rattle.macro_shapes.proofs.variables.read_decimals.Goals as goal
 
 pub loop-left-preserved : goal.loop-left-preserved

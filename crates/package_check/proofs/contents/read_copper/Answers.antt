@@ -8,7 +8,6 @@ use Rattle.package_check.specs.LayerViews.{LayerView}
 use Rattle.package_check.specs.Package.{ReadsCopper}
 use Rattle.package_check.specs.declared.contents.Content.{Content}
 use Rattle.package_check.proofs.FlashReadingLemmas.{held}
-use Rattle.package_check.proofs.PiecesLemmas.{joined}
 use Rattle.package_check.proofs.contents.read_copper.Goals as goal
 
 -- the fault of a layer's text is one of a copper file
@@ -17,15 +16,15 @@ copper_fault bytes fails.Memory h = tt
 copper_fault bytes (fails.Refused fault) h = inl h
 
 pub returns-in_err-layer-clause-copper : goal.returns-in_err-layer-clause-copper
-returns-in_err-layer-clause-copper c =
+returns-in_err-layer-clause-copper c = λ text stands.
     let p = err_from_is_err_and c.from_residual.result c.from_residual.ensures.1 in
-    rw (p.1, p.2) (copper_fault (joined c.args.pieces.now) c.in_err-layer.field-0.0 c.in_err-layer.ensures.image)
+    rw (p.1, p.2) (copper_fault text c.in_err-layer.field-0.0 (c.in_err-layer.ensures.image text stands))
 
 pub returns-clause-copper : goal.returns-clause-copper
-returns-clause-copper c = c.require_copper.ensures (joined c.args.pieces.now) c.in_ok-layer.ensures.image
+returns-clause-copper c = λ text stands. c.require_copper.ensures text (c.in_ok-layer.ensures.image text stands)
 
 pub returns-clause-flashes : goal.returns-clause-flashes
-returns-clause-flashes c = λ keeps. held c.require_copper.result _ (c.in_ok-layer.ensures.flashes keeps)
+returns-clause-flashes c = λ text stands keeps. held c.require_copper.result _ (c.in_ok-layer.ensures.flashes text stands keeps)
 
 pub returns-clause-drawn : goal.returns-clause-drawn
-returns-clause-drawn c = λ keeps. held c.require_copper.result _ (c.in_ok-layer.ensures.drawn keeps)
+returns-clause-drawn c = λ text stands keeps. held c.require_copper.result _ (c.in_ok-layer.ensures.drawn text stands keeps)

@@ -1,18 +1,24 @@
 use Rattle.std.proofs.Common.{◌≡◌, ap, ◌∙◌}
+use Rattle.std.proofs.lemmas.Result.{err_from_is_err_and}
 use Rattle.gerber_text.specs.Writing.{without_places}
 use Rattle.layer_image.specs.Drawn.{drawn_of}
 use Rattle.layer_image.specs.Flashes.{pads_of}
 use Rattle.layer_image.specs.Layers.{LayerImage}
 use Rattle.package_check.specs.FileTexts.{is_copper_function}
 use Rattle.package_check.proofs.FlashReadingLemmas.{commands_kept, flashes_kept, pads_are}
-use Rattle.package_check.proofs.PiecesLemmas.{joined}
+use Rattle.package_check.proofs.OpenFiles.{layer_fault}
 use Rattle.package_check.proofs.readers.read_shown.Goals as goal
 
+pub returns-in_err-layer-clause-image : goal.returns-in_err-layer-clause-image
+returns-in_err-layer-clause-image c = λ keep text stands keeps.
+    let p = err_from_is_err_and c.from_residual.result c.from_residual.ensures.1 in
+    rw (p.1, p.2) (layer_fault keep text c.in_err-layer.field-0.0 (c.in_err-layer.ensures.exact keep text stands))
+
 pub returns-clause-image : goal.returns-clause-image
-returns-clause-image c =
-    let read = c.in_ok-layer.ensures in
-    let flashes = flashes_kept c.args.keep read.0 _ c.requires read.2 in
-    let pads : c.in_ok-pads.pads.items ≡ read.0.pads = c.in_ok-pads.ensures ∙ (ap pads_of c.flashes-2.ensures ∙ (ap pads_of flashes ∙ pads_are (joined c.args.pieces.now) read.0 read.1)) in (
+returns-clause-image c = λ keep text stands keeps.
+    let read = c.in_ok-layer.ensures.exact keep text stands in
+    let flashes = flashes_kept keep read.0 _ keeps read.2 in
+    let pads : c.in_ok-pads.pads.items ≡ read.0.pads = c.in_ok-pads.ensures ∙ (ap pads_of c.flashes-2.ensures ∙ (ap pads_of flashes ∙ pads_are text read.0 read.1)) in (
       read.0,
       read.1,
       λ i. record {
@@ -23,11 +29,11 @@ returns-clause-image c =
     )
 
 pub returns-clause-flashes : goal.returns-clause-flashes
-returns-clause-flashes c =
-    let read = c.in_ok-layer.ensures in
-    (read.0, read.1, c.into_flashes.ensures ∙ flashes_kept c.args.keep read.0 _ c.requires read.2)
+returns-clause-flashes c = λ keep text stands keeps.
+    let read = c.in_ok-layer.ensures.exact keep text stands in
+    (read.0, read.1, c.into_flashes.ensures ∙ flashes_kept keep read.0 _ keeps read.2)
 
 pub returns-clause-drawn : goal.returns-clause-drawn
-returns-clause-drawn c = λ keeps.
-    let read = c.in_ok-layer.ensures in
-    (read.0, read.1, c.in_ok-drawn.ensures ∙ ap (λ commands. drawn_of (without_places commands)) (commands_kept c.args.keep read.0 _ keeps read.2))
+returns-clause-drawn c = λ keep text stands keeps.
+    let read = c.in_ok-layer.ensures.exact keep text stands in
+    (read.0, read.1, c.in_ok-drawn.ensures ∙ ap (λ commands. drawn_of (without_places commands)) (commands_kept keep read.0 _ keeps read.2))

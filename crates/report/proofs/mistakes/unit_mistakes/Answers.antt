@@ -1,14 +1,15 @@
 use Rattle.std.proofs.Common.{◌≡◌, List, length, map, ap, sym, subst, ◌∙◌}
-use Rattle.std.specs.Result.{IfOk}
-use Rattle.ring_rules.specs.declared.finding.Drilled.{Drilled}
-use Rattle.report.specs.Inner.RescaledCounts.{AreAllCounted, AreSuspects, AreHoleRanges}
+use Rattle.std.proofs.lemmas.List.{length-map}
+use Rattle.report.specs.UnitMistakes.{factors}
+use Rattle.report.specs.Inner.RescaledCounts.{AreHoleRanges, AreSuspects, AreTried}
 use Rattle.report.specs.declared.counts.HoleRange.{HoleRange}
+use Rattle.report.specs.declared.fewest.Tried.{Tried}
 use Rattle.report.specs.declared.mistakes.Suspect.{Suspect}
 use Rattle.report.proofs.UnitMistakeLemmas.{ranges_fit}
 use Rattle.report.proofs.mistakes.unit_mistakes.Goals as goal
 
-pub counts_of-requires : goal.counts_of-requires
-counts_of-requires c =
+pub try_factors-requires : goal.try_factors-requires
+try_factors-requires c =
     let suspects = c.in_ok-suspects.suspects.items in
     let are = c.in_ok-suspects.ensures c.args.pads.now c.requires.bests in
     let same : c.deref-2.result.now ≡ map (λ (d : Suspect). d.range) c.in_ok-suspects.suspects.items =
@@ -20,10 +21,22 @@ lines_by-requires-clause-suspects c =
     let are = c.in_ok-suspects.ensures c.args.pads.now c.requires.bests in
     ap (λ (ds : List Suspect). length ds) c.deref-3.ensures.value ∙ are.size
 
+pub lines_by-requires-clause-tried : goal.lines_by-requires-clause-tried
+lines_by-requires-clause-tried c =
+    let are = c.in_ok-suspects.ensures c.args.pads.now c.requires.bests in
+    let tried = c.in_ok-tried.ensures in
+    let same : c.deref-2.result.now ≡ map (λ (d : Suspect). d.range) c.in_ok-suspects.suspects.items =
+    c.deref-2.ensures.value ∙ (c.in_ok-ranges.ensures ∙ ap (map (λ (d : Suspect). d.range)) c.deref.ensures.value) in
+    ap (λ (ts : List Tried). length ts) c.deref-4.ensures.value
+    ∙ (tried.size ∙ (ap (λ (ss : List HoleRange). length ss) same ∙ (length-map c.in_ok-suspects.suspects.items (λ (d : Suspect). d.range) ∙ are.size)))
+
 pub returns : goal.returns
 returns c =
     let are = c.in_ok-suspects.ensures c.args.pads.now c.requires.bests in
     let pads = c.args.pads.now in
     let holes = c.args.holes.now in
+    let same : c.deref-2.result.now ≡ map (λ (d : Suspect). d.range) c.deref-3.result.now =
+    c.deref-2.ensures.value ∙ (c.in_ok-ranges.ensures ∙ ap (map (λ (d : Suspect). d.range)) (c.deref.ensures.value ∙ sym c.deref-3.ensures.value)) in
     c.lines_by.ensures pads holes (subst (AreSuspects pads holes c.args.files.now) (sym c.deref-3.ensures.value) are)
-    (subst (λ (ss : List HoleRange). AreAllCounted pads holes ss c.in_ok-counts.counts) (c.deref-2.ensures.value ∙ sym c.deref-4.ensures.value) c.in_ok-counts.ensures)
+    (subst (AreTried pads holes (map (λ (d : Suspect). d.range) c.deref-3.result.now) factors) (sym c.deref-4.ensures.value)
+    (subst (λ (ss : List HoleRange). AreTried pads holes ss factors c.in_ok-tried.tried.items) same c.in_ok-tried.ensures))

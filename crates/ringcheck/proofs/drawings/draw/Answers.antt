@@ -8,6 +8,7 @@ use Rattle.ringcheck.proofs.drawings.draw.Goals as goal
 
 pub returns-clause-answers : goal.returns-clause-answers
 returns-clause-answers g c all named stands =
+    let order = c.args.order.now in
     let board = c.in-Ok.board in
     let text = drawing_text c.in_ok-drawing.drawing in
     let read = c.in-Ok.ensures.drawn keep.All all stands refl in
@@ -15,7 +16,7 @@ returns-clause-answers g c all named stands =
       board = board;
       read = read;
       text = text;
-      is = subst (λ (ns : List (List ℕ)). IsDrawn ns board c.args.rules text) named c.in_ok-drawing.ensures;
+      is = subst (λ (ns : List (List ℕ)). IsDrawn ns board order.outline.items order.rules text) named (rw c.as_slice-outline.ensures.value at c.in_ok-drawing.ensures);
       written = c.in_ok-write.ensures.bytes;
       sound = λ required under none. c.passing_is_sound.ensures all required (reported required board) (reported_on all required board (reported required board) read.is.is refl) none;
       passed = refl;

@@ -1,4 +1,4 @@
-use Rattle.std.proofs.Common.{◌∙◌, ◌&&◌, ◌||◌, ◌+◌, ℕ, ap, arith, ltb, refl, subst, sym, true}
+use Rattle.std.proofs.Common.{◌≡◌, ◌∙◌, ◌&&◌, ◌||◌, ◌+◌, ℕ, ap, arith, length, ltb, refl, subst, sym, true}
 use Rattle.std.proofs.lemmas.List.Sums.{count_by_more_no, count_by_more_yes}
 use Rattle.std.proofs.lemmas.Option.{slice_get_read}
 use Rattle.manifest.specs.declared.Entry.{Entry}
@@ -6,9 +6,9 @@ use Rattle.package_check.specs.CheckViews.{CheckView}
 use Rattle.package_check.specs.Checking.{HasJudged}
 use Rattle.package_check.specs.Package.{is_copper}
 use Rattle.ringcheck.specs.Inner.Loading.{HasLoaded, LoadsCopperTo, is_kind_at, is_kind_of}
-use Rattle.ringcheck.proofs.LoadedFiles.{copper_loaded, kind_passed, none_yet}
+use Rattle.ringcheck.proofs.LoadedFiles.{copper_loaded, halts_since, kind_passed, none_yet}
 use Rattle.ringcheck.proofs.load_package.check_copper.Goals as goal
-use Rattle.ringcheck.proofs.load_package.check_copper.Goals.{then-is_copper+in_ok-halt+in_default, else-is_copper}
+use Rattle.ringcheck.proofs.load_package.check_copper.Goals.{then-is_copper+in_ok-checked+in-Ok, else-is_copper}
 
 pub loop-index-init : goal.loop-index-init
 loop-index-init g c = record {
@@ -17,7 +17,7 @@ loop-index-init g c = record {
   layers = refl;
   number = refl;
   few = omega arith;
-  loaded = λ rules done layers new h. none_yet (g.L.Loader.has c.args.loader.now) c.args.entries.now true (λ files. HasJudged c.args.check.now files rules) done h;
+  loaded = λ rules done layers new h. none_yet (g.L.Loader.has c.args.loader.now) c.args.entries.now true (λ files. HasJudged c.args.check files rules) done h;
 }
 
 pub loop-index-preserved : goal.loop-index-preserved
@@ -30,20 +30,20 @@ loop-index-preserved g c =
     let few = inv.few in
     let at = slice_get_read entries _ k entry refl c.loop-index-test.true c.index-entries-index.is in
     elim c.if-is_copper.branch [
-      | then-is_copper+in_ok-halt+in_default w ↦
-          let one = w.in_ok-halt.ensures in
+      | then-is_copper+in_ok-checked+in-Ok w ↦
+          let one = w.in_ok-checked.ensures in
           let copper = sym c.is_copper.ensures ∙ w.if-is_copper.true in
-          let (bytes, held, takes) = rw w.in_default.is at one.taken copper in
+          let ((bytes, held, takes), same_layers) = rw w.in-Ok.is at one.taken copper in
           let layer_is = w.layer-is in
           record {
             keeps = λ n b. rw w.loader-is (λ h. (inv.keeps n b).0 ((one.keeps n b).0 h), λ h. (one.keeps n b).1 ((inv.keeps n b).1 h));
             counted = rw w.loader-is (omega (arith, one.counts, inv.counted));
-            layers = ap (λ (v : CheckView). v.layers) w.check-is ∙ (one.layers ∙ inv.layers);
+            layers = ap (λ (v : CheckView). v.layers) w.check-is ∙ (same_layers ∙ inv.layers);
             number = w.layer-is ∙ (ap (λ (n : ℕ). n + 1) inv.number ∙ sym (count_by_more_yes (λ (e : Entry). is_copper e.role) entries k entry c.loop-index-test.true (ap (λ (e : Entry). is_copper e.role) (sym c.index-entries-index.is) ∙ copper)));
             few = omega (arith, few, layer_is);
             loaded = λ rules done layers new h.
                 subst (λ (v : CheckView). HasLoaded has entries (λ files. HasJudged v files rules) (λ i. done i || (ltb i (k + 1) && is_kind_at true entries i))) (sym w.check-is)
-                (copper_loaded has entries rules c.loop-index.check w.check_file.new.check done k c.loop-index.layer entry at copper (inv.layers ∙ layers) (new k (ap (is_kind_of true) at ∙ copper)) inv.number
+                (copper_loaded has entries rules c.loop-index.check w.in-Ok.checked done k c.loop-index.layer entry at copper (inv.layers ∙ layers) (new k (ap (is_kind_of true) at ∙ copper)) inv.number
                 (bytes, ((inv.keeps entry.file bytes).0 held.0, held.1), takes) (inv.loaded rules done layers new h));
           }
       | else-is_copper w ↦
@@ -61,8 +61,26 @@ loop-index-preserved g c =
           }
     ]
 
-pub returns-in-Some-clause-loaded : goal.returns-in-Some-clause-loaded
-returns-in-Some-clause-loaded g c =
-    let copper = sym c.is_copper.ensures ∙ c.if-is_copper.true in
-    let taken = rw c.in-Some.is at c.in_ok-halt.ensures.taken copper in
-    subst (λ (v : CheckView). LoadsCopperTo (g.L.Loader.has c.args.loader.now) c.args.entries.now c.args.check.now v c.loop-index.index) (sym taken.1) c.loop-index.invariant.loaded
+pub returns-clause-taken : goal.returns-clause-taken
+returns-clause-taken g c =
+    let entries = c.args.entries.now in
+    let at_end : c.loop-index.index ≡ length entries = omega (arith, c.loop-index.auto.index-end, c.loop-index-test.false) in
+    subst (λ (n : ℕ). LoadsCopperTo (g.L.Loader.has c.args.loader.now) entries c.args.check c.loop-index.check n) at_end c.loop-index.invariant.loaded
+
+pub returns-in-Err-clause-taken : goal.returns-in-Err-clause-taken
+returns-in-Err-clause-taken g c =
+    let entry = c.index-entries-index.result in
+    let has = g.L.Loader.has in
+    let failed = g.L.Loader.failed in
+    let old = c.args.loader.now in
+    let between = c.loop-index.loader in
+    let new = c.check_file.new.loader in
+    let inv = c.loop-index.invariant in
+    let k = c.loop-index.index in
+    let at = slice_get_read c.args.entries.now _ k entry refl c.loop-index-test.true c.index-entries-index.is in
+    let halts = rw c.in-Err.is at c.in_ok-checked.ensures.taken (sym c.is_copper.ensures ∙ c.if-is_copper.true) in (
+      k,
+      (entry, at, halts_since (has between) (has old) (λ n b. (inv.keeps n b).0) k entry (failed old) (failed between) (failed new) inv.counted c.in-Err.halt halts),
+      c.loop-index.check,
+      inv.loaded,
+    )

@@ -1,17 +1,32 @@
-use Rattle.std.proofs.Common.{subst, sym, ◌∙◌}
+use Rattle.std.proofs.Common.{[], append-nil, subst, sym, ◌∙◌}
 use Rattle.package_check.specs.Checking.{TakesCopper}
+use Rattle.package_check.specs.OpenFiles.{HasOpenedCopper}
 use Rattle.package_check.specs.Package.{FileView}
 use Rattle.package_check.proofs.FileKinds.{role_copper}
-use Rattle.package_check.proofs.PiecesLemmas.{joined_one}
+use Rattle.ringcheck.specs.Inner.Loading.{CopperGoesOn}
+use Rattle.ringcheck.specs.declared.load_package.CheckSink.{CheckSink}
 use Rattle.ringcheck.proofs.load_package.check_file.Goals as goal
 
-pub returns-in_ok-take-in-Ok-clause-taken : goal.returns-in_ok-take-in-Ok-clause-taken
-returns-in_ok-take-in-Ok-clause-taken g c = λ copper.
+-- no piece so far
+no_piece : (sink : CheckSink) → CopperGoesOn sink sink []
+no_piece sink = λ first index layer span text h. subst (HasOpenedCopper first sink.check index layer span sink.file) (sym (append-nil text)) h
+
+pub returns-in-None-clause-taken : goal.returns-in-None-clause-taken
+returns-in-None-clause-taken g c = λ copper.
     let entry = c.args.entry.now in
-    let n = c.args.check.now.layers in
-    let bytes = joined_one c.as_slice.result.now ∙ c.as_slice.ensures.value in (
-      c.in-Ok.bytes.items,
-      rw c.in-Ok.is at c.in_ok-bytes.ensures.loaded,
-      subst (λ (s : FileView). TakesCopper c.args.check.now c.take.new.self c.args.index c.args.layer s)
-          (λ j. let s : FileView = record { role = sym (role_copper entry.role copper) j; name = entry.name; span = entry.span; bytes = bytes j; layers = n } in s) (c.in_ok-take-in-Ok.ensures.stands entry.name),
+    let before = c.args.check in
+    let index = c.args.index in
+    let layer = c.args.layer in
+    let n = before.layers in
+    let (bytes, held, goes_on) = rw c.in-None.is at c.in_ok-hand_file.ensures.loaded in
+    let start : CheckSink = record { check = c.begin-file.new.self; file = c.begin-file.result } in
+    let opened = goes_on start [] (no_piece start) before index layer entry.span [] c.begin-file.ensures in
+    let ended = c.in_ok-end-in-None.ensures in (
+      (
+        bytes,
+        held,
+        subst (λ (s : FileView). TakesCopper before c.end.new.self index layer s) (λ j. let s : FileView = record { role = sym (role_copper entry.role copper) j; name = entry.name; span = entry.span; bytes = bytes; layers = n } in s)
+            (ended.stands before index layer entry.span bytes entry.name opened),
+      ),
+      ended.layers ∙ opened.same_layers,
     )

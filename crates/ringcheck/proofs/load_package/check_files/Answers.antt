@@ -1,11 +1,13 @@
-use Rattle.std.proofs.Common.{Some, None, ap, sym, take, ◌∙◌}
+use Rattle.std.proofs.Common.{Some, ap, sym, take, ◌∙◌}
+use Rattle.std.proofs.lemmas.Result.{IfOk-weaker}
 use Rattle.std.specs.Option.{option_or}
 use Rattle.layer_image.specs.declared.keep.Keep.TheVariants as keep
 use Rattle.ringcheck_files.specs.Outcomes.{HasRisen}
-use Rattle.package_check.specs.Checking.{HasJudged, HasJudgedAll}
+use Rattle.package_check.specs.Checking.{HasJudgedAll}
 use Rattle.package_check.specs.Holding.{HasTaken}
-use Rattle.package_check.proofs.CheckSteps.{judged_all}
-use Rattle.ringcheck.proofs.LoadedFiles.{both_passes, check_passes, ends_among_all, first_of, or_default, passes_all, passes_halt, within_all}
+use Rattle.ringcheck.specs.Inner.Halting.{OfFiles}
+use Rattle.ringcheck.specs.Inner.Loading.{OfCheckedCopper}
+use Rattle.ringcheck.proofs.LoadedFiles.{all_checked, both_passes, first_of, or_default, passes_halt}
 use Rattle.ringcheck.proofs.load_package.check_files.Goals as goal
 
 pub returns-in-Some : goal.returns-in-Some
@@ -25,26 +27,6 @@ returns-in-Some g c =
     one.counts two.counts one.within two.within loaded drills.halt before.halt c.unwrap_or.result one.ends two.ends
     (ap (option_or before.halt) c.in-Some.is ∙ (or_default before.halt c.in-Some.halt ∙ ap Some (sym c.unwrap_or.ensures)))
 
-pub returns-in-Some-halt : goal.returns-in-Some-halt
-returns-in-Some-halt g c =
-    let has = g.L.Loader.has c.args.loader.now in
-    let later = g.L.Loader.has c.take_kind.new.loader in
-    let failed = g.L.Loader.failed in
-    let all = c.args.entries.now in
-    let rules = c.args.rules in
-    let drills = c.in_ok-drills.drills in
-    let copper = c.in_ok-copper.copper in
-    let one = c.in_ok-drills.ensures in
-    let two = c.in_ok-copper.ensures in
-    let layers = c.new-reader.ensures.layers ∙ c.layer_count.ensures in
-    let ends = rw c.in_default.is at one.ends in
-    let last = c.check_copper.new.check in
-    let loaded = check_passes has later one.keeps all keep.Pads rules c.new-reader.result c.take_kind.new.reader c.in_ok-check.check last drills.end copper.end ends layers one.layers c.in_ok-check.ensures.layers
-    c.new-reader.ensures.stands one.loaded (λ files. c.in_ok-check.ensures.stands keep.Pads files) two.loaded in
-    passes_halt has later (λ n b. (one.keeps n b).0) all (λ files. HasJudged last files rules) drills.end copper.end (failed c.args.loader.now) (failed c.take_kind.new.loader) (failed c.check_copper.new.loader) one.counts two.counts
-    one.within (within_all all drills.end ends copper.end two.within) loaded None copper.halt c.in-Some-halt.halt ends
-    (ends_among_all all drills.end ends later (HasRisen (failed c.take_kind.new.loader) (failed c.check_copper.new.loader)) copper.end copper.halt two.ends) (ap (λ o. option_or o None) c.in-Some-halt.is)
-
 pub returns : goal.returns
 returns g c =
     let has = g.L.Loader.has c.args.loader.now in
@@ -53,14 +35,11 @@ returns g c =
     let all = c.args.entries.now in
     let rules = c.args.rules in
     let drills = c.in_ok-drills.drills in
-    let copper = c.in_ok-copper.copper in
     let one = c.in_ok-drills.ensures in
-    let two = c.in_ok-copper.ensures in
     let layers = c.new-reader.ensures.layers ∙ c.layer_count.ensures in
-    let ends = rw c.in_default.is at one.ends in
-    let last = c.check_copper.new.check in
-    let loaded = check_passes has later one.keeps all keep.Pads rules c.new-reader.result c.take_kind.new.reader c.in_ok-check.check last drills.end copper.end ends layers one.layers c.in_ok-check.ensures.layers
-    c.new-reader.ensures.stands one.loaded (λ files. c.in_ok-check.ensures.stands keep.Pads files) two.loaded in
-    passes_all has later (λ n b. (one.keeps n b).0) all (λ files. HasJudged last files rules) drills.end copper.end (failed c.args.loader.now) (failed c.take_kind.new.loader) (failed c.check_copper.new.loader) one.counts two.counts
-    one.within (within_all all drills.end ends copper.end two.within) loaded (λ files. HasJudgedAll last files rules) (λ files p. judged_all last files rules p) None copper.halt ends
-    (ends_among_all all drills.end ends later (HasRisen (failed c.take_kind.new.loader) (failed c.check_copper.new.loader)) copper.end copper.halt two.ends) (ap (λ o. option_or o None) c.in-None.is)
+    let old = failed c.args.loader.now in
+    let between = failed c.take_kind.new.loader in
+    let new = failed c.check_copper.new.loader in
+    IfOk-weaker c.check_copper.result (OfCheckedCopper later all c.in_ok-check.check (HasRisen between new)) (OfFiles has all (HasRisen old new) (λ it files. HasJudgedAll it files rules))
+    (all_checked has later one.keeps all keep.Pads rules c.new-reader.result c.take_kind.new.reader c.in_ok-check.check drills.end old between new (rw c.in_default.is at one.ends) layers one.layers c.in_ok-check.ensures.layers
+    c.new-reader.ensures.stands one.loaded (λ files. c.in_ok-check.ensures.stands keep.Pads files) one.counts) c.check_copper.ensures.taken

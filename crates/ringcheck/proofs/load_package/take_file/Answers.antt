@@ -1,15 +1,20 @@
-use Rattle.std.proofs.Common.{ℕ, List, subst, ◌∙◌}
-use Rattle.package_check.specs.Holding.{TakesFile, copper_files}
-use Rattle.package_check.specs.Package.{FileView}
-use Rattle.package_check.proofs.PiecesLemmas.{joined_one}
-use Rattle.ringcheck.specs.Inner.Loading.{source}
+use Rattle.std.proofs.Common.{[], append-nil, subst, sym}
+use Rattle.package_check.specs.OpenFiles.{HasOpened}
+use Rattle.package_check.specs.declared.open_file.OpenFile.{OpenFile}
+use Rattle.ringcheck.specs.Inner.Loading.{GoesOn}
+use Rattle.ringcheck.specs.declared.load_package.FileSink.{FileSink}
 use Rattle.ringcheck.proofs.load_package.take_file.Goals as goal
 
-pub returns-in_ok-take-in-Ok-clause-taken : goal.returns-in_ok-take-in-Ok-clause-taken
-returns-in_ok-take-in-Ok-clause-taken g c =
+-- no piece so far
+no_piece : (file : OpenFile) → GoesOn file file []
+no_piece file = λ reader index of span text h. subst (HasOpened reader index of span file) (sym (append-nil text)) h
+
+pub returns-in-None-clause-taken : goal.returns-in-None-clause-taken
+returns-in-None-clause-taken g c =
     let entry = c.args.entry.now in
-    let of = λ (bytes : List ℕ). source (copper_files c.args.reader.now) entry bytes in (
-      c.in-Ok.bytes.items,
-      rw c.in-Ok.is at c.in_ok-bytes.ensures.loaded,
-      subst (λ (s : FileView). TakesFile c.args.reader.now c.take.new.self c.args.index s) (λ j. of ((joined_one c.as_slice.result.now ∙ c.as_slice.ensures.value) j)) (c.in_ok-take-in-Ok.ensures.stands entry.name),
+    let loaded = rw c.in-None.is at c.in_ok-hand_file.ensures.loaded in
+    let start : FileSink = record { file = c.begin-file.result } in (
+      loaded.0,
+      loaded.1,
+      c.in_ok-end-in-None.ensures.stands c.args.index entry.role entry.span loaded.0 entry.name (loaded.2 start [] (no_piece c.begin-file.result) c.args.reader.now c.args.index entry.role entry.span [] c.begin-file.ensures),
     )

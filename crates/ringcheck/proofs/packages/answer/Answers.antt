@@ -33,5 +33,5 @@ pub returns-in-Ok-4-clause-answers : goal.returns-in-Ok-4-clause-answers
 returns-in-Ok-4-clause-answers g c =
     let contents = g.W.Write.contents in
     rw c.in-Draw.is (done_with (g.L.Loader.has c.args.loader.now) c.args.entries.now (HasRisen (g.L.Loader.failed c.args.loader.now) (g.L.Loader.failed c.take_files-in-Draw.new.loader))
-    (Holds (job.Draw c.in-Draw.rules) (contents c.args.out.now) (contents c.draw.new.out)) (λ reader. HasTakenAll reader keep.All) c.in-Ok-4.reader c.as_slice-names.result.now
+    (Holds (job.Draw c.in-Draw.order) (contents c.args.out.now) (contents c.draw.new.out)) (λ reader. HasTakenAll reader keep.All) c.in-Ok-4.reader c.as_slice-names.result.now
     (rw c.as_slice-names.ensures.value c.in_ok-names.ensures) (rw c.in-Ok-4.is at c.in_ok-reader-in-Draw.ensures) c.draw.result c.draw.ensures.answers)

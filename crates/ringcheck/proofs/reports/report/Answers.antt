@@ -35,7 +35,7 @@ returns-clause-answers g c all named stands =
       sound = λ none. let (rings, gaps) = neither_left report.rings.items report.gaps.items none in as_check.sound rings gaps;
       accepted = accepted;
       judged = subst (λ (ns : List (List ℕ)). Judges (given options.waivers) ns report c.in_ok-passes.passes accepted) named judged;
-      written = subst (λ (ns : List (List ℕ)). PrintsReport options.format ns board report options.limit accepted (contents c.args.out.now) (contents c.print_judged.new.out)) named written;
+      written = subst (λ (ns : List (List ℕ)). PrintsReport options.format ns board options.outline.items report options.limit accepted (contents c.args.out.now) (contents c.print_judged.new.out)) named written;
     }
 
 pub returns-in-Err-File-clause-answers : goal.returns-in-Err-File-clause-answers

@@ -1,0 +1,7 @@
+use Rattle.std.proofs.Common.{◌≡◌, take}
+use Rattle.std.specs.List.{flat_map, fold}
+use Rattle.drawing.specs.Boxes.{edge_extents, joined_to}
+use Rattle.drawing.proofs.edge_bounds.with_edge.Given as goal
+
+abbrev pub invariant-loop-part : goal.invariant-loop-part
+invariant-loop-part l = l.all ≡ fold joined_to l.fn.before (flat_map edge_extents (take l.part-index l.outline))

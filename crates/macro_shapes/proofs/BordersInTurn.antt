@@ -1,0 +1,72 @@
+-- The border that is found size by size is the least of the whole list.
+use Rattle.std.proofs.Common.{◌≡◌, ℕ, max, min, Bool, true, false, cond, eqb, List, [], ◌∷◌, ◌++◌, length, map, Option, None, Some, refl, sym, ap, ◌∙◌}
+use Rattle.std.specs.List.{cons_option, filter_map, fold, reduce}
+use Rattle.std.proofs.lemmas.List.Sums.{fold-append}
+use Rattle.std.proofs.lemmas.List.Folds.{fold-map}
+use Rattle.grid_units.specs.Points.{GridPoint}
+use Rattle.pad_shapes.specs.Rounded.{GridRounded, Edge, corners, edges}
+use Rattle.macro_shapes.specs.Shapes.{diameter_at, width_along, disc_at, line_along, least_of, border, other_end, rounded_or_along, line_shape}
+use Rattle.macro_shapes.specs.Inner.Borders.{greatest, least, disc_in_turn, line_in_turn, discs_in_turn, border_in_turn}
+use Rattle.macro_shapes.specs.declared.primitive.Primitive.{Primitive}
+
+-- ---- the greatest
+
+greatest_from : {X : Type 0} (f : X → Option ℕ) (xs : List X) (a : ℕ) → fold (λ found x. greatest found (f x)) (Some a) xs ≡ Some (fold max a (filter_map f xs))
+greatest_from f [] a = refl
+greatest_from f (x ∷ xs) a = by (f x) (greatest_from f xs)
+  where
+    by : (o : Option ℕ) → ((k : ℕ) → fold (λ found x. greatest found (f x)) (Some k) xs ≡ Some (fold max k (filter_map f xs)))
+        → fold (λ found x. greatest found (f x)) (greatest (Some a) o) xs ≡ Some (fold max a (cons_option o (filter_map f xs)))
+    by None rest = rest a
+    by (Some b) rest = rest (max a b)
+
+greatest_of : {X : Type 0} (f : X → Option ℕ) (xs : List X) → fold (λ found x. greatest found (f x)) None xs ≡ reduce max (filter_map f xs)
+greatest_of f [] = refl
+greatest_of f (x ∷ xs) = by (f x) (greatest_of f xs)
+  where
+    by : (o : Option ℕ) → fold (λ found x. greatest found (f x)) None xs ≡ reduce max (filter_map f xs) → fold (λ found x. greatest found (f x)) (greatest None o) xs ≡ reduce max (cons_option o (filter_map f xs))
+    by None rest = rest
+    by (Some b) rest = greatest_from f xs b
+
+pub disc_is : (qs : List Primitive) (v : GridPoint) → disc_in_turn qs v ≡ disc_at qs v
+unfolding disc_at
+disc_is qs v = greatest_of (diameter_at v) qs
+
+pub line_is : (qs : List Primitive) (e : Edge) → line_in_turn qs e ≡ line_along qs e
+unfolding line_along
+line_is qs e = greatest_of (width_along e) qs
+
+-- ---- the least
+
+nothing_left : (sizes : List (Option ℕ)) → fold least None sizes ≡ None
+nothing_left [] = refl
+nothing_left (o ∷ sizes) = nothing_left sizes
+
+least_from : (start : Option ℕ) (sizes : List (Option ℕ)) → fold least start sizes ≡ least_of (start ∷ sizes)
+least_from None sizes = nothing_left sizes
+least_from (Some a) [] = refl
+least_from (Some a) (None ∷ sizes) = nothing_left sizes
+least_from (Some a) (Some b ∷ sizes) = least_from (Some (min a b)) sizes
+
+pub border_is : (qs : List Primitive) (r : GridRounded) → border_in_turn qs r ≡ border qs r
+unfolding border
+border_is qs r = by (eqb (length r.others) 0)
+  where
+    few : discs_in_turn qs r ≡ fold least (disc_at qs r.first) (map (disc_at qs) r.others)
+    few = sym (fold-map least (disc_at qs) (disc_at qs r.first) r.others)
+
+    all : (es : List Edge) → fold (λ found e. least found (line_along qs e)) (discs_in_turn qs r) es ≡ least_of (map (disc_at qs) (corners r) ++ map (line_along qs) es)
+    all es =
+        sym (fold-map least (line_along qs) (discs_in_turn qs r) es)
+        ∙ (ap (λ a. fold least a (map (line_along qs) es)) few
+        ∙ (sym (fold-append least (disc_at qs r.first) (map (disc_at qs) r.others) (map (line_along qs) es)) ∙ least_from (disc_at qs r.first) (map (disc_at qs) r.others ++ map (line_along qs) es)))
+
+    by : (t : Bool) → cond t (discs_in_turn qs r) (fold (λ found e. least found (line_along qs e)) (discs_in_turn qs r) (edges r)) ≡ least_of (map (disc_at qs) (corners r) ++ map (line_along qs) (cond t [] (edges r)))
+    by true = all []
+    by false = all (edges r)
+
+-- the shape of a line by its border
+pub line_shape_is : (qs : List Primitive) (a b : GridPoint) (width : ℕ) (others : List GridPoint) (size : Option ℕ) → others ≡ other_end a b
+    → size ≡ border_in_turn qs (record { first = a; others = others; radius = 0 }) → rounded_or_along a b width size ≡ line_shape qs a b width
+line_shape_is qs a b width others size ends found =
+    ap (rounded_or_along a b width) (found ∙ (ap (λ (l : List GridPoint). border_in_turn qs (record { first = a; others = l; radius = 0 })) ends ∙ border_is qs (record { first = a; others = other_end a b; radius = 0 })))

@@ -1,0 +1,24 @@
+use Rattle.std.proofs.Common.{◌≡◌, List, Option, sym, ap, ◌∙◌}
+use Rattle.std.proofs.lemmas.Result.{IfOk-weaker}
+use Rattle.grid_units.specs.Points.{GridPoint}
+use Rattle.pad_shapes.specs.Rounded.{GridRounded}
+use Rattle.macro_shapes.specs.Primitives.{rounded_of}
+use Rattle.macro_shapes.specs.Shapes.{rectangle_along, rounded_or_along, line_shape}
+use Rattle.macro_shapes.proofs.BordersInTurn.{line_shape_is}
+use Rattle.macro_shapes.proofs.shape.line_shape.Goals as goal
+
+pub returns-in-Some : goal.returns-in-Some
+returns-in-Some c =
+    let a = c.args.from in
+    let b = c.args.to in
+    let made = line_shape_is c.args.primitives.now a b c.args.width c.deref.result.now c.border.result (c.deref.ensures.value ∙ c.in_ok-others.ensures) c.border.ensures in
+    c.rounded_of.ensures ∙ (ap (λ (l : List GridPoint). rounded_of a l c.in-Some.size) c.in_ok-others.ensures ∙ (sym (ap (rounded_or_along a b c.args.width) c.in-Some.is) ∙ made))
+
+pub returns-in-None : goal.returns-in-None
+returns-in-None c =
+    let a = c.args.from in
+    let b = c.args.to in
+    let made = line_shape_is c.args.primitives.now a b c.args.width c.deref.result.now c.border.result (c.deref.ensures.value ∙ c.in_ok-others.ensures) c.border.ensures in
+    IfOk-weaker c.rectangle_along.result (λ answer. answer ≡ rectangle_along a b c.args.width) (λ answer. answer ≡ line_shape c.args.primitives.now a b c.args.width)
+    (λ answer h. h ∙ (sym (ap (rounded_or_along a b c.args.width) c.in-None.is) ∙ made))
+    c.rectangle_along.ensures

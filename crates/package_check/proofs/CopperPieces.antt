@@ -1,0 +1,72 @@
+-- A check that reads a copper file piece by piece.
+use Rattle.std.proofs.Common.{◌≡◌, ℕ, Bool, true, false, List, Ok, Err, Option, None, Some, Result, OnOk, ap, subst, sym, ◌∙◌}
+use Rattle.std.specs.declared.alloc.AllocError.{AllocError}
+use Rattle.grid_units.specs.Holes.{GridRules}
+use Rattle.grid_units.specs.Results.{Answers}
+use Rattle.grid_units.specs.Spans.{LayerSpan}
+use Rattle.grid_units.specs.declared.fault.Fail.{Fail}
+use Rattle.grid_units.specs.declared.fault.Fail.TheVariants as fails
+use Rattle.manifest.specs.declared.Role.TheVariants as role
+use Rattle.ring_rules.specs.declared.finding.Drilled.{Drilled}
+use Rattle.package_check.specs.CheckViews.{CheckView, holes_of}
+use Rattle.package_check.specs.Checking.{AreHolesOf, HasJudged, IsJudgedOf, TakesCopper}
+use Rattle.package_check.specs.Holding.{HoldsThose, is_wanted}
+use Rattle.package_check.specs.Judging.{Judges}
+use Rattle.package_check.specs.OpenFiles.{HasFailed, HasOpenedCopper, HasReadCopper}
+use Rattle.package_check.specs.Package.{FileView, is_bad_span, unnamed_file}
+use Rattle.package_check.specs.declared.PackageFault.{PackageFault}
+use Rattle.package_check.specs.declared.judged.Judged.{Judged}
+use Rattle.package_check.specs.declared.open_copper.OpenCopper.{OpenCopper}
+use Rattle.package_check.proofs.OpenFiles.{failed_read}
+
+-- a span that there is not is not bad
+pub no_span : (span : Option LayerSpan) (n : ℕ) → span ≡ None → is_bad_span role.Copper span n ≡ false
+no_span span n none = ap (λ (s : Option LayerSpan). is_bad_span role.Copper s n) none
+
+-- a span of a copper file is bad
+pub some_span : (span : Option LayerSpan) (one : LayerSpan) (n : ℕ) → span ≡ Some one → is_bad_span role.Copper span n ≡ true
+some_span span one n some = ap (λ (s : Option LayerSpan). is_bad_span role.Copper s n) some
+
+-- what holds anyway holds beside what holds of a success
+pub also_on : {A : Type 0} (C : Type 0) (r : Result (Unit {0}) Fail) → A → OnOk r C → OnOk r (A × C)
+also_on C (Ok u) a h = (a, h)
+also_on C (Err e) a h = tt
+
+-- a file that has failed is refused in the end
+pub failed_judged : (rules : GridRules) (holes : List Drilled) (layer : ℕ) (span : Option LayerSpan) (n : ℕ) (text : List ℕ) (e : Fail) → HasFailed role.Copper span n e text
+    → Answers {T = Judged} (λ one. one) (Judges rules holes layer (unnamed_file role.Copper span n text)) (Err e)
+failed_judged rules holes layer span n text fails.Memory h = tt
+failed_judged rules holes layer span n text (fails.Refused f) h = failed_read role.Copper span n text (fails.Refused f) h
+
+-- a check stands as it did
+module _ (start check : CheckView) (holes : check.holes ≡ start.holes) (rules : check.rules ≡ start.rules) (slots : check.slots ≡ start.slots) (stops : check.stopped ≡ start.stopped) where
+  judged_since : (sources : List FileView) (under : GridRules) (taken : ℕ → Bool) → HasJudged start sources under taken → HasJudged check sources under taken
+  judged_since sources under taken h = record {
+    same_rules = rules ∙ h.same_rules;
+    holds = subst (λ (rs : GridRules). HoldsThose (IsJudgedOf rs check.holes sources) check.slots check.stopped sources taken) (sym rules)
+        (subst (λ (hs : List Drilled). HoldsThose (IsJudgedOf start.rules hs sources) check.slots check.stopped sources taken) (sym holes)
+        (subst (λ (os : List (Option Judged)). HoldsThose (IsJudgedOf start.rules start.holes sources) os check.stopped sources taken) (sym slots)
+        (subst (λ (st : Option PackageFault). HoldsThose (IsJudgedOf start.rules start.holes sources) start.slots st sources taken) (sym stops) h.holds)));
+    drilled = λ none. subst (AreHolesOf sources) (sym holes) (h.drilled (sym stops ∙ none));
+  }
+
+  -- what it has taken since then it has taken since the start
+  since : (after : CheckView) (index layer : ℕ) (source : FileView) (r : Result (Unit {0}) AllocError) → OnOk r (TakesCopper check after index layer source) → OnOk r (TakesCopper start after index layer source)
+  since after index layer source (Ok v) takes = λ sources at number under taken h. takes sources at number under taken (judged_since sources under taken h)
+  since after index layer source (Err e) takes = tt
+
+-- an open file has read its text as the layer that it is
+pub own_copper : (start check : CheckView) (index layer : ℕ) (span : Option LayerSpan) (file : OpenCopper) (text : List ℕ) → HasOpenedCopper start check index layer span file text → is_wanted check.stopped file.index ≡ true
+    → HasReadCopper (holes_of check) file.layer span check.layers file.reading text
+own_copper start check index layer span file text h on =
+    subst (λ (k : ℕ). HasReadCopper (holes_of check) k span check.layers file.reading text) (sym h.same_layer) (h.reads (ap (λ (k : ℕ). is_wanted check.stopped k) (sym h.same_index) ∙ on))
+
+-- an open file is ended
+pub ended : (start check after : CheckView) (file : OpenCopper) (index layer : ℕ) (span : Option LayerSpan) (text name : List ℕ) (r : Result (Unit {0}) AllocError) → HasOpenedCopper start check index layer span file text
+    → OnOk r (TakesCopper check after file.index file.layer (record { role = role.Copper; name = name; span = span; bytes = text; layers = check.layers }))
+    → OnOk r (TakesCopper start after index layer (record { role = role.Copper; name = name; span = span; bytes = text; layers = start.layers }))
+ended start check after file index layer span text name r h takes =
+    since start check h.same_holes h.same_rules h.same_slots h.same_stop after index layer (record { role = role.Copper; name = name; span = span; bytes = text; layers = start.layers }) r
+    (subst (λ (n : ℕ). OnOk r (TakesCopper check after index layer (record { role = role.Copper; name = name; span = span; bytes = text; layers = n }))) h.same_layers
+    (subst (λ (k : ℕ). OnOk r (TakesCopper check after index k (record { role = role.Copper; name = name; span = span; bytes = text; layers = check.layers }))) h.same_layer
+    (subst (λ (k : ℕ). OnOk r (TakesCopper check after k file.layer (record { role = role.Copper; name = name; span = span; bytes = text; layers = check.layers }))) h.same_index takes)))

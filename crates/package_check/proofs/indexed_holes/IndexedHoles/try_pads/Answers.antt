@@ -1,0 +1,18 @@
+use Rattle.std.proofs.Common.{List, ap, subst, sym, ◌∙◌}
+use Rattle.pad_shapes.specs.Pads.{pad_covers}
+use Rattle.ring_rules.specs.Search.{HasTried}
+use Rattle.ring_rules.specs.declared.finding.Drilled.{Drilled}
+use Rattle.ring_rules.specs.declared.ring_index.RingIndex.{RingIndex}
+use Rattle.package_check.specs.HoleViews.{HolesView}
+use Rattle.package_check.proofs.indexed_holes.IndexedHoles.try_pads.Goals as goal
+
+pub returns-clause-tried : goal.returns-clause-tried
+returns-clause-tried c = λ tried h.
+    let mid = c.suit.new.self in
+    let layer = c.args.layer in
+    let search = c.in_ok-search.search in
+    let same_holes = ap (λ (v : HolesView). v.holes) c.self.view_is ∙ c.in_ok-search.ensures.holes in
+    let same_index = ap (λ (v : HolesView). v.index) c.self.view_is ∙ c.in_ok-search.ensures.index in
+    c.try_pads.ensures.tried c.self.inside.holes.items layer tried
+    (subst (λ (hs : List Drilled). HasTried pad_covers hs layer tried c.self.inside.index search) (sym same_holes)
+    (subst (λ (ix : RingIndex). HasTried pad_covers mid.holes layer tried ix search) (sym same_index) (c.in_ok-search.ensures.tried tried (c.in_ok-suit.ensures.tried layer tried h))))

@@ -1,0 +1,11 @@
+use Rattle.std.proofs.Common.{◌++◌, ℕ, List, Option, map, take}
+use Rattle.std.specs.List.{concat}
+use Rattle.grid_units.specs.Spans.{LayerSpan}
+use Rattle.manifest.specs.declared.Role.{Role}
+use Rattle.package_check.specs.OpenFiles.{HasOpened}
+use Rattle.package_check.specs.declared.package_reader.PackageReader.{PackageReader}
+use Rattle.package_check.proofs.open_file.OpenFile.read_pieces.Given as goal
+
+abbrev pub invariant-loop-piece : goal.invariant-loop-piece
+invariant-loop-piece l = (reader : PackageReader) (index : ℕ) (of : Role) (span : Option LayerSpan) (text : List ℕ) → HasOpened reader index of span l.fn.self text
+    → HasOpened reader index of span l.self (text ++ concat (map (λ piece. piece.now) (take l.piece-index l.pieces)))

@@ -1,0 +1,17 @@
+use Rattle.package_check.specs.declared.slots.Kept.{Kept}
+use Rattle.package_check.proofs.package_reader.PackageReader.put_file.Goals as goal
+
+pub returns-clause-read : goal.returns-clause-read
+returns-clause-read c = λ text h.
+    let role = c.args.file.role in
+    let layers = c.args.self.now.layers in
+    let read = c.in_ok-content.ensures in
+    let one : Kept = record { content = c.in_ok-content.content; shown = c.finish.new.shown } in (
+      one,
+      record {
+        content = read.content role layers text h;
+        flashes = λ keeps copper. read.flashes role layers text h keeps copper;
+        drawn = λ keeps copper. read.drawn role layers text h keeps copper;
+      },
+      c.in_ok-put.ensures.put,
+    )

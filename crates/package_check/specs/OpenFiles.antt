@@ -1,0 +1,70 @@
+-- What a file of a package that is being read holds of its text so far.
+use Rattle.std.specs.Prelude.{◌≡◌, ◌++◌, ℕ, Bool, true, false, List, Option, None, Err, ⊤, if◌then◌else◌}
+use Rattle.grid_units.specs.Spans.{LayerSpan}
+use Rattle.grid_units.specs.declared.fault.Fail.{Fail}
+use Rattle.grid_units.specs.declared.fault.Fail.TheVariants as fails
+use Rattle.drill_text.specs.Holding.{StandsAfter}
+use Rattle.drill_text.specs.declared.kept.Keep.TheVariants as drill_keep
+use Rattle.layer_image.specs.Holding.{LayerStandsAfter}
+use Rattle.layer_image.specs.declared.keep.Keep.{Keep}
+use Rattle.manifest.specs.declared.Role.{Role}
+use Rattle.manifest.specs.declared.Role.TheVariants as role
+use Rattle.package_check.specs.CheckViews.{CheckView, holes_of}
+use Rattle.package_check.specs.HoleViews.{HolesView}
+use Rattle.package_check.specs.Holding.{is_wanted}
+use Rattle.package_check.specs.Judging.{HasTriedPadsOf}
+use Rattle.package_check.specs.Package.{Reads, is_bad_span, unnamed_file}
+use Rattle.package_check.specs.declared.open_copper.CopperReading.{CopperReading}
+use Rattle.package_check.specs.declared.open_copper.CopperReading.TheVariants as copper_reading
+use Rattle.package_check.specs.declared.open_copper.OpenCopper.{OpenCopper}
+use Rattle.package_check.specs.declared.open_file.OpenFile.{OpenFile}
+use Rattle.package_check.specs.declared.open_file.Reading.{Reading}
+use Rattle.package_check.specs.declared.open_file.Reading.TheVariants as reading
+use Rattle.package_check.specs.declared.package_reader.PackageReader.{PackageReader}
+
+-- the role of a drill file, by whether it is plated
+abbrev pub drill_role : Bool → Role
+drill_role plated = if plated then role.Plated else role.Unplated
+
+-- a file of this role and span has this fault, however its text so far goes on; or memory ran out
+abbrev pub HasFailed : Role → Option LayerSpan → ℕ → Fail → List ℕ → Type 0
+HasFailed of span layers fails.Memory text = ⊤
+HasFailed of span layers (fails.Refused fault) text = (more : List ℕ) → Reads (unnamed_file of span layers (text ++ more)) (Err fault)
+
+-- ---- files of a reader
+
+-- Of a file of this role and span, in a package of so many copper files, this text was read. It shows no fault, and the reader of its kind stands after
+-- it; or the file has failed. A file that is passed over has read no text.
+abbrev pub HasReadText : Keep → Role → Option LayerSpan → ℕ → Reading → List ℕ → Type 0
+HasReadText keep of span layers (reading.Layer reader) text = (of ≡ role.Copper) × (is_bad_span of span layers ≡ false) × LayerStandsAfter reader keep text
+HasReadText keep of span layers (reading.Drill plated reader) text = (of ≡ drill_role plated) × (is_bad_span of span layers ≡ false) × StandsAfter reader drill_keep.Holes text
+HasReadText keep of span layers (reading.Failed fail) text = HasFailed of span layers fail text
+HasReadText keep of span layers reading.Skipped text = ⊥
+
+-- an open file is that of this index, role and span of a package; where the reader of the package wants it, it has read this text
+pub record HasOpened (reader : PackageReader) (index : ℕ) (of : Role) (span : Option LayerSpan) (file : OpenFile) (text : List ℕ) : Type 0 where
+  pub same_index : file.index ≡ index
+  pub same_role : file.role ≡ of
+  pub same_span : file.span ≡ span
+  pub reads : is_wanted reader.stopped index ≡ true → HasReadText reader.keep of span reader.layers file.reading text
+
+-- ---- copper files of a check
+
+-- Of the copper file of this span, whose layer has this number, in a package of so many copper files, this text was read. It shows no fault, and its pads so
+-- far were tried at the holes; or the file has failed. A file that is passed over has read no text.
+abbrev pub HasReadCopper : HolesView → ℕ → Option LayerSpan → ℕ → CopperReading → List ℕ → Type 0
+HasReadCopper holes layer span layers (copper_reading.Layer reader) text = (span ≡ None) × HasTriedPadsOf holes layer reader text
+HasReadCopper holes layer span layers (copper_reading.Failed fail) text = HasFailed role.Copper span layers fail text
+HasReadCopper holes layer span layers copper_reading.Skipped text = ⊥
+
+-- An open copper file is that of this index and span, and its layer has this number. The check has taken no file since it was in the state `start`; where it
+-- wants the file, this text of it was read.
+pub record HasOpenedCopper (start check : CheckView) (index layer : ℕ) (span : Option LayerSpan) (file : OpenCopper) (text : List ℕ) : Type 0 where
+  pub same_index : file.index ≡ index
+  pub same_layer : file.layer ≡ layer
+  pub same_layers : check.layers ≡ start.layers
+  pub same_holes : check.holes ≡ start.holes
+  pub same_rules : check.rules ≡ start.rules
+  pub same_slots : check.slots ≡ start.slots
+  pub same_stop : check.stopped ≡ start.stopped
+  pub reads : is_wanted check.stopped index ≡ true → HasReadCopper (holes_of check) layer span check.layers file.reading text

@@ -1,0 +1,110 @@
+//! A copper file of a check that is being read piece by piece.
+
+ghost use Rattle.std.specs.Prelude.{◌≡◌, ◌++◌, ℕ, List, [], IfErr, IfOk, None, OnOk, Option, false};
+ghost use Rattle.grid_units.specs.Results.{Answers};
+ghost use Rattle.grid_units.specs.Spans.{LayerSpan};
+ghost use Rattle.manifest.specs.declared.Role.TheVariants as role;
+ghost use Rattle.package_check.specs.CheckViews.{is_drill_sum};
+ghost use Rattle.package_check.specs.HoleViews.{HolesView};
+ghost use Rattle.package_check.specs.Judging.{Judges};
+ghost use Rattle.package_check.specs.OpenFiles.{HasFailed, HasReadCopper};
+ghost use Rattle.package_check.specs.Package.{unnamed_file};
+
+use crate::contents::bad_span;
+use crate::indexed_holes::IndexedHoles;
+use crate::judged::Judged;
+use grid_units::Fail;
+use layer_image::{Keep, LayerReader, shown_faults};
+use ring_rules::Span;
+use std::alloc::Global;
+
+/// What is being read of a copper file, or why nothing more of it is.
+#[derive(Drop)]
+pub(crate) enum CopperReading {
+    /// A file whose text so far shows no fault.
+    Layer(LayerReader),
+    /// A file that is refused however its text goes on, or memory ran out.
+    Failed(Fail),
+    /// A file after one that is refused: nothing of it is read.
+    Skipped,
+}
+
+impl CopperReading {
+    /// A copper file of this span, of which nothing was read.
+    pub(crate) fn begin(alloc: Global, span: Option<Span>) -> CopperReading
+        ensures { (holes : HolesView) (layer layers : ℕ) → holes.search ≡ None → HasReadCopper holes layer span layers result [] }
+    {
+        match span {
+            Some(_) => CopperReading::Failed(bad_span()),
+            None => CopperReading::Layer(LayerReader::keeping(alloc, Keep::Pads)),
+        }
+    }
+
+    /// Reads the next piece, and tries its pads at the holes, on the layer of this number.
+    fn feed(
+        &mut self,
+        alloc: Global,
+        holes: &mut IndexedHoles,
+        layer: usize,
+        piece: &[u8],
+    ) -> Result<(), Fail>
+        ensures ok { (span : Option LayerSpan) (layers : ℕ) (text : List ℕ) → HasReadCopper holes.old layer span layers self.old text → OnOk result (HasReadCopper holes.new layer span layers self.new (text ++ piece.now)) }
+        ensures err { (span : Option LayerSpan) (layers : ℕ) (text : List ℕ) → HasReadCopper holes.old layer span layers self.old text → IfErr result (λ fail. HasFailed role.Copper span layers fail (text ++ piece.now)) }
+        ensures holes { holes.new.holes ≡ holes.old.holes }
+        ensures rules { holes.new.rules ≡ holes.old.rules }
+    {
+        shown_faults();
+        match self {
+            CopperReading::Layer(reader) => holes.feed(alloc, layer, reader, piece),
+            CopperReading::Failed(_) | CopperReading::Skipped => Ok(()),
+        }
+    }
+
+    /// What is left of the file whose text was read, or its fault. Its layer has this number.
+    pub(crate) fn finish(
+        self,
+        alloc: Global,
+        holes: &mut IndexedHoles,
+        layer: usize,
+    ) -> Result<Judged, Fail>
+        ensures layer { IfOk result (λ one. is_drill_sum one.sum ≡ false) }
+        ensures judged { (span : Option LayerSpan) (layers : ℕ) (text : List ℕ) → HasReadCopper holes.old layer span layers self text → Answers (λ x. x) (Judges holes.old.rules holes.old.holes layer (unnamed_file role.Copper span layers text)) result }
+        ensures holes { holes.new.holes ≡ holes.old.holes }
+        ensures rules { holes.new.rules ≡ holes.old.rules }
+    {
+        match self {
+            CopperReading::Layer(reader) => holes.judge(alloc, layer, reader),
+            CopperReading::Failed(fail) => Err(fail),
+            CopperReading::Skipped => Err(Fail::Memory),
+        }
+    }
+}
+
+/// A copper file of a check that is being read: [`crate::PackageCheck::begin`] opens it, and [`crate::PackageCheck::end`] ends it. It holds
+/// no text.
+#[derive(Drop)]
+pub struct OpenCopper {
+    pub(crate) index: usize,
+    pub(crate) layer: usize,
+    pub(crate) reading: CopperReading,
+}
+
+impl OpenCopper {
+    /// Reads the next piece, unless the file has failed.
+    pub(crate) fn read(&mut self, alloc: Global, holes: &mut IndexedHoles, piece: &[u8])
+        ensures read { (span : Option LayerSpan) (layers : ℕ) (text : List ℕ) → HasReadCopper holes.old self.old.layer span layers self.old.reading text → HasReadCopper holes.new self.old.layer span layers self.new.reading (text ++ piece.now) }
+        ensures index { self.new.index ≡ self.old.index }
+        ensures layer { self.new.layer ≡ self.old.layer }
+        ensures holes { holes.new.holes ≡ holes.old.holes }
+        ensures rules { holes.new.rules ≡ holes.old.rules }
+    {
+        if let Err(fail) = self.reading.feed(alloc, holes, self.layer, piece) {
+            self.reading = CopperReading::Failed(fail);
+        }
+    }
+
+    /// Whether memory ran out while the file was read.
+    pub(crate) fn is_out_of_memory(&self) -> bool {
+        matches!(self.reading, CopperReading::Failed(Fail::Memory))
+    }
+}

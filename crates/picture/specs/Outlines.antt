@@ -1,0 +1,80 @@
+-- The outline of the board, in a picture: what a file of the board's edge draws (docs/FORMATS.md, Pictures). Lengths are whole pm, printed in mm without
+-- zeros at the end; y grows downwards.
+use Rattle.std.specs.Prelude.{ℕ, ℤ, pos, neg_ℤ, ◌/◌, ◌==◌, Bool, false, List, [], ◌++◌, length, codes, Option, None, Some, if◌then◌else◌}
+use Rattle.std.specs.List.{flat_map}
+use Rattle.grid_units.specs.Points.{GridPoint}
+use Rattle.layer_image.specs.declared.drawn.Drawn.{Drawn}
+use Rattle.layer_image.specs.declared.drawn.Drawn.TheVariants as drawn
+use Rattle.picture.specs.Copper.{arc_radius, arc_way, is_left, next_corner}
+use Rattle.picture.specs.Elements.{after}
+use Rattle.picture.specs.Scenes.{shown_copper}
+use Rattle.picture.specs.declared.pen.Pen.{Pen}
+
+-- what is shown of the parts of an outline: all of them, or nothing where they are more than 100,000
+abbrev pub shown_outline : List Drawn → List Drawn
+shown_outline parts = shown_copper false parts
+
+-- ---- how far an arc reaches
+
+-- an arc is shorter than half a circle: one clockwise from (0, 1) to (1, 0) round (0, 0), or one counterclockwise back
+abbrev pub is_short : GridPoint → GridPoint → GridPoint → Bool → Bool
+is_short from to centre clockwise = if clockwise then is_left to from centre else is_left from to centre
+
+-- the radius of an arc that is half a circle or longer; none of a shorter one
+abbrev pub long_radius : GridPoint → GridPoint → GridPoint → Bool → Option ℕ
+long_radius from to centre clockwise = if is_short from to centre clockwise then None else Some (arc_radius from centre)
+
+-- ---- the parts
+
+-- where a line, an arc or a contour begins: `M1 -2`
+abbrev pub edge_start : GridPoint → List ℕ
+edge_start at = after (codes "M") at.x ++ after (codes " ") (neg_ℤ at.y)
+
+-- a line or an arc as a part of a path: `M1 -2L3 -4`; nothing of a flash or a contour
+abbrev pub edge_text : Drawn → List ℕ
+edge_text (drawn.Line from to width) = edge_start from ++ next_corner to.x (neg_ℤ to.y)
+edge_text (drawn.Arc from to centre width clockwise) = edge_start from ++ arc_way from to centre clockwise
+edge_text (drawn.Flash at shape) = []
+edge_text (drawn.Contour at) = []
+edge_text (drawn.Corner at) = []
+edge_text (drawn.Bend from to centre clockwise) = []
+
+-- a part of a contour: its first corner, before which the contour before it is closed, `zM1 -2`; its next corner, or its way along an arc
+abbrev pub contour_text : Drawn → List ℕ
+contour_text (drawn.Line from to width) = []
+contour_text (drawn.Arc from to centre width clockwise) = []
+contour_text (drawn.Flash at shape) = []
+contour_text (drawn.Contour at) = codes "z" ++ edge_start at
+contour_text (drawn.Corner at) = next_corner at.x (neg_ℤ at.y)
+contour_text (drawn.Bend from to centre clockwise) = arc_way from to centre clockwise
+
+-- ---- the outline
+
+-- the width of its lines, whatever the file says: a tenth of a unit
+abbrev pub outline_width : Pen → ℕ
+outline_width pen = pen.unit / 10
+
+-- the start of its group, by this width, and of the path of its lines and arcs
+unfoldable pub outline_start : ℤ → List ℕ
+outline_start width =
+    after (codes "<g class=\"outline\" fill=\"none\" stroke=\"#222\" stroke-width=\"") width ++ codes "\"><title>outline</title>\n<path stroke-linecap=\"round\" d=\""
+
+-- the end of that path, and the start of the path of its contours: a contour without extent, which is not seen
+abbrev pub contours_begin : List ℕ
+contours_begin = codes "\"/>\n<path stroke-linejoin=\"round\" d=\"M0 0"
+
+-- the end of the last contour, which is closed, and of the group
+abbrev pub outline_end : List ℕ
+outline_end = codes "z\"/>\n</g>\n"
+
+-- the start of the group, and the lines and arcs, as one path
+abbrev pub edge_path : Pen → List Drawn → List ℕ
+edge_path pen parts = outline_start (pos (outline_width pen)) ++ flat_map edge_text parts
+
+-- the contours, as one path, and the end of the group
+abbrev pub contour_path : List Drawn → List ℕ
+contour_path parts = (contours_begin ++ flat_map contour_text parts) ++ outline_end
+
+-- the outline: the lines and arcs, then the contours, which are closed and not filled; nothing where there is no part
+unfoldable pub outline_text : Pen → List Drawn → List ℕ
+outline_text pen parts = if length parts == 0 then [] else edge_path pen parts ++ contour_path parts

@@ -1,0 +1,12 @@
+use Rattle.std.proofs.Common.{List, [], ◌∷◌, ◌++◌, map, take}
+use Rattle.pad_shapes.specs.declared.pad.Pad.{Pad}
+use Rattle.ring_rules.specs.declared.finding.Drilled.{Drilled}
+use Rattle.report.specs.declared.UnitFactor.{UnitFactor}
+use Rattle.report.specs.declared.counts.HoleRange.{HoleRange}
+use Rattle.report.specs.Inner.RescaledCounts.{AreCounted, AreTried, open_part}
+use Rattle.report.proofs.fewest.with_next.Given as goal
+
+abbrev pub invariant-loop-place : goal.invariant-loop-place
+invariant-loop-place l =
+    (pads : List Pad) (holes : List Drilled) (ranges : List HoleRange) (earlier : List UnitFactor) → AreTried pads holes ranges earlier l.tried → AreCounted pads holes (map open_part l.tried) l.factor l.counts
+    → AreTried pads holes (take l.place ranges) (earlier ++ l.factor ∷ []) l.all.items

@@ -1,0 +1,36 @@
+-- The outline of a board that a loader has under a name, or why it is refused (docs/FORMATS.md, The program).
+use Rattle.std.specs.Prelude.{◌≡◌, ◌<◌, ◌⊎◌, ◌++◌, ◌∷◌, [], ℕ, List, Option, Result, Ok, Err, codes, decimal, length}
+use Rattle.std.specs.Io.KnownBytes.{Appends}
+use Rattle.grid_units.specs.Ascii as ascii
+use Rattle.grid_units.specs.Reasons.{reason_name}
+use Rattle.grid_units.specs.declared.fault.Fault.{Fault}
+use Rattle.layer_image.specs.Layers.{ReadsLayer}
+use Rattle.layer_image.specs.declared.drawn.Drawn.{Drawn}
+use Rattle.package_check.specs.FileTexts.{Draws}
+use Rattle.ringcheck_files.specs.LoaderRelation.{Relation, file_limit, too_long, within}
+
+-- a text is that of a layer, which draws these parts; or it has this fault
+abbrev pub ReadsOutline : List ℕ → Result (List Drawn) Fault → Type 0
+ReadsOutline text (Ok outline) = Draws text outline
+ReadsOutline text (Err why) = ReadsLayer text (Err why)
+
+-- the loader has under this name a layer's text that draws these parts, not above the limit of files
+abbrev pub HasOutline : Relation → List ℕ → List Drawn → Type 0
+HasOutline has file outline = (text : List ℕ) × within file_limit has file text × ReadsOutline text (Ok outline)
+
+-- a text is refused: it is above the limit of files, or it has this fault
+abbrev pub RefusesOutline : List ℕ → Fault → Type 0
+RefusesOutline text why = ((file_limit < length text) × (why ≡ too_long)) ⊎ ReadsOutline text (Err why)
+
+-- the loader has under this name a text that is refused
+abbrev pub RefusedOutline : Relation → List ℕ → Fault → Type 0
+RefusedOutline has file why = (text : List ℕ) × has file text × RefusesOutline text why
+
+-- the line of this refusal: `refused outline place=3 byte=22 reason=NoAperture`
+abbrev pub outline_line : Fault → List ℕ
+outline_line why =
+    codes "refused outline place=" ++ (decimal why.place ++ (codes " byte=" ++ (decimal why.byte ++ (codes " reason=" ++ (reason_name why.reason ++ ascii.line_feed ∷ [])))))
+
+-- a file of an outline is refused, and the writer got just the line of the refusal
+abbrev pub PrintsOutlineRefusal : Relation → List ℕ → Option (List ℕ) → Option (List ℕ) → Type 0
+PrintsOutlineRefusal has file before after = (why : Fault) × RefusedOutline has file why × Appends before after (outline_line why)

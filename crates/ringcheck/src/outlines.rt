@@ -1,0 +1,88 @@
+//! The outline of a board, from a loader, and what is printed where there is none.
+
+ghost use Rattle.std.specs.Prelude.{◌≤◌, ◌↔◌, ℕ, List, IfOk, Some};
+ghost use Rattle.grid_units.specs.Results.{Answers};
+ghost use Rattle.ringcheck_files.specs.Outcomes.{HasRisen};
+ghost use Rattle.ringcheck.specs.Inner.Outlines.{AfterNoOutline, OfOutline};
+ghost use Rattle.ringcheck.specs.Outlining.{ReadsOutline, outline_line};
+
+use crate::{LoadFault, Loader};
+use grid_units::{Fail, Fault};
+use layer_image::{Drawn, read_layer};
+use ringcheck_files::{ABOVE_LIMIT, FILE_LIMIT, Failure, Status};
+use std::alloc::Global;
+use std::fmt;
+use std::fmt::{Display, Formatter};
+use std::io::Write;
+
+/// Why there is no outline.
+#[derive(Clone, Copy)]
+pub(crate) enum NoOutline {
+    /// Its file is refused, with its fault.
+    Refused(Fault),
+    /// Its file cannot be read.
+    Unread,
+}
+
+/// What the text of a layer draws.
+fn read_outline(alloc: Global, text: &[u8]) -> Result<Vec<Drawn>, Fail>
+    ensures { Answers (λ drawn. drawn.items) (λ answer. ReadsOutline text.now answer) result }
+{
+    let layer = read_layer(alloc, text)?;
+    Ok(layer.drawn(alloc)?)
+}
+
+/// What the file of an outline draws, by its name, or why it cannot be drawn.
+pub(crate) fn load_outline<L: Loader>(
+    alloc: Global,
+    loader: &mut L,
+    file: &str,
+) -> Result<Result<Vec<Drawn>, NoOutline>, Failure>
+    ensures keeps { (n b : List ℕ) → L.has loader.new n b → L.has loader.old n b }
+    ensures counts { L.failed loader.old ≤ L.failed loader.new }
+    ensures loaded { IfOk result (OfOutline (L.has loader.old) file.now (HasRisen (L.failed loader.old) (L.failed loader.new))) }
+{
+    match loader.load(alloc, file, FILE_LIMIT) {
+        Ok(text) => match read_outline(alloc, text.as_slice()) {
+            Ok(drawn) => Ok(Ok(drawn)),
+            Err(Fail::Memory) => Err(Failure::Memory),
+            Err(Fail::Refused(fault)) => Ok(Err(NoOutline::Refused(fault))),
+        },
+        Err(LoadFault::Device) => Ok(Err(NoOutline::Unread)),
+        Err(LoadFault::Memory) => Err(Failure::Memory),
+        Err(LoadFault::TooLong) => Ok(Err(NoOutline::Refused(ABOVE_LIMIT))),
+    }
+}
+
+/// The refusal of an outline as a line, such as `refused outline place=3 byte=22 reason=NoAperture`.
+#[derive(Clone, Copy)]
+struct OutlineLine(Fault);
+
+impl Display for OutlineLine {
+    ghost output = { λ line. Some (outline_line line.0) };
+
+    fn fmt<W: fmt::Write>(&self, f: &mut Formatter<W>) -> fmt::Result {
+        let reason = self.0.reason.name();
+        let (place, byte) = (self.0.place, self.0.byte);
+        write!(
+            f,
+            "refused outline place={place} byte={byte} reason={reason}\n"
+        )
+    }
+}
+
+/// Prints why there is no outline, and returns the status of the run.
+pub(crate) fn print_no_outline<W: Write>(out: &mut W, why: NoOutline) -> Result<Status, Failure>
+    ensures { IfOk result (AfterNoOutline why (W.contents out.old) (W.contents out.new)) }
+{
+    match why {
+        NoOutline::Refused(fault) => {
+            write!(out, "{}", OutlineLine(fault))?;
+            Ok(Status::Refused)
+        }
+        NoOutline::Unread => {
+            write!(out, "device outline\n")?;
+            Ok(Status::Device)
+        }
+    }
+}
