@@ -17,6 +17,10 @@ _ringcheck() {
       mapfile -t COMPREPLY < <(compgen -W 'layer drill' -- "$word")
       return
       ;;
+    --profile)
+      mapfile -t COMPREPLY < <(compgen -W 'strict wide' -- "$word")
+      return
+      ;;
     --format)
       local formats='text json'
       [ "$command" != report ] || formats+=' html waivers'
@@ -31,7 +35,7 @@ _ringcheck() {
     --ring | --gap | --max) return ;;
   esac
   case $command in
-    check) options='--ring --gap --help' ;;
+    check) options='--ring --gap --profile --help' ;;
     draw) options='--ring --gap --outline --help' ;;
     report) options='--ring --gap --max --waive --outline --format --help' ;;
     measure) options='--format --help' ;;

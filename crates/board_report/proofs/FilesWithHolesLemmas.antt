@@ -22,7 +22,7 @@ use Rattle.board_report.proofs.HolePlacesLemmas.{placed}
 module _ (files : List FileSum) where
   no_fewer_next : (i : ℕ) → holes_before files i ≤ holes_before files (i + 1)
   no_fewer_next i = elim (cases_lt i (length files)) [
-    | inl inside ↦ (let more = sum_by_more hole_count files i (sum.Layer 0 0) inside in omega (arith, more))
+    | inl inside ↦ (let more = sum_by_more hole_count files i (sum.Layer 0 0 0) inside in omega (arith, more))
     | inr past ↦ (let same : holes_before files (i + 1) ≡ holes_before files i = ap (sum_by hole_count) (take_all (i + 1) files (omega (arith, past)) ∙ sym (take_all i files past)) in omega (arith, same))
   ]
 

@@ -34,6 +34,7 @@ use Rattle.board_report.specs.Rows.{AreRowLines, IsBefore, IsRowLine, RowKey, Is
 use Rattle.package_check.specs.Boards.{holes_before}
 use Rattle.board_report.specs.declared.rows.LayerFileHoles.{LayerFileHoles}
 use Rattle.board_report.specs.Inner.Tables.{IsRowOf, IsTableOf, IsNumberedLeast, is_not_empty, row_of}
+use Rattle.grid_units.specs.declared.profile.Profile.TheVariants.{Strict}
 
 -- the next element of a list
 pub next_of : {X : Type 0} (xs rest : List X) (n : ℕ) (x : X) → drop n xs ≡ x ∷ rest → (n < length xs) × (get_or xs n x ≡ x) × (rest ≡ drop (n + 1) xs)
@@ -83,10 +84,10 @@ all_taken xs n e = elim (cases_lt n (length xs)) [
     taken_more (x ∷ xs) n l e = (let more = drop_more (x ∷ xs) n x l in let none : get_or (x ∷ xs) n x ∷ drop (n + 1) (x ∷ xs) ≡ [] = sym more ∙ e in cc)
 
 -- the least ring of a row is that of one of its holes
-pub least_inside : (bests : List (Option BestPad)) (holes : List Drilled) (chosen : List ℕ) (row : RingRow) (low high : ℕ) → IsRingRow bests holes chosen row → All (λ place. (low ≤ place) × (place < high)) chosen
+pub least_inside : (bests : List (Option BestPad)) (holes : List Drilled) (chosen : List ℕ) (row : RingRow) (low high : ℕ) → IsRingRow Strict bests holes chosen row → All (λ place. (low ≤ place) × (place < high)) chosen
     → (least : RowLeast) → row.least ≡ Some least → (low ≤ least.hole) × (least.hole < high)
 least_inside bests holes chosen row low high is inside least e =
-    let held = subst (IsLeastRingOf bests holes chosen (length chosen)) e is.least in
+    let held = subst (IsLeastRingOf Strict bests holes chosen (length chosen)) e is.least in
     subst (λ (place : ℕ). (low ≤ place) × (place < high)) held.there (inside held.i 0 held.inside)
 
 -- and its number is the number of that hole

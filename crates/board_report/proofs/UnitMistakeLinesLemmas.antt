@@ -29,7 +29,7 @@ module _ (board : BoardView) where
       (subst (λ (ps : List Pad). IsUnitMistakeOrNone ps (slice_range board.holes searched.start searched.end) drill line) first (subst (λ (n : ℕ). IsUnitMistakeOrNone pads (slice_range board.holes searched.start searched.end) n line) is.file scale))
     where
       nothing : FileSum
-      nothing = sum.Layer 0 0
+      nothing = sum.Layer 0 0 0
 
       own : is_plated (get_or board.files drill nothing) ≡ true → slice_range board.holes searched.start searched.end ≡ holes_in board drill
       own plated =

@@ -2,6 +2,7 @@
 use Rattle.std.specs.Prelude.{◌≡◌, ℕ, pos, ◌+◌, ◌-ℤ◌, Bool, true, false, not, List, [], length, get_or, map, count_by, Result, Ok, Err, ⊤}
 use Rattle.std.specs.List.{AllZip, enumerate_from, filter}
 use Rattle.grid_units.specs.Holes.{GridRules}
+use Rattle.grid_units.specs.declared.profile.Profile.TheVariants.{Strict}
 use Rattle.layer_image.specs.declared.flash.Flash.{Flash}
 use Rattle.ring_rules.specs.Places.{hole_at}
 use Rattle.ring_rules.specs.declared.finding.Drilled.{Drilled}
@@ -10,7 +11,7 @@ use Rattle.ring_rules.specs.declared.finding.Finding.TheVariants.{Gap, Oblique, 
 use Rattle.margins.specs.Gaps.{IsGap}
 use Rattle.margins.specs.Meets.{needs_ring}
 use Rattle.package_check.specs.Boards.{BoardView, IsFlashedBoard, board_findings}
-use Rattle.package_check.specs.Package.{IsFirstRefused, IsReport, FileView}
+use Rattle.package_check.specs.Package.{AreStrict, IsFirstRefused, IsReport, FileView}
 use Rattle.package_check.specs.Reports.{ReportView}
 use Rattle.package_check.specs.Soundness.{IsSound}
 use Rattle.package_check.specs.declared.FileSum.{FileSum}
@@ -25,6 +26,10 @@ use Rattle.report.specs.declared.PlacedHole.{PlacedHole}
 use Rattle.report.specs.declared.LayerHead.{LayerHead}
 use Rattle.report.specs.declared.RingLack.{RingLack}
 use Rattle.report.specs.declared.BoardReport.{BoardReport}
+
+-- the same ring and gap in the strict profile
+abbrev pub in_strict : GridRules → GridRules
+in_strict rules = record { ring = rules.ring; gap = rules.gap; profile = Strict }
 
 -- a finding of a gap, not of a ring
 abbrev pub is_gap : Finding → Bool
@@ -118,6 +123,6 @@ pub record AgreesWithCheck (sources : List FileView) (required : GridRules) (out
   pub count : (report : ReportView) → IsReport sources required report → length report.findings ≡ length output.rings.items + length output.gaps.items
   pub sound : output.rings.items ≡ [] → output.gaps.items ≡ [] → IsSound sources required
 
--- the report on any package agrees with its check
+-- the report on any package whose files are read in the strict profile agrees with its check
 abbrev pub ReportAgreesWithCheck : Type 0
-ReportAgreesWithCheck = (sources : List FileView) (required : GridRules) (output : BoardReport) → IsBoardReportOf sources required output → AgreesWithCheck sources required output
+ReportAgreesWithCheck = (sources : List FileView) (required : GridRules) (output : BoardReport) → AreStrict sources → IsBoardReportOf sources required output → AgreesWithCheck sources required output

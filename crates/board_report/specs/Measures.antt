@@ -2,13 +2,14 @@
 use Rattle.std.specs.Prelude.{◌≡◌, ◌↔◌, ℕ, ◌<◌, Option, List, [], length, get_or, Result, Ok, Err, ⊤}
 use Rattle.grid_units.specs.Holes.{GridRules}
 use Rattle.grid_units.specs.declared.fault.Fault.{Fault}
+use Rattle.grid_units.specs.declared.profile.Profile.TheVariants.{Strict}
 use Rattle.pad_shapes.specs.Pads.{pad_covers}
 use Rattle.margins.specs.BestPads.{AreBestPads}
 use Rattle.margins.specs.Meets.{MeetsRings, MeetsRingsInPads, MeetsGaps, allows}
 use Rattle.margins.specs.declared.best.BestPad.{BestPad}
 use Rattle.margins.specs.declared.met.Met.{Met}
 use Rattle.package_check.specs.Boards.{IsBoard, BoardView, board_findings}
-use Rattle.package_check.specs.Package.{IsFirstRefused, IsReport, FileView}
+use Rattle.package_check.specs.Package.{AreStrict, IsFirstRefused, IsReport, FileView}
 use Rattle.package_check.specs.Reports.{ReportView}
 use Rattle.package_check.specs.declared.PackageFault.{PackageFault}
 use Rattle.package_check.specs.declared.PackageFault.TheVariants as stop
@@ -20,22 +21,22 @@ use Rattle.report.specs.declared.Measure.{Measure}
 abbrev pub AllowsRules : Met → Met → GridRules → Type 0
 AllowsRules ring gap rules = allows ring rules.ring × allows gap rules.gap
 
--- a check of the board has no findings under just the rules that are allowed
+-- a check of the board in the strict profile has no findings under just the rules that are allowed
 abbrev pub BoardPasses : BoardView → Met → Met → Type 0
-BoardPasses board ring gap = (rules : GridRules) → (board_findings rules board ≡ []) ↔ AllowsRules ring gap rules
+BoardPasses board ring gap = (rules : GridRules) → rules.profile ≡ Strict → (board_findings rules board ≡ []) ↔ AllowsRules ring gap rules
 
--- the files of a package can be read, whatever the rules are, and its report has no findings under just the rules that are allowed
+-- the files of a package can be read, whatever the rules are, and in the strict profile its report has no findings under just the rules that are allowed
 pub record PackagePasses (sources : List FileView) (ring gap : Met) : Type 0 where
   pub reported : (rules : GridRules) → (report : ReportView) × IsReport sources rules report
-  pub passes : (rules : GridRules) (report : ReportView) → IsReport sources rules report → (report.findings ≡ []) ↔ AllowsRules ring gap rules
+  pub passes : (rules : GridRules) (report : ReportView) → rules.profile ≡ Strict → IsReport sources rules report → (report.findings ≡ []) ↔ AllowsRules ring gap rules
 
 -- the measure of a board: the lines of its rings, its scales and its least gap, and the greatest rules that it meets
 pub record IsMeasure (board : BoardView) (measure : Measure) : Type 0 where
   pub lines : AreRingLines board measure.rings.items
   pub scales : AreUnitMistakes board (length board.files) measure.scales.items
   pub gap : IsGapLine board measure.gap
-  pub rings : MeetsRings pad_covers board.layers board.holes measure.meets.ring
-  pub held : MeetsRingsInPads pad_covers board.layers board.holes measure.meets.in_pads
+  pub rings : MeetsRings pad_covers Strict board.layers board.holes measure.meets.ring
+  pub held : MeetsRingsInPads pad_covers Strict board.layers board.holes measure.meets.in_pads
   pub gaps : MeetsGaps board.holes measure.meets.gap
 
 -- the measure of a package: that of the board of its files
@@ -64,6 +65,6 @@ RefusesAlike (Err refusal) (Err stop.Memory) = ⊤
 RefusesAlike (Ok report) (Err (stop.File index fault)) = ⊥
 RefusesAlike (Err refusal) (Err (stop.File index fault)) = refusal ≡ (index, fault)
 
--- a package whose files can all be read passes under just the rules that its board meets
+-- a package whose files can all be read in the strict profile passes under just the rules that its board meets
 abbrev pub MeasuredPasses : Type 0
-MeasuredPasses = (sources : List FileView) (board : BoardView) (ring gap : Met) → IsBoard sources board → MeetsRings pad_covers board.layers board.holes ring → MeetsGaps board.holes gap → PackagePasses sources ring gap
+MeasuredPasses = (sources : List FileView) (board : BoardView) (ring gap : Met) → AreStrict sources → IsBoard sources board → MeetsRings pad_covers Strict board.layers board.holes ring → MeetsGaps board.holes gap → PackagePasses sources ring gap

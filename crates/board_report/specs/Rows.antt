@@ -18,6 +18,7 @@ use Rattle.report.specs.declared.RingLine.{RingLine}
 use Rattle.package_check.specs.Boards.{BoardView, CountsAddUp, holes_before}
 use Rattle.package_check.specs.declared.FileSum.{FileSum}
 use Rattle.board_report.specs.declared.places.FileHoles.{FileHoles}
+use Rattle.grid_units.specs.declared.profile.Profile.TheVariants.{Strict}
 
 -- the hole at a place in the list of all holes has this number, from 1, in this drill file
 pub record IsPlace (files : List FileSum) (hole : ℕ) (place : HolePlace) : Type 0 where
@@ -72,7 +73,7 @@ pub record IsRowLine (board : BoardView) (key : RowKey) (line : RingLine) : Type
   pub bests : List (Option BestPad)
   pub best : AreBestPads pad_covers (get_or board.layers key.layer []) board.holes bests
   pub row : RingRow
-  pub is : IsRingRow bests board.holes (places_of board key) row
+  pub is : IsRingRow Strict bests board.holes (places_of board key) row
   pub layer : line.layer ≡ get_or board.layer_indexes key.layer 0
   pub drill : line.drill ≡ key.drill
   pub diameter : line.diameter ≡ pos (2 * key.radius)

@@ -12,7 +12,7 @@ use Rattle.package_check.specs.Boards.{holes_before}
 
 -- a drill file whose holes are plated
 abbrev pub is_plated : FileSum → Bool
-is_plated (sum.Layer pads other) = false
+is_plated (sum.Layer pads other contours) = false
 is_plated (sum.Drill plated span round slots) = plated
 
 -- the holes of a file, in order

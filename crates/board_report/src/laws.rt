@@ -6,7 +6,7 @@ use margins::laws::{gaps_pass, rings_pass};
 use package_check::laws::unique_answer;
 use pad_shapes::Pad;
 
-/// A package whose files can all be read passes under just the rules that it meets.
+/// A package whose files can all be read in the strict profile passes under just the rules that it meets.
 pub fn measured_passes()
     ensures { MeasuredPasses }
 {

@@ -1,6 +1,7 @@
 //! The measure of a package.
 
 ghost use Rattle.std.specs.Prelude.{◌≡◌, ◌++◌, ◌∷◌, [], ℕ, Result, IfOk, OnOk, false, true, length, map};
+ghost use Rattle.grid_units.specs.declared.profile.Profile.TheVariants.{Strict};
 ghost use Rattle.grid_units.specs.Holes.{GridRules};
 ghost use Rattle.grid_units.specs.declared.fault.Fault.{Fault as TheFault};
 ghost use Rattle.pad_shapes.specs.Pads.{pad_covers};
@@ -15,6 +16,7 @@ use crate::laws::measured_passes;
 use crate::places::{files_with_holes, gap_line};
 use crate::rows::push_layer_lines;
 use crate::units::unit_mistakes;
+use grid_units::Profile;
 use margins::laws::{gaps_pass, rings_pass};
 use margins::{
     BestPad, RingsMet, best_pads, gap_met_of_nearest, met_with_layer, met_without_layers,
@@ -55,7 +57,7 @@ fn keep(
 /// The rings of a board, and its scales. The best pads of each layer are searched for once. They are kept only if `keeps` says so, since
 /// those of all layers take memory. The drill files that have holes are listed once for all layers.
 fn rings_on(alloc: Global, board: &Board, keeps: bool) -> Result<Rings, AllocError>
-    ensures met { IfOk result (λ rings. MeetsOnLayers pad_covers board.now.layers board.now.holes (length board.now.layers) rings.met) }
+    ensures met { IfOk result (λ rings. MeetsOnLayers pad_covers Strict board.now.layers board.now.holes (length board.now.layers) rings.met) }
     ensures lines { IfOk result (λ rings. AreRingLines board.now rings.lines.items) }
     ensures scales { IfOk result (λ rings. AreUnitMistakes board.now (length board.now.files) rings.scales.items) }
     ensures bests { keeps ≡ true → IfOk result (λ rings. AreLayerBests board.now (length board.now.layers) (map (λ bests. bests.items) rings.bests.items)) }
@@ -72,7 +74,7 @@ fn rings_on(alloc: Global, board: &Board, keeps: bool) -> Result<Rings, AllocErr
         if layer == 0 {
             scales = unit_mistakes(alloc, board, layers[layer], &bests)?;
         }
-        met = met_with_layer(&layers, layer, &bests, holes, met);
+        met = met_with_layer(&layers, layer, &bests, holes, Profile::Strict, met);
         push_layer_lines(alloc, board, &files, &bests, layer, &mut lines)?;
         keep(keeps, bests, &mut kept)?;
     }
@@ -150,7 +152,7 @@ pub fn measure_with_bests(
 fn measure_files(alloc: Global, files: &[File]) -> Result<Measure, PackageFault>
     ensures { AnswersMeasure (file_views files.now) result }
 {
-    match read_package(alloc, files, Keep::Pads) {
+    match read_package(alloc, Profile::Strict, files, Keep::Pads) {
         Ok(board) => match measure_board(alloc, &board) {
             Ok(measure) => Ok(measure),
             Err(_) => Err(PackageFault::Memory),
@@ -159,8 +161,8 @@ fn measure_files(alloc: Global, files: &[File]) -> Result<Measure, PackageFault>
     }
 }
 
-/// The measure of the package of these files. A check of them has no findings under just the rules that it allows: a ring of 0
-/// or more, and a gap of 1 pm or more.
+/// The measure of the package of these files, read in the strict profile. A check of them in that profile has no findings under just the
+/// rules that it allows: a ring of 0 or more, and a gap of 1 pm or more.
 ///
 /// # Errors
 ///

@@ -9,6 +9,7 @@ ghost use Rattle.board_report.specs.Rows.{AreFilesWithHoles, AreRowLines, IsRowL
 ghost use Rattle.board_report.specs.Inner.Tables.{IsRowOf, IsLayerFileHoles, IsTableOf, IsNumberedLeast, FitsFile, has_radius, items_at, row_of};
 
 use crate::places::FileHoles;
+use grid_units::Profile;
 use margins::{BestPad, RingRow, needs_ring, ring_row};
 use package_check::Board;
 use report::{LeastRing, RingLine};
@@ -113,7 +114,7 @@ fn row_line(
     ensures { (radius : ℕ) → places.now ≡ places_of board.now (row_of file_holes.now radius) → IsRowLine board.now (row_of file_holes.now radius) result }
 {
     let holes = board.holes();
-    let row = ring_row(bests, holes, places);
+    let row = ring_row(Profile::Strict, bests, holes, places);
     RingLine {
         layer: layer_index(board, file_holes.layer),
         drill: file_holes.drill,

@@ -1,7 +1,7 @@
 //! Pages of small boards, with figures that are worked out by hand: on a board of 75 mm the unit is 1 mm.
 
 use drawing::Drawing;
-use grid_units::Rules;
+use grid_units::{Profile, Rules};
 use package_check::{File, Keep, Role, read_package};
 use picture::Escaped;
 use std::alloc::AllocError;
@@ -86,7 +86,7 @@ fn drawn(
     names: &[&str],
     rules: Option<Rules>,
 ) -> Result<String, Fail> {
-    let board = read_package(rt.alloc(), files, Keep::Flashes)
+    let board = read_package(rt.alloc(), Profile::Strict, files, Keep::Flashes)
         .ok()
         .ok_or("refused")?;
     let drawing = Drawing::new(rt.alloc(), names, &board, &[], rules)?;
@@ -326,7 +326,7 @@ fn with_copper<'a>(copper: &'a [u8]) -> [File<'a>; 2] {
 /// The page of a copper file and a drill file without a hole, read so.
 fn page_of_copper(rt: HostRuntime, copper: &[u8], keep: Keep) -> Result<String, Fail> {
     let files = with_copper(copper);
-    let board = read_package(rt.alloc(), &files, keep)
+    let board = read_package(rt.alloc(), Profile::Strict, &files, keep)
         .ok()
         .ok_or("refused")?;
     let drawing = Drawing::new(rt.alloc(), &["top", "pth"], &board, &[], None)?;
@@ -346,7 +346,7 @@ fn pages_show_what_is_drawn(rt: HostRuntime) -> Result<(), Fail> {
 fn a_board_has_what_its_files_draw(rt: HostRuntime) -> Result<(), Fail> {
     let files = with_copper(DRAWN);
     for (keep, count) in [(Keep::All, 6), (Keep::Flashes, 0), (Keep::Pads, 0)] {
-        let board = read_package(rt.alloc(), &files, keep)
+        let board = read_package(rt.alloc(), Profile::Strict, &files, keep)
             .ok()
             .ok_or("refused")?;
         let counts = [0, 1, 2].map(|file| board.drawn_of(file).len());

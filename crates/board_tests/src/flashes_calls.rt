@@ -1,5 +1,6 @@
 //! The flashes of a package's files.
 
+use grid_units::Profile;
 use package_check::{File, Keep, PackageFault, Role, read_package};
 use std::test::Fail as Failure;
 
@@ -20,7 +21,7 @@ fn file<'a>(role: Role, bytes: &'a [u8]) -> File<'a> {
 #[test]
 fn flashes_stand_in_the_order_of_the_files(rt: HostRuntime) -> Result<(), Failure> {
     let files = [file(Role::Plated, DRILL), file(Role::Copper, TWO)];
-    let board = read_package(rt.alloc(), &files, Keep::Flashes)
+    let board = read_package(rt.alloc(), Profile::Strict, &files, Keep::Flashes)
         .ok()
         .ok_or("no board")?;
     let counts = [0, 1, 2].map(|file| board.flashes_of(file).len());
@@ -32,6 +33,6 @@ fn flashes_stand_in_the_order_of_the_files(rt: HostRuntime) -> Result<(), Failur
 #[test]
 fn a_refused_file_has_no_flashes(rt: HostRuntime) {
     let files = [file(Role::Plated, TWO), file(Role::Copper, TWO)];
-    let refused = read_package(rt.alloc(), &files, Keep::Flashes).err();
+    let refused = read_package(rt.alloc(), Profile::Strict, &files, Keep::Flashes).err();
     assert!(rt; matches!(refused, Some(PackageFault::File { index: 0, .. })));
 }

@@ -3,7 +3,7 @@
 mod made;
 
 use board_report::{files_with_holes, measure_bytes, measure_with_bests, place_among, place_of};
-use grid_units::{Fault, Reason, Rules};
+use grid_units::{Fault, Profile, Reason, Rules};
 use margins::{BestPad, Met};
 use package_check::{File, Keep, PackageFault, Role, check_bytes, read_package};
 use report::{GapLine, HolePlace, LeastRing, Meets, RingLine, UnitFactor, UnitMistake};
@@ -379,7 +379,7 @@ const PLACES: [(usize, usize); 5] = [(0, 1), (0, 2), (4, 1), (6, 1), (6, 2)];
 /// `place_among` and `place_of` agree on each hole.
 #[test]
 fn places_of_holes(rt: HostRuntime) -> Result<(), Failure> {
-    let board = read_package(rt.alloc(), &seven_files(), Keep::Pads)
+    let board = read_package(rt.alloc(), Profile::Strict, &seven_files(), Keep::Pads)
         .ok()
         .ok_or("no board")?;
     let filled = files_with_holes(rt.alloc(), &board)?;
@@ -428,7 +428,7 @@ fn best_pads_of_each_layer(rt: HostRuntime) -> Result<(), Failure> {
         file(Role::Plated, "pth", HIT),
         file(Role::Copper, "bottom", TWO),
     ];
-    let board = read_package(alloc, &files, Keep::Pads)
+    let board = read_package(alloc, Profile::Strict, &files, Keep::Pads)
         .ok()
         .ok_or("no board")?;
     let (measure, bests) = measure_with_bests(alloc, &board)?;

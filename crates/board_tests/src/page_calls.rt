@@ -1,7 +1,7 @@
 //! Pages of reports on small boards, with figures that are worked out by hand.
 
 use board_report::report_on;
-use grid_units::Rules;
+use grid_units::{Profile, Rules};
 use package_check::{File, Keep, Role, read_package};
 use report::Acceptances;
 use report_page::HtmlReport;
@@ -85,7 +85,7 @@ fn page_of<'a>(
             bytes: drill,
         },
     ];
-    let board = read_package(rt.alloc(), &files, Keep::Flashes)
+    let board = read_package(rt.alloc(), Profile::Strict, &files, Keep::Flashes)
         .ok()
         .ok_or("refused")?;
     let rules = Rules::new(ring, 250_000_000).ok().ok_or("rules")?;

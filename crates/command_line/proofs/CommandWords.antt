@@ -22,15 +22,15 @@ version_fault = refl
 
 -- ---- `check`
 
-abbrev pub check_options : Text → Text → Text → Options
-check_options r g m = (codes "ring", Some r) ∷ (codes "gap", Some g) ∷ (codes "manifest", Some m) ∷ []
+abbrev pub check_options : Text → Text → Option Text → Text → Options
+check_options r g f m = (codes "ring", Some r) ∷ (codes "gap", Some g) ∷ (codes "profile", f) ∷ (codes "manifest", Some m) ∷ []
 
-pub check_answer : (r g m : Text) → is_plain_word r ≡ true → is_plain_word g ≡ true → is_plain_word m ≡ true
-    → answer (check_words r g m) ≡ (true, Some (codes "check", rows_of (check_options r g m)))
+pub check_answer : (r g : Text) (f : Option Text) (m : Text) → is_plain_word r ≡ true → is_plain_word g ≡ true → is_plain_if_some f ≡ true → is_plain_word m ≡ true
+    → answer (check_words r g f m) ≡ (true, Some (codes "check", rows_of (check_options r g f m)))
 unfolding clap_on_literals
-check_answer r g m p q s =
-    command_answer (codes "check") ((codes "ring", Some r) ∷ (codes "gap", Some g) ∷ []) (codes "manifest") m
-    (record { named = (λ rest. refl, λ rest. refl); options = (refl, (refl, tt)); end = refl }) (p, (q, tt)) s
+check_answer r g f m p q t s =
+    command_answer (codes "check") ((codes "ring", Some r) ∷ (codes "gap", Some g) ∷ (codes "profile", f) ∷ []) (codes "manifest") m
+    (record { named = (λ rest. refl, λ rest. refl); options = (refl, (refl, (refl, tt))); end = refl }) (p, (q, (t, tt))) s
 
 -- ---- `report`
 

@@ -38,9 +38,11 @@ one_or_more id = record (new_rule id) { required = true; action = Some Append; r
 abbrev pub flag : Text → Rule
 flag id = record (new_rule id) { long = Some id; action = Some SetTrue }
 
--- `check --ring MM --gap MM MANIFEST`
+-- `check --ring MM --gap MM [--profile strict|wide] MANIFEST`
 abbrev pub check_app : App
-check_app = with_rule (with_rule (with_rule (new_app (codes "check")) (option (codes "ring"))) (option (codes "gap"))) (positional (codes "manifest"))
+check_app =
+    with_rule (with_rule (with_rule (with_rule (new_app (codes "check")) (option (codes "ring"))) (option (codes "gap"))) (optional_option (codes "profile")))
+    (positional (codes "manifest"))
 
 -- `measure [--format text|json] MANIFEST`
 abbrev pub measure_app : App
@@ -92,8 +94,9 @@ pub record IsFlagValue (text : Option Text) (on : Bool) : Type 0 where
 -- the request is that of the command that `clap` finds, with the first value of each option, and the file or files
 abbrev pub IsRequestOf : Option (Text × List Row) → Request → Type 0
 IsRequestOf None request = ⊥
-IsRequestOf (Some (name, rows)) (Check ring gap manifest) =
-    (name ≡ codes "check") × (first_of (codes "ring") rows ≡ Some ring.now) × (first_of (codes "gap") rows ≡ Some gap.now) × (first_of (codes "manifest") rows ≡ Some manifest.now)
+IsRequestOf (Some (name, rows)) (Check ring gap profile manifest) =
+    (name ≡ codes "check") × (first_of (codes "ring") rows ≡ Some ring.now) × (first_of (codes "gap") rows ≡ Some gap.now)
+    × (first_of (codes "profile") rows ≡ option_map (λ p. p.now) profile) × (first_of (codes "manifest") rows ≡ Some manifest.now)
 IsRequestOf (Some (name, rows)) (Measure format manifest) =
     (name ≡ codes "measure") × (first_of (codes "format") rows ≡ option_map (λ f. f.now) format) × (first_of (codes "manifest") rows ≡ Some manifest.now)
 IsRequestOf (Some (name, rows)) (Report ring gap limit waive outline format manifest) =
@@ -127,28 +130,38 @@ abbrev pub is_plain_word : Text → Bool
 is_plain_word [] = false
 is_plain_word (x ∷ xs) = not (x == 45)
 
--- the words `check --ring R --gap G M`
-abbrev pub check_words : Text → Text → Text → List Text
-check_words ring gap manifest = codes "check" ∷ codes "--ring" ∷ ring ∷ codes "--gap" ∷ gap ∷ manifest ∷ []
+-- whether a word that may be left out is plain where it is there
+abbrev pub is_plain_if_some : Option Text → Bool
+is_plain_if_some None = true
+is_plain_if_some (Some word) = is_plain_word word
 
--- the request is a check with just this ring, gap and manifest
-abbrev pub IsCheck : Text → Text → Text → Request → Type 0
-IsCheck r g m (Check ring gap manifest) = (ring.now ≡ r) × (gap.now ≡ g) × (manifest.now ≡ m)
-IsCheck r g m (Measure format manifest) = ⊥
-IsCheck r g m (Report ring gap limit waive outline format manifest) = ⊥
-IsCheck r g m (Draw ring gap outline manifest) = ⊥
-IsCheck r g m (Show kind file) = ⊥
-IsCheck r g m (Rewrite kind file) = ⊥
-IsCheck r g m (Manifest why files) = ⊥
-IsCheck r g m (Explain word) = ⊥
+-- an option and its value where there is a value, and else no words
+abbrev pub option_words : Text → Option Text → List Text
+option_words name None = []
+option_words name (Some value) = name ∷ value ∷ []
+
+-- the words `check --ring R --gap G [--profile P] M`
+abbrev pub check_words : Text → Text → Option Text → Text → List Text
+check_words ring gap profile manifest = codes "check" ∷ codes "--ring" ∷ ring ∷ codes "--gap" ∷ gap ∷ (option_words (codes "--profile") profile ++ manifest ∷ [])
+
+-- the request is a check with just this ring, gap and manifest, and just this word for a profile or none
+abbrev pub IsCheck : Text → Text → Option Text → Text → Request → Type 0
+IsCheck r g p m (Check ring gap profile manifest) = (ring.now ≡ r) × (gap.now ≡ g) × (option_map (λ w. w.now) profile ≡ p) × (manifest.now ≡ m)
+IsCheck r g p m (Measure format manifest) = ⊥
+IsCheck r g p m (Report ring gap limit waive outline format manifest) = ⊥
+IsCheck r g p m (Draw ring gap outline manifest) = ⊥
+IsCheck r g p m (Show kind file) = ⊥
+IsCheck r g p m (Rewrite kind file) = ⊥
+IsCheck r g p m (Manifest why files) = ⊥
+IsCheck r g p m (Explain word) = ⊥
 
 -- the answer is a check with just these words, running out of memory aside
-abbrev pub ParsesAsCheck : Text → Text → Text → Result Request Refusal → Type 0
-ParsesAsCheck r g m (Ok request) = IsCheck r g m request
-ParsesAsCheck r g m (Err Memory) = Unit {0}
-ParsesAsCheck r g m (Err (Help text)) = ⊥
-ParsesAsCheck r g m (Err Version) = ⊥
-ParsesAsCheck r g m (Err (Usage text)) = ⊥
+abbrev pub ParsesAsCheck : Text → Text → Option Text → Text → Result Request Refusal → Type 0
+ParsesAsCheck r g p m (Ok request) = IsCheck r g p m request
+ParsesAsCheck r g p m (Err Memory) = Unit {0}
+ParsesAsCheck r g p m (Err (Help text)) = ⊥
+ParsesAsCheck r g p m (Err Version) = ⊥
+ParsesAsCheck r g p m (Err (Usage text)) = ⊥
 
 -- ---- what the words of a command on one file ask for
 
@@ -158,7 +171,7 @@ file_words name kind file = name ∷ codes "--kind" ∷ kind ∷ file ∷ []
 
 -- the request is to show this file as one of this kind
 abbrev pub IsShow : Text → Text → Request → Type 0
-IsShow k f (Check ring gap manifest) = ⊥
+IsShow k f (Check ring gap profile manifest) = ⊥
 IsShow k f (Measure format manifest) = ⊥
 IsShow k f (Report ring gap limit waive outline format manifest) = ⊥
 IsShow k f (Draw ring gap outline manifest) = ⊥
@@ -169,7 +182,7 @@ IsShow k f (Explain word) = ⊥
 
 -- the request is to rewrite this file as one of this kind
 abbrev pub IsRewrite : Text → Text → Request → Type 0
-IsRewrite k f (Check ring gap manifest) = ⊥
+IsRewrite k f (Check ring gap profile manifest) = ⊥
 IsRewrite k f (Measure format manifest) = ⊥
 IsRewrite k f (Report ring gap limit waive outline format manifest) = ⊥
 IsRewrite k f (Draw ring gap outline manifest) = ⊥
@@ -198,7 +211,7 @@ manifest_words why files = codes "manifest" ∷ (if why then codes "--why" ∷ f
 
 -- the request is for a manifest of these files, or for the table of why
 abbrev pub IsManifest : Bool → List Text → Request → Type 0
-IsManifest w fs (Check ring gap manifest) = ⊥
+IsManifest w fs (Check ring gap profile manifest) = ⊥
 IsManifest w fs (Measure format manifest) = ⊥
 IsManifest w fs (Report ring gap limit waive outline format manifest) = ⊥
 IsManifest w fs (Draw ring gap outline manifest) = ⊥
@@ -207,23 +220,13 @@ IsManifest w fs (Rewrite kind file) = ⊥
 IsManifest w fs (Manifest why files) = (why ≡ w) × (map (λ file. file.now) files.items ≡ fs)
 IsManifest w fs (Explain word) = ⊥
 
--- whether a word that may be left out is plain where it is there
-abbrev pub is_plain_if_some : Option Text → Bool
-is_plain_if_some None = true
-is_plain_if_some (Some word) = is_plain_word word
-
--- an option and its value where there is a value, and else no words
-abbrev pub option_words : Text → Option Text → List Text
-option_words name None = []
-option_words name (Some value) = name ∷ value ∷ []
-
 -- the words `measure [--format F] M`
 abbrev pub measure_words : Option Text → Text → List Text
 measure_words format manifest = codes "measure" ∷ (option_words (codes "--format") format ++ manifest ∷ [])
 
 -- the request is to measure the package of this manifest, with just this format or with none
 abbrev pub IsMeasure : Option Text → Text → Request → Type 0
-IsMeasure o m (Check ring gap manifest) = ⊥
+IsMeasure o m (Check ring gap profile manifest) = ⊥
 IsMeasure o m (Measure format manifest) = (option_map (λ f. f.now) format ≡ o) × (manifest.now ≡ m)
 IsMeasure o m (Report ring gap limit waive outline format manifest) = ⊥
 IsMeasure o m (Draw ring gap outline manifest) = ⊥
@@ -240,7 +243,7 @@ report_words ring gap limit waive outline format manifest =
 
 -- the request is a report with just this ring, gap and manifest, and just these of a limit of findings, a file of waivers, a file of an outline and a format
 abbrev pub IsReport : Text → Text → Option Text → Option Text → Option Text → Option Text → Text → Request → Type 0
-IsReport r g n v l o m (Check ring gap manifest) = ⊥
+IsReport r g n v l o m (Check ring gap profile manifest) = ⊥
 IsReport r g n v l o m (Measure format manifest) = ⊥
 IsReport r g n v l o m (Report ring gap limit waive outline format manifest) =
     (ring.now ≡ r) × (gap.now ≡ g) × (option_map (λ t. t.now) limit ≡ n) × (option_map (λ w. w.now) waive ≡ v) × (option_map (λ f. f.now) outline ≡ l) × (option_map (λ f. f.now) format ≡ o) × (manifest.now ≡ m)
@@ -263,7 +266,7 @@ are_plain_rules (Some (ring, gap)) = is_plain_word ring && is_plain_word gap
 
 -- the request is to draw the package of this manifest, with just this ring and gap or with neither, and just this file of an outline or none
 abbrev pub IsDraw : Option (Text × Text) → Option Text → Text → Request → Type 0
-IsDraw o l m (Check ring gap manifest) = ⊥
+IsDraw o l m (Check ring gap profile manifest) = ⊥
 IsDraw o l m (Measure format manifest) = ⊥
 IsDraw o l m (Report ring gap limit waive outline format manifest) = ⊥
 IsDraw o l m (Draw ring gap outline manifest) =
@@ -281,7 +284,7 @@ explain_words (Some word) = codes "explain" ∷ word ∷ []
 
 -- the request is to explain this word, or to list the words
 abbrev pub IsExplain : Option Text → Request → Type 0
-IsExplain o (Check ring gap manifest) = ⊥
+IsExplain o (Check ring gap profile manifest) = ⊥
 IsExplain o (Measure format manifest) = ⊥
 IsExplain o (Report ring gap limit waive outline format manifest) = ⊥
 IsExplain o (Draw ring gap outline manifest) = ⊥

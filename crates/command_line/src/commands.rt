@@ -34,6 +34,14 @@ const REPORT_FORMAT: &str = "text, for people; html, a page for a browser;
 json, one object; or waivers, a file to write
 reasons into; text if not there";
 
+const PROFILE: &str = "strict, the default: only discs, rectangles and
+obrounds are pads; wide: rounded pads of macros and
+contours too, and more files are read";
+
+// After `Usage: ` it stands on two lines.
+const CHECK_USAGE: &str = "ringcheck check --ring <MM> --gap <MM> [--profile <strict|wide>]
+                       <MANIFEST>";
+
 const CHECK: &str = "A manifest is a CSV file with the first record role,name,file and one for each
 file; a role is copper, plated or unplated. With role,name,file,first,last a
 drill file may name the first and the last layer that it goes through. File
@@ -130,7 +138,7 @@ fn with_command<'a>(
     }
 }
 
-/// `check --ring MM --gap MM MANIFEST`
+/// `check --ring MM --gap MM [--profile strict|wide] MANIFEST`
 fn check<'a>(alloc: Global) -> Result<Command<'a>, AllocError>
     ensures { IfOk result (λ c. app_of c ≡ check_app) }
 {
@@ -138,11 +146,12 @@ fn check<'a>(alloc: Global) -> Result<Command<'a>, AllocError>
         alloc,
         "check",
         "Check a package against a ring and a gap",
-        "ringcheck check --ring <MM> --gap <MM> <MANIFEST>",
+        CHECK_USAGE,
         CHECK,
     )
     .arg(ring_arg(alloc))?
     .arg(gap_arg(alloc))?
+    .arg(profile_arg(alloc))?
     .arg(required_arg(
         alloc,
         "manifest",
@@ -373,6 +382,14 @@ fn gap_arg<'a>(alloc: Global) -> Arg<'a>
     ensures global { result.global ≡ false }
 {
     required_option_arg(alloc, "gap", "MM", GAP)
+}
+
+/// `[--profile strict|wide]`
+fn profile_arg<'a>(alloc: Global) -> Arg<'a>
+    ensures rule { rule_of result ≡ optional_option (codes "profile") }
+    ensures global { result.global ≡ false }
+{
+    optional_option_arg(alloc, "profile", "NAME", PROFILE)
 }
 
 /// `[--format text|json]`

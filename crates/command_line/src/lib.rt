@@ -1,7 +1,7 @@
 //! The command line of the program.
 //!
 //! ```text
-//! ringcheck check --ring MM --gap MM MANIFEST
+//! ringcheck check --ring MM --gap MM [--profile strict|wide] MANIFEST
 //! ringcheck report --ring MM --gap MM [--max N] [--waive FILE] [--outline FILE] [--format text|html|json|waivers] MANIFEST
 //! ringcheck measure [--format text|json] MANIFEST
 //! ringcheck draw [--ring MM --gap MM] [--outline FILE] MANIFEST
@@ -30,10 +30,12 @@ use std::alloc::{AllocError, Global};
 /// What the words ask for. The texts are words of the command line as they stand; no number in them has been read yet.
 #[derive(Debug, Drop)]
 pub enum Request<'a> {
-    /// Check the package of a manifest. The ring and the gap are texts in mm.
+    /// Check the package of a manifest. The ring and the gap are texts in mm. `profile` is the word for the profile that the files
+    /// are read in, where one is given: it may be any word, though only `strict` and `wide` name a profile.
     Check {
         ring: &'a str,
         gap: &'a str,
+        profile: Option<&'a str>,
         manifest: &'a str,
     },
     /// Print the greatest ring and gap that the package of a manifest meets. `format` is the word for a format, where one is given.
@@ -106,8 +108,8 @@ pub enum Refusal {
 #[inline(never)]
 pub fn parse<'a>(alloc: Global, words: &'a [&'a str]) -> Result<Request<'a>, Refusal>
     ensures exact { ParsesLine (map (λ w. w.now) words.entry.now) result }
-    ensures check { (r g m : Text) → map (λ w. w.now) words.entry.now ≡ check_words r g m → is_plain_word r ≡ true
-        → is_plain_word g ≡ true → is_plain_word m ≡ true → ParsesAsCheck r g m result }
+    ensures check { (r g : Text) (profile : Option Text) (m : Text) → map (λ w. w.now) words.entry.now ≡ check_words r g profile m → is_plain_word r ≡ true
+        → is_plain_word g ≡ true → is_plain_if_some profile ≡ true → is_plain_word m ≡ true → ParsesAsCheck r g profile m result }
     ensures measure { (format : Option Text) (m : Text) → map (λ w. w.now) words.entry.now ≡ measure_words format m → is_plain_if_some format ≡ true
         → is_plain_word m ≡ true → ParsesAs (IsMeasure format m) result }
     ensures report { (r g : Text) (limit waive outline format : Option Text) (m : Text) → map (λ w. w.now) words.entry.now ≡ report_words r g limit waive outline format m
@@ -152,8 +154,8 @@ fn word_count(words: &[&str]) -> usize
 /// The request of a parsed line.
 fn request_of<'a>(alloc: Global, matches: &ArgMatches<'a>) -> Option<Request<'a>>
     ensures request { IfSome result (λ request. IsRequestOf (subcommand_rows_of matches.now) request) }
-    ensures check { (r g m : Text) (rows : List Row) → subcommand_rows_of matches.now ≡ Some (codes "check", rows)
-        → HasCheckRows r g m rows → IsCheckIfSome r g m result }
+    ensures check { (r g : Text) (profile : Option Text) (m : Text) (rows : List Row) → subcommand_rows_of matches.now ≡ Some (codes "check", rows)
+        → HasCheckRows r g profile m rows → IsCheckIfSome r g profile m result }
 {
     let (name, values) = matches.subcommand()?;
     match name {
@@ -171,11 +173,12 @@ fn request_of<'a>(alloc: Global, matches: &ArgMatches<'a>) -> Option<Request<'a>
 
 fn check_request<'a>(values: &ArgMatches<'a>) -> Option<Request<'a>>
     ensures request { IfSome result (λ request. IsRequestOf (Some (codes "check", rows_of (found_of values.now))) request) }
-    ensures check { (r g m : Text) → HasCheckRows r g m (rows_of (found_of values.now)) → IsCheckIfSome r g m result }
+    ensures check { (r g : Text) (profile : Option Text) (m : Text) → HasCheckRows r g profile m (rows_of (found_of values.now)) → IsCheckIfSome r g profile m result }
 {
     Some(Request::Check {
         ring: value(values, "ring")?,
         gap: value(values, "gap")?,
+        profile: value(values, "profile"),
         manifest: value(values, "manifest")?,
     })
 }

@@ -4,8 +4,8 @@ use Rattle.grid_units.specs.declared.item_fail.ItemFail.{ItemFail}
 use Rattle.grid_units.specs.Results.{IsRefusedAs}
 use Rattle.drill_lines.specs.declared.command.Settings.{Settings}
 use Rattle.drill_lines.specs.declared.command.DrillCommand.{DrillCommand}
-use Rattle.drill_lines.specs.declared.line_reader.Profile.{Profile}
-use Rattle.drill_lines.specs.declared.line_reader.Profile.TheVariants.{Strict, Wide}
+use Rattle.grid_units.specs.declared.profile.Profile.{Profile}
+use Rattle.grid_units.specs.declared.profile.Profile.TheVariants.{Strict, Wide}
 use Rattle.drill_lines.specs.declared.line_reader.LineReader.{LineReader}
 use Rattle.drill_lines.specs.declared.route.Route.{Route}
 use Rattle.drill_lines.specs.declared.route.Route.TheVariants as route

@@ -16,4 +16,4 @@ pub use command::{Coordinates, DrillCommand, DrillFormat, OptionalDec, Part, Set
 pub use header::file_format;
 pub use laws::line_grammar;
 pub use line::read_line;
-pub use line_reader::{LineReader, Profile};
+pub use line_reader::LineReader;

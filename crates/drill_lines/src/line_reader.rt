@@ -5,17 +5,8 @@ ghost use Rattle.std.specs.Prelude.{◌≡◌, true, false, ℕ, List};
 use crate::command::{DrillCommand, Settings};
 use crate::line::{read_line, trimmed_len};
 use crate::route::{Route, route_step};
-use grid_units::ItemFail;
+use grid_units::{ItemFail, Profile};
 use std::alloc::Global;
-
-/// Which texts are read as drill files.
-#[derive(Clone, Copy, Debug, PartialEq, Eq)]
-pub enum Profile {
-    /// Each slot stands in one line (`G85`), and each file has a header.
-    Strict,
-    /// Also slots that are routed by four lines, and files without a header and without holes.
-    Wide,
-}
 
 /// A reader of the lines of a drill file, which come one after the other.
 #[derive(Drop)]
@@ -28,8 +19,8 @@ pub struct LineReader {
 impl LineReader {
     ghost use Rattle.std.specs.Prelude.{[]};
     ghost use Rattle.drill_lines.specs.declared.command.Settings.{Settings as TheSettings};
-    ghost use Rattle.drill_lines.specs.declared.line_reader.Profile.{Profile as TheProfile};
-    ghost use Rattle.drill_lines.specs.declared.line_reader.Profile.TheVariants as profile;
+    ghost use Rattle.grid_units.specs.declared.profile.Profile.{Profile as TheProfile};
+    ghost use Rattle.grid_units.specs.declared.profile.Profile.TheVariants as profile;
     ghost use Rattle.drill_lines.specs.declared.route.Route.TheVariants as route;
     ghost use Rattle.drill_lines.specs.Lines.{trimmed};
     ghost use Rattle.drill_lines.specs.LineReading.{HasReadLines, ReadsLine};

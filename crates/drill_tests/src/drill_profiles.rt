@@ -1,5 +1,5 @@
-use drill_text::{Drill, DrillReader, Keep, Profile};
-use grid_units::{Fail, Fault, Hole, Reason};
+use drill_text::{Drill, DrillReader, Keep};
+use grid_units::{Fail, Fault, Hole, Profile, Reason};
 use std::alloc::Global;
 
 /// The ends of a hole, each with its x and its y, and its radius, in pm.

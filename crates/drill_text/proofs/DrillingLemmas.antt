@@ -119,11 +119,16 @@ in_body p o command.Start h k e = absurd cc
 in_body p o command.Finish h k e = absurd cc
 in_body p o c h k e = h e
 
+-- each command that drills stands in the body, of commands whose first stands in this part
+abbrev pub AreInBody : Part → List DrillCommand → Type 0
+AreInBody p [] = Unit {0}
+AreInBody p (c ∷ cs) = (drills c ≡ true → p ≡ part.Body) × AreInBody (part_with p c) cs
+
 -- what stands before the commands that are left, and what is known of these
 record IsLeft (before cs : List DrillCommand) : Type 0 where
   unit : part_after before ≡ part.Body → is_some (last_set unit_set (header before)) ≡ true
   legal : filter_map (violation_at broken_rule) (with_prefixes_from before cs) ≡ []
-  sayable : are_sayable (part_after before) cs ≡ true
+  stands : AreInBody (part_after before) cs
 
 legal_parts : (n : ℕ) (o : Option Reason) (rest : List (ℕ × Reason)) → cons_option (option_map (λ (r : Reason). (n, r)) o) rest ≡ [] → (o ≡ None) × (rest ≡ [])
 legal_parts n None rest e = (refl, e)
@@ -157,7 +162,7 @@ next before cs c left =
       unit = λ body. ap is_some (header-more unit_set refl before c) ∙ stays_named (list_any ends_header before) (unit_set c) (last_set unit_set (header before))
           (in_body (part_after before) (last_set unit_set (header before)) c left.unit (unit_at_end (state_after before) c (has_unit (state_after before) (length (holes_of before)) (path_at before c) c legal.0)) (sym (part_more before c) ∙ body));
       legal = legal.1;
-      sayable = ap (λ p. are_sayable p cs) (part_more before c) ∙ (both_true (is_sayable (part_after before) c) (are_sayable (part_with (part_after before) c) cs) left.sayable).1;
+      stands = subst (λ (p : Part). AreInBody p cs) (sym (part_more before c)) left.stands.1;
     }
 
 -- ---- holes that are listed are drilled
@@ -208,7 +213,7 @@ drilled before c start end named size runs =
 -- a hit or a slot that is left is in the body, where a unit is named, and what it drills has a size
 drilled_now : (before cs : List DrillCommand) (c : DrillCommand) → IsLeft before (c ∷ cs) → drills c ≡ true → (is_some (last_set unit_set (header before)) ≡ true) × (applies (state_after before) (length (holes_of before)) (path_at before c) c BadSize ≡ false)
 drilled_now before cs c left d = (
-  left.unit (drills_in_body (part_after before) c d (both_true (is_sayable (part_after before) c) (are_sayable (part_with (part_after before) c) cs) left.sayable).0),
+  left.unit (left.stands.0 d),
   has_size (state_after before) (length (holes_of before)) (path_at before c) c (legal_now before cs c left).0,
 )
 
@@ -223,11 +228,18 @@ listed_drilled before (command.Slot p q ∷ cs) left =
     (drilled before (command.Slot p q) (p ∷ []) (p ∷ q ∷ []) now.0 now.1 (λ unit. (refl, refl)), listed_drilled (before ++ command.Slot p q ∷ []) cs (next before cs (command.Slot p q) left))
 listed_drilled before (c ∷ cs) left = listed_drilled (before ++ c ∷ []) cs (next before cs c left)
 
--- legal commands, each in its part of the file, drill the holes that are listed of them
-pub legal_are_drilled : (commands : List DrillCommand) → IsLegal broken_rule commands → drill_sayable commands ≡ true → AreHoles commands (holes_of commands)
+-- legal commands that drill in the body alone drill the holes that are listed of them
+pub legal_are_drilled : (commands : List DrillCommand) → IsLegal broken_rule commands → AreInBody part.Before commands → AreHoles commands (holes_of commands)
 unfolding AreHolesAfter listed_after
-legal_are_drilled commands legal said =
-    listed_drilled [] commands (record { unit = λ e. absurd cc; legal = legal; sayable = (both_true (are_sayable part.Before commands) (is_after_end (part_from part.Before commands)) said).0 })
+legal_are_drilled commands legal stand = listed_drilled [] commands (record { unit = λ e. absurd cc; legal = legal; stands = stand })
+
+-- sayable commands drill in the body alone
+sayable_in_body : (p : Part) (cs : List DrillCommand) → are_sayable p cs ≡ true → AreInBody p cs
+sayable_in_body p [] e = tt
+sayable_in_body p (c ∷ cs) e =
+    let both = both_true (is_sayable p c) (are_sayable (part_with p c) cs) e in
+    ((λ d. drills_in_body p c d both.0), sayable_in_body (part_with p c) cs both.1)
 
 pub listed_holes_are_drilled : ListedHolesAreDrilled
-listed_holes_are_drilled text commands d = legal_are_drilled commands d.legal (text_sayable text commands d.spells)
+listed_holes_are_drilled text commands d =
+    legal_are_drilled commands d.legal (sayable_in_body part.Before commands (both_true (are_sayable part.Before commands) (is_after_end (part_from part.Before commands)) (text_sayable text commands d.spells)).0)

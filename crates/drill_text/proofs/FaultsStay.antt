@@ -3,8 +3,8 @@ use Rattle.std.proofs.Common.{◌≡◌, ℕ, zero, suc, ◌-◌, ◌<◌, cond,
 use Rattle.std.proofs.lemmas.List.{take-append-le, length-append}
 use Rattle.std.proofs.lemmas.Bool.{lt-ltb, ltb-true}
 use Rattle.drill_lines.specs.declared.command.DrillCommand.{DrillCommand}
-use Rattle.drill_lines.specs.declared.line_reader.Profile.{Profile}
-use Rattle.drill_lines.specs.declared.line_reader.Profile.TheVariants.{Strict}
+use Rattle.grid_units.specs.declared.profile.Profile.{Profile}
+use Rattle.grid_units.specs.declared.profile.Profile.TheVariants.{Strict}
 use Rattle.grid_units.specs.declared.fault.Fault.{Fault}
 use Rattle.grid_units.specs.declared.fault.Reason.TheVariants.{TooLong}
 use Rattle.drill_text.specs.Lines.{Splits}

@@ -20,6 +20,7 @@ pub mod WholeLineLemmas
 pub mod FirstFaults
 pub mod Reasons
 pub mod DrillingLemmas
+pub mod WideDrilling
 pub mod DrillingExamples
 pub mod GrammarLemmas
 pub mod GrammarExamples

@@ -11,8 +11,8 @@ use Rattle.grid_units.specs.Results.{◌>>=◌, fault, with_place, Answers, IfFa
 use Rattle.grid_units.proofs.ResultLemmas.{bind_ok, bind_err, bind_assoc, bind_cong, bind_Ok, guard_ok, guard_err}
 use Rattle.grid_units.specs.Limits.{line_limit, text_limit}
 use Rattle.drill_lines.specs.declared.command.DrillCommand.{DrillCommand}
-use Rattle.drill_lines.specs.declared.line_reader.Profile.{Profile}
-use Rattle.drill_lines.specs.declared.line_reader.Profile.TheVariants.{Strict}
+use Rattle.grid_units.specs.declared.profile.Profile.{Profile}
+use Rattle.grid_units.specs.declared.profile.Profile.TheVariants.{Strict}
 use Rattle.drill_lines.specs.Lines.{trimmed}
 use Rattle.drill_lines.specs.Meaning.{meaning}
 use Rattle.drill_lines.specs.Routes.{meaning_in}

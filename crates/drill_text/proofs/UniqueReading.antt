@@ -6,7 +6,7 @@ use Rattle.std.proofs.lemmas.List.Sums.{fold-append}
 use Rattle.std.proofs.lemmas.Bool.{eqb-true}
 use Rattle.grid_units.specs.declared.fault.Fault.{Fault}
 use Rattle.drill_lines.specs.declared.command.DrillCommand.{DrillCommand}
-use Rattle.drill_lines.specs.declared.line_reader.Profile.{Profile}
+use Rattle.grid_units.specs.declared.profile.Profile.{Profile}
 use Rattle.drill_text.specs.Lines.{bytes_of, HasNoBreak, Splits}
 use Rattle.drill_text.specs.Reading.{Shows, Reads, shown_in, read_in}
 use Rattle.drill_text.specs.Profiles.{ShowsIn, ReadsIn, shown_within, read_by}

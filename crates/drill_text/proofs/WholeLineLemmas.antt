@@ -11,7 +11,7 @@ use Rattle.grid_units.specs.Results.{IfFault}
 use Rattle.drill_text.specs.declared.reader.Progress.{Progress}
 use Rattle.drill_text.specs.Lines.{HasNoBreak, Splits, bytes_of}
 use Rattle.drill_text.specs.Profiles.{shown_by, spelled_in}
-use Rattle.drill_lines.specs.declared.line_reader.Profile.{Profile}
+use Rattle.grid_units.specs.declared.profile.Profile.{Profile}
 use Rattle.drill_text.specs.declared.kept.Keep.{Keep}
 use Rattle.drill_text.specs.Keeping.{HasReadIn}
 use Rattle.drill_text.specs.Holding.{Holds, Refuses}

@@ -16,7 +16,7 @@ use Rattle.drill_lines.specs.declared.command.Part.TheVariants as part
 use Rattle.drill_lines.specs.declared.command.Settings.{Settings}
 use Rattle.drill_lines.specs.declared.command.DrillCommand.{DrillCommand}
 use Rattle.drill_lines.specs.declared.command.DrillCommand.TheVariants.{Slot}
-use Rattle.drill_lines.specs.declared.line_reader.Profile.TheVariants.{Wide}
+use Rattle.grid_units.specs.declared.profile.Profile.TheVariants.{Wide}
 use Rattle.drill_lines.specs.Lines.{trimmed}
 use Rattle.drill_lines.specs.Meaning.{meaning}
 use Rattle.drill_lines.specs.Routes.{starts, lowers, cuts, last_line, is_routing, second_line, third_line, fourth_line, wide_row, unless_routing, other_line, wide_meaning}

@@ -7,8 +7,8 @@ use Rattle.grid_units.specs.Results.{◌>>=◌, fault, with_place}
 use Rattle.grid_units.proofs.ResultLemmas.{bind_ok}
 use Rattle.grid_units.specs.Limits.{line_limit, text_limit}
 use Rattle.drill_lines.specs.declared.command.DrillCommand.{DrillCommand}
-use Rattle.drill_lines.specs.declared.line_reader.Profile.{Profile}
-use Rattle.drill_lines.specs.declared.line_reader.Profile.TheVariants.{Strict, Wide}
+use Rattle.grid_units.specs.declared.profile.Profile.{Profile}
+use Rattle.grid_units.specs.declared.profile.Profile.TheVariants.{Strict, Wide}
 use Rattle.drill_lines.specs.Lines.{trimmed}
 use Rattle.drill_lines.specs.Meaning.{meaning}
 use Rattle.drill_lines.specs.Routes.{is_routing, wide_meaning}

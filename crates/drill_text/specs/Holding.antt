@@ -5,8 +5,8 @@ use Rattle.grid_units.specs.declared.fault.Fault.{Fault}
 use Rattle.grid_units.specs.declared.fault.Fail.{Fail}
 use Rattle.grid_units.specs.declared.fault.Fail.TheVariants as fails
 use Rattle.drill_lines.specs.declared.command.DrillCommand.{DrillCommand}
-use Rattle.drill_lines.specs.declared.line_reader.Profile.{Profile}
-use Rattle.drill_lines.specs.declared.line_reader.Profile.TheVariants as profile
+use Rattle.grid_units.specs.declared.profile.Profile.{Profile}
+use Rattle.grid_units.specs.declared.profile.Profile.TheVariants as profile
 use Rattle.drill_text.specs.declared.reader.Progress.{Progress}
 use Rattle.drill_text.specs.declared.reader.DrillReader.{DrillReader}
 use Rattle.drill_text.specs.declared.kept.Keep.{Keep}

@@ -7,7 +7,7 @@ use Rattle.grid_units.specs.Lists.{IsLegal}
 use Rattle.drill_lines.specs.declared.command.Settings.{Settings}
 use Rattle.drill_lines.specs.declared.command.DrillCommand.{DrillCommand}
 use Rattle.drill_lines.specs.declared.command.DrillCommand.TheVariants.{Slot, Finish}
-use Rattle.drill_lines.specs.declared.line_reader.Profile.TheVariants.{Wide}
+use Rattle.grid_units.specs.declared.profile.Profile.TheVariants.{Wide}
 use Rattle.drill_lines.specs.Lines.{trimmed}
 use Rattle.drill_lines.specs.Routes.{is_routing}
 use Rattle.drill_lines.specs.RouteGrammar.{IsAlone, IsRoute}
@@ -16,6 +16,8 @@ use Rattle.drill_text.specs.Grammar.{lines_of}
 use Rattle.drill_text.specs.Laws.{IsWithinLimits}
 use Rattle.drill_text.specs.Profiles.{ReadsIn}
 use Rattle.drill_text.specs.Rules.{broken_rule}
+use Rattle.drill_text.specs.Drilling.{AreHoles}
+use Rattle.drill_text.specs.Holes.{holes_of}
 
 -- lines that spell at most one command together: one by itself, or the four of a route
 abbrev pub IsEntry : Settings → Bool → List (List ℕ) → Option DrillCommand → Type 0
@@ -47,3 +49,7 @@ WrittenIsRead = (text : List ℕ) (commands : List DrillCommand) → IsWithinLim
 -- a text that is read as commands in the wide profile is a wide text of them, they are legal, and neither it nor a line is too long
 abbrev pub ReadIsWritten : Type 0
 ReadIsWritten = (text : List ℕ) (commands : List DrillCommand) → ReadsIn Wide text (Ok commands) → IsWithinLimits text × IsWideText text commands × IsLegal broken_rule commands
+
+-- the legal commands of a wide text drill the holes that are listed of them
+abbrev pub WideHolesAreDrilled : Type 0
+WideHolesAreDrilled = (text : List ℕ) (commands : List DrillCommand) → IsWideText text commands → IsLegal broken_rule commands → AreHoles commands (holes_of commands)

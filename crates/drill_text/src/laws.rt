@@ -9,10 +9,10 @@ ghost use Rattle.drill_text.specs.Reading.{Shows, Reads};
 ghost use Rattle.drill_text.specs.Faults.{HasAnswer, IsFirstFault, is_drill_reason};
 ghost use Rattle.drill_text.specs.Texts.{SpellsText, IsDrillText};
 ghost use Rattle.drill_text.specs.Writing.{drill_sayable};
-ghost use Rattle.drill_lines.specs.declared.line_reader.Profile.{Profile};
-ghost use Rattle.drill_lines.specs.declared.line_reader.Profile.TheVariants.{Strict, Wide};
+ghost use Rattle.grid_units.specs.declared.profile.Profile.{Profile};
+ghost use Rattle.grid_units.specs.declared.profile.Profile.TheVariants.{Strict, Wide};
 ghost use Rattle.drill_text.specs.Profiles.{ShowsIn, ReadsIn};
-ghost use Rattle.drill_text.specs.WideGrammar.{ReadIsWritten, WrittenIsRead};
+ghost use Rattle.drill_text.specs.WideGrammar.{ReadIsWritten, WideHolesAreDrilled, WrittenIsRead};
 ghost use Rattle.drill_text.specs.Laws.{ListedHolesAreDrilled, DrilledHolesAreListed, DrillsAtMostOneList, SpelledIsWritten, IsTextOfAtMostOne};
 
 /// A text shows one thing, and has one reading.
@@ -75,6 +75,7 @@ pub fn strict_profile()
 pub fn readings_in_profiles()
     ensures shown { (profile : Profile) (text : List ℕ) (a b : Result (List DrillCommand) Fault) → ShowsIn profile text a → ShowsIn profile text b → a ≡ b }
     ensures read { (profile : Profile) (text : List ℕ) (a b : Result (List DrillCommand) Fault) → ReadsIn profile text a → ReadsIn profile text b → a ≡ b }
+    ensures some { (profile : Profile) (text : List ℕ) → (answer : Result (List DrillCommand) Fault) × ReadsIn profile text answer }
     ensures stays { (profile : Profile) (text more : List ℕ) (f : Fault) → ShowsIn profile text (Err f) → ReadsIn profile (text ++ more) (Err f) }
 {}
 
@@ -88,4 +89,9 @@ pub fn wide_reads_more()
 pub fn wide_grammar()
     ensures read { WrittenIsRead }
     ensures written { ReadIsWritten }
+{}
+
+/// The holes that are listed of the legal commands of a wide text are just those that the commands drill.
+pub fn wide_holes()
+    ensures { WideHolesAreDrilled }
 {}

@@ -10,7 +10,7 @@ mod state;
 mod writer;
 
 pub use drill::Drill;
-pub use drill_lines::{Coordinates, DrillCommand, DrillFormat, Profile};
+pub use drill_lines::{Coordinates, DrillCommand, DrillFormat};
 pub use kept::Keep;
 pub use laws::{
     drill_texts, drilled_holes, equal_commands, faults_stay, first_faults, readings_in_profiles,

@@ -257,6 +257,7 @@ unplated. A ? stands for what is not decided: decide, and write the role in.
 In a file of waivers: the kind of a record is neither ring nor gap.
 With show and rewrite: the kind is neither layer nor drill.
 With --format: the word is no format, or it is waivers beside --waive.
+With --profile: the word is neither strict nor wide.
 With explain: the word has no page; ringcheck explain lists those that have.
 ";
 

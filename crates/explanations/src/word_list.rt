@@ -50,7 +50,7 @@ TooManyPads: the layer has more than 4,194,304 flashes
 TooManyHoles: the drill file has more than 1,048,576 holes
 BadRule: the ring is below 0, or the gap is not above 0
 BadManifest: a record of a manifest or of waivers is malformed, or a name is
-BadRole: a role, a kind, a format or a word to explain is none
+BadRole: a role, a kind, a format, a profile or a word to explain is none
 EmptyName: a record of a manifest has an empty name, or a waiver no reason
 RepeatedName: a record of the manifest has the name of an earlier one
 NoCopper: the manifest names no copper layer

@@ -5,7 +5,7 @@ use Rattle.grid_units.specs.declared.lengths.Unit.{Unit as Units}
 use Rattle.grid_units.specs.declared.lengths.Unit.TheVariants.{Inch, Millimetre}
 use Rattle.grid_units.specs.Spellings.{minus, canonical as canonical_dec}
 use Rattle.gerber_commands.specs.declared.command.Command.{Command}
-use Rattle.gerber_commands.specs.declared.command.Command.TheVariants.{Comment, Mode, Quadrant, RegionStart, RegionEnd, UnitIs, FormatIs, Define, Macro, Select, Operate, Dark, Mirror, Turn, Scale, Repeat, RepeatEnd, Attribute, Remove, Finish}
+use Rattle.gerber_commands.specs.declared.command.Command.TheVariants.{Comment, Mode, Quadrant, RegionStart, RegionEnd, UnitIs, FormatIs, Define, Macro, Select, Operate, Dark, Clear, Mirror, Turn, Scale, Repeat, RepeatEnd, Attribute, Remove, Finish}
 use Rattle.gerber_commands.specs.declared.command.Interpolation.{Interpolation}
 use Rattle.gerber_commands.specs.declared.command.Interpolation.TheVariants.{Linear, Clockwise, Counterclockwise}
 use Rattle.gerber_commands.specs.declared.command.QuadrantMode.{QuadrantMode}
@@ -103,6 +103,7 @@ canonical (Macro name pieces) = codes "%AM" ++ (name ++ (codes "*" ++ (pieces_te
 canonical (Select number) = codes "D" ++ (decimal number ++ codes "*")
 canonical (Operate action x y i j) = coordinate_text ascii.upper_x x ++ (coordinate_text ascii.upper_y y ++ (coordinate_text ascii.upper_i i ++ (coordinate_text ascii.upper_j j ++ action_code action)))
 canonical Dark = codes "%LPD*%"
+canonical Clear = codes "%LPC*%"
 canonical (Mirror x y) = mirror_item x y
 canonical (Turn degrees) = codes "%LR" ++ (canonical_dec degrees ++ codes "*%")
 canonical (Scale factor) = codes "%LS" ++ (canonical_dec factor ++ codes "*%")

@@ -335,6 +335,7 @@ pub fn write_item(out: &mut Vec<u8>, command: &Command) -> Result<(), AllocError
             put_operation(out, *action, at)
         }
         Command::Dark => put(out, b"%LPD*%"),
+        Command::Clear => put(out, b"%LPC*%"),
         Command::Mirror { x, y } => put(out, mirror_item(*x, *y)),
         Command::Turn(degrees) => put_dec_between(out, b"%LR", *degrees, b"*%"),
         Command::Scale(factor) => put_dec_between(out, b"%LS", *factor, b"*%"),

@@ -291,6 +291,8 @@ pub enum Command {
     },
     /// `LPD`: dark polarity.
     Dark,
+    /// `LPC`: clear polarity, which only the wide profile reads.
+    Clear,
     /// `LM`: the axes along which flashes are mirrored.
     Mirror {
         x: bool,
@@ -328,6 +330,7 @@ impl fmt::Debug for Command {
             Command::Select(..) => "Select",
             Command::Operate { .. } => "Operate",
             Command::Dark => "Dark",
+            Command::Clear => "Clear",
             Command::Mirror { .. } => "Mirror",
             Command::Turn(..) => "Turn",
             Command::Scale(..) => "Scale",

@@ -4,12 +4,14 @@ use Rattle.std.specs.Prelude.{codes, decimal}
 use Rattle.std.proofs.lemmas.Fmt.{decimal_digit}
 use Rattle.grid_units.specs.Numbers.{parse_decimal}
 use Rattle.grid_units.specs.declared.lengths.Unit.TheVariants.{Millimetre}
-use Rattle.gerber_commands.specs.declared.command.Command.TheVariants.{UnitIs, FormatIs, Define, Dark, Mirror, RepeatEnd, Attribute}
+use Rattle.gerber_commands.specs.declared.command.Command.TheVariants.{UnitIs, FormatIs, Define, Dark, Clear, Mirror, RepeatEnd, Attribute}
 use Rattle.gerber_commands.specs.declared.command.AttributeKind.TheVariants as kinds
 use Rattle.gerber_commands.specs.declared.command.Standard.TheVariants.{Circle, Rectangle}
 use Rattle.gerber_commands.specs.declared.command.Template.TheVariants as templates
 use Rattle.gerber_commands.specs.Numbers.{nat_of}
+use Rattle.grid_units.specs.declared.profile.Profile.TheVariants.{Wide}
 use Rattle.gerber_extended.specs.Grammar.{IsPiece}
+use Rattle.gerber_extended.specs.Profiles.{IsPieceIn}
 
 -- four whole digits and six decimals
 pub format : IsPiece (codes "FSLAX46Y46") (FormatIs (record { whole = 4; decimals = 6 }) ∷ [])
@@ -33,6 +35,10 @@ rectangle = inr (refl, inr (inl (_, (codes "11", codes "R,1X2", refl, omega arit
 
 pub dark : IsPiece (codes "LPD") (Dark ∷ [])
 dark = inr (refl, inl (2, omega arith, refl))
+
+-- in the wide profile alone
+pub clear : IsPieceIn Wide (codes "LPC") (Clear ∷ [])
+clear = inl (refl, refl)
 
 pub mirrored : IsPiece (codes "LMXY") (Mirror true true ∷ [])
 mirrored = inr (refl, inl (7, omega arith, refl))

@@ -2,3 +2,4 @@ pub mod Grammar
 pub mod Inner
 pub mod Laws
 pub mod Pieces
+pub mod Profiles

@@ -9,6 +9,8 @@ ghost use Rattle.grid_units.specs.Numbers.{is_number_char, is_digit, parse_decim
 ghost use Rattle.gerber_commands.specs.Numbers.{nat_of};
 ghost use Rattle.grid_units.specs.Rows.{strip_prefix};
 ghost use Rattle.gerber_commands.specs.Rows.{first_match};
+ghost use Rattle.grid_units.specs.declared.profile.Profile.TheVariants.{Wide};
+ghost use Rattle.gerber_extended.specs.Profiles.{extended_in};
 ghost use Rattle.gerber_extended.specs.Pieces.{refused_format_row, format, format_fields, format_row, unit_piece_row, polarity_row, mirror_row, run_after, turn, scale, transform_row, block_fields, repeat, repeat_start, repeat_row, file_attribute, attribute, removal, is_omitted_or, is_zero_rotation, axes_equal, has_no_effect, no_effect_piece_row, neutral_axes_row, negative_row, deprecated_piece_row, block_aperture_row, deprecated_pieces, pieces_from_attributes, pieces_from_polarity, has_several_pieces, last_byte, before_last, pieces, piece, extended};
 
 use crate::aperture::{read_define, read_macro};
@@ -17,7 +19,7 @@ use gerber_commands::{
     is_negative_image, number_field, read_nat, strip_prefix,
 };
 use grid_units::numbers::{is_digit, is_number_char};
-use grid_units::{Dec, ItemFail, Reason, Text, Unit, both};
+use grid_units::{Dec, ItemFail, Profile, Reason, Text, Unit, both};
 use std::alloc::Global;
 
 type Row = Option<Result<ItemCommands, Reason>>;
@@ -488,7 +490,7 @@ fn before_asterisk(text: &[u8]) -> Option<&[u8]>
     }
 }
 
-/// Reads what stands between the two `%` of an extended item.
+/// Reads what stands between the two `%` of an extended item in the strict profile.
 #[tactic(auto, unfolding(crate::specs::Pieces::extended))]
 pub fn read_extended(alloc: Global, text: &[u8]) -> Result<ItemCommands, ItemFail>
     ensures { Gives result (extended text.now) }
@@ -496,5 +498,29 @@ pub fn read_extended(alloc: Global, text: &[u8]) -> Result<ItemCommands, ItemFai
     match before_asterisk(text) {
         Some(prefix) => read_piece(alloc, prefix),
         None => Err(ItemFail::Refused(Reason::BadWord)),
+    }
+}
+
+/// Reads what stands between the two `%` of an extended item in the wide profile, where `LPC*` is clear polarity.
+fn read_wide(alloc: Global, text: &[u8]) -> Result<ItemCommands, ItemFail>
+    ensures { Gives result (extended_in Wide text.now) }
+{
+    if text == b"LPC*".as_slice() {
+        return Ok(ItemCommands::one(Command::Clear));
+    }
+    read_extended(alloc, text)
+}
+
+/// Reads what stands between the two `%` of an extended item in a profile.
+pub fn read_extended_in(
+    alloc: Global,
+    profile: Profile,
+    text: &[u8],
+) -> Result<ItemCommands, ItemFail>
+    ensures { Gives result (extended_in profile text.now) }
+{
+    match profile {
+        Profile::Strict => read_extended(alloc, text),
+        Profile::Wide => read_wide(alloc, text),
     }
 }

@@ -17,7 +17,7 @@ fn commands_of(alloc: Global, text: &[u8]) -> Result<Vec<Command>, Fail> {
     Ok(commands)
 }
 
-/// A text with all 20 kinds of commands, in various spellings.
+/// A text with all 20 kinds of commands of the strict profile, in various spellings.
 const ALL_KINDS: &[u8] =
     b"G04 all*%FSLAX24Y24*%%MOMM*%%TF.Part,Single*%%TD.Part*%%AMbox*21,1,$1,$2,0,0,0*%%ADD010C,.0500*%%ADD11box,1X2*%G75*G01X+01000Y0D2*G36*G37*D10*%LPD*%%LMX*%%LR90.0*%%LS1.00*%%SRX02Y1I5.0J-0*%X2000D1*%SR*%M2*";
 

@@ -4,6 +4,8 @@
 #[cfg(test)]
 mod drawn_calls;
 #[cfg(test)]
+mod gerber_profiles;
+#[cfg(test)]
 mod gerber_sayable_calls;
 #[cfg(test)]
 mod gerber_text_calls;

@@ -24,11 +24,14 @@ fn is_said(alloc: Global, list: &[Plain]) -> Option<bool> {
 }
 
 /// Lists of commands, and whether they are sayable.
-const LISTS: [(&[Plain], bool); 19] = [
+const LISTS: [(&[Plain], bool); 21] = [
     (&[], false),
     (&[Plain::Finish], true),
     (&[Plain::Finish, Plain::Finish], false),
     (&[Plain::Dark], false),
+    (&[Plain::Dark, Plain::Finish], true),
+    // Only the wide profile reads it.
+    (&[Plain::Clear, Plain::Finish], false),
     (&[Plain::Select(9), Plain::Finish], false),
     (&[Plain::Named(b"C"), Plain::Finish], false),
     (

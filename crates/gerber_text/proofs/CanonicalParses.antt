@@ -5,7 +5,7 @@ use Rattle.std.proofs.lemmas.Bool.{leb-true}
 use Rattle.grid_units.specs.declared.lengths.Unit.TheVariants.{Inch, Millimetre}
 use Rattle.grid_units.specs.Spellings.{canonical as canonical_dec}
 use Rattle.gerber_commands.specs.declared.command.Command.{Command}
-use Rattle.gerber_commands.specs.declared.command.Command.TheVariants.{Comment, Mode, Quadrant, RegionStart, RegionEnd, UnitIs, FormatIs, Define, Macro, Select, Operate, Dark, Mirror, Turn, Scale, Repeat, RepeatEnd, Attribute, Remove, Finish}
+use Rattle.gerber_commands.specs.declared.command.Command.TheVariants.{Comment, Mode, Quadrant, RegionStart, RegionEnd, UnitIs, FormatIs, Define, Macro, Select, Operate, Dark, Clear, Mirror, Turn, Scale, Repeat, RepeatEnd, Attribute, Remove, Finish}
 use Rattle.gerber_commands.specs.declared.command.Interpolation.TheVariants.{Linear, Clockwise, Counterclockwise}
 use Rattle.gerber_commands.specs.declared.command.QuadrantMode.TheVariants.{Single, Multi}
 use Rattle.gerber_commands.specs.declared.command.AttributeKind.{AttributeKind}
@@ -66,6 +66,7 @@ kind_parses (Macro name ps) h s = pieces_spell (Macro name ps) (macro_piece_text
 kind_parses (Select n) h s = select_parses n h s
 kind_parses (Operate a x y i j) h s = word_spells (Operate a x y i j) (operation_text a x y i j) (operation_whole a x y i j) (operation_bytes a x y i j h) s (λ plotting. operation_word plotting a x y i j h)
 kind_parses Dark h s = piece_spells Dark (codes "LPD") refl refl s refl
+kind_parses Clear h s = absurd cc
 kind_parses (Mirror false false) h s = piece_spells (Mirror false false) (codes "LMN") refl refl s refl
 kind_parses (Mirror true false) h s = piece_spells (Mirror true false) (codes "LMX") refl refl s refl
 kind_parses (Mirror false true) h s = piece_spells (Mirror false true) (codes "LMY") refl refl s refl

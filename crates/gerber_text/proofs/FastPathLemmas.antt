@@ -10,6 +10,7 @@ use Rattle.grid_units.specs.Results.{◌>>=◌, both}
 use Rattle.grid_units.specs.Numbers.{is_digit, is_number_char, value, without_sign, is_negative}
 use Rattle.grid_units.specs.declared.fault.Reason.{Reason}
 use Rattle.grid_units.specs.declared.fault.Reason.TheVariants.{BadWord}
+use Rattle.grid_units.specs.declared.profile.Profile.{Profile}
 use Rattle.gerber_commands.specs.declared.command.Command.{Command}
 use Rattle.gerber_commands.specs.declared.command.Command.TheVariants.{Operate}
 use Rattle.gerber_commands.specs.declared.command.Interpolation.{Interpolation}
@@ -20,8 +21,8 @@ use Rattle.gerber_text.specs.Items.{is_line_break, end_byte, IsItem, is_end_item
 use Rattle.gerber_commands.specs.Numbers.{int_of, nat_of}
 use Rattle.gerber_commands.specs.Rows.{first_match, field, modes_of}
 use Rattle.gerber_words.specs.Words.{coordinate, kind, Fields, fields, is_action_code, is_operation, operands, operate, words, word, is_plot}
-use Rattle.gerber_extended.specs.Pieces.{extended}
-use Rattle.gerber_text.specs.Meaning.{meaning, without_end}
+use Rattle.gerber_extended.specs.Profiles.{extended_in}
+use Rattle.gerber_text.specs.Meaning.{meaning_in, without_end}
 use Rattle.gerber_commands.specs.Canonical.{action_code}
 use Rattle.gerber_text.specs.FastPath.{HasLeadingOperation, HasLeadingInt, HasLeadingCoordinate, coordinate_field, mode_prefix}
 use Rattle.grid_units.proofs.ResultLemmas.{bind_ok}
@@ -302,9 +303,9 @@ without_end_push w b =
     ap (λ k. take k (w ++ b ∷ [])) n ∙ take-append_seam w (b ∷ [])
 
 -- an item that does not begin with `%`
-item_means : (plotting : Bool) (b : ℕ) (bs : List ℕ) → eqb b 37 ≡ false → meaning plotting ((b ∷ bs) ++ 42 ∷ []) ≡ word plotting (b ∷ bs)
-unfolding meaning
-item_means plotting b bs other = ap (λ t. cond t (extended (without_end (bs ++ 42 ∷ []))) (word plotting (without_end ((b ∷ bs) ++ 42 ∷ [])))) other ∙ ap (word plotting) (without_end_push (b ∷ bs) 42)
+item_means : (profile : Profile) (plotting : Bool) (b : ℕ) (bs : List ℕ) → eqb b 37 ≡ false → meaning_in profile plotting ((b ∷ bs) ++ 42 ∷ []) ≡ word plotting (b ∷ bs)
+unfolding meaning_in
+item_means profile plotting b bs other = ap (λ t. cond t (extended_in profile (without_end (bs ++ 42 ∷ []))) (word plotting (without_end ((b ∷ bs) ++ 42 ∷ [])))) other ∙ ap (word plotting) (without_end_push (b ∷ bs) 42)
 
 is_item : (b : ℕ) (bs : List ℕ) → AllByRecursion Stays (b ∷ bs) → IsItem ((b ∷ bs) ++ 42 ∷ [])
 is_item b bs h =
@@ -320,14 +321,14 @@ is_item b bs h =
 record StandsFor (item : List ℕ) (commands : List Command) : Type 0 where
   pub one : IsItem item
   pub kept : AllByRecursion (λ b. is_line_break b ≡ false) item
-  pub parses : (plotting : Bool) → meaning plotting item ≡ Ok commands
+  pub parses : (profile : Profile) (plotting : Bool) → meaning_in profile plotting item ≡ Ok commands
 
 stands_by : (all : List ℕ) (commands : List Command) → 0 < length all → AllByRecursion Stays all → ((plotting : Bool) → word plotting all ≡ Ok commands) → StandsFor (all ++ 42 ∷ []) commands
 stands_by [] commands some h k = absurd (omega arith)
 stands_by (b ∷ bs) commands some h k = record {
   one = is_item b bs h;
   kept = all-append (λ c. is_line_break c ≡ false) (b ∷ bs) (42 ∷ []) (all-weaker Stays (λ c. is_line_break c ≡ false) (λ c s. s.2) (b ∷ bs) h) (refl, tt);
-  parses = λ plotting. item_means plotting b bs h.0.0 ∙ k plotting;
+  parses = λ profile plotting. item_means profile plotting b bs h.0.0 ∙ k plotting;
 }
 
 -- the bytes of such an item, with its `*`
@@ -425,5 +426,5 @@ plain_item bytes after_m after_x after_y after_i rest more m v w s t action fron
       one = subst IsItem (sym prefix) stands.one;
       kept = subst (AllByRecursion (λ b. is_line_break b ≡ false)) (sym prefix) stands.kept;
       goes_on = ap is_end_item prefix ∙ no_end m x y (ci ++ (cj ++ c)) there;
-      parses = λ plotting. ap (meaning plotting) prefix ∙ stands.parses plotting;
+      parses = λ profile plotting. ap (meaning_in profile plotting) prefix ∙ stands.parses profile plotting;
     }

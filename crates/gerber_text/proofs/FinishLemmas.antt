@@ -3,6 +3,8 @@ use Rattle.std.proofs.Common.{◌≡◌, ℕ, suc, ◌+◌, ◌<◌, ◌≤◌, 
 use Rattle.std.specs.List.{list_all}
 use Rattle.std.proofs.lemmas.List.{take_all, take_at, length-append}
 use Rattle.std.proofs.lemmas.Bool.{lt-ltb, le-ltb, false≢true}
+use Rattle.grid_units.specs.declared.profile.Profile.{Profile}
+use Rattle.grid_units.specs.declared.profile.Profile.TheVariants.{Strict}
 use Rattle.grid_units.specs.declared.fault.Fault.{Fault}
 use Rattle.grid_units.specs.declared.fault.Fail.{Fail}
 use Rattle.grid_units.specs.declared.fault.Fail.TheVariants as fails
@@ -10,8 +12,8 @@ use Rattle.grid_units.specs.declared.fault.Reason.TheVariants.{TooLong, Truncate
 use Rattle.gerber_text.specs.declared.reader.Progress.{Progress}
 use Rattle.gerber_text.specs.Cut.{OffsetByte, offset_bytes, bytes_of, first_offset, has_end, Splits}
 use Rattle.grid_units.specs.Results.{◌>>=◌, fault, Answers, AnswersAlways}
-use Rattle.gerber_text.specs.Reading.{Entries, commands_from, shown, Shows, ended, Reads, is_blank, SpellsPrefix, SpellsBeforeFault, ReadsUpToFault, entries_of, entries_after}
-use Rattle.gerber_text.specs.Holding.{Holds, FailsOnBytes, Refuses, FailsWith, RefusesText, Ends}
+use Rattle.gerber_text.specs.Reading.{Entries, commands_by, shown_by, ShowsIn, ended, ReadsIn, is_blank, SpellsPrefixIn, SpellsBeforeFaultIn, ReadsUpToFault, entries_of, entries_after}
+use Rattle.gerber_text.specs.Holding.{Holds, FailsOnBytes, Refuses, FailsWithIn, RefusesText, Ends}
 use Rattle.grid_units.proofs.ResultLemmas.{bind_err, guard_err}
 use Rattle.gerber_text.proofs.ShowsLemmas.{kept_all}
 use Rattle.grid_units.specs.Limits.{text_limit}
@@ -21,36 +23,36 @@ checks_len : ℕ → List (List OffsetByte) → Entries → Result Entries Fault
 checks_len len items commands = cond (ltb text_limit len) (Err (fault (suc (length items)) text_limit TooLong)) (Ok commands)
 
 -- a fault of a text, or of its first bytes where it is too long
-fault_shown : (text : List ℕ) (items : List (List OffsetByte)) (rest : List OffsetByte) (f : Fault) → Splits (offset_bytes (take text_limit text)) items rest → shown items rest ≡ Err f → Shows text (Err f)
+fault_shown : (profile : Profile) (text : List ℕ) (items : List (List OffsetByte)) (rest : List OffsetByte) (f : Fault) → Splits (offset_bytes (take text_limit text)) items rest → shown_by profile items rest ≡ Err f → ShowsIn profile text (Err f)
 unfolding checks_len
-fault_shown text items rest f s e = record {
+fault_shown profile text items rest f s e = record {
   items = items;
   rest = rest;
   splits = s;
   answer_is = sym (ap (λ r. r >>= checks_len (length text) items) e);
 }
 
-kept_of : (text : List ℕ) (kept : ℕ) (items : List (List OffsetByte)) (rest : List OffsetByte) (cs : Entries) → Splits (offset_bytes (take text_limit text)) items rest → kept ≤ length items → commands_from 1 (take kept items) [] ≡ Ok cs → SpellsPrefix text kept cs
-kept_of text kept items rest cs s le e = record { items = items; rest = rest; splits = s; within = le; spelled = e }
+kept_of : (profile : Profile) (text : List ℕ) (kept : ℕ) (items : List (List OffsetByte)) (rest : List OffsetByte) (cs : Entries) → Splits (offset_bytes (take text_limit text)) items rest → kept ≤ length items → commands_by profile 1 (take kept items) [] ≡ Ok cs → SpellsPrefixIn profile text kept cs
+kept_of profile text kept items rest cs s le e = record { items = items; rest = rest; splits = s; within = le; spelled = e }
 
 -- what a reader holds of a text are the commands before the next place
-pub kept_before : (r : Progress) (gone : Entries) (text : List ℕ) (h : Holds r gone text) → length text ≤ text_limit → (byte : ℕ) → SpellsBeforeFault text (fails.Refused (fault (r.items + 1) byte Truncated)) (gone ++ r.commands.items)
-kept_before r gone text h le byte =
+pub kept_before : (profile : Profile) (r : Progress) (gone : Entries) (text : List ℕ) (h : Holds r profile gone text) → length text ≤ text_limit → (byte : ℕ) → SpellsBeforeFaultIn profile text (fails.Refused (fault (r.items + 1) byte Truncated)) (gone ++ r.commands.items)
+kept_before profile r gone text h le byte =
     let place : r.items + 1 ≡ suc (length h.items) = omega (arith, h.count) in
-    (length h.items, place, kept_of text (length h.items) h.items h.rest (gone ++ r.commands.items) (subst (λ (t : List ℕ). Splits (offset_bytes t) h.items h.rest) (sym (take_all text_limit text le)) h.splits) (omega arith) (kept_all r gone text h))
+    (length h.items, place, kept_of profile text (length h.items) h.items h.rest (gone ++ r.commands.items) (subst (λ (t : List ℕ). Splits (offset_bytes t) h.items h.rest) (sym (take_all text_limit text le)) h.splits) (omega arith) (kept_all profile r gone text h))
 
 -- a failure within the first bytes of a text
-pub fails_by : (text prefix : List ℕ) (cs : Entries) (e : Fail) → prefix ≡ take text_limit text → FailsOnBytes (offset_bytes prefix) cs e → FailsWith text cs e
-fails_by text prefix cs fails.Memory same h =
+pub fails_by : (profile : Profile) (text prefix : List ℕ) (cs : Entries) (e : Fail) → prefix ≡ take text_limit text → FailsOnBytes profile (offset_bytes prefix) cs e → FailsWithIn profile text cs e
+fails_by profile text prefix cs fails.Memory same h =
     let s = subst (λ (t : List ℕ). Splits (offset_bytes t) h.items h.rest) same h.splits in
-    record { reported = tt; kept = (h.kept, kept_of text h.kept h.items h.rest cs s h.within h.spelled) }
-fails_by text prefix cs (fails.Refused f) same h =
+    record { reported = tt; kept = (h.kept, kept_of profile text h.kept h.items h.rest cs s h.within h.spelled) }
+fails_by profile text prefix cs (fails.Refused f) same h =
     let s = subst (λ (t : List ℕ). Splits (offset_bytes t) h.items h.rest) same h.splits in
-    record { reported = fault_shown text h.items h.rest f s h.reported.0; kept = (h.kept, h.reported.1, kept_of text h.kept h.items h.rest cs s h.within h.spelled) }
+    record { reported = fault_shown profile text h.items h.rest f s h.reported.0; kept = (h.kept, h.reported.1, kept_of profile text h.kept h.items h.rest cs s h.within h.spelled) }
 
-pub too_long_text : (r : Progress) (gone : Entries) (prefix more : List ℕ) → length prefix ≡ text_limit → 0 < length more → Holds r gone prefix → FailsWith (prefix ++ more) (gone ++ r.commands.items) (fails.Refused (fault (r.items + 1) text_limit TooLong))
+pub too_long_text : (profile : Profile) (r : Progress) (gone : Entries) (prefix more : List ℕ) → length prefix ≡ text_limit → 0 < length more → Holds r profile gone prefix → FailsWithIn profile (prefix ++ more) (gone ++ r.commands.items) (fails.Refused (fault (r.items + 1) text_limit TooLong))
 unfolding checks_len
-too_long_text r gone prefix more e some h =
+too_long_text profile r gone prefix more e some h =
     let long : text_limit < length (prefix ++ more) = omega (arith, length-append prefix more) in
     let place : suc (length h.items) ≡ r.items + 1 = omega (arith, h.count) in
     let s = subst (λ (t : List ℕ). Splits (offset_bytes t) h.items h.rest) (sym (take_at prefix more text_limit e)) h.splits in
@@ -61,36 +63,36 @@ too_long_text r gone prefix more e some h =
         splits = s;
         answer_is = sym (ap (λ s. s >>= checks_len (length (prefix ++ more)) h.items) h.commands ∙ (ap (λ t. cond t (Err (fault (suc (length h.items)) text_limit TooLong)) (Ok (gone ++ r.commands.items))) (lt-ltb text_limit (length (prefix ++ more)) long) ∙ ap (λ p. Err (fault p text_limit TooLong)) place));
       };
-      kept = (length h.items, sym place, kept_of (prefix ++ more) (length h.items) h.items h.rest (gone ++ r.commands.items) s (omega arith) (kept_all r gone prefix h));
+      kept = (length h.items, sym place, kept_of profile (prefix ++ more) (length h.items) h.items h.rest (gone ++ r.commands.items) s (omega arith) (kept_all profile r gone prefix h));
     }
 
 pub refuses_within : (old : Progress) (left : Entries) (piece : List ℕ) (e : Fail) → old.offset + length piece ≤ text_limit → Refuses old left piece e → RefusesText old left piece e
-refuses_within old left piece e le h = λ gone text holds.
-    fails_by (text ++ piece) (text ++ piece) (gone ++ left) e (sym (take_all text_limit (text ++ piece) (omega (arith, holds.offset, length-append text piece)))) (h gone text holds)
+refuses_within old left piece e le h = λ profile gone text holds.
+    fails_by profile (text ++ piece) (text ++ piece) (gone ++ left) e (sym (take_all text_limit (text ++ piece) (omega (arith, holds.offset, length-append text piece)))) (h profile gone text holds)
 
 pub refuses_beyond : (old : Progress) (left : Entries) (prefix more : List ℕ) (e : Fail) → old.offset + length prefix ≡ text_limit → Refuses old left prefix e → RefusesText old left (prefix ++ more) e
-refuses_beyond old left prefix more e len h = λ gone text holds.
-    subst (λ (t : List ℕ). FailsWith t (gone ++ left) e) (append_assoc text prefix more)
-    (fails_by ((text ++ prefix) ++ more) (text ++ prefix) (gone ++ left) e (sym (take_at (text ++ prefix) more text_limit (omega (arith, holds.offset, length-append text prefix)))) (h gone text holds))
+refuses_beyond old left prefix more e len h = λ profile gone text holds.
+    subst (λ (t : List ℕ). FailsWithIn profile t (gone ++ left) e) (append_assoc text prefix more)
+    (fails_by profile ((text ++ prefix) ++ more) (text ++ prefix) (gone ++ left) e (sym (take_at (text ++ prefix) more text_limit (omega (arith, holds.offset, length-append text prefix)))) (h profile gone text holds))
 
 -- ---- the end of the text
 
 ends_with : ℕ → List (List OffsetByte) → List OffsetByte → Entries → Result Entries Fault
 ends_with len items rest commands = cond (ltb text_limit len) (Err (fault (suc (length items)) text_limit TooLong)) (ended len items rest commands)
 
-pub reads_ok : (text : List ℕ) (items : List (List OffsetByte)) (rest : List OffsetByte) (cs : Entries) → Splits (offset_bytes text) items rest → shown items rest ≡ Ok cs → has_end items ≡ true → length text ≤ text_limit → Reads text (Ok cs)
+pub reads_ok : (profile : Profile) (text : List ℕ) (items : List (List OffsetByte)) (rest : List OffsetByte) (cs : Entries) → Splits (offset_bytes text) items rest → shown_by profile items rest ≡ Ok cs → has_end items ≡ true → length text ≤ text_limit → ReadsIn profile text (Ok cs)
 unfolding ends_with
-reads_ok text items rest cs s e some le = record {
+reads_ok profile text items rest cs s e some le = record {
   items = items;
   rest = rest;
   splits = subst (λ (t : List ℕ). Splits (offset_bytes t) items rest) (sym (take_all text_limit text le)) s;
   answer_is = sym (ap (λ r. r >>= ends_with (length text) items rest) e ∙ (ap (λ t. cond t (Err (fault (suc (length items)) text_limit TooLong)) (ended (length text) items rest cs)) (le-ltb text_limit (length text) le) ∙ ap (λ t. cond t (Ok cs) (Err (fault (suc (length items)) (cond (list_all is_blank (bytes_of rest)) (length text) (first_offset rest)) Truncated))) some));
 }
 
-pub reads_truncated : (text : List ℕ) (items : List (List OffsetByte)) (rest : List OffsetByte) (cs : Entries) (place byte : ℕ) → Splits (offset_bytes text) items rest → shown items rest ≡ Ok cs → has_end items ≡ false → length text ≤ text_limit
-    → suc (length items) ≡ place → cond (list_all is_blank (bytes_of rest)) (length text) (first_offset rest) ≡ byte → Reads text (Err (fault place byte Truncated))
+pub reads_truncated : (profile : Profile) (text : List ℕ) (items : List (List OffsetByte)) (rest : List OffsetByte) (cs : Entries) (place byte : ℕ) → Splits (offset_bytes text) items rest → shown_by profile items rest ≡ Ok cs → has_end items ≡ false → length text ≤ text_limit
+    → suc (length items) ≡ place → cond (list_all is_blank (bytes_of rest)) (length text) (first_offset rest) ≡ byte → ReadsIn profile text (Err (fault place byte Truncated))
 unfolding ends_with
-reads_truncated text items rest cs place byte s e none le place-is byte-is = record {
+reads_truncated profile text items rest cs place byte s e none le place-is byte-is = record {
   items = items;
   rest = rest;
   splits = subst (λ (t : List ℕ). Splits (offset_bytes t) items rest) (sym (take_all text_limit text le)) s;
@@ -103,44 +105,44 @@ stops_at false [] n offset start h e k = absurd (false≢true (sym h))
 stops_at false (m ∷ rest) n offset start h e k = sym (k (omega arith))
 
 -- a fault that a text shows is the one that it has
-pub shows_reads : (text : List ℕ) (f : Fault) → Shows text (Err f) → Reads text (Err f)
+pub shows_reads : (profile : Profile) (text : List ℕ) (f : Fault) → ShowsIn profile text (Err f) → ReadsIn profile text (Err f)
 unfolding checks_len ends_with
-shows_reads text f s = record {
+shows_reads profile text f s = record {
   items = s.items;
   rest = s.rest;
   splits = s.splits;
-  answer_is = elim (bind_err (shown s.items s.rest) (checks_len (length text) s.items) f (sym s.answer_is)) [
+  answer_is = elim (bind_err (shown_by profile s.items s.rest) (checks_len (length text) s.items) f (sym s.answer_is)) [
     | inl h ↦ sym (ap (λ r. r >>= ends_with (length text) s.items s.rest) h)
     | inr h ↦ (let g = guard_err (ltb text_limit (length text)) (fault (suc (length s.items)) text_limit TooLong) f h.0 h.2 in
         sym (ap (λ r. r >>= ends_with (length text) s.items s.rest) h.1 ∙ (ap (λ t. cond t (Err (fault (suc (length s.items)) text_limit TooLong)) (ended (length text) s.items s.rest h.0)) g.0 ∙ ap (λ (x : Fault). Err x) g.1)))
   ];
 }
 
-pub answers_err : (text : List ℕ) (cs : Entries) (e : Fail) → FailsWith text cs e → Answers entries_of (λ answer. Reads text answer) (Err e)
-answers_err text cs fails.Memory h = tt
-answers_err text cs (fails.Refused f) h = shows_reads text f h.reported
+pub answers_err : (profile : Profile) (text : List ℕ) (cs : Entries) (e : Fail) → FailsWithIn profile text cs e → Answers entries_of (λ answer. ReadsIn profile text answer) (Err e)
+answers_err profile text cs fails.Memory h = tt
+answers_err profile text cs (fails.Refused f) h = shows_reads profile text f h.reported
 
-pub keeps_err : (text : List ℕ) (cs : Entries) (e : Fail) → FailsWith text cs e → ReadsUpToFault {X = Unit {0}} text cs (Err e)
+pub keeps_err : (text : List ℕ) (cs : Entries) (e : Fail) → FailsWithIn Strict text cs e → ReadsUpToFault {X = Unit {0}} text cs (Err e)
 keeps_err text cs fails.Memory h = (tt, h.kept)
-keeps_err text cs (fails.Refused f) h = (shows_reads text f h.reported, h.kept)
+keeps_err text cs (fails.Refused f) h = (shows_reads Strict text f h.reported, h.kept)
 
-pub ends_answers : (text : List ℕ) (gone cs : Entries) (e : Fail) → Ends {X = Unit {0}} text cs (Err e) → AnswersAlways (entries_after gone) (λ answer. Reads text answer) (Err e)
-ends_answers text gone cs fails.Memory h = absurd h
-ends_answers text gone cs (fails.Refused f) h = h.0
+pub ends_answers : (profile : Profile) (text : List ℕ) (gone cs : Entries) (e : Fail) → Ends {X = Unit {0}} profile text cs (Err e) → AnswersAlways (entries_after gone) (λ answer. ReadsIn profile text answer) (Err e)
+ends_answers profile text gone cs fails.Memory h = absurd h
+ends_answers profile text gone cs (fails.Refused f) h = h.0
 
-pub ends_kept : (text : List ℕ) (cs : Entries) (e : Fail) → Ends {X = Unit {0}} text cs (Err e) → SpellsBeforeFault text e cs
-ends_kept text cs fails.Memory h = absurd h
-ends_kept text cs (fails.Refused f) h = h.1
+pub ends_kept : (profile : Profile) (text : List ℕ) (cs : Entries) (e : Fail) → Ends {X = Unit {0}} profile text cs (Err e) → SpellsBeforeFaultIn profile text e cs
+ends_kept profile text cs fails.Memory h = absurd h
+ends_kept profile text cs (fails.Refused f) h = h.1
 
-pub ends_keeps : (text : List ℕ) (cs : Entries) (r : Result (Unit {0}) Fail) → Ends text cs r → ReadsUpToFault text cs r
+pub ends_keeps : (text : List ℕ) (cs : Entries) (r : Result (Unit {0}) Fail) → Ends Strict text cs r → ReadsUpToFault text cs r
 ends_keeps text cs (Ok x) h = h
 ends_keeps text cs (Err fails.Memory) h = absurd h
 ends_keeps text cs (Err (fails.Refused f)) h = (h.0, h.1)
 
 -- what a reader holds is what its text shows
-pub holds_shows : (r : Progress) (gone : Entries) (text : List ℕ) (cs : Entries) → cs ≡ gone ++ r.commands.items → r.offset ≤ text_limit → Holds r gone text → Shows text (Ok cs)
+pub holds_shows : (profile : Profile) (r : Progress) (gone : Entries) (text : List ℕ) (cs : Entries) → cs ≡ gone ++ r.commands.items → r.offset ≤ text_limit → Holds r profile gone text → ShowsIn profile text (Ok cs)
 unfolding checks_len
-holds_shows r gone text cs same le h =
+holds_shows profile r gone text cs same le h =
     let short : length text ≤ text_limit = omega (arith, h.offset, le) in
     record {
       items = h.items;

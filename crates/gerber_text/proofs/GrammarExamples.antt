@@ -5,18 +5,19 @@ use Rattle.std.proofs.lemmas.List.Elements.{All-from_recursion}
 use Rattle.grid_units.specs.Numbers.{parse_decimal}
 use Rattle.grid_units.specs.declared.lengths.Unit.TheVariants.{Millimetre}
 use Rattle.gerber_commands.specs.declared.command.Command.{Command}
-use Rattle.gerber_commands.specs.declared.command.Command.TheVariants.{UnitIs, FormatIs, Define, Select, Operate, Finish}
+use Rattle.gerber_commands.specs.declared.command.Command.TheVariants.{UnitIs, FormatIs, Define, Select, Operate, Clear, Finish}
 use Rattle.gerber_commands.specs.declared.command.Action.TheVariants.{Flash}
 use Rattle.gerber_commands.specs.declared.command.Standard.TheVariants.{Rectangle}
 use Rattle.gerber_commands.specs.declared.command.Template.TheVariants as templates
+use Rattle.grid_units.specs.declared.profile.Profile.TheVariants.{Strict, Wide}
 use Rattle.gerber_commands.specs.Numbers.{int_of, nat_of}
 use Rattle.gerber_extended.proofs.GrammarExamples.{format, millimetres}
 use Rattle.gerber_text.specs.Reading.{may_follow}
 use Rattle.gerber_words.specs.Words.{no_effect_row, split_mode, mode_row, quadrant_row, region_row, unit_row, incremental_row, select_row, fields, operation_row, finish_row, word}
-use Rattle.gerber_text.specs.Grammar.{IsItemFor, IsText}
+use Rattle.gerber_text.specs.Grammar.{IsItemFor, IsText, IsTextIn}
 use Rattle.gerber_text.specs.Items.{IsItem}
-use Rattle.gerber_text.specs.Meaning.{meaning}
-use Rattle.gerber_text.specs.Reading.{spelled, Reads}
+use Rattle.gerber_text.specs.Meaning.{meaning_in}
+use Rattle.gerber_text.specs.Reading.{spelled_in, Reads}
 use Rattle.gerber_text.proofs.ItemLemmas.{word_is_item}
 use Rattle.gerber_text.proofs.SpellsTextLemmas.{spells_reads}
 use Rattle.gerber_text.proofs.UniqueReading.{one_read}
@@ -34,6 +35,22 @@ end_alone = record {
   written = refl;
   spelled = refl;
   not_ended = All-from_recursion (λ c. c ≢ Finish) [] tt;
+  ends = inl refl;
+  follows = All-from_recursion (λ b. may_follow b ≡ true) [] tt;
+  is = refl;
+  short = omega arith;
+}
+
+-- in the wide profile, clear polarity and the end of the text
+clear_text : IsTextIn Wide (codes "%LPC*%M02*") (Clear ∷ Finish ∷ [])
+clear_text = record {
+  items = codes "%LPC*%" ∷ [];
+  end = codes "M02*";
+  tail = [];
+  before = Clear ∷ [];
+  written = refl;
+  spelled = (Clear ∷ [], [], refl, omega arith, inr (codes "LPC", refl, refl, inl (refl, refl)), refl);
+  not_ended = All-from_recursion (λ c. c ≢ Finish) (Clear ∷ []) (λ e. absurd cc, tt);
   ends = inl refl;
   follows = All-from_recursion (λ b. may_follow b ≡ true) [] tt;
   is = refl;
@@ -114,9 +131,9 @@ one_flash = record {
 
 -- no item stands after the end of the text, not even one without an effect
 no_item_after_end : (commands : List Command) → IsText (codes "M02*G90*") commands → ⊥
-unfolding spelled meaning word no_effect_row mode_row split_mode quadrant_row region_row unit_row incremental_row select_row operation_row fields finish_row
+unfolding spelled_in meaning_in word no_effect_row mode_row split_mode quadrant_row region_row unit_row incremental_row select_row operation_row fields finish_row
 no_item_after_end commands h =
-    let s = written_is_spelled (codes "M02*G90*") commands h in
+    let s = written_is_spelled Strict (codes "M02*G90*") commands h in
     let end : IsItem (codes "M02*") = word_is_item (codes "M02") refl refl in
     let refused : Reads (codes "M02*G90*") (Err (fault 2 4 AfterEnd)) = record {
       items = ((0, 77) ∷ (1, 48) ∷ (2, 50) ∷ (3, 42) ∷ []) ∷ [];
@@ -124,5 +141,5 @@ no_item_after_end commands h =
       splits = record { whole = refl; each = (end, λ _. refl, tt); partial = λ none. absurd cc };
       answer_is = refl;
     } in
-    let same = one_read (codes "M02*G90*") (Ok s.0) (Err (fault 2 4 AfterEnd)) (spells_reads (codes "M02*G90*") s.0 s.2) refused in
+    let same = one_read Strict (codes "M02*G90*") (Ok s.0) (Err (fault 2 4 AfterEnd)) (spells_reads Strict (codes "M02*G90*") s.0 s.2) refused in
     cc

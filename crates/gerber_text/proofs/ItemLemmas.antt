@@ -6,6 +6,8 @@ use Rattle.std.specs.List.{list_all, list_any, AllByRecursion}
 use Rattle.std.proofs.lemmas.List.{length-append, take_at, drop_at}
 use Rattle.std.proofs.lemmas.Bool.{eqb-false}
 use Rattle.std.proofs.lemmas.Bool.Decides.{nat_tests}
+use Rattle.grid_units.specs.declared.profile.Profile.{Profile}
+use Rattle.grid_units.specs.declared.profile.Profile.TheVariants.{Strict}
 use Rattle.gerber_commands.specs.declared.command.Command.{Command}
 use Rattle.gerber_text.specs.Items.{end_byte, after_percent, IsItem}
 use Rattle.grid_units.specs.declared.fault.Reason.TheVariants.{BadWord, SeveralInOne}
@@ -14,7 +16,8 @@ use Rattle.gerber_commands.specs.Rows.{first_match}
 use Rattle.gerber_words.specs.Words.{word}
 use Rattle.gerber_extended.specs.Pieces.{last_byte, before_last, has_several_pieces, pieces, piece, extended}
 use Rattle.gerber_extended.specs.Grammar.{HasNo}
-use Rattle.gerber_text.specs.Meaning.{without_end, meaning}
+use Rattle.gerber_extended.specs.Profiles.{extended_in}
+use Rattle.gerber_text.specs.Meaning.{without_end, meaning, meaning_in}
 use Rattle.gerber_commands.specs.Canonical.{canonical}
 use Rattle.gerber_text.specs.CutItems.{is_not_break, without_breaks, Spells}
 use Rattle.gerber_text.specs.Sayable.{is_text_byte, is_text}
@@ -63,12 +66,12 @@ last_is w x = ap (λ k. drop k (w ++ x ∷ [])) (before_one w x) ∙ drop_at w (
 abbrev pub word_item : List ℕ → List ℕ
 word_item w = w ++ 42 ∷ []
 
-pub word_means : (plotting : Bool) (w : List ℕ) → HasNo 37 w → meaning plotting (word_item w) ≡ word plotting w
-unfolding meaning
-word_means plotting [] h = refl
-word_means plotting (b ∷ bs) h =
+pub word_means : (profile : Profile) (plotting : Bool) (w : List ℕ) → HasNo 37 w → meaning_in profile plotting (word_item w) ≡ word plotting w
+unfolding meaning_in
+word_means profile plotting [] h = refl
+word_means profile plotting (b ∷ bs) h =
     let k = or_is_false (eqb b 37) (list_any (λ c. eqb c 37) bs) h in
-    ap (λ t. cond t (extended (without_end (bs ++ 42 ∷ []))) (word plotting (without_end (b ∷ (bs ++ 42 ∷ []))))) k.0 ∙ ap (word plotting) (without_end_push (b ∷ bs) 42)
+    ap (λ t. cond t (extended_in profile (without_end (bs ++ 42 ∷ []))) (word plotting (without_end (b ∷ (bs ++ 42 ∷ []))))) k.0 ∙ ap (word plotting) (without_end_push (b ∷ bs) 42)
 
 pub word_is_item : (w : List ℕ) → HasNo 37 w → HasNo 42 w → IsItem (word_item w)
 word_is_item [] h k = record { prefix = []; unfinished = tt; whole = refl }
@@ -93,7 +96,7 @@ word_spells c w whole h short spells =
     record {
       one = subst IsItem (sym same) (word_is_item w no_percent (none_passes is_text_byte (λ b. eqb b 42) text_no_star w h));
       short = short;
-      parses = λ plotting. ap (meaning plotting) same ∙ (word_means plotting w no_percent ∙ spells plotting);
+      parses = λ plotting. ap (meaning plotting) same ∙ (word_means Strict plotting w no_percent ∙ spells plotting);
     }
 
 -- ---- pieces
@@ -110,9 +113,13 @@ unfolding extended
 extended_is t =
     (λ i. cond (bytes_eq (last_is t 42 i) (codes "*")) (piece (before_last (t ++ 42 ∷ []))) (Err BadWord)) ∙ ap piece (without_end_push t 42)
 
+-- what stands between the two `%` says what an item of pieces spells in the profile
+pub extended_means : (profile : Profile) (plotting : Bool) (t : List ℕ) → meaning_in profile plotting (piece_item t) ≡ extended_in profile (t ++ 42 ∷ [])
+unfolding meaning_in
+extended_means profile plotting t = ap (extended_in profile) (ap without_end (piece_parts t) ∙ without_end_push (t ++ 42 ∷ []) 37)
+
 pub piece_means : (plotting : Bool) (t : List ℕ) → meaning plotting (piece_item t) ≡ piece t
-unfolding meaning
-piece_means plotting t = ap extended (ap without_end (piece_parts t) ∙ without_end_push (t ++ 42 ∷ []) 37) ∙ extended_is t
+piece_means plotting t = extended_means Strict plotting t ∙ extended_is t
 
 piece_single : (t : List ℕ) → has_several_pieces t ≡ false → piece t ≡ first_match (pieces t)
 unfolding piece

@@ -4,20 +4,21 @@ use Rattle.std.specs.List.{enumerate_from, AllByRecursion}
 use Rattle.std.proofs.lemmas.Bool.{le-ltb}
 use Rattle.std.proofs.lemmas.List.{length-append}
 use Rattle.std.proofs.lemmas.List.FromFn.{length-enumerate_from}
+use Rattle.grid_units.specs.declared.profile.Profile.{Profile}
 use Rattle.gerber_commands.specs.declared.command.Command.{Command}
 use Rattle.gerber_text.specs.Items.{is_line_break, end_byte, IsUnfinished, IsItem, is_end_item}
-use Rattle.gerber_text.specs.Meaning.{meaning}
+use Rattle.gerber_text.specs.Meaning.{meaning_in}
 use Rattle.gerber_text.specs.Cut.{OffsetByte, offset_bytes, bytes_of, first_offset, has_end, Splits}
-use Rattle.gerber_text.specs.Reading.{Entries, is_plotting, placed, spelled, shown}
+use Rattle.gerber_text.specs.Reading.{Entries, is_plotting, placed, spelled_in, shown_by}
 use Rattle.gerber_text.proofs.OffsetByteLemmas.{offset_bytes-append, offset_bytes_from-kept, bytes_of-enumerate}
 use Rattle.gerber_text.proofs.SplitsLemmas.{Splits-grow}
 use Rattle.gerber_text.proofs.ShowsLemmas.{running_ok, show_ok}
 use Rattle.gerber_text.proofs.ReaderStepLemmas.{closes}
 use Rattle.grid_units.specs.Limits.{item_limit}
 
-pub spelled_ok : (place byte : ℕ) (item : List ℕ) (before : Entries) (commands : List Command) → length item ≤ item_limit → meaning (is_plotting before) item ≡ Ok commands → spelled place byte item before ≡ Ok (before ++ placed place byte commands)
-unfolding spelled
-spelled_ok place byte item before commands le h = rw (le-ltb _ _ le, h) refl
+pub spelled_ok : (profile : Profile) (place byte : ℕ) (item : List ℕ) (before : Entries) (commands : List Command) → length item ≤ item_limit → meaning_in profile (is_plotting before) item ≡ Ok commands → spelled_in profile place byte item before ≡ Ok (before ++ placed place byte commands)
+unfolding spelled_in
+spelled_ok profile place byte item before commands le h = rw (le-ltb _ _ le, h) refl
 
 all-prefix : (P : ℕ → Type 0) (xs ys : List ℕ) → AllByRecursion P (xs ++ ys) → AllByRecursion P xs
 all-prefix P [] ys h = tt
@@ -27,17 +28,17 @@ starts_at : (n k b : ℕ) (prefix : List ℕ) → k ≡ n + length prefix → n 
 starts_at n k b [] e = omega (arith, e)
 starts_at n k b (x ∷ prefix) e = refl
 
-pub record Taken (text item : List ℕ) (items : List (List OffsetByte)) (place : ℕ) (cs : Entries) : Type 0 where
+pub record Taken (profile : Profile) (text item : List ℕ) (items : List (List OffsetByte)) (place : ℕ) (cs : Entries) : Type 0 where
   pub last : List OffsetByte
   pub splits : Splits (offset_bytes (text ++ item)) (items ++ last ∷ []) []
-  pub shows : shown (items ++ last ∷ []) [] ≡ spelled place (length text) item cs
+  pub shows : shown_by profile (items ++ last ∷ []) [] ≡ spelled_in profile place (length text) item cs
   pub ends : has_end (items ++ last ∷ []) ≡ is_end_item item
   pub count : length (items ++ last ∷ []) ≡ length items + 1
 
 -- an item without line breaks, after items that have ended
-pub takes : (text item : List ℕ) (items : List (List OffsetByte)) (rest : List OffsetByte) (place : ℕ) (cs : Entries) → Splits (offset_bytes text) items rest → rest ≡ [] → has_end items ≡ false → shown items rest ≡ Ok cs → IsItem item → AllByRecursion (λ b. is_line_break b ≡ false) item → length item ≤ item_limit → place ≡ suc (length items)
-    → Taken text item items place cs
-takes text item items rest place cs s none running e one kept short place-is =
+pub takes : (profile : Profile) (text item : List ℕ) (items : List (List OffsetByte)) (rest : List OffsetByte) (place : ℕ) (cs : Entries) → Splits (offset_bytes text) items rest → rest ≡ [] → has_end items ≡ false → shown_by profile items rest ≡ Ok cs → IsItem item → AllByRecursion (λ b. is_line_break b ≡ false) item → length item ≤ item_limit → place ≡ suc (length items)
+    → Taken profile text item items place cs
+takes profile text item items rest place cs s none running e one kept short place-is =
     let prefix = one.prefix in
     let last = end_byte prefix in
     let more : List OffsetByte = enumerate_from (length text) prefix in
@@ -46,10 +47,10 @@ takes text item items rest place cs s none running e one kept short place-is =
     let grown = Splits-grow (offset_bytes text) items [] more (subst (Splits (offset_bytes text) items) none s) (λ _. subst IsUnfinished (sym bytes) one.unfinished) in
     let splits : Splits (offset_bytes (text ++ prefix)) items more = subst (λ (ms : List OffsetByte). Splits ms items more) (sym (offset_bytes-append text prefix ∙ ap (λ (x : List OffsetByte). offset_bytes text ++ x) (offset_bytes_from-kept (length text) prefix prefix_kept))) grown in
     let size : length more ≤ item_limit = omega (arith, length-enumerate_from (length text) prefix, ap length one.whole, length-append prefix (last ∷ []), short) in
-    let shows = show_ok items more cs running (running_ok items rest cs running e).0 size in
+    let shows = show_ok profile items more cs running (running_ok profile items rest cs running e).0 size in
     let joined : (text ++ prefix) ++ last ∷ [] ≡ text ++ item = append_assoc text prefix (last ∷ []) ∙ ap (λ (x : List ℕ). text ++ x) (sym one.whole) in
     let m : OffsetByte = (length (text ++ prefix), last) in
-    let k = closes (text ++ prefix) items more item last place (length text) cs splits running shows (ap end_byte (sym bytes)) place-is (starts_at (length text) (length (text ++ prefix)) last prefix (length-append text prefix)) (one.whole ∙ ap (λ (x : List ℕ). x ++ last ∷ []) (sym bytes)) in
+    let k = closes profile (text ++ prefix) items more item last place (length text) cs splits running shows (ap end_byte (sym bytes)) place-is (starts_at (length text) (length (text ++ prefix)) last prefix (length-append text prefix)) (one.whole ∙ ap (λ (x : List ℕ). x ++ last ∷ []) (sym bytes)) in
     record {
       last = more ++ m ∷ [];
       splits = subst (λ (t : List ℕ). Splits (offset_bytes t) (items ++ (more ++ m ∷ []) ∷ []) []) joined k.splits;

@@ -4,6 +4,8 @@ use Rattle.std.specs.List.{list_any, AllByRecursion}
 use Rattle.std.proofs.Math.Seq.{take-append_seam}
 use Rattle.std.proofs.lemmas.List.{length-append, length-take, take-append-drop}
 use Rattle.std.proofs.lemmas.List.Elements.{recursion_from_All}
+use Rattle.grid_units.specs.declared.profile.Profile.{Profile}
+use Rattle.grid_units.specs.declared.profile.Profile.TheVariants.{Strict}
 use Rattle.gerber_commands.specs.declared.command.AttributeKind.TheVariants as attributes
 use Rattle.gerber_commands.specs.declared.command.Command.TheVariants.{Attribute, Remove}
 use Rattle.gerber_commands.specs.Rows.{Meaning}
@@ -12,12 +14,12 @@ use Rattle.gerber_text.specs.declared.text_items.LeadingText.{LeadingText}
 use Rattle.gerber_text.specs.declared.text_items.TextKind.{TextKind}
 use Rattle.gerber_text.specs.declared.text_items.TextKind.TheVariants as kinds
 use Rattle.gerber_text.specs.Items.{is_line_break, IsItem, is_end_item}
-use Rattle.gerber_text.specs.Meaning.{meaning}
+use Rattle.gerber_text.specs.Meaning.{meaning_in}
 use Rattle.gerber_text.specs.Reading.{plot_of}
 use Rattle.gerber_text.specs.FastPath.{HasLeadingText, is_negative_text, text_code, text_end, text_command}
 use Rattle.gerber_text.specs.Grammar.{IsItemFor}
 use Rattle.gerber_text.specs.Inner.Bytes.{IsInside}
-use Rattle.gerber_text.proofs.GrammarItems.{Means, item_means}
+use Rattle.gerber_text.proofs.GrammarItems.{Means, item_means, item_anywhere}
 use Rattle.gerber_text.proofs.LeadingItemLemmas.{joined}
 use Rattle.gerber_text.proofs.ReaderStepLemmas.{run_kept}
 
@@ -109,7 +111,7 @@ pub record IsTextItem (bytes : List ℕ) (found : LeadingText) : Type 0 where
   pub one : IsItem (take found.len bytes)
   pub kept : AllByRecursion (λ b. is_line_break b ≡ false) (take found.len bytes)
   pub goes_on : is_end_item (take found.len bytes) ≡ false
-  pub parses : (plotting : Bool) → meaning plotting (take found.len bytes) ≡ Ok (text_command found.kind (take found.text_len (drop 3 bytes)) ∷ [])
+  pub parses : (profile : Profile) (plotting : Bool) → meaning_in profile plotting (take found.len bytes) ≡ Ok (text_command found.kind (take found.text_len (drop 3 bytes)) ∷ [])
 
 pub text_item : (bytes : List ℕ) (found : LeadingText) → HasLeadingText bytes found → IsTextItem bytes found
 text_item bytes found h =
@@ -120,12 +122,12 @@ text_item bytes found h =
     let prefix : take found.len bytes ≡ item = (λ i. take (size i) (h.whole i)) ∙ take-append_seam item h.rest in
     let text : take found.text_len (drop 3 bytes) ≡ h.text =
     (λ i. take (sym h.long i) (drop 3 (h.whole i))) ∙ (ap (take (length h.text)) (after_three kind h.text end h.rest ∙ append_assoc h.text end h.rest) ∙ take-append_seam h.text (end ++ h.rest)) in
-    let means : (plotting : Bool) → Means plotting item (text_command kind h.text ∷ []) = λ plotting. item_means plotting item (text_command kind h.text ∷ []) (item_for plotting kind h.text h.no_star h.no_percent h.positive) in
+    let means : (profile : Profile) (plotting : Bool) → Means profile plotting item (text_command kind h.text ∷ []) = λ profile plotting. item_means profile plotting item (text_command kind h.text ∷ []) (item_anywhere profile plotting item (text_command kind h.text ∷ []) (item_for plotting kind h.text h.no_star h.no_percent h.positive)) in
     record {
-      one = subst IsItem (sym prefix) (means false).0;
+      one = subst IsItem (sym prefix) (means Strict false).0;
       kept = subst IsKept (sym prefix) (item_kept kind h.text h.one_line);
       goes_on = ap is_end_item prefix ∙ not_end kind h.text;
-      parses = λ plotting. ap (meaning plotting) prefix ∙ ((means plotting).1 ∙ ap (spells kind) (sym text));
+      parses = λ profile plotting. ap (meaning_in profile plotting) prefix ∙ ((means profile plotting).1 ∙ ap (spells kind) (sym text));
     }
 
 -- a text leaves the last operation as it was

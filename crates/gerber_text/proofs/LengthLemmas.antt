@@ -7,7 +7,7 @@ use Rattle.std.proofs.lemmas.Bool.{leb-true, le-leb}
 use Rattle.grid_units.specs.declared.lengths.Unit.TheVariants.{Inch, Millimetre}
 use Rattle.grid_units.specs.Spellings.{canonical as canonical_dec}
 use Rattle.gerber_commands.specs.declared.command.Command.{Command}
-use Rattle.gerber_commands.specs.declared.command.Command.TheVariants.{Comment, Mode, Quadrant, RegionStart, RegionEnd, UnitIs, FormatIs, Define, Macro, Select, Operate, Dark, Mirror, Turn, Scale, Repeat, RepeatEnd, Attribute, Remove, Finish}
+use Rattle.gerber_commands.specs.declared.command.Command.TheVariants.{Comment, Mode, Quadrant, RegionStart, RegionEnd, UnitIs, FormatIs, Define, Macro, Select, Operate, Dark, Clear, Mirror, Turn, Scale, Repeat, RepeatEnd, Attribute, Remove, Finish}
 use Rattle.gerber_commands.specs.declared.command.Interpolation.TheVariants.{Linear, Clockwise, Counterclockwise}
 use Rattle.gerber_commands.specs.declared.command.QuadrantMode.TheVariants.{Single, Multi}
 use Rattle.gerber_commands.specs.declared.command.Action.{Action}
@@ -227,6 +227,7 @@ bounded_short (FormatIs f) h b = within (FormatIs f) 13 (omega (arith, ap length
 bounded_short (Select n) h b = within (Select n) 12 (omega (arith, length-append (decimal n) (42 ∷ []), number_short n h)) (lit≤ tt)
 bounded_short (Operate a x y i j) h b = operate_short a x y i j h
 bounded_short Dark h b = lit≤ tt
+bounded_short Clear h b = absurd cc
 bounded_short (Mirror false false) h b = lit≤ tt
 bounded_short (Mirror true false) h b = lit≤ tt
 bounded_short (Mirror false true) h b = lit≤ tt

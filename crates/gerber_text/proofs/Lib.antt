@@ -28,6 +28,7 @@ pub mod FieldRangeLemmas
 pub mod WordIsSayable
 pub mod PieceIsSayable
 pub mod ParsedIsSayable
+pub mod ProfileLemmas
 pub mod GrammarItems
 pub mod SpelledIsWritten
 pub mod WrittenIsSpelled

@@ -7,12 +7,14 @@ use Rattle.std.proofs.lemmas.List.{length-append}
 use Rattle.std.proofs.lemmas.List.Elements.{All-from_recursion, All-contains}
 use Rattle.std.proofs.lemmas.Bool.{eqb-true}
 use Rattle.std.proofs.lemmas.Bool.Decides.{nat_tests}
+use Rattle.grid_units.specs.declared.profile.Profile.{Profile}
+use Rattle.grid_units.specs.declared.profile.Profile.TheVariants.{Strict}
 use Rattle.gerber_commands.specs.declared.command.Command.{Command}
 use Rattle.gerber_commands.specs.declared.command.Command.TheVariants.{Finish}
 use Rattle.gerber_text.specs.Items.{end_byte, IsUnfinished, is_end_item}
 use Rattle.gerber_words.specs.Words.{no_effect_row, split_mode, mode_row, quadrant_row, region_row, unit_row, incremental_row, select_row, fields, operation_row, finish_row, word}
 use Rattle.gerber_extended.specs.Pieces.{extended}
-use Rattle.gerber_text.specs.Meaning.{without_end, meaning}
+use Rattle.gerber_text.specs.Meaning.{without_end, meaning, meaning_in}
 use Rattle.gerber_commands.specs.Canonical.{canonical}
 use Rattle.gerber_text.specs.CutItems.{is_not_break, without_breaks, IsCutItem, IsSpelled}
 use Rattle.gerber_text.specs.Sayable.{is_text_byte, is_text, has_valid_fields, is_sayable, is_finish}
@@ -89,7 +91,7 @@ extended_item_sayable t h k l =
 -- ---- items
 
 unfinished_sayable : (plotting : Bool) (prefix : List ℕ) → IsUnfinished prefix → list_all is_not_break (prefix ++ end_byte prefix ∷ []) ≡ true → length (prefix ++ end_byte prefix ∷ []) ≤ item_limit → is_end_item (prefix ++ end_byte prefix ∷ []) ≡ false → ParsedIsSayable (meaning plotting (prefix ++ end_byte prefix ∷ []))
-unfolding meaning
+unfolding meaning_in
 unfinished_sayable plotting [] u h l n = word_item_sayable plotting [] h u l n
 unfinished_sayable plotting (b ∷ bs) u h l n = by (eqb b 37) u h l n
   where
@@ -106,14 +108,14 @@ item_sayable plotting item c e =
     (unfinished_sayable plotting i.prefix i.unfinished (ap (list_all is_not_break) (sym i.whole) ∙ c.kept) (subst (λ (x : List ℕ). length x ≤ item_limit) i.whole c.short) (ap is_end_item (sym i.whole) ∙ e))
 
 -- the end of the text spells the command of that name
-end_by : (plotting t u : Bool) (item : List ℕ) → bytes_eq item (codes "M02*") ≡ t → bytes_eq item (codes "M2*") ≡ u → (t || u) ≡ true → meaning plotting item ≡ Ok (Finish ∷ [])
-unfolding meaning word no_effect_row mode_row split_mode quadrant_row region_row unit_row incremental_row select_row fields operation_row finish_row
-end_by plotting true u item a b h = ap (meaning plotting) (bytes_are item (codes "M02*") a)
-end_by plotting false true item a b h = ap (meaning plotting) (bytes_are item (codes "M2*") b)
-end_by plotting false false item a b h = absurd cc
+end_by : (profile : Profile) (plotting t u : Bool) (item : List ℕ) → bytes_eq item (codes "M02*") ≡ t → bytes_eq item (codes "M2*") ≡ u → (t || u) ≡ true → meaning_in profile plotting item ≡ Ok (Finish ∷ [])
+unfolding meaning_in word no_effect_row mode_row split_mode quadrant_row region_row unit_row incremental_row select_row fields operation_row finish_row
+end_by profile plotting true u item a b h = ap (meaning_in profile plotting) (bytes_are item (codes "M02*") a)
+end_by profile plotting false true item a b h = ap (meaning_in profile plotting) (bytes_are item (codes "M2*") b)
+end_by profile plotting false false item a b h = absurd cc
 
-pub end_means : (plotting : Bool) (item : List ℕ) → is_end_item item ≡ true → meaning plotting item ≡ Ok (Finish ∷ [])
-end_means plotting item h = end_by plotting (bytes_eq item (codes "M02*")) (bytes_eq item (codes "M2*")) item refl refl h
+pub end_means : (profile : Profile) (plotting : Bool) (item : List ℕ) → is_end_item item ≡ true → meaning_in profile plotting item ≡ Ok (Finish ∷ [])
+end_means profile plotting item h = end_by profile plotting (bytes_eq item (codes "M02*")) (bytes_eq item (codes "M2*")) item refl refl h
 
 pub finish_sayable : is_sayable Finish ≡ true
 unfolding has_valid_fields is_bounded
@@ -135,7 +137,7 @@ pub record ItemSays (item : List ℕ) (commands : List Command) : Type 0 where
 parses_by : (t plotting : Bool) (item : List ℕ) (commands : List Command) → IsCutItem item → is_end_item item ≡ t → meaning plotting item ≡ Ok commands → ItemSays item commands
 unfolding ParsedIsSayable
 parses_by true plotting item commands c e m =
-    let same : Finish ∷ [] ≡ commands = let o : Ok (Finish ∷ []) ≡ Ok commands = sym (end_means plotting item e) ∙ m in cc in
+    let same : Finish ∷ [] ≡ commands = let o : Ok (Finish ∷ []) ≡ Ok commands = sym (end_means Strict plotting item e) ∙ m in cc in
     record {
       sayable = subst (AllByRecursion (λ d. is_sayable d ≡ true)) same (finish_sayable, tt);
       ends = ap (list_any is_finish) (sym same) ∙ sym e;

@@ -4,13 +4,14 @@ use Rattle.std.specs.List.{enumerate_from, AllByRecursion}
 use Rattle.std.proofs.lemmas.List.{map-append, length-append, length-map}
 use Rattle.std.proofs.lemmas.List.FromFn.{length-enumerate_from}
 use Rattle.std.proofs.lemmas.Bool.{eqb-false}
+use Rattle.grid_units.specs.declared.profile.Profile.{Profile}
 use Rattle.grid_units.specs.Results.{fault, with_place}
 use Rattle.grid_units.specs.declared.fault.Reason.{Reason}
 use Rattle.grid_units.specs.declared.fault.Fault.{Fault}
 use Rattle.gerber_text.specs.Inner.Bytes.{IsInside}
 use Rattle.gerber_text.specs.Items.{is_line_break, end_byte, IsUnfinished, is_end_item}
 use Rattle.gerber_text.specs.Cut.{OffsetByte, offset_bytes, bytes_of, first_offset, has_end, Splits}
-use Rattle.gerber_text.specs.Reading.{Entries, spelled, shown}
+use Rattle.gerber_text.specs.Reading.{Entries, spelled_in, shown_by}
 use Rattle.gerber_text.proofs.OffsetByteLemmas.{offset_bytes-append, offset_bytes_from-kept, bytes_of-enumerate, AllR-weaker}
 use Rattle.gerber_text.proofs.SplitsLemmas.{Splits-grow, Splits-close, IsUnfinished-append, bytes_of-push, has_end-push}
 use Rattle.gerber_text.proofs.ShowsLemmas.{running_ok, show_push}
@@ -61,22 +62,22 @@ run_kept e run k = AllR-weaker (IsInside e) (λ b. is_line_break b ≡ false) (�
 
 -- ---- the last byte of an item
 
-pub record Closed (text : List ℕ) (items : List (List OffsetByte)) (item : List OffsetByte) (bytes : List ℕ) (last place byte : ℕ) (cs : Entries) : Type 0 where
+pub record Closed (profile : Profile) (text : List ℕ) (items : List (List OffsetByte)) (item : List OffsetByte) (bytes : List ℕ) (last place byte : ℕ) (cs : Entries) : Type 0 where
   pub splits : Splits (offset_bytes (text ++ last ∷ [])) (items ++ item ∷ []) []
-  pub shows : shown (items ++ item ∷ []) [] ≡ spelled place byte bytes cs
+  pub shows : shown_by profile (items ++ item ∷ []) [] ≡ spelled_in profile place byte bytes cs
   pub ends : has_end (items ++ item ∷ []) ≡ is_end_item bytes
   pub count : length (items ++ item ∷ []) ≡ length items + 1
 
-pub closes : (text : List ℕ) (items : List (List OffsetByte)) (rest : List OffsetByte) (bytes : List ℕ) (last place byte : ℕ) (cs : Entries) → Splits (offset_bytes text) items rest → has_end items ≡ false → shown items rest ≡ Ok cs
-    → last ≡ end_byte (bytes_of rest) → place ≡ suc (length items) → byte ≡ first_offset (rest ++ (length text, last) ∷ []) → bytes ≡ bytes_of rest ++ last ∷ [] → Closed text items (rest ++ (length text, last) ∷ []) bytes last place byte cs
-closes text items rest bytes last place byte cs s none e last-is place-is byte-is bytes-are =
+pub closes : (profile : Profile) (text : List ℕ) (items : List (List OffsetByte)) (rest : List OffsetByte) (bytes : List ℕ) (last place byte : ℕ) (cs : Entries) → Splits (offset_bytes text) items rest → has_end items ≡ false → shown_by profile items rest ≡ Ok cs
+    → last ≡ end_byte (bytes_of rest) → place ≡ suc (length items) → byte ≡ first_offset (rest ++ (length text, last) ∷ []) → bytes ≡ bytes_of rest ++ last ∷ [] → Closed profile text items (rest ++ (length text, last) ∷ []) bytes last place byte cs
+closes profile text items rest bytes last place byte cs s none e last-is place-is byte-is bytes-are =
     let m : OffsetByte = (length text, last) in
     let item : List OffsetByte = rest ++ m ∷ [] in
     let stays : is_line_break last ≡ false = ap is_line_break last-is ∙ ender_stays (bytes_of rest) in
     let same : bytes_of item ≡ bytes = bytes_of-push rest m ∙ sym bytes-are in
     record {
       splits = subst (λ (ms : List OffsetByte). Splits ms (items ++ item ∷ []) []) (sym (offset_bytes-push text last stays)) (Splits-close (offset_bytes text) items rest m s none last-is);
-      shows = show_push items item cs (running_ok items rest cs none e).0 ∙ (ap (λ p. spelled p (first_offset item) (bytes_of item) cs) (sym place-is) ∙ (ap (λ b. spelled place b (bytes_of item) cs) (sym byte-is) ∙ ap (λ (b : List ℕ). spelled place byte b cs) same));
+      shows = show_push profile items item cs (running_ok profile items rest cs none e).0 ∙ (ap (λ p. spelled_in profile p (first_offset item) (bytes_of item) cs) (sym place-is) ∙ (ap (λ b. spelled_in profile place b (bytes_of item) cs) (sym byte-is) ∙ ap (λ (b : List ℕ). spelled_in profile place byte b cs) same));
       ends = has_end-push items item none ∙ ap is_end_item same;
       count = length-append items (item ∷ []);
     }
@@ -86,6 +87,6 @@ at_place place byte (Ok x) f e = absurd cc
 at_place place byte (Err reason) f e = let same : fault place byte reason ≡ f = cc in sym (ap (λ (g : Fault). g.place) same)
 
 -- the fault of an item is at its place
-pub spelled_place : (place byte : ℕ) (bytes : List ℕ) (before : Entries) (f : Fault) → spelled place byte bytes before ≡ Err f → f.place ≡ place
-unfolding spelled
-spelled_place place byte bytes before f e = at_place place byte _ f e
+pub spelled_place : (profile : Profile) (place byte : ℕ) (bytes : List ℕ) (before : Entries) (f : Fault) → spelled_in profile place byte bytes before ≡ Err f → f.place ≡ place
+unfolding spelled_in
+spelled_place profile place byte bytes before f e = at_place place byte _ f e

@@ -1,5 +1,5 @@
 -- A text that is refused is refused for a reason of reading.
-use Rattle.std.proofs.Common.{ℕ, suc, Bool, true, false, cond, eqb, ltb, List, [], ◌∷◌, length, drop, Option, None, Some, Result, Ok, Err, sym, subst}
+use Rattle.std.proofs.Common.{ℕ, suc, Bool, true, false, cond, eqb, ltb, List, [], ◌∷◌, length, drop, Option, None, Some, Result, Ok, Err, unwrap_or, sym, subst}
 use Rattle.std.specs.Prelude.{ℤ, codes, map, is_some, unwrap_or, not, ◌&&◌}
 use Rattle.std.specs.Str.{bytes_eq}
 use Rattle.std.specs.List.{AllByRecursion, list_any, prefix_len, take_while}
@@ -10,7 +10,10 @@ use Rattle.grid_units.specs.declared.fault.Reason.TheVariants.{BadWord, ClearPol
 use Rattle.grid_units.specs.declared.lengths.Unit.TheVariants.{Inch, Millimetre}
 use Rattle.grid_units.specs.Results.{◌>>=◌, both, with_place}
 use Rattle.grid_units.specs.Numbers.{is_digit, is_number_char, parse_decimal, value, whole, fraction, value_without_point, to_units, signed, is_decimal, fits_eight_decimals}
-use Rattle.gerber_commands.specs.declared.command.Command.TheVariants.{Quadrant, RegionStart, RegionEnd, UnitIs, Dark, Mirror, Macro, RepeatEnd}
+use Rattle.grid_units.specs.declared.profile.Profile.{Profile}
+use Rattle.grid_units.specs.declared.profile.Profile.TheVariants.{Strict, Wide}
+use Rattle.gerber_extended.specs.Profiles.{extended_in}
+use Rattle.gerber_commands.specs.declared.command.Command.TheVariants.{Quadrant, RegionStart, RegionEnd, UnitIs, Dark, Clear, Mirror, Macro, RepeatEnd}
 use Rattle.gerber_commands.specs.declared.command.QuadrantMode.TheVariants.{Single, Multi}
 use Rattle.gerber_commands.specs.declared.command.Action.{Action}
 use Rattle.gerber_commands.specs.declared.command.Action.TheVariants.{Plot, Move, Flash}
@@ -22,9 +25,9 @@ use Rattle.grid_units.specs.Rows.{strip_prefix}
 use Rattle.gerber_commands.specs.Rows.{Meaning, Row, first_match, field}
 use Rattle.gerber_words.specs.Words.{Fields, no_effect_row, comment, mode_row, quadrant_row, region_row, unit_row, incremental_row, action, d_word, g54_word, select_row, coordinate, action_with, kind, operands, operate, operation_row, finish_row, deprecated_row, words, word}
 use Rattle.gerber_extended.specs.Pieces.{split_by, last_byte, before_last, is_name, standard_template, are_sizes, before_comma, after_comma, has_several_pieces, refused_format_row, format_fields, format_row, unit_piece_row, all_values, sizes_of, aperture_number, define_standard, define_named, define_template, define, definition, macro_of, macro_definition, polarity_row, mirror_row, turn, scale, transform_row, block_fields, repeat, repeat_fields, repeat_start, repeat_row, file_attribute, attribute, removal, no_effect_piece_row, neutral_axes_row, negative_row, deprecated_piece_row, block_aperture_row, pieces, piece, extended}
-use Rattle.gerber_text.specs.Meaning.{meaning, without_end}
+use Rattle.gerber_text.specs.Meaning.{meaning_in, without_end}
 use Rattle.gerber_text.specs.Cut.{OffsetByte}
-use Rattle.gerber_text.specs.Reading.{Entries, spelled, commands_from, after_end, shown, read_in, Reads}
+use Rattle.gerber_text.specs.Reading.{Entries, spelled_in, commands_by, after_end, shown_by, read_by, ReadsIn}
 use Rattle.gerber_text.specs.Reasons.{IsReasonOfReading}
 
 -- ---- answers whose reason is one of reading
@@ -350,10 +353,19 @@ extended_reasons : (text : List ℕ) → ReadingReasons (extended text)
 unfolding extended
 extended_reasons text = reasons_cond (bytes_eq (last_byte text) (codes "*")) (piece (before_last text)) (Err BadWord) (piece_reasons (before_last text)) (reasons_err _ BadWord tt)
 
-meaning_reasons : (plotting : Bool) (item : List ℕ) → ReadingReasons (meaning plotting item)
-unfolding meaning
-meaning_reasons plotting [] = reasons_err _ _ tt
-meaning_reasons plotting (b ∷ bs) = reasons_cond (eqb b 37) (extended (without_end bs)) (word plotting (without_end (b ∷ bs))) (extended_reasons (without_end bs)) (word_reasons plotting (without_end (b ∷ bs)))
+-- an extended item in a profile: clear polarity, or one of the strict profile
+wide_by : (t : Bool) (text : List ℕ) → ReadingReasons (unwrap_or (cond t (Some (Ok (Clear ∷ []))) None) (extended text))
+wide_by true text = reasons_ok _
+wide_by false text = extended_reasons text
+
+extended_reasons_in : (profile : Profile) (text : List ℕ) → ReadingReasons (extended_in profile text)
+extended_reasons_in Strict text = extended_reasons text
+extended_reasons_in Wide text = wide_by (bytes_eq text (codes "LPC*")) text
+
+meaning_reasons : (profile : Profile) (plotting : Bool) (item : List ℕ) → ReadingReasons (meaning_in profile plotting item)
+unfolding meaning_in
+meaning_reasons profile plotting [] = reasons_err _ _ tt
+meaning_reasons profile plotting (b ∷ bs) = reasons_cond (eqb b 37) (extended_in profile (without_end bs)) (word plotting (without_end (b ∷ bs))) (extended_reasons_in profile (without_end bs)) (word_reasons plotting (without_end (b ∷ bs)))
 
 -- ---- texts
 
@@ -383,27 +395,27 @@ unfolding FaultReadingReasons
 fault_bind (Ok x) f h k = k x
 fault_bind (Err e) f h k = h
 
-spelled_reasons : (place byte : ℕ) (item : List ℕ) (before : Entries) → FaultReadingReasons (spelled place byte item before)
-unfolding spelled
-spelled_reasons place byte item before = at_reasons place byte _ (reasons_cond _ _ _ (reasons_err _ _ tt) (reasons_bind _ _ (meaning_reasons _ item) (λ x. reasons_ok _)))
+spelled_reasons : (profile : Profile) (place byte : ℕ) (item : List ℕ) (before : Entries) → FaultReadingReasons (spelled_in profile place byte item before)
+unfolding spelled_in
+spelled_reasons profile place byte item before = at_reasons place byte _ (reasons_cond _ _ _ (reasons_err _ _ tt) (reasons_bind _ _ (meaning_reasons profile _ item) (λ x. reasons_ok _)))
 
-from_reasons : (place : ℕ) (items : List (List OffsetByte)) (before : Entries) → FaultReadingReasons (commands_from place items before)
-from_reasons place [] before = fault_ok _
-from_reasons place (item ∷ items) before = fault_bind _ _ (spelled_reasons place _ _ before) (from_reasons (suc place) items)
+from_reasons : (profile : Profile) (place : ℕ) (items : List (List OffsetByte)) (before : Entries) → FaultReadingReasons (commands_by profile place items before)
+from_reasons profile place [] before = fault_ok _
+from_reasons profile place (item ∷ items) before = fault_bind _ _ (spelled_reasons profile place _ _ before) (from_reasons profile (suc place) items)
 
 after_end_reasons : (place : ℕ) (commands : Entries) (rest : List OffsetByte) → FaultReadingReasons (after_end place commands rest)
 after_end_reasons place commands [] = fault_ok _
 after_end_reasons place commands (m ∷ ms) = fault_cond _ _ _ (after_end_reasons place commands ms) (fault_err _ tt)
 
-shown_reasons : (items : List (List OffsetByte)) (rest : List OffsetByte) → FaultReadingReasons (shown items rest)
-shown_reasons items rest = fault_bind _ _ (from_reasons 1 items []) (λ commands. fault_cond _ _ _ (after_end_reasons _ commands rest) (fault_cond _ _ _ (fault_err _ tt) (fault_ok _)))
+shown_reasons : (profile : Profile) (items : List (List OffsetByte)) (rest : List OffsetByte) → FaultReadingReasons (shown_by profile items rest)
+shown_reasons profile items rest = fault_bind _ _ (from_reasons profile 1 items []) (λ commands. fault_cond _ _ _ (after_end_reasons _ commands rest) (fault_cond _ _ _ (fault_err _ tt) (fault_ok _)))
 
-read_reasons : (len : ℕ) (items : List (List OffsetByte)) (rest : List OffsetByte) → FaultReadingReasons (read_in len items rest)
-read_reasons len items rest = fault_bind _ _ (shown_reasons items rest) (λ commands. fault_cond _ _ _ (fault_err _ tt) (fault_cond _ _ _ (fault_ok _) (fault_err _ tt)))
+read_reasons : (profile : Profile) (len : ℕ) (items : List (List OffsetByte)) (rest : List OffsetByte) → FaultReadingReasons (read_by profile len items rest)
+read_reasons profile len items rest = fault_bind _ _ (shown_reasons profile items rest) (λ commands. fault_cond _ _ _ (fault_err _ tt) (fault_cond _ _ _ (fault_ok _) (fault_err _ tt)))
 
 err_reasons : (f : Fault) → FaultReadingReasons (Err f) → IsReasonOfReading f.reason
 unfolding FaultReadingReasons
 err_reasons f h = h
 
-pub reads_reasons : (text : List ℕ) (f : Fault) → Reads text (Err f) → IsReasonOfReading f.reason
-reads_reasons text f r = err_reasons f (subst FaultReadingReasons (sym r.answer_is) (read_reasons (length text) r.items r.rest))
+pub reads_reasons : (profile : Profile) (text : List ℕ) (f : Fault) → ReadsIn profile text (Err f) → IsReasonOfReading f.reason
+reads_reasons profile text f r = err_reasons f (subst FaultReadingReasons (sym r.answer_is) (read_reasons profile (length text) r.items r.rest))

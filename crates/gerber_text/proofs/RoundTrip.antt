@@ -4,11 +4,12 @@ use Rattle.std.specs.List.{flat_map}
 use Rattle.std.proofs.lemmas.List.{append-nil, length-append}
 use Rattle.std.proofs.lemmas.Bool.{le-ltb, false≢true}
 use Rattle.grid_units.specs.Results.{◌>>=◌}
+use Rattle.grid_units.specs.declared.profile.Profile.TheVariants.{Strict}
 use Rattle.gerber_commands.specs.declared.command.Command.{Command}
 use Rattle.gerber_text.specs.Items.{is_line_break, is_end_item, IsItem}
 use Rattle.gerber_commands.specs.Canonical.{canonical}
 use Rattle.gerber_text.specs.Cut.{OffsetByte, offset_bytes_from, offset_bytes, bytes_of, first_offset, has_end, AreItems, Splits}
-use Rattle.gerber_text.specs.Reading.{Entries, is_plotting, spelled, commands_from, placed}
+use Rattle.gerber_text.specs.Reading.{spelled_in, Entries, is_plotting, spelled, commands_from, placed}
 use Rattle.gerber_text.specs.CutItems.{without_breaks, Spells}
 use Rattle.gerber_text.specs.Sayable.{is_sayable, is_finish}
 use Rattle.gerber_text.proofs.CanonicalParses.{parses as canonical_spells}
@@ -58,7 +59,7 @@ record Found (n place : ℕ) (cs : List Command) (before : Entries) : Type 0 whe
   same : without_places more ≡ cs
 
 parses : (place n : ℕ) (c : Command) (before : Entries) → Spells (canonical c) c → spelled place (first_offset (offset_bytes_from n (canonical c))) (bytes_of (offset_bytes_from n (canonical c))) before ≡ Ok (before ++ placed place (first_offset (offset_bytes_from n (canonical c))) (c ∷ []))
-unfolding spelled
+unfolding spelled_in
 parses place n c before s = rw (bytes_of_marks n (canonical c), le-ltb _ _ s.short, s.parses (is_plotting before)) refl
 
 -- an item and its line end leave the item's bytes with their offsets
@@ -104,5 +105,5 @@ reads_as cs text is le h =
     let all = items_of_lines 0 cs in
     let splits : Splits (offset_bytes (lines cs)) all [] = record { whole = f.whole ∙ sym (append-nil (flat_map (λ (i : List OffsetByte). i) all)); each = f.each; partial = λ none. absurd (false≢true (sym none ∙ f.ends)) } in
     let short : length (lines cs) ≤ text_limit = subst (λ (t : List ℕ). length t ≤ text_limit) is le in
-    let whole : ReadsAs (lines cs) cs = record { entries = f.more; reads = reads_ok (lines cs) all [] f.more splits (shown_ended all [] f.more f.ends f.commands) f.ends short; same = f.same } in
+    let whole : ReadsAs (lines cs) cs = record { entries = f.more; reads = reads_ok Strict (lines cs) all [] f.more splits (shown_ended Strict all [] f.more f.ends f.commands) f.ends short; same = f.same } in
     subst (λ (t : List ℕ). ReadsAs t cs) (sym is) whole

@@ -4,6 +4,7 @@ use Rattle.std.specs.List.{AllByRecursion}
 use Rattle.std.proofs.lemmas.List.{append-nil, length-append, length-map, take-append-drop, take-append-le, take_all, take_rest}
 use Rattle.std.proofs.Math.Seq.{take-add}
 use Rattle.std.proofs.lemmas.Bool.{eqb-true, eqb-false, lt-ltb, le-ltb, ltb-true, ltb-false, false≢true}
+use Rattle.grid_units.specs.declared.profile.Profile.{Profile}
 use Rattle.grid_units.specs.declared.fault.Fault.{Fault}
 use Rattle.grid_units.specs.declared.fault.Fail.{Fail}
 use Rattle.grid_units.specs.declared.fault.Fail.TheVariants as fails
@@ -13,7 +14,7 @@ use Rattle.gerber_text.specs.Items.{is_line_break, end_byte, IsUnfinished}
 use Rattle.gerber_text.specs.Cut.{OffsetByte, offset_bytes_from, offset_bytes, bytes_of, first_offset, has_end, Splits}
 use Rattle.gerber_text.specs.Inner.Bytes.{may_follow_end}
 use Rattle.grid_units.specs.Results.{◌>>=◌, fault, IfFault}
-use Rattle.gerber_text.specs.Reading.{Entries, spelled, commands_from, may_follow, after_end, shown}
+use Rattle.gerber_text.specs.Reading.{Entries, spelled_in, commands_by, may_follow, after_end, shown_by}
 use Rattle.gerber_text.specs.Holding.{Holds, FailsOnBytes, Advances, Refuses}
 use Rattle.grid_units.proofs.ResultLemmas.{bind_ok, bind_err, guard_ok, guard_err}
 use Rattle.gerber_text.proofs.OffsetByteLemmas.{offset_bytes-append, first_offset-append}
@@ -65,26 +66,26 @@ stray n place cs (b ∷ bytes) (suc i) lt h k =
 
 -- ---- what is shown
 
-pub running_ok : (items : List (List OffsetByte)) (rest : List OffsetByte) (cs : Entries) → has_end items ≡ false → shown items rest ≡ Ok cs → (commands_from 1 items [] ≡ Ok cs) × (length rest ≤ item_limit)
-running_ok items rest cs none e =
-    let b = bind_ok (commands_from 1 items []) (λ commands. cond (has_end items) (after_end (suc (length items)) commands rest) (cond (ltb item_limit (length rest)) (Err (fault (suc (length items)) (first_offset rest) TooLong)) (Ok commands))) cs e in
+pub running_ok : (profile : Profile) (items : List (List OffsetByte)) (rest : List OffsetByte) (cs : Entries) → has_end items ≡ false → shown_by profile items rest ≡ Ok cs → (commands_by profile 1 items [] ≡ Ok cs) × (length rest ≤ item_limit)
+running_ok profile items rest cs none e =
+    let b = bind_ok (commands_by profile 1 items []) (λ commands. cond (has_end items) (after_end (suc (length items)) commands rest) (cond (ltb item_limit (length rest)) (Err (fault (suc (length items)) (first_offset rest) TooLong)) (Ok commands))) cs e in
     let g = guard_ok (ltb item_limit (length rest)) (fault (suc (length items)) (first_offset rest) TooLong) b.0 cs (sym (ap (λ t. cond t (after_end (suc (length items)) b.0 rest) (cond (ltb item_limit (length rest)) (Err (fault (suc (length items)) (first_offset rest) TooLong)) (Ok b.0))) none) ∙ b.2) in
     (b.1 ∙ ap (λ (x : Entries). Ok x) g.1, ltb-false _ _ g.0)
 
-pub show_ok : (items : List (List OffsetByte)) (rest : List OffsetByte) (cs : Entries) → has_end items ≡ false → commands_from 1 items [] ≡ Ok cs → length rest ≤ item_limit → shown items rest ≡ Ok cs
-show_ok items rest cs none e le = rw (e, none, le-ltb _ _ le) refl
+pub show_ok : (profile : Profile) (items : List (List OffsetByte)) (rest : List OffsetByte) (cs : Entries) → has_end items ≡ false → commands_by profile 1 items [] ≡ Ok cs → length rest ≤ item_limit → shown_by profile items rest ≡ Ok cs
+show_ok profile items rest cs none e le = rw (e, none, le-ltb _ _ le) refl
 
-pub show_long : (items : List (List OffsetByte)) (rest : List OffsetByte) (cs : Entries) → has_end items ≡ false → commands_from 1 items [] ≡ Ok cs → item_limit < length rest → shown items rest ≡ Err (fault (suc (length items)) (first_offset rest) TooLong)
-show_long items rest cs none e lt = rw (e, none, lt-ltb _ _ lt) refl
+pub show_long : (profile : Profile) (items : List (List OffsetByte)) (rest : List OffsetByte) (cs : Entries) → has_end items ≡ false → commands_by profile 1 items [] ≡ Ok cs → item_limit < length rest → shown_by profile items rest ≡ Err (fault (suc (length items)) (first_offset rest) TooLong)
+show_long profile items rest cs none e lt = rw (e, none, lt-ltb _ _ lt) refl
 
-pub shown_ended : (items : List (List OffsetByte)) (rest : List OffsetByte) (cs : Entries) → has_end items ≡ true → commands_from 1 items [] ≡ Ok cs → shown items rest ≡ after_end (suc (length items)) cs rest
-shown_ended items rest cs some e = rw (e, some) refl
+pub shown_ended : (profile : Profile) (items : List (List OffsetByte)) (rest : List OffsetByte) (cs : Entries) → has_end items ≡ true → commands_by profile 1 items [] ≡ Ok cs → shown_by profile items rest ≡ after_end (suc (length items)) cs rest
+shown_ended profile items rest cs some e = rw (e, some) refl
 
-pub ended_more : (items : List (List OffsetByte)) (rest more : List OffsetByte) (cs : Entries) → has_end items ≡ true → shown items rest ≡ Ok cs → shown items (rest ++ more) ≡ after_end (suc (length items)) cs more
-ended_more items rest more cs some e =
-    let b = bind_ok (commands_from 1 items []) (λ commands. cond (has_end items) (after_end (suc (length items)) commands rest) (cond (ltb item_limit (length rest)) (Err (fault (suc (length items)) (first_offset rest) TooLong)) (Ok commands))) cs e in
+pub ended_more : (profile : Profile) (items : List (List OffsetByte)) (rest more : List OffsetByte) (cs : Entries) → has_end items ≡ true → shown_by profile items rest ≡ Ok cs → shown_by profile items (rest ++ more) ≡ after_end (suc (length items)) cs more
+ended_more profile items rest more cs some e =
+    let b = bind_ok (commands_by profile 1 items []) (λ commands. cond (has_end items) (after_end (suc (length items)) commands rest) (cond (ltb item_limit (length rest)) (Err (fault (suc (length items)) (first_offset rest) TooLong)) (Ok commands))) cs e in
     let r = after_end_ok (suc (length items)) b.0 cs rest (sym (ap (λ t. cond t (after_end (suc (length items)) b.0 rest) (cond (ltb item_limit (length rest)) (Err (fault (suc (length items)) (first_offset rest) TooLong)) (Ok b.0))) some) ∙ b.2) in
-    shown_ended items (rest ++ more) b.0 some b.1 ∙ (r.1 more ∙ ap (λ (x : Entries). after_end (suc (length items)) x more) r.0)
+    shown_ended profile items (rest ++ more) b.0 some b.1 ∙ (r.1 more ∙ ap (λ (x : Entries). after_end (suc (length items)) x more) r.0)
 
 rest_shows : (t : Bool) (place : ℕ) (r : Result Entries Fault) → (r >>= λ commands. cond t (after_end place commands []) (cond (ltb item_limit 0) (Err (fault place 0 TooLong)) (Ok commands))) ≡ r
 rest_shows true place (Ok x) = refl
@@ -92,24 +93,24 @@ rest_shows false place (Ok x) = refl
 rest_shows t place (Err x) = refl
 
 -- the items and one more, with nothing after it
-pub show_push : (items : List (List OffsetByte)) (item : List OffsetByte) (cs : Entries) → commands_from 1 items [] ≡ Ok cs → shown (items ++ item ∷ []) [] ≡ spelled (suc (length items)) (first_offset item) (bytes_of item) cs
-show_push items item cs e =
+pub show_push : (profile : Profile) (items : List (List OffsetByte)) (item : List OffsetByte) (cs : Entries) → commands_by profile 1 items [] ≡ Ok cs → shown_by profile (items ++ item ∷ []) [] ≡ spelled_in profile (suc (length items)) (first_offset item) (bytes_of item) cs
+show_push profile items item cs e =
     let k : 1 + length items ≡ suc (length items) = omega arith in
-    let cmds : commands_from 1 (items ++ item ∷ []) [] ≡ spelled (suc (length items)) (first_offset item) (bytes_of item) cs = commands_from-push 1 items item [] ∙ (ap (λ r. r >>= spelled (1 + length items) (first_offset item) (bytes_of item)) e ∙ ap (λ p. spelled p (first_offset item) (bytes_of item) cs) k) in
-    rest_shows (has_end (items ++ item ∷ [])) (suc (length (items ++ item ∷ []))) (commands_from 1 (items ++ item ∷ []) []) ∙ cmds
+    let cmds : commands_by profile 1 (items ++ item ∷ []) [] ≡ spelled_in profile (suc (length items)) (first_offset item) (bytes_of item) cs = commands_from-push profile 1 items item [] ∙ (ap (λ r. r >>= spelled_in profile (1 + length items) (first_offset item) (bytes_of item)) e ∙ ap (λ p. spelled_in profile p (first_offset item) (bytes_of item) cs) k) in
+    rest_shows (has_end (items ++ item ∷ [])) (suc (length (items ++ item ∷ []))) (commands_by profile 1 (items ++ item ∷ []) []) ∙ cmds
 
 -- ---- a fault stays, and the items before it
 
 -- one more byte: the first items stay, and so does a fault
-pub record Pushed (ms : List OffsetByte) (m : OffsetByte) (items : List (List OffsetByte)) (rest : List OffsetByte) : Type 0 where
+pub record Pushed (profile : Profile) (ms : List OffsetByte) (m : OffsetByte) (items : List (List OffsetByte)) (rest : List OffsetByte) : Type 0 where
   pub more : List (List OffsetByte)
   pub left : List OffsetByte
   pub splits : Splits (ms ++ m ∷ []) more left
   pub prefix : (n : ℕ) → n ≤ length items → (n ≤ length more) × (take n more ≡ take n items)
-  pub stays : (f : Fault) → shown items rest ≡ Err f → shown more left ≡ Err f
+  pub stays : (f : Fault) → shown_by profile items rest ≡ Err f → shown_by profile more left ≡ Err f
 
-pushed_ended : (ms : List OffsetByte) (m : OffsetByte) (items : List (List OffsetByte)) (rest : List OffsetByte) → has_end items ≡ true → Splits ms items rest → Pushed ms m items rest
-pushed_ended ms m items rest some s =
+pushed_ended : (profile : Profile) (ms : List OffsetByte) (m : OffsetByte) (items : List (List OffsetByte)) (rest : List OffsetByte) → has_end items ≡ true → Splits ms items rest → Pushed profile ms m items rest
+pushed_ended profile ms m items rest some s =
     let place = suc (length items) in
     record {
       more = items;
@@ -117,78 +118,78 @@ pushed_ended ms m items rest some s =
       splits = Splits-grow ms items rest (m ∷ []) s (λ none. absurd (false≢true (sym none ∙ some)));
       prefix = λ n h. (h, refl);
       stays = λ f e.
-          let unfolded = ap (λ t. commands_from 1 items [] >>= λ commands. cond t (after_end place commands rest) (cond (ltb item_limit (length rest)) (Err (fault place (first_offset rest) TooLong)) (Ok commands))) (sym some) ∙ e in
-          elim (bind_err (commands_from 1 items []) (λ commands. after_end place commands rest) f unfolded) [
+          let unfolded = ap (λ t. commands_by profile 1 items [] >>= λ commands. cond t (after_end place commands rest) (cond (ltb item_limit (length rest)) (Err (fault place (first_offset rest) TooLong)) (Ok commands))) (sym some) ∙ e in
+          elim (bind_err (commands_by profile 1 items []) (λ commands. after_end place commands rest) f unfolded) [
             | inl h ↦ rw h refl
-            | inr h ↦ shown_ended items (rest ++ m ∷ []) h.0 some h.1 ∙ after_end_err place h.0 rest (m ∷ []) f h.2
+            | inr h ↦ shown_ended profile items (rest ++ m ∷ []) h.0 some h.1 ∙ after_end_err place h.0 rest (m ∷ []) f h.2
           ];
     }
 
 -- where the text has not ended, the fault is that of an item, or the rest is too long
-running_err : (items : List (List OffsetByte)) (rest : List OffsetByte) (f : Fault) → has_end items ≡ false → shown items rest ≡ Err f
-    → (commands_from 1 items [] ≡ Err f) ⊎ ((cs : Entries) × (commands_from 1 items [] ≡ Ok cs) × (item_limit < length rest) × (fault (suc (length items)) (first_offset rest) TooLong ≡ f))
-running_err items rest f none e =
+running_err : (profile : Profile) (items : List (List OffsetByte)) (rest : List OffsetByte) (f : Fault) → has_end items ≡ false → shown_by profile items rest ≡ Err f
+    → (commands_by profile 1 items [] ≡ Err f) ⊎ ((cs : Entries) × (commands_by profile 1 items [] ≡ Ok cs) × (item_limit < length rest) × (fault (suc (length items)) (first_offset rest) TooLong ≡ f))
+running_err profile items rest f none e =
     let place = suc (length items) in
-    let unfolded = ap (λ t. commands_from 1 items [] >>= λ commands. cond t (after_end place commands rest) (cond (ltb item_limit (length rest)) (Err (fault place (first_offset rest) TooLong)) (Ok commands))) (sym none) ∙ e in
-    elim (bind_err (commands_from 1 items []) (λ commands. cond (ltb item_limit (length rest)) (Err (fault place (first_offset rest) TooLong)) (Ok commands)) f unfolded) [
+    let unfolded = ap (λ t. commands_by profile 1 items [] >>= λ commands. cond t (after_end place commands rest) (cond (ltb item_limit (length rest)) (Err (fault place (first_offset rest) TooLong)) (Ok commands))) (sym none) ∙ e in
+    elim (bind_err (commands_by profile 1 items []) (λ commands. cond (ltb item_limit (length rest)) (Err (fault place (first_offset rest) TooLong)) (Ok commands)) f unfolded) [
       | inl h ↦ inl h
       | inr h ↦ (let g = guard_err (ltb item_limit (length rest)) (fault place (first_offset rest) TooLong) f h.0 h.2 in inr (h.0, h.1, ltb-true _ _ g.0, g.1))
     ]
 
-first_err : (items : List (List OffsetByte)) (rest : List OffsetByte) (f : Fault) → commands_from 1 items [] ≡ Err f → shown items rest ≡ Err f
-first_err items rest f e = rw e refl
+first_err : (profile : Profile) (items : List (List OffsetByte)) (rest : List OffsetByte) (f : Fault) → commands_by profile 1 items [] ≡ Err f → shown_by profile items rest ≡ Err f
+first_err profile items rest f e = rw e refl
 
-pushed_inside : (ms : List OffsetByte) (m : OffsetByte) (items : List (List OffsetByte)) (rest : List OffsetByte) → has_end items ≡ false → m.1 ≢ end_byte (bytes_of rest) → Splits ms items rest → Pushed ms m items rest
-pushed_inside ms m items rest none inside s = record {
+pushed_inside : (profile : Profile) (ms : List OffsetByte) (m : OffsetByte) (items : List (List OffsetByte)) (rest : List OffsetByte) → has_end items ≡ false → m.1 ≢ end_byte (bytes_of rest) → Splits ms items rest → Pushed profile ms m items rest
+pushed_inside profile ms m items rest none inside s = record {
   more = items;
   left = rest ++ m ∷ [];
   splits = Splits-grow ms items rest (m ∷ []) s (λ _. subst IsUnfinished (sym (bytes_of-push rest m)) (IsUnfinished-push (bytes_of rest) m.1 (s.partial none) inside));
   prefix = λ n h. (h, refl);
-  stays = λ f e. elim (running_err items rest f none e) [
-    | inl h ↦ first_err items (rest ++ m ∷ []) f h
+  stays = λ f e. elim (running_err profile items rest f none e) [
+    | inl h ↦ first_err profile items (rest ++ m ∷ []) f h
     | inr h ↦ (let long : 0 < length rest = omega (arith, h.2) in
-        show_long items (rest ++ m ∷ []) h.0 none h.1 (omega (arith, h.2, length-append rest (m ∷ []))) ∙ (ap (λ at. Err (fault (suc (length items)) at TooLong)) (first_offset-append rest (m ∷ []) long) ∙ ap (λ (g : Fault). Err g) h.3))
+        show_long profile items (rest ++ m ∷ []) h.0 none h.1 (omega (arith, h.2, length-append rest (m ∷ []))) ∙ (ap (λ at. Err (fault (suc (length items)) at TooLong)) (first_offset-append rest (m ∷ []) long) ∙ ap (λ (g : Fault). Err g) h.3))
   ];
 }
 
 -- an item that is too long is a fault
-pub too_long : (place byte : ℕ) (bytes : List ℕ) (before : Entries) → item_limit < length bytes → spelled place byte bytes before ≡ Err (fault place byte TooLong)
-unfolding spelled
-too_long place byte bytes before lt = rw (lt-ltb _ _ lt) refl
+pub too_long : (profile : Profile) (place byte : ℕ) (bytes : List ℕ) (before : Entries) → item_limit < length bytes → spelled_in profile place byte bytes before ≡ Err (fault place byte TooLong)
+unfolding spelled_in
+too_long profile place byte bytes before lt = rw (lt-ltb _ _ lt) refl
 
-show_push_err : (items : List (List OffsetByte)) (item : List OffsetByte) (f : Fault) → commands_from 1 items [] ≡ Err f → shown (items ++ item ∷ []) [] ≡ Err f
-show_push_err items item f e =
-    let cmds : commands_from 1 (items ++ item ∷ []) [] ≡ Err f = commands_from-push 1 items item [] ∙ ap (λ r. r >>= spelled (1 + length items) (first_offset item) (bytes_of item)) e in
-    first_err (items ++ item ∷ []) [] f cmds
+show_push_err : (profile : Profile) (items : List (List OffsetByte)) (item : List OffsetByte) (f : Fault) → commands_by profile 1 items [] ≡ Err f → shown_by profile (items ++ item ∷ []) [] ≡ Err f
+show_push_err profile items item f e =
+    let cmds : commands_by profile 1 (items ++ item ∷ []) [] ≡ Err f = commands_from-push profile 1 items item [] ∙ ap (λ r. r >>= spelled_in profile (1 + length items) (first_offset item) (bytes_of item)) e in
+    first_err profile (items ++ item ∷ []) [] f cmds
 
 pub take_of_push : (items : List (List OffsetByte)) (item : List OffsetByte) (n : ℕ) → n ≤ length items → (n ≤ length (items ++ item ∷ [])) × (take n (items ++ item ∷ []) ≡ take n items)
 take_of_push items item n h = (omega (arith, length-append items (item ∷ [])), rw take-append-le refl)
 
-pushed_last : (ms : List OffsetByte) (m : OffsetByte) (items : List (List OffsetByte)) (rest : List OffsetByte) → has_end items ≡ false → m.1 ≡ end_byte (bytes_of rest) → Splits ms items rest → Pushed ms m items rest
-pushed_last ms m items rest none last s = record {
+pushed_last : (profile : Profile) (ms : List OffsetByte) (m : OffsetByte) (items : List (List OffsetByte)) (rest : List OffsetByte) → has_end items ≡ false → m.1 ≡ end_byte (bytes_of rest) → Splits ms items rest → Pushed profile ms m items rest
+pushed_last profile ms m items rest none last s = record {
   more = items ++ (rest ++ m ∷ []) ∷ [];
   left = [];
   splits = Splits-close ms items rest m s none last;
   prefix = take_of_push items (rest ++ m ∷ []);
-  stays = λ f e. elim (running_err items rest f none e) [
-    | inl h ↦ show_push_err items (rest ++ m ∷ []) f h
+  stays = λ f e. elim (running_err profile items rest f none e) [
+    | inl h ↦ show_push_err profile items (rest ++ m ∷ []) f h
     | inr h ↦ (let long : 0 < length rest = omega (arith, h.2) in
-        show_push items (rest ++ m ∷ []) h.0 h.1 ∙ (too_long (suc (length items)) (first_offset (rest ++ m ∷ [])) (bytes_of (rest ++ m ∷ [])) h.0 (omega (arith, h.2, length-append rest (m ∷ []), length-map (rest ++ m ∷ []) (λ (x : OffsetByte). x.1))) ∙ (ap (λ at. Err (fault (suc (length items)) at TooLong)) (first_offset-append rest (m ∷ []) long) ∙ ap (λ (g : Fault). Err g) h.3)))
+        show_push profile items (rest ++ m ∷ []) h.0 h.1 ∙ (too_long profile (suc (length items)) (first_offset (rest ++ m ∷ [])) (bytes_of (rest ++ m ∷ [])) h.0 (omega (arith, h.2, length-append rest (m ∷ []), length-map (rest ++ m ∷ []) (λ (x : OffsetByte). x.1))) ∙ (ap (λ at. Err (fault (suc (length items)) at TooLong)) (first_offset-append rest (m ∷ []) long) ∙ ap (λ (g : Fault). Err g) h.3)))
   ];
 }
 
-pub by_end : (t u : Bool) (ms : List OffsetByte) (m : OffsetByte) (items : List (List OffsetByte)) (rest : List OffsetByte) → has_end items ≡ t → eqb m.1 (end_byte (bytes_of rest)) ≡ u → Splits ms items rest → Pushed ms m items rest
-by_end true u ms m items rest h k s = pushed_ended ms m items rest h s
-by_end false true ms m items rest h k s = pushed_last ms m items rest h (eqb-true _ _ k) s
-by_end false false ms m items rest h k s = pushed_inside ms m items rest h (eqb-false _ _ k) s
+pub by_end : (profile : Profile) (t u : Bool) (ms : List OffsetByte) (m : OffsetByte) (items : List (List OffsetByte)) (rest : List OffsetByte) → has_end items ≡ t → eqb m.1 (end_byte (bytes_of rest)) ≡ u → Splits ms items rest → Pushed profile ms m items rest
+by_end profile true u ms m items rest h k s = pushed_ended profile ms m items rest h s
+by_end profile false true ms m items rest h k s = pushed_last profile ms m items rest h (eqb-true _ _ k) s
+by_end profile false false ms m items rest h k s = pushed_inside profile ms m items rest h (eqb-false _ _ k) s
 
-reported_stays : (items more : List (List OffsetByte)) (rest left : List OffsetByte) (kept : ℕ) (e : Fail) → ((f : Fault) → shown items rest ≡ Err f → shown more left ≡ Err f) → IfFault (λ f. (shown items rest ≡ Err f) × (f.place ≡ suc kept)) e → IfFault (λ f. (shown more left ≡ Err f) × (f.place ≡ suc kept)) e
-reported_stays items more rest left kept fails.Memory stays h = tt
-reported_stays items more rest left kept (fails.Refused f) stays h = (stays f h.0, h.1)
+reported_stays : (profile : Profile) (items more : List (List OffsetByte)) (rest left : List OffsetByte) (kept : ℕ) (e : Fail) → ((f : Fault) → shown_by profile items rest ≡ Err f → shown_by profile more left ≡ Err f) → IfFault (λ f. (shown_by profile items rest ≡ Err f) × (f.place ≡ suc kept)) e → IfFault (λ f. (shown_by profile more left ≡ Err f) × (f.place ≡ suc kept)) e
+reported_stays profile items more rest left kept fails.Memory stays h = tt
+reported_stays profile items more rest left kept (fails.Refused f) stays h = (stays f h.0, h.1)
 
-stops_push : (ms : List OffsetByte) (m : OffsetByte) (cs : Entries) (e : Fail) → FailsOnBytes ms cs e → FailsOnBytes (ms ++ m ∷ []) cs e
-stops_push ms m cs e h =
-    let p = by_end (has_end h.items) (eqb m.1 (end_byte (bytes_of h.rest))) ms m h.items h.rest refl refl h.splits in
+stops_push : (profile : Profile) (ms : List OffsetByte) (m : OffsetByte) (cs : Entries) (e : Fail) → FailsOnBytes profile ms cs e → FailsOnBytes profile (ms ++ m ∷ []) cs e
+stops_push profile ms m cs e h =
+    let p = by_end profile (has_end h.items) (eqb m.1 (end_byte (bytes_of h.rest))) ms m h.items h.rest refl refl h.splits in
     let f = p.prefix h.kept h.within in
     record {
       items = p.more;
@@ -196,55 +197,55 @@ stops_push ms m cs e h =
       splits = p.splits;
       kept = h.kept;
       within = f.0;
-      spelled = ap (λ (x : List (List OffsetByte)). commands_from 1 x []) f.1 ∙ h.spelled;
-      reported = reported_stays h.items p.more h.rest p.left h.kept e p.stays h.reported;
+      spelled = ap (λ (x : List (List OffsetByte)). commands_by profile 1 x []) f.1 ∙ h.spelled;
+      reported = reported_stays profile h.items p.more h.rest p.left h.kept e p.stays h.reported;
     }
 
-pub stops_stay : (ms more : List OffsetByte) (cs : Entries) (e : Fail) → FailsOnBytes ms cs e → FailsOnBytes (ms ++ more) cs e
-stops_stay ms [] cs e h = subst (λ (x : List OffsetByte). FailsOnBytes x cs e) (sym (append-nil ms)) h
-stops_stay ms (m ∷ more) cs e h =
-    subst (λ (x : List OffsetByte). FailsOnBytes x cs e) (append_assoc ms (m ∷ []) more) (stops_stay (ms ++ m ∷ []) more cs e (stops_push ms m cs e h))
+pub stops_stay : (profile : Profile) (ms more : List OffsetByte) (cs : Entries) (e : Fail) → FailsOnBytes profile ms cs e → FailsOnBytes profile (ms ++ more) cs e
+stops_stay profile ms [] cs e h = subst (λ (x : List OffsetByte). FailsOnBytes profile x cs e) (sym (append-nil ms)) h
+stops_stay profile ms (m ∷ more) cs e h =
+    subst (λ (x : List OffsetByte). FailsOnBytes profile x cs e) (append_assoc ms (m ∷ []) more) (stops_stay profile (ms ++ m ∷ []) more cs e (stops_push profile ms m cs e h))
 
 -- ---- readers
 
-shown_spelled_by : (t : Bool) (items : List (List OffsetByte)) (rest : List OffsetByte) (cs : Entries) → has_end items ≡ t → shown items rest ≡ Ok cs → commands_from 1 items [] ≡ Ok cs
-shown_spelled_by false items rest cs none e = (running_ok items rest cs none e).0
-shown_spelled_by true items rest cs some e =
-    let b = bind_ok (commands_from 1 items []) (λ commands. cond (has_end items) (after_end (suc (length items)) commands rest) (cond (ltb item_limit (length rest)) (Err (fault (suc (length items)) (first_offset rest) TooLong)) (Ok commands))) cs e in
+shown_spelled_by : (profile : Profile) (t : Bool) (items : List (List OffsetByte)) (rest : List OffsetByte) (cs : Entries) → has_end items ≡ t → shown_by profile items rest ≡ Ok cs → commands_by profile 1 items [] ≡ Ok cs
+shown_spelled_by profile false items rest cs none e = (running_ok profile items rest cs none e).0
+shown_spelled_by profile true items rest cs some e =
+    let b = bind_ok (commands_by profile 1 items []) (λ commands. cond (has_end items) (after_end (suc (length items)) commands rest) (cond (ltb item_limit (length rest)) (Err (fault (suc (length items)) (first_offset rest) TooLong)) (Ok commands))) cs e in
     let r = after_end_ok (suc (length items)) b.0 cs rest (sym (ap (λ t. cond t (after_end (suc (length items)) b.0 rest) (cond (ltb item_limit (length rest)) (Err (fault (suc (length items)) (first_offset rest) TooLong)) (Ok b.0))) some) ∙ b.2) in
     b.1 ∙ ap (λ (x : Entries). Ok x) r.0
 
 -- where no fault is shown, the items alone spell the commands
-pub shown_spelled : (items : List (List OffsetByte)) (rest : List OffsetByte) (cs : Entries) → shown items rest ≡ Ok cs → commands_from 1 items [] ≡ Ok cs
-shown_spelled items rest cs e = shown_spelled_by (has_end items) items rest cs refl e
+pub shown_spelled : (profile : Profile) (items : List (List OffsetByte)) (rest : List OffsetByte) (cs : Entries) → shown_by profile items rest ≡ Ok cs → commands_by profile 1 items [] ≡ Ok cs
+shown_spelled profile items rest cs e = shown_spelled_by profile (has_end items) items rest cs refl e
 
-pub kept_all : (r : Progress) (gone : Entries) (text : List ℕ) (h : Holds r gone text) → commands_from 1 (take (length h.items) h.items) [] ≡ Ok (gone ++ r.commands.items)
-kept_all r gone text h = ap (λ (x : List (List OffsetByte)). commands_from 1 x []) (take_all (length h.items) h.items (omega arith)) ∙ shown_spelled h.items h.rest (gone ++ r.commands.items) h.commands
+pub kept_all : (profile : Profile) (r : Progress) (gone : Entries) (text : List ℕ) (h : Holds r profile gone text) → commands_by profile 1 (take (length h.items) h.items) [] ≡ Ok (gone ++ r.commands.items)
+kept_all profile r gone text h = ap (λ (x : List (List OffsetByte)). commands_by profile 1 x []) (take_all (length h.items) h.items (omega arith)) ∙ shown_spelled profile h.items h.rest (gone ++ r.commands.items) h.commands
 
-pub kept_pushed : (r : Progress) (gone : Entries) (text : List ℕ) (h : Holds r gone text) (item : List OffsetByte) → commands_from 1 (take (length h.items) (h.items ++ item ∷ [])) [] ≡ Ok (gone ++ r.commands.items)
-kept_pushed r gone text h item = ap (λ (x : List (List OffsetByte)). commands_from 1 x []) (take_of_push h.items item (length h.items) (omega arith)).1 ∙ kept_all r gone text h
+pub kept_pushed : (profile : Profile) (r : Progress) (gone : Entries) (text : List ℕ) (h : Holds r profile gone text) (item : List OffsetByte) → commands_by profile 1 (take (length h.items) (h.items ++ item ∷ [])) [] ≡ Ok (gone ++ r.commands.items)
+kept_pushed profile r gone text h item = ap (λ (x : List (List OffsetByte)). commands_by profile 1 x []) (take_of_push h.items item (length h.items) (omega arith)).1 ∙ kept_all profile r gone text h
 
 -- running out of memory stops a reader anywhere, with the commands that it has
 pub out_of_memory : (old : Progress) (left : Entries) (bytes : List ℕ) → left ≡ old.commands.items → Refuses old left bytes fails.Memory
-out_of_memory old left bytes same = λ gone text h.
-    let here : FailsOnBytes (offset_bytes text) (gone ++ left) fails.Memory = record {
+out_of_memory old left bytes same = λ profile gone text h.
+    let here : FailsOnBytes profile (offset_bytes text) (gone ++ left) fails.Memory = record {
       items = h.items;
       rest = h.rest;
       splits = h.splits;
       kept = length h.items;
       within = omega arith;
-      spelled = kept_all old gone text h ∙ ap (λ (x : Entries). Ok (gone ++ x)) (sym same);
+      spelled = kept_all profile old gone text h ∙ ap (λ (x : Entries). Ok (gone ++ x)) (sym same);
       reported = tt;
     } in
-    subst (λ (x : List OffsetByte). FailsOnBytes x (gone ++ left) fails.Memory) (sym (offset_bytes-append text bytes)) (stops_stay (offset_bytes text) (offset_bytes_from (length text) bytes) (gone ++ left) fails.Memory here)
+    subst (λ (x : List OffsetByte). FailsOnBytes profile x (gone ++ left) fails.Memory) (sym (offset_bytes-append text bytes)) (stops_stay profile (offset_bytes text) (offset_bytes_from (length text) bytes) (gone ++ left) fails.Memory here)
 
 pub Refuses-longer : (old : Progress) (left : Entries) (xs ys : List ℕ) (e : Fail) → Refuses old left xs e → Refuses old left (xs ++ ys) e
-Refuses-longer old left xs ys e h = λ gone text holds.
+Refuses-longer old left xs ys e h = λ profile gone text holds.
     let joined : offset_bytes (text ++ (xs ++ ys)) ≡ offset_bytes (text ++ xs) ++ offset_bytes_from (length (text ++ xs)) ys = ap offset_bytes (sym (append_assoc text xs ys)) ∙ offset_bytes-append (text ++ xs) ys in
-    subst (λ (x : List OffsetByte). FailsOnBytes x (gone ++ left) e) (sym joined) (stops_stay (offset_bytes (text ++ xs)) (offset_bytes_from (length (text ++ xs)) ys) (gone ++ left) e (h gone text holds))
+    subst (λ (x : List OffsetByte). FailsOnBytes profile x (gone ++ left) e) (sym joined) (stops_stay profile (offset_bytes (text ++ xs)) (offset_bytes_from (length (text ++ xs)) ys) (gone ++ left) e (h profile gone text holds))
 
 pub Advances-then : (a b c : Progress) (xs ys : List ℕ) → Advances a b xs → Advances b c ys → Advances a c (xs ++ ys)
-Advances-then a b c xs ys h k = λ gone text holds. subst (Holds c gone) (append_assoc text xs ys) (k gone (text ++ xs) (h gone text holds))
+Advances-then a b c xs ys h k = λ profile gone text holds. subst (Holds c profile gone) (append_assoc text xs ys) (k profile gone (text ++ xs) (h profile gone text holds))
 
 -- some bytes after a text, and some of those that follow
 pub two_takes : (text bytes : List ℕ) (n k : ℕ) → (text ++ take n bytes) ++ take k (take (length bytes - n) (drop n bytes)) ≡ text ++ take (n + k) bytes
@@ -252,10 +253,10 @@ two_takes text bytes n k = ap (λ (x : List ℕ). (text ++ take n bytes) ++ take
 
 -- a step over the first bytes, and one over some of those that follow
 pub Advances-both : (a b c : Progress) (bytes : List ℕ) (n k : ℕ) → Advances a b (take n bytes) → Advances b c (take k (take (length bytes - n) (drop n bytes))) → Advances a c (take (n + k) bytes)
-Advances-both a b c bytes n k first more = λ gone text holds. subst (Holds c gone) (two_takes text bytes n k) (more gone (text ++ take n bytes) (first gone text holds))
+Advances-both a b c bytes n k first more = λ profile gone text holds. subst (Holds c profile gone) (two_takes text bytes n k) (more profile gone (text ++ take n bytes) (first profile gone text holds))
 
 pub Refuses-then : (a b : Progress) (left : Entries) (xs ys : List ℕ) (e : Fail) → Advances a b xs → Refuses b left ys e → Refuses a left (xs ++ ys) e
-Refuses-then a b left xs ys e h k = λ gone text holds. subst (λ (x : List ℕ). FailsOnBytes (offset_bytes x) (gone ++ left) e) (append_assoc text xs ys) (k gone (text ++ xs) (h gone text holds))
+Refuses-then a b left xs ys e h k = λ profile gone text holds. subst (λ (x : List ℕ). FailsOnBytes profile (offset_bytes x) (gone ++ left) e) (append_assoc text xs ys) (k profile gone (text ++ xs) (h profile gone text holds))
 
 pub Refuses-first : (old : Progress) (left : Entries) (bytes : List ℕ) (e : Fail) → 0 < length bytes → Refuses old left (get_or bytes 0 0 ∷ []) e → Refuses old left bytes e
 Refuses-first old left [] e some h = absurd (omega arith)

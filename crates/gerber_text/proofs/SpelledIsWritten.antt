@@ -1,9 +1,9 @@
 -- A text that spells commands is written for them.
-use Rattle.std.proofs.Common.{◌≡◌, ◌≢◌, inl, inr, ℕ, suc, Bool, true, false, not, ◌||◌, ◌&&◌, List, [], ◌∷◌, ◌++◌, Result, Ok, unwrap_or, refl, sym, ap, subst, ◌∙◌, append_assoc}
+use Rattle.std.proofs.Common.{◌≡◌, ◌≢◌, inl, inr, ℕ, suc, Bool, true, false, ◌||◌, List, [], ◌∷◌, ◌++◌, Result, Ok, unwrap_or, refl, sym, ap, subst, ◌∙◌, append_assoc}
 use Rattle.std.specs.Prelude.{codes}
 use Rattle.std.specs.Option.{option_or}
 use Rattle.std.specs.Str.{bytes_eq}
-use Rattle.std.specs.List.{flat_map, concat, AllByRecursion}
+use Rattle.std.specs.List.{enumerate_from, flat_map, concat, list_all, AllByRecursion}
 use Rattle.std.proofs.lemmas.List.{append-nil, map-append}
 use Rattle.std.proofs.lemmas.List.Elements.{All-from_recursion}
 use Rattle.std.proofs.lemmas.Bool.{false≢true}
@@ -12,20 +12,21 @@ use Rattle.grid_units.specs.declared.fault.Reason.{Reason}
 use Rattle.grid_units.specs.Lists.{last_set}
 use Rattle.grid_units.proofs.LookbackLemmas.{last_or-append}
 use Rattle.grid_units.proofs.ResultLemmas.{bind_ok}
-use Rattle.grid_units.proofs.BoolLemmas.{both_true, not_true}
 use Rattle.gerber_commands.specs.declared.command.Command.{Command}
 use Rattle.gerber_commands.specs.declared.command.Command.TheVariants.{Finish}
+use Rattle.grid_units.specs.declared.profile.Profile.{Profile}
+use Rattle.gerber_text.specs.CutItems.{is_not_break}
 use Rattle.gerber_text.specs.Items.{IsItem, is_end_item}
-use Rattle.gerber_text.specs.Cut.{OffsetByte, bytes_of, first_offset, has_end, AreItems}
-use Rattle.gerber_text.specs.Reading.{Entries, plot_of, is_plotting, placed, spelled, commands_from, may_follow}
-use Rattle.gerber_text.specs.Sayable.{is_sayable, is_finish}
-use Rattle.gerber_text.specs.Writing.{without_places, sayable}
-use Rattle.gerber_text.specs.Grammar.{AreItemsFor, plots_after, IsEnd}
-use Rattle.gerber_text.specs.Laws.{SpelledTextsAreWritten}
+use Rattle.gerber_text.specs.Cut.{OffsetByte, offset_bytes, bytes_of, first_offset, has_end, AreItems}
+use Rattle.gerber_text.specs.Reading.{Entries, plot_of, is_plotting, placed, spelled_in, commands_by, may_follow}
+use Rattle.gerber_text.specs.Writing.{without_places}
+use Rattle.gerber_text.specs.Grammar.{AreItemsIn, plots_after, IsEnd}
+use Rattle.gerber_text.specs.Laws.{SpelledTextsAreWrittenIn}
 use Rattle.gerber_text.proofs.GrammarItems.{item_written}
+use Rattle.gerber_text.proofs.ProfileLemmas.{not_finish}
 use Rattle.gerber_text.proofs.ParsedIsSayable.{bytes_are, end_means}
 use Rattle.gerber_text.proofs.RoundTrip.{bytes_of_marks}
-use Rattle.gerber_text.proofs.TextIsSayable.{Added, added, bare, bare_append, text_sayable}
+use Rattle.gerber_text.proofs.TextIsSayable.{Added, added, AreKept, filter_all, items_kept, bare, bare_append}
 
 -- ---- whether a plot goes on
 
@@ -46,27 +47,21 @@ is_end item e = by (bytes_eq item (codes "M02*")) (bytes_eq item (codes "M2*")) 
     by false true a b h = inr (bytes_are item (codes "M2*") b)
     by false false a b h = absurd (false≢true h)
 
-other : (c : Command) → is_finish c ≡ false → c ≢ Finish
-other c h e = false≢true (sym h ∙ ap is_finish e)
-
--- no command before the last of a sayable list is the end of the text
-none_ended : (cs : List Command) → sayable (cs ++ Finish ∷ []) ≡ true → AllByRecursion (λ c. c ≢ Finish) cs
-none_ended [] h = tt
-none_ended (c ∷ []) h = let k = both_true (is_sayable c) (not (is_finish c) && sayable (Finish ∷ [])) h in (other c (not_true (is_finish c) (both_true (not (is_finish c)) (sayable (Finish ∷ [])) k.1).0), tt)
-none_ended (c ∷ d ∷ cs) h =
-    let k = both_true (is_sayable c) (not (is_finish c) && sayable (d ∷ (cs ++ Finish ∷ []))) h in
-    let l = both_true (not (is_finish c)) (sayable (d ∷ (cs ++ Finish ∷ []))) k.1 in
-    (other c (not_true (is_finish c) l.0), none_ended (d ∷ cs) l.1)
+-- no Finish in either of two lists
+none_in_both : (xs ys : List Command) → AllByRecursion (λ c. c ≢ Finish) xs → AllByRecursion (λ c. c ≢ Finish) ys → AllByRecursion (λ c. c ≢ Finish) (xs ++ ys)
+none_in_both [] ys h k = k
+none_in_both (x ∷ xs) ys h k = (h.0, none_in_both xs ys h.1 k)
 
 -- ---- items
 
 -- items up to the end of the text, as the grammar has them, and the commands that they add
-record Written (cut : List (List OffsetByte)) (old after : Entries) : Type 0 where
+record Written (profile : Profile) (cut : List (List OffsetByte)) (old after : Entries) : Type 0 where
   items : List (List ℕ)
   end : List ℕ
   before : List Command
   whole : bytes_of (flat_map (λ item. item) cut) ≡ concat items ++ end
-  spelled : AreItemsFor (is_plotting old) items before
+  spelled : AreItemsIn profile (is_plotting old) items before
+  not_ended : AllByRecursion (λ c. c ≢ Finish) before
   ends : IsEnd end
   is : without_places after ≡ without_places old ++ (before ++ Finish ∷ [])
 
@@ -76,43 +71,46 @@ added_bare place byte old middle cs e = ap without_places e ∙ (bare_append old
 regroup : (a b c d : List Command) → (a ++ b) ++ (c ++ d) ≡ a ++ ((b ++ c) ++ d)
 regroup a b c d = append_assoc a b (c ++ d) ∙ ap (λ (l : List Command). a ++ l) (sym (append_assoc b c d))
 
-last_written : (place : ℕ) (item : List OffsetByte) (items : List (List OffsetByte)) (old middle after : Entries) → is_end_item (bytes_of item) ≡ true → items ≡ [] → Added place (first_offset item) (bytes_of item) old middle → commands_from (suc place) items middle ≡ Ok after → Written (item ∷ items) old after
-last_written place item items old middle after e none a h =
-    let same : middle ≡ after = let o : (let r : Result Entries Fault = Ok middle in r ≡ Ok after) = ap (λ (l : List (List OffsetByte)). commands_from (suc place) l middle) (sym none) ∙ h in cc in
-    let commands : a.commands ≡ Finish ∷ [] = let o : (let r : Result (List Command) Reason = Ok a.commands in r ≡ Ok (Finish ∷ [])) = sym a.spells ∙ end_means (is_plotting old) (bytes_of item) e in cc in
+last_written : (profile : Profile) (place : ℕ) (item : List OffsetByte) (items : List (List OffsetByte)) (old middle after : Entries) → is_end_item (bytes_of item) ≡ true → items ≡ [] → Added profile place (first_offset item) (bytes_of item) old middle → commands_by profile (suc place) items middle ≡ Ok after → Written profile (item ∷ items) old after
+last_written profile place item items old middle after e none a h =
+    let same : middle ≡ after = let o : (let r : Result Entries Fault = Ok middle in r ≡ Ok after) = ap (λ (l : List (List OffsetByte)). commands_by profile (suc place) l middle) (sym none) ∙ h in cc in
+    let commands : a.commands ≡ Finish ∷ [] = let o : (let r : Result (List Command) Reason = Ok a.commands in r ≡ Ok (Finish ∷ [])) = sym a.spells ∙ end_means profile (is_plotting old) (bytes_of item) e in cc in
     record {
       items = [];
       end = bytes_of item;
       before = [];
       whole = ap (λ (l : List (List OffsetByte)). bytes_of (item ++ flat_map (λ (i : List OffsetByte). i) l)) none ∙ ap bytes_of (append-nil item);
       spelled = refl;
+      not_ended = tt;
       ends = is_end (bytes_of item) e;
       is = ap without_places (sym same) ∙ (added_bare place (first_offset item) old middle a.commands a.whole ∙ ap (λ (l : List Command). without_places old ++ l) commands);
     }
 
-next_written : (place : ℕ) (item : List OffsetByte) (items : List (List OffsetByte)) (old middle after : Entries) → IsItem (bytes_of item) → Added place (first_offset item) (bytes_of item) old middle → Written items middle after → Written (item ∷ items) old after
-next_written place item items old middle after one a w =
+next_written : (profile : Profile) (place : ℕ) (item : List OffsetByte) (items : List (List OffsetByte)) (old middle after : Entries) → IsItem (bytes_of item) → list_all is_not_break (bytes_of item) ≡ true → is_end_item (bytes_of item) ≡ false → Added profile place (first_offset item) (bytes_of item) old middle → Written profile items middle after → Written profile (item ∷ items) old after
+next_written profile place item items old middle after one kept end a w =
     let plots : is_plotting middle ≡ plots_after (is_plotting old) a.commands = ap is_plotting a.whole ∙ plots_more old place (first_offset item) a.commands in
     record {
       items = bytes_of item ∷ w.items;
       end = w.end;
       before = a.commands ++ w.before;
       whole = map-append (λ (m : OffsetByte). m.1) item (flat_map (λ (i : List OffsetByte). i) items) ∙ (ap (λ (l : List ℕ). bytes_of item ++ l) w.whole ∙ sym (append_assoc (bytes_of item) (concat w.items) w.end));
-      spelled = (a.commands, w.before, refl, a.short, item_written (is_plotting old) (bytes_of item) a.commands one a.spells, subst (λ p. AreItemsFor p w.items w.before) plots w.spelled);
+      spelled = (a.commands, w.before, refl, a.short, item_written profile (is_plotting old) (bytes_of item) a.commands one a.spells, subst (λ p. AreItemsIn profile p w.items w.before) plots w.spelled);
+      not_ended = none_in_both a.commands w.before (not_finish profile (is_plotting old) (bytes_of item) a.commands (record { one = one; kept = kept; short = a.short }) end a.spells) w.not_ended;
       ends = w.ends;
       is = w.is ∙ (ap (λ (l : List Command). l ++ (w.before ++ Finish ∷ [])) (added_bare place (first_offset item) old middle a.commands a.whole) ∙ regroup (without_places old) a.commands w.before (Finish ∷ []));
     }
 
-items_written : (place : ℕ) (items : List (List OffsetByte)) (old after : Entries) → AreItems items → has_end items ≡ true → commands_from place items old ≡ Ok after → Written items old after
-items_written place [] old after h e c = absurd (false≢true e)
-items_written place (item ∷ items) old after h e c =
-    let b = bind_ok (spelled place (first_offset item) (bytes_of item) old) (commands_from (suc place) items) after c in
-    let a = added place (first_offset item) (bytes_of item) old b.0 b.1 in
-    by (is_end_item (bytes_of item)) refl a b.2 e (λ l. items_written (suc place) items b.0 after h.2 l b.2)
+items_written : (profile : Profile) (place : ℕ) (items : List (List OffsetByte)) (old after : Entries) → AreItems items → AreKept items → has_end items ≡ true → commands_by profile place items old ≡ Ok after → Written profile items old after
+unfolding AreKept
+items_written profile place [] old after h k e c = absurd (false≢true e)
+items_written profile place (item ∷ items) old after h k e c =
+    let b = bind_ok (spelled_in profile place (first_offset item) (bytes_of item) old) (commands_by profile (suc place) items) after c in
+    let a = added profile place (first_offset item) (bytes_of item) old b.0 b.1 in
+    by (is_end_item (bytes_of item)) refl a b.2 e (λ l. items_written profile (suc place) items b.0 after h.2 k.1 l b.2)
   where
-    by : {middle : Entries} (t : Bool) → is_end_item (bytes_of item) ≡ t → Added place (first_offset item) (bytes_of item) old middle → commands_from (suc place) items middle ≡ Ok after → (t || has_end items) ≡ true → (has_end items ≡ true → Written items middle after) → Written (item ∷ items) old after
-    by {middle = middle} true end a rest some again = last_written place item items old middle after end (h.1 end) a rest
-    by {middle = middle} false end a rest some again = next_written place item items old middle after h.0 a (again some)
+    by : {middle : Entries} (t : Bool) → is_end_item (bytes_of item) ≡ t → Added profile place (first_offset item) (bytes_of item) old middle → commands_by profile (suc place) items middle ≡ Ok after → (t || has_end items) ≡ true → (has_end items ≡ true → Written profile items middle after) → Written profile (item ∷ items) old after
+    by {middle = middle} true end a rest some again = last_written profile place item items old middle after end (h.1 end) a rest
+    by {middle = middle} false end a rest some again = next_written profile place item items old middle after h.0 k.0 end a (again some)
 
 -- ---- texts
 
@@ -120,9 +118,10 @@ all_follow : (tail : List OffsetByte) → AllByRecursion (λ m. may_follow m.1 �
 all_follow [] h = tt
 all_follow (m ∷ tail) h = (h.0, all_follow tail h.1)
 
-pub spelled_is_written : SpelledTextsAreWritten
-spelled_is_written text entries s =
-    let w = items_written 1 s.items [] entries s.splits.each s.ends s.spelled in
+pub spelled_is_written : SpelledTextsAreWrittenIn
+spelled_is_written profile text entries s =
+    let kept : list_all (λ m. is_not_break m.1) (offset_bytes text) ≡ true = filter_all (λ (m : OffsetByte). is_not_break m.1) (enumerate_from 0 text) in
+    let w = items_written profile 1 s.items [] entries s.splits.each (items_kept s.items s.tail (ap (list_all (λ m. is_not_break m.1)) (sym s.splits.whole) ∙ kept)) s.ends s.spelled in
     let cut = flat_map (λ (i : List OffsetByte). i) s.items in
     record {
       items = w.items;
@@ -132,7 +131,7 @@ spelled_is_written text entries s =
       short = s.short;
       written = sym (bytes_of_marks 0 text) ∙ (ap bytes_of s.splits.whole ∙ (map-append (λ (m : OffsetByte). m.1) cut s.tail ∙ ap (λ (l : List ℕ). l ++ bytes_of s.tail) w.whole));
       spelled = w.spelled;
-      not_ended = All-from_recursion (λ c. c ≢ Finish) w.before (none_ended w.before (ap sayable (sym w.is) ∙ text_sayable text entries s));
+      not_ended = All-from_recursion (λ c. c ≢ Finish) w.before w.not_ended;
       ends = w.ends;
       follows = All-from_recursion (λ b. may_follow b ≡ true) (bytes_of s.tail) (all_follow s.tail s.follows);
       is = w.is;

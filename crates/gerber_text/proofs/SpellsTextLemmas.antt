@@ -9,12 +9,13 @@ use Rattle.grid_units.specs.declared.fault.Fail.TheVariants as fails
 use Rattle.grid_units.specs.declared.fault.Reason.TheVariants.{TooLong, AfterEnd, Truncated}
 use Rattle.std.specs.Prelude.{IfOk}
 use Rattle.std.specs.Global.{Vec}
+use Rattle.grid_units.specs.declared.profile.Profile.{Profile}
 use Rattle.gerber_commands.specs.declared.command.Command.{Command}
 use Rattle.gerber_text.specs.declared.placed.Placed.{Placed}
 use Rattle.grid_units.specs.Results.{fault, Answers, AnswersAlways}
 use Rattle.grid_units.proofs.ResultLemmas.{bind_ok}
 use Rattle.gerber_text.specs.Cut.{OffsetByte, offset_bytes, bytes_of, first_offset, has_end, Splits}
-use Rattle.gerber_text.specs.Reading.{Entries, shown, ended, Reads, is_blank, may_follow, after_end, SpellsText, entries_of}
+use Rattle.gerber_text.specs.Reading.{Entries, shown_by, ended, ReadsIn, is_blank, may_follow, after_end, SpellsTextIn, entries_of}
 use Rattle.gerber_text.proofs.ShowsLemmas.{shown_spelled, shown_ended}
 use Rattle.gerber_text.proofs.UniqueReading.{one_read}
 use Rattle.gerber_text.proofs.FinishLemmas.{reads_ok}
@@ -53,47 +54,47 @@ read_ends len items rest cs ds e =
     let is : final len items rest cs ≡ Ok cs = (ap (λ t. cond t (Err (fault (suc (length items)) text_limit TooLong)) (cond (has_end items) (Ok cs) (Err (fault (suc (length items)) byte Truncated)))) g.0 ∙ ap (λ t. cond t (Ok cs) (Err (fault (suc (length items)) byte Truncated))) g.1) in
     (g.0, g.1, ok_same (final len items rest cs) cs ds is e)
 
-pub reads_spells : (text : List ℕ) (cs : Entries) → Reads text (Ok cs) → SpellsText text cs
+pub reads_spells : (profile : Profile) (text : List ℕ) (cs : Entries) → ReadsIn profile text (Ok cs) → SpellsTextIn profile text cs
 unfolding final
-reads_spells text cs r =
-    let b = bind_ok (shown r.items r.rest) (final (length text) r.items r.rest) cs (sym r.answer_is) in
+reads_spells profile text cs r =
+    let b = bind_ok (shown_by profile r.items r.rest) (final (length text) r.items r.rest) cs (sym r.answer_is) in
     let g = read_ends (length text) r.items r.rest b.0 cs b.2 in
     let short : length text ≤ text_limit = ltb-false _ _ g.0 in
-    let shows : shown r.items r.rest ≡ Ok cs = b.1 ∙ ap (λ (x : Entries). Ok x) g.2 in
-    let spelled = shown_spelled r.items r.rest cs shows in
+    let shows : shown_by profile r.items r.rest ≡ Ok cs = b.1 ∙ ap (λ (x : Entries). Ok x) g.2 in
+    let spelled = shown_spelled profile r.items r.rest cs shows in
     record {
       items = r.items;
       tail = r.rest;
       splits = subst (λ (t : List ℕ). Splits (offset_bytes t) r.items r.rest) (take_all text_limit text short) r.splits;
       ends = g.1;
       spelled = spelled;
-      follows = tail_follows (suc (length r.items)) cs cs r.rest (sym (shown_ended r.items r.rest cs g.1 spelled) ∙ shows);
+      follows = tail_follows (suc (length r.items)) cs cs r.rest (sym (shown_ended profile r.items r.rest cs g.1 spelled) ∙ shows);
       short = short;
     }
 
-pub spells_reads : (text : List ℕ) (cs : Entries) → SpellsText text cs → Reads text (Ok cs)
-spells_reads text cs s =
-    reads_ok text s.items s.tail cs s.splits (shown_ended s.items s.tail cs s.ends s.spelled ∙ follows_tail (suc (length s.items)) cs s.tail s.follows) s.ends s.short
+pub spells_reads : (profile : Profile) (text : List ℕ) (cs : Entries) → SpellsTextIn profile text cs → ReadsIn profile text (Ok cs)
+spells_reads profile text cs s =
+    reads_ok profile text s.items s.tail cs s.splits (shown_ended profile s.items s.tail cs s.ends s.spelled ∙ follows_tail (suc (length s.items)) cs s.tail s.follows) s.ends s.short
 
 -- ---- what a call returned
 
-only_by : (text : List ℕ) (cs : Entries) (answer : Result Entries Fault) → SpellsText text cs → Reads text answer → answer ≡ Ok cs
-only_by text cs answer s r = one_read text answer (Ok cs) r (spells_reads text cs s)
+only_by : (profile : Profile) (text : List ℕ) (cs : Entries) (answer : Result Entries Fault) → SpellsTextIn profile text cs → ReadsIn profile text answer → answer ≡ Ok cs
+only_by profile text cs answer s r = one_read profile text answer (Ok cs) r (spells_reads profile text cs s)
 
-pub only_err : (text : List ℕ) (cs : Entries) (e : Fail) → Answers entries_of (λ answer. Reads text answer) (Err e) → SpellsText text cs → Answers entries_of (λ answer. answer ≡ Ok cs) (Err e)
-only_err text cs fails.Memory h s = tt
-only_err text cs (fails.Refused f) h s = only_by text cs (Err f) s h
+pub only_err : (profile : Profile) (text : List ℕ) (cs : Entries) (e : Fail) → Answers entries_of (λ answer. ReadsIn profile text answer) (Err e) → SpellsTextIn profile text cs → Answers entries_of (λ answer. answer ≡ Ok cs) (Err e)
+only_err profile text cs fails.Memory h s = tt
+only_err profile text cs (fails.Refused f) h s = only_by profile text cs (Err f) s h
 
-pub always_exact : (text : List ℕ) (r : Result (Vec (Placed Command)) Fail) → AnswersAlways entries_of (λ answer. Reads text answer) r → Answers entries_of (λ answer. Reads text answer) r
-always_exact text (Ok v) h = h
-always_exact text (Err fails.Memory) h = tt
-always_exact text (Err (fails.Refused f)) h = h
+pub always_exact : (profile : Profile) (text : List ℕ) (r : Result (Vec (Placed Command)) Fail) → AnswersAlways entries_of (λ answer. ReadsIn profile text answer) r → Answers entries_of (λ answer. ReadsIn profile text answer) r
+always_exact profile text (Ok v) h = h
+always_exact profile text (Err fails.Memory) h = tt
+always_exact profile text (Err (fails.Refused f)) h = h
 
-pub always_found : (text : List ℕ) (r : Result (Vec (Placed Command)) Fail) → AnswersAlways entries_of (λ answer. Reads text answer) r → IfOk r (λ v. SpellsText text v.items)
-always_found text (Ok v) h = reads_spells text v.items h
-always_found text (Err e) h = tt
+pub always_found : (profile : Profile) (text : List ℕ) (r : Result (Vec (Placed Command)) Fail) → AnswersAlways entries_of (λ answer. ReadsIn profile text answer) r → IfOk r (λ v. SpellsTextIn profile text v.items)
+always_found profile text (Ok v) h = reads_spells profile text v.items h
+always_found profile text (Err e) h = tt
 
-pub always_only : (text : List ℕ) (r : Result (Vec (Placed Command)) Fail) → AnswersAlways entries_of (λ answer. Reads text answer) r → (cs : Entries) → SpellsText text cs → Answers entries_of (λ answer. answer ≡ Ok cs) r
-always_only text (Ok v) h cs s = only_by text cs (Ok v.items) s h
-always_only text (Err fails.Memory) h cs s = tt
-always_only text (Err (fails.Refused f)) h cs s = only_by text cs (Err f) s h
+pub always_only : (profile : Profile) (text : List ℕ) (r : Result (Vec (Placed Command)) Fail) → AnswersAlways entries_of (λ answer. ReadsIn profile text answer) r → (cs : Entries) → SpellsTextIn profile text cs → Answers entries_of (λ answer. answer ≡ Ok cs) r
+always_only profile text (Ok v) h cs s = only_by profile text cs (Ok v.items) s h
+always_only profile text (Err fails.Memory) h cs s = tt
+always_only profile text (Err (fails.Refused f)) h cs s = only_by profile text cs (Err f) s h

@@ -12,16 +12,18 @@ use Rattle.grid_units.specs.declared.fault.Reason.{Reason}
 use Rattle.grid_units.specs.declared.fault.Reason.TheVariants.{TooLong}
 use Rattle.grid_units.specs.Results.{◌>>=◌, with_place, AnswersAlways}
 use Rattle.grid_units.proofs.ResultLemmas.{bind_ok}
+use Rattle.grid_units.specs.declared.profile.Profile.{Profile}
+use Rattle.grid_units.specs.declared.profile.Profile.TheVariants.{Strict}
 use Rattle.gerber_commands.specs.declared.command.Command.{Command}
 use Rattle.gerber_commands.specs.declared.command.Command.TheVariants.{Finish}
 use Rattle.gerber_text.specs.Items.{is_end_item, IsItem}
-use Rattle.gerber_text.specs.Meaning.{meaning}
+use Rattle.gerber_text.specs.Meaning.{meaning_in}
 use Rattle.gerber_text.specs.CutItems.{is_not_break}
 use Rattle.gerber_text.specs.Sayable.{is_sayable, is_finish}
 use Rattle.gerber_text.proofs.ParsedIsSayable.{item_parses, end_means, finish_sayable}
 use Rattle.gerber_text.specs.declared.placed.Placed.{Placed}
 use Rattle.gerber_text.specs.Cut.{OffsetByte, offset_bytes, bytes_of, first_offset, has_end, AreItems}
-use Rattle.gerber_text.specs.Reading.{Entries, is_plotting, placed, spelled, commands_from, Reads, SpellsText, entries_of}
+use Rattle.gerber_text.specs.Reading.{spelled_in, Entries, is_plotting, placed, spelled, commands_from, Reads, SpellsText, entries_of}
 use Rattle.gerber_text.specs.Writing.{without_places, sayable}
 use Rattle.gerber_text.proofs.SpellsTextLemmas.{reads_spells}
 use Rattle.grid_units.specs.Limits.{item_limit}
@@ -50,7 +52,7 @@ all_map : (ms : List OffsetByte) → list_all is_not_break (bytes_of ms) ≡ lis
 all_map [] = refl
 all_map (m ∷ ms) = ap (λ t. is_not_break m.1 && t) (all_map ms)
 
-filter_all : {A : Type 0} (p : A → Bool) (xs : List A) → list_all p (filter p xs) ≡ true
+pub filter_all : {A : Type 0} (p : A → Bool) (xs : List A) → list_all p (filter p xs) ≡ true
 filter_all p [] = refl
 filter_all p (x ∷ xs) = by (p x) refl (filter_all p xs)
   where
@@ -59,10 +61,10 @@ filter_all p (x ∷ xs) = by (p x) refl (filter_all p xs)
     by false e h = h
 
 -- no item has line breaks
-AreKept : List (List OffsetByte) → Type 0
+unfoldable pub AreKept : List (List OffsetByte) → Type 0
 AreKept items = AllByRecursion (λ item. list_all is_not_break (bytes_of item) ≡ true) items
 
-items_kept : (items : List (List OffsetByte)) (rest : List OffsetByte) → list_all (λ m. is_not_break m.1) (flat_map (λ (i : List OffsetByte). i) items ++ rest) ≡ true → AreKept items
+pub items_kept : (items : List (List OffsetByte)) (rest : List OffsetByte) → list_all (λ m. is_not_break m.1) (flat_map (λ (i : List OffsetByte). i) items ++ rest) ≡ true → AreKept items
 unfolding AreKept
 items_kept [] rest h = tt
 items_kept (item ∷ items) rest h =
@@ -75,26 +77,26 @@ items_kept (item ∷ items) rest h =
 -- ---- what an item adds
 
 -- an item within the limit, and the commands that it spelled
-pub record Added (place byte : ℕ) (bytes : List ℕ) (before after : Entries) : Type 0 where
+pub record Added (profile : Profile) (place byte : ℕ) (bytes : List ℕ) (before after : Entries) : Type 0 where
   pub short : length bytes ≤ item_limit
   pub commands : List Command
-  pub spells : meaning (is_plotting before) bytes ≡ Ok commands
+  pub spells : meaning_in profile (is_plotting before) bytes ≡ Ok commands
   pub whole : after ≡ before ++ placed place byte commands
 
 at_ok : (place byte : ℕ) (r : Result Entries Reason) (after : Entries) → with_place place byte r ≡ Ok after → r ≡ Ok after
 at_ok place byte (Ok x) after e = let same : x ≡ after = let o : (let r : Result Entries Fault = Ok x in r ≡ Ok after) = e in cc in ap (λ (y : Entries). Ok y) same
 at_ok place byte (Err r) after e = absurd cc
 
-added_by : (t : Bool) (place byte : ℕ) (bytes : List ℕ) (before after : Entries) → ltb item_limit (length bytes) ≡ t → cond t (Err TooLong) (meaning (is_plotting before) bytes >>= λ commands. Ok (before ++ placed place byte commands)) ≡ Ok after → Added place byte bytes before after
-added_by true place byte bytes before after e h = absurd cc
-added_by false place byte bytes before after e h =
-    let b = bind_ok (meaning (is_plotting before) bytes) (λ commands. Ok (before ++ placed place byte commands)) after h in
+added_by : (profile : Profile) (t : Bool) (place byte : ℕ) (bytes : List ℕ) (before after : Entries) → ltb item_limit (length bytes) ≡ t → cond t (Err TooLong) (meaning_in profile (is_plotting before) bytes >>= λ commands. Ok (before ++ placed place byte commands)) ≡ Ok after → Added profile place byte bytes before after
+added_by profile true place byte bytes before after e h = absurd cc
+added_by profile false place byte bytes before after e h =
+    let b = bind_ok (meaning_in profile (is_plotting before) bytes) (λ commands. Ok (before ++ placed place byte commands)) after h in
     record { short = ltb-false item_limit (length bytes) e; commands = b.0; spells = b.1; whole = let same : before ++ placed place byte b.0 ≡ after = let o : (let r : Result Entries Reason = Ok (before ++ placed place byte b.0) in r ≡ Ok after) = b.2 in cc in sym same }
 
-pub added : (place byte : ℕ) (bytes : List ℕ) (before after : Entries) → spelled place byte bytes before ≡ Ok after → Added place byte bytes before after
-unfolding spelled
-added place byte bytes before after e =
-    added_by (ltb item_limit (length bytes)) place byte bytes before after refl (at_ok place byte (cond (ltb item_limit (length bytes)) (Err TooLong) (meaning (is_plotting before) bytes >>= λ commands. Ok (before ++ placed place byte commands))) after e)
+pub added : (profile : Profile) (place byte : ℕ) (bytes : List ℕ) (before after : Entries) → spelled_in profile place byte bytes before ≡ Ok after → Added profile place byte bytes before after
+unfolding spelled_in
+added profile place byte bytes before after e =
+    added_by profile (ltb item_limit (length bytes)) place byte bytes before after refl (at_ok place byte (cond (ltb item_limit (length bytes)) (Err TooLong) (meaning_in profile (is_plotting before) bytes >>= λ commands. Ok (before ++ placed place byte commands))) after e)
 
 pub bare : (place byte : ℕ) (cs : List Command) → without_places (placed place byte cs) ≡ cs
 bare place byte [] = refl
@@ -113,10 +115,10 @@ record AddSayable (before after : Entries) : Type 0 where
   said : sayable (without_places more) ≡ true
 
 -- the last item, which is the end of the text
-last_adds : (place : ℕ) (item : List OffsetByte) (items : List (List OffsetByte)) (before middle after : Entries) → is_end_item (bytes_of item) ≡ true → items ≡ [] → Added place (first_offset item) (bytes_of item) before middle → commands_from (suc place) items middle ≡ Ok after → AddSayable before after
+last_adds : (place : ℕ) (item : List OffsetByte) (items : List (List OffsetByte)) (before middle after : Entries) → is_end_item (bytes_of item) ≡ true → items ≡ [] → Added Strict place (first_offset item) (bytes_of item) before middle → commands_from (suc place) items middle ≡ Ok after → AddSayable before after
 last_adds place item items before middle after e none a h =
     let same : middle ≡ after = let o : (let r : Result Entries Fault = Ok middle in r ≡ Ok after) = ap (λ (l : List (List OffsetByte)). commands_from (suc place) l middle) (sym none) ∙ h in cc in
-    let commands : Finish ∷ [] ≡ a.commands = let o : (let r : Result (List Command) Reason = Ok (Finish ∷ []) in r ≡ Ok a.commands) = sym (end_means (is_plotting before) (bytes_of item) e) ∙ a.spells in cc in
+    let commands : Finish ∷ [] ≡ a.commands = let o : (let r : Result (List Command) Reason = Ok (Finish ∷ []) in r ≡ Ok a.commands) = sym (end_means Strict (is_plotting before) (bytes_of item) e) ∙ a.spells in cc in
     record {
       more = placed place (first_offset item) a.commands;
       whole = sym same ∙ a.whole;
@@ -124,7 +126,7 @@ last_adds place item items before middle after e none a h =
     }
 
 -- an item before it
-next_adds : (place : ℕ) (item : List OffsetByte) (before middle after : Entries) → IsItem (bytes_of item) → list_all is_not_break (bytes_of item) ≡ true → is_end_item (bytes_of item) ≡ false → Added place (first_offset item) (bytes_of item) before middle → AddSayable middle after → AddSayable before after
+next_adds : (place : ℕ) (item : List OffsetByte) (before middle after : Entries) → IsItem (bytes_of item) → list_all is_not_break (bytes_of item) ≡ true → is_end_item (bytes_of item) ≡ false → Added Strict place (first_offset item) (bytes_of item) before middle → AddSayable middle after → AddSayable before after
 next_adds place item before middle after one kept e a rest =
     let now = placed place (first_offset item) a.commands in
     let s = item_parses (is_plotting before) (bytes_of item) a.commands (record { one = one; kept = kept; short = a.short }) a.spells in
@@ -139,10 +141,10 @@ unfolding AreKept
 items_add place [] before after h k e c = absurd (false≢true e)
 items_add place (item ∷ items) before after h k e c =
     let b = bind_ok (spelled place (first_offset item) (bytes_of item) before) (commands_from (suc place) items) after c in
-    let a = added place (first_offset item) (bytes_of item) before b.0 b.1 in
+    let a = added Strict place (first_offset item) (bytes_of item) before b.0 b.1 in
     by (is_end_item (bytes_of item)) refl a b.2 e (λ l. items_add (suc place) items b.0 after h.2 k.1 l b.2)
   where
-    by : {middle : Entries} (t : Bool) → is_end_item (bytes_of item) ≡ t → Added place (first_offset item) (bytes_of item) before middle → commands_from (suc place) items middle ≡ Ok after → (t || has_end items) ≡ true → (has_end items ≡ true → AddSayable middle after) → AddSayable before after
+    by : {middle : Entries} (t : Bool) → is_end_item (bytes_of item) ≡ t → Added Strict place (first_offset item) (bytes_of item) before middle → commands_from (suc place) items middle ≡ Ok after → (t || has_end items) ≡ true → (has_end items ≡ true → AddSayable middle after) → AddSayable before after
     by {middle = middle} true end added rest some again = last_adds place item items before middle after end (h.1 end) added rest
     by {middle = middle} false end added rest some again = next_adds place item before middle after h.0 k.0 end added (again some)
 
@@ -155,7 +157,7 @@ text_sayable text cs s =
 -- ---- what a call returned
 
 pub always_sayable : (text : List ℕ) (r : Result (Vec (Placed Command)) Fail) → AnswersAlways entries_of (λ answer. Reads text answer) r → IfOk r (λ v. sayable (without_places v.items) ≡ true)
-always_sayable text (Ok v) h = text_sayable text v.items (reads_spells text v.items h)
+always_sayable text (Ok v) h = text_sayable text v.items (reads_spells Strict text v.items h)
 always_sayable text (Err e) h = tt
 
 -- ---- the test, command by command

@@ -4,10 +4,11 @@ use Rattle.std.specs.List.{fold, flat_map, AllByRecursion}
 use Rattle.std.proofs.lemmas.List.{append-nil, map-append}
 use Rattle.std.proofs.lemmas.List.Sums.{fold-append}
 use Rattle.std.proofs.lemmas.Bool.{eqb-true, eq-eqb}
+use Rattle.grid_units.specs.declared.profile.Profile.{Profile}
 use Rattle.grid_units.specs.declared.fault.Fault.{Fault}
 use Rattle.gerber_text.specs.Items.{end_byte, after_percent, IsUnfinished, IsItem, is_end_item}
 use Rattle.gerber_text.specs.Cut.{OffsetByte, offset_bytes, bytes_of, has_end, AreItems, Splits}
-use Rattle.gerber_text.specs.Reading.{Entries, Shows, Reads, shown_in, read_in}
+use Rattle.gerber_text.specs.Reading.{Entries, ShowsIn, ReadsIn, shown_within, read_by}
 use Rattle.gerber_text.proofs.SplitsLemmas.{cond-append, has_end-push}
 use Rattle.grid_units.specs.Limits.{text_limit}
 
@@ -134,12 +135,12 @@ parts a c = (a, c)
 pair : (a b : List (List OffsetByte)) (c d : List OffsetByte) → a ≡ b → c ≡ d → parts a c ≡ parts b d
 pair a b c d e f = ap (λ (x : List (List OffsetByte)). parts x c) e ∙ ap (λ (x : List OffsetByte). parts b x) f
 
-pub one_shown : (text : List ℕ) (a b : Result Entries Fault) → Shows text a → Shows text b → a ≡ b
-one_shown text a b s t =
+pub one_shown : (profile : Profile) (text : List ℕ) (a b : Result Entries Fault) → ShowsIn profile text a → ShowsIn profile text b → a ≡ b
+one_shown profile text a b s t =
     let same = same_items (offset_bytes (take text_limit text)) s.items t.items s.rest t.rest s.splits t.splits in
-    s.answer_is ∙ (ap (λ (c : Parts). shown_in (length text) c.0 c.1) (pair s.items t.items s.rest t.rest same.0 same.1) ∙ sym t.answer_is)
+    s.answer_is ∙ (ap (λ (c : Parts). shown_within profile (length text) c.0 c.1) (pair s.items t.items s.rest t.rest same.0 same.1) ∙ sym t.answer_is)
 
-pub one_read : (text : List ℕ) (a b : Result Entries Fault) → Reads text a → Reads text b → a ≡ b
-one_read text a b s t =
+pub one_read : (profile : Profile) (text : List ℕ) (a b : Result Entries Fault) → ReadsIn profile text a → ReadsIn profile text b → a ≡ b
+one_read profile text a b s t =
     let same = same_items (offset_bytes (take text_limit text)) s.items t.items s.rest t.rest s.splits t.splits in
-    s.answer_is ∙ (ap (λ (c : Parts). read_in (length text) c.0 c.1) (pair s.items t.items s.rest t.rest same.0 same.1) ∙ sym t.answer_is)
+    s.answer_is ∙ (ap (λ (c : Parts). read_by profile (length text) c.0 c.1) (pair s.items t.items s.rest t.rest same.0 same.1) ∙ sym t.answer_is)

@@ -5,6 +5,7 @@ use Rattle.std.specs.List.{flat_map, concat, AllByRecursion}
 use Rattle.std.proofs.lemmas.List.{append-nil}
 use Rattle.std.proofs.lemmas.List.Elements.{recursion_from_All}
 use Rattle.std.proofs.lemmas.Bool.{false≢true}
+use Rattle.grid_units.specs.declared.profile.Profile.{Profile}
 use Rattle.grid_units.specs.declared.fault.Fault.{Fault}
 use Rattle.grid_units.specs.declared.fault.Reason.{Reason}
 use Rattle.grid_units.specs.Limits.{item_limit}
@@ -12,12 +13,12 @@ use Rattle.grid_units.specs.Results.{◌>>=◌}
 use Rattle.gerber_commands.specs.declared.command.Command.{Command}
 use Rattle.gerber_commands.specs.declared.command.Command.TheVariants.{Finish}
 use Rattle.gerber_text.specs.Items.{IsItem, is_end_item}
-use Rattle.gerber_text.specs.Meaning.{meaning}
+use Rattle.gerber_text.specs.Meaning.{meaning_in}
 use Rattle.gerber_text.specs.Cut.{OffsetByte, offset_bytes, bytes_of, first_offset, has_end, AreItems}
-use Rattle.gerber_text.specs.Reading.{Entries, is_plotting, placed, commands_from, may_follow}
+use Rattle.gerber_text.specs.Reading.{Entries, is_plotting, placed, commands_by, may_follow}
 use Rattle.gerber_text.specs.Writing.{without_places}
-use Rattle.gerber_text.specs.Grammar.{AreItemsFor, plots_after, IsEnd}
-use Rattle.gerber_text.specs.Laws.{WrittenTextsAreSpelled, TextsSpellOneList}
+use Rattle.gerber_text.specs.Grammar.{AreItemsIn, plots_after, IsEnd}
+use Rattle.gerber_text.specs.Laws.{WrittenTextsAreSpelledIn, TextsSpellOneListIn}
 use Rattle.gerber_text.proofs.GrammarItems.{Means, item_means}
 use Rattle.gerber_text.proofs.ItemLemmas.{word_is_item}
 use Rattle.gerber_text.proofs.Items.{spelled_ok}
@@ -62,14 +63,14 @@ end_is_short end (inl e) = omega (arith, ap length e)
 end_is_short end (inr e) = omega (arith, ap length e)
 
 -- an item that spells no Finish is not the end of the text
-goes_on : (plotting : Bool) (item : List ℕ) (cs : List Command) → meaning plotting item ≡ Ok cs → AllByRecursion (λ c. c ≢ Finish) cs → is_end_item item ≡ false
-goes_on plotting item cs e none = by (is_end_item item) refl
+goes_on : (profile : Profile) (plotting : Bool) (item : List ℕ) (cs : List Command) → meaning_in profile plotting item ≡ Ok cs → AllByRecursion (λ c. c ≢ Finish) cs → is_end_item item ≡ false
+goes_on profile plotting item cs e none = by (is_end_item item) refl
   where
-    same : meaning plotting item ≡ Ok (Finish ∷ []) → cs ≡ Finish ∷ []
+    same : meaning_in profile plotting item ≡ Ok (Finish ∷ []) → cs ≡ Finish ∷ []
     same h = let o : (let r : Result (List Command) Reason = Ok cs in r ≡ Ok (Finish ∷ [])) = sym e ∙ h in cc
 
     by : (t : Bool) → is_end_item item ≡ t → t ≡ false
-    by true h = absurd ((subst (AllByRecursion (λ c. c ≢ Finish)) (same (end_means plotting item h)) none).0 refl)
+    by true h = absurd ((subst (AllByRecursion (λ c. c ≢ Finish)) (same (end_means profile plotting item h)) none).0 refl)
     by false h = refl
 
 all_parts : (P : Command → Type 0) (xs ys : List Command) → AllByRecursion P (xs ++ ys) → AllByRecursion P xs × AllByRecursion P ys
@@ -79,19 +80,19 @@ all_parts P (x ∷ xs) ys h = let k = all_parts P xs ys h.1 in ((h.0, k.0), k.1)
 -- ---- items
 
 -- items with their offsets, up to the end of the text, that spell these commands after the old ones
-record Found (ms : List OffsetByte) (place : ℕ) (old : Entries) (commands : List Command) (tail : List ℕ) : Type 0 where
+record Found (profile : Profile) (ms : List OffsetByte) (place : ℕ) (old : Entries) (commands : List Command) (tail : List ℕ) : Type 0 where
   items : List (List OffsetByte)
   left : List OffsetByte
   after : Entries
   whole : ms ≡ flat_map (λ item. item) items ++ left
   each : AreItems items
   ends : has_end items ≡ true
-  spelled : commands_from place items old ≡ Ok after
+  spelled : commands_by profile place items old ≡ Ok after
   is : without_places after ≡ without_places old ++ commands
   left_is : bytes_of left ≡ tail
 
-found_last : (place : ℕ) (ms : List OffsetByte) (old : Entries) (end tail : List ℕ) → IsEnd end → bytes_of ms ≡ end ++ tail → Found ms place old (Finish ∷ []) tail
-found_last place ms old end tail h e =
+found_last : (profile : Profile) (place : ℕ) (ms : List OffsetByte) (old : Entries) (end tail : List ℕ) → IsEnd end → bytes_of ms ≡ end ++ tail → Found profile ms place old (Finish ∷ []) tail
+found_last profile place ms old end tail h e =
     let d = divide ms end tail e in
     let at = first_offset d.front in
     let ends : is_end_item (bytes_of d.front) ≡ true = ap is_end_item d.front_is ∙ ends_text end h in
@@ -103,18 +104,18 @@ found_last place ms old end tail h e =
       whole = d.whole ∙ ap (λ (l : List OffsetByte). l ++ d.back) (sym (append-nil d.front));
       each = (subst IsItem (sym d.front_is) (end_is_item end h), λ _. refl, tt);
       ends = ap (λ t. t || false) ends;
-      spelled = ap (λ r. r >>= commands_from (suc place) []) (spelled_ok place at (bytes_of d.front) old (Finish ∷ []) short (end_means (is_plotting old) (bytes_of d.front) ends));
+      spelled = ap (λ r. r >>= commands_by profile (suc place) []) (spelled_ok profile place at (bytes_of d.front) old (Finish ∷ []) short (end_means profile (is_plotting old) (bytes_of d.front) ends));
       is = bare_append old (placed place at (Finish ∷ []));
       left_is = d.back_is;
     }
 
-found_next : (place : ℕ) (ms : List OffsetByte) (old : Entries) (item rest tail : List ℕ) (first commands : List Command) (d : Divided ms item rest) → Means (is_plotting old) item first → length item ≤ item_limit → AllByRecursion (λ c. c ≢ Finish) first
-    → Found d.back (suc place) (old ++ placed place (first_offset d.front) first) commands tail → Found ms place old (first ++ commands) tail
-found_next place ms old item rest tail first commands d means short none f =
+found_next : (profile : Profile) (place : ℕ) (ms : List OffsetByte) (old : Entries) (item rest tail : List ℕ) (first commands : List Command) (d : Divided ms item rest) → Means profile (is_plotting old) item first → length item ≤ item_limit → AllByRecursion (λ c. c ≢ Finish) first
+    → Found profile d.back (suc place) (old ++ placed place (first_offset d.front) first) commands tail → Found profile ms place old (first ++ commands) tail
+found_next profile place ms old item rest tail first commands d means short none f =
     let at = first_offset d.front in
     let now = placed place at first in
-    let is = subst (λ (l : List ℕ). Means (is_plotting old) l first) (sym d.front_is) means in
-    let not_end = goes_on (is_plotting old) (bytes_of d.front) first is.1 none in
+    let is = subst (λ (l : List ℕ). Means profile (is_plotting old) l first) (sym d.front_is) means in
+    let not_end = goes_on profile (is_plotting old) (bytes_of d.front) first is.1 none in
     let added : without_places (old ++ now) ≡ without_places old ++ first = bare_append old now ∙ ap (λ (l : List Command). without_places old ++ l) (bare place at first) in
     record {
       items = d.front ∷ f.items;
@@ -123,7 +124,7 @@ found_next place ms old item rest tail first commands d means short none f =
       whole = d.whole ∙ (ap (λ (l : List OffsetByte). d.front ++ l) f.whole ∙ sym (append_assoc d.front (flat_map (λ (i : List OffsetByte). i) f.items) f.left));
       each = (is.0, λ end. absurd (false≢true (sym not_end ∙ end)), f.each);
       ends = ap (λ t. t || has_end f.items) not_end ∙ f.ends;
-      spelled = ap (λ r. r >>= commands_from (suc place) f.items) (spelled_ok place at (bytes_of d.front) old first (subst (λ (l : List ℕ). length l ≤ item_limit) (sym d.front_is) short) is.1) ∙ f.spelled;
+      spelled = ap (λ r. r >>= commands_by profile (suc place) f.items) (spelled_ok profile place at (bytes_of d.front) old first (subst (λ (l : List ℕ). length l ≤ item_limit) (sym d.front_is) short) is.1) ∙ f.spelled;
       is = f.is ∙ (ap (λ (l : List Command). l ++ commands) added ∙ append_assoc (without_places old) first commands);
       left_is = f.left_is;
     }
@@ -131,10 +132,10 @@ found_next place ms old item rest tail first commands d means short none f =
 regroup : (a b c d : List ℕ) → ((a ++ b) ++ c) ++ d ≡ a ++ ((b ++ c) ++ d)
 regroup a b c d = ap (λ (l : List ℕ). l ++ d) (append_assoc a b c) ∙ append_assoc a (b ++ c) d
 
-found : (place : ℕ) (plotting : Bool) (items : List (List ℕ)) (before : List Command) (ms : List OffsetByte) (old : Entries) (end tail : List ℕ) → plotting ≡ is_plotting old → AreItemsFor plotting items before → AllByRecursion (λ c. c ≢ Finish) before → IsEnd end
-    → bytes_of ms ≡ concat items ++ end ++ tail → Found ms place old (before ++ Finish ∷ []) tail
-found place plotting [] before ms old end tail same h none ends e = subst (λ (l : List Command). Found ms place old (l ++ Finish ∷ []) tail) (sym h) (found_last place ms old end tail ends e)
-found place plotting (item ∷ items) before ms old end tail same h none ends e =
+found : (profile : Profile) (place : ℕ) (plotting : Bool) (items : List (List ℕ)) (before : List Command) (ms : List OffsetByte) (old : Entries) (end tail : List ℕ) → plotting ≡ is_plotting old → AreItemsIn profile plotting items before → AllByRecursion (λ c. c ≢ Finish) before → IsEnd end
+    → bytes_of ms ≡ concat items ++ end ++ tail → Found profile ms place old (before ++ Finish ∷ []) tail
+found profile place plotting [] before ms old end tail same h none ends e = subst (λ (l : List Command). Found profile ms place old (l ++ Finish ∷ []) tail) (sym h) (found_last profile place ms old end tail ends e)
+found profile place plotting (item ∷ items) before ms old end tail same h none ends e =
     let first = h.0 in
     let others = h.1 in
     let rest = concat items ++ end ++ tail in
@@ -142,10 +143,10 @@ found place plotting (item ∷ items) before ms old end tail same h none ends e 
     let d = divide ms item rest (e ∙ regroup item (concat items) end tail) in
     let now = placed place (first_offset d.front) first in
     let plots : plots_after plotting first ≡ is_plotting (old ++ now) = ap (λ t. plots_after t first) same ∙ sym (plots_more old place (first_offset d.front) first) in
-    let more = found (suc place) (plots_after plotting first) items others d.back (old ++ now) end tail plots h.5 parts.1 ends d.back_is in
-    let means = subst (λ t. Means t item first) same (item_means plotting item first h.4) in
+    let more = found profile (suc place) (plots_after plotting first) items others d.back (old ++ now) end tail plots h.5 parts.1 ends d.back_is in
+    let means = subst (λ t. Means profile t item first) same (item_means profile plotting item first h.4) in
     let joined : first ++ (others ++ Finish ∷ []) ≡ before ++ Finish ∷ [] = sym (append_assoc first others (Finish ∷ [])) ∙ ap (λ (l : List Command). l ++ Finish ∷ []) (sym h.2) in
-    subst (λ (l : List Command). Found ms place old l tail) joined (found_next place ms old item rest tail first (others ++ Finish ∷ []) d means h.3 parts.0 more)
+    subst (λ (l : List Command). Found profile ms place old l tail) joined (found_next profile place ms old item rest tail first (others ++ Finish ∷ []) d means h.3 parts.0 more)
 
 -- ---- texts
 
@@ -153,9 +154,9 @@ all_follow : (left : List OffsetByte) → AllByRecursion (λ b. may_follow b ≡
 all_follow [] h = tt
 all_follow (m ∷ left) h = (h.0, all_follow left h.1)
 
-pub written_is_spelled : WrittenTextsAreSpelled
-written_is_spelled text commands w =
-    let f = found 1 false w.items w.before (offset_bytes text) [] w.end w.tail refl w.spelled (recursion_from_All (λ c. c ≢ Finish) w.before w.not_ended) w.ends (bytes_of_marks 0 text ∙ w.written) in
+pub written_is_spelled : WrittenTextsAreSpelledIn
+written_is_spelled profile text commands w =
+    let f = found profile 1 false w.items w.before (offset_bytes text) [] w.end w.tail refl w.spelled (recursion_from_All (λ c. c ≢ Finish) w.before w.not_ended) w.ends (bytes_of_marks 0 text ∙ w.written) in
     let follows = subst (AllByRecursion (λ b. may_follow b ≡ true)) (sym f.left_is) (recursion_from_All (λ b. may_follow b ≡ true) w.tail w.follows) in (
       f.after,
       f.is ∙ sym w.is,
@@ -173,9 +174,9 @@ written_is_spelled text commands w =
 ok_same : (x y : Entries) → (let r : Result Entries Fault = Ok x in r ≡ Ok y) → x ≡ y
 ok_same x y e = cc
 
-pub one_list : TextsSpellOneList
-one_list text a b p q =
-    let s = written_is_spelled text a p in
-    let t = written_is_spelled text b q in
-    let same = ok_same s.0 t.0 (one_read text (Ok s.0) (Ok t.0) (spells_reads text s.0 s.2) (spells_reads text t.0 t.2)) in
+pub one_list : TextsSpellOneListIn
+one_list profile text a b p q =
+    let s = written_is_spelled profile text a p in
+    let t = written_is_spelled profile text b q in
+    let same = ok_same s.0 t.0 (one_read profile text (Ok s.0) (Ok t.0) (spells_reads profile text s.0 s.2) (spells_reads profile text t.0 t.2)) in
     sym s.1 ∙ (ap without_places same ∙ t.1)

@@ -14,7 +14,8 @@ use Rattle.gerber_text.specs.declared.text_items.LeadingText.{LeadingText}
 use Rattle.gerber_text.specs.declared.text_items.TextKind.{TextKind}
 use Rattle.gerber_text.specs.declared.text_items.TextKind.TheVariants as kinds
 use Rattle.gerber_text.specs.Items.{is_line_break, IsItem, is_end_item}
-use Rattle.gerber_text.specs.Meaning.{meaning}
+use Rattle.grid_units.specs.declared.profile.Profile.{Profile}
+use Rattle.gerber_text.specs.Meaning.{meaning_in}
 use Rattle.gerber_commands.specs.Numbers.{int_of}
 use Rattle.gerber_commands.specs.Rows.{modes_of}
 use Rattle.gerber_text.specs.declared.fast_path.LeadingOperation.{LeadingOperation}
@@ -22,7 +23,7 @@ use Rattle.gerber_words.specs.Words.{coordinate}
 use Rattle.grid_units.specs.Ascii as ascii
 
 -- The bytes begin with an item of this length, at most 64, without line breaks and not the end of the text. Whatever stands
--- before it, it spells just these commands (docs/FORMATS.md, Cutting).
+-- before it, it spells just these commands, in each profile (docs/FORMATS.md, Cutting).
 pub record HasLeadingOperation (bytes : List ℕ) (len : ℕ) (commands : List Command) : Type 0 where
   pub some : 0 < len
   pub within : len ≤ length bytes
@@ -30,7 +31,7 @@ pub record HasLeadingOperation (bytes : List ℕ) (len : ℕ) (commands : List C
   pub one : IsItem (take len bytes)
   pub kept : AllByRecursion (λ b. is_line_break b ≡ false) (take len bytes)
   pub goes_on : is_end_item (take len bytes) ≡ false
-  pub parses : (plotting : Bool) → meaning plotting (take len bytes) ≡ Ok commands
+  pub parses : (profile : Profile) (plotting : Bool) → meaning_in profile plotting (take len bytes) ≡ Ok commands
 
 -- The bytes are an Int of this value, at most 13 bytes long, and this rest: `-50Y3` is -50 and `Y3` (docs/FORMATS.md, Runs).
 pub record HasLeadingInt (bytes : List ℕ) (n : ℤ) (rest : List ℕ) : Type 0 where

@@ -4,21 +4,24 @@ use Rattle.std.specs.Prelude.{◌≡◌, ℕ, suc, ◌<◌, ◌≤◌, false, Li
 use Rattle.grid_units.specs.Results.{IfFault}
 use Rattle.grid_units.specs.declared.fault.Fail.{Fail}
 use Rattle.grid_units.specs.declared.fault.Fail.TheVariants as fails
+use Rattle.grid_units.specs.declared.profile.Profile.{Profile}
+use Rattle.grid_units.specs.declared.profile.Profile.TheVariants.{Strict}
 use Rattle.gerber_text.specs.declared.reader.Progress.{Progress}
 use Rattle.gerber_text.specs.declared.reader.WordReader.{WordReader}
 use Rattle.gerber_text.specs.declared.placed.PassedOperation.{PassedOperation}
 use Rattle.gerber_text.specs.declared.placed.PassedText.{PassedText}
 use Rattle.gerber_text.specs.FastPath.{operation_commands, text_command}
 use Rattle.gerber_text.specs.Cut.{OffsetByte, offset_bytes, bytes_of, first_offset, has_end, Splits}
-use Rattle.gerber_text.specs.Reading.{Entries, placed, commands_from, shown, Shows, Reads, SpellsBeforeFault, is_plotting}
+use Rattle.gerber_text.specs.Reading.{Entries, placed, commands_by, shown_by, ShowsIn, ReadsIn, SpellsBeforeFaultIn, is_plotting}
 
--- The text is cut into items, which spell the commands that are gone and those that the reader holds, and into a rest,
--- whose bytes are the unfinished item.
-pub record Holds (reader : Progress) (gone : Entries) (text : List ℕ) : Type 0 where
+-- The reader reads in this profile. The text is cut into items, which spell the commands that are gone and those that the reader holds,
+-- and into a rest, whose bytes are the unfinished item.
+pub record Holds (reader : Progress) (profile : Profile) (gone : Entries) (text : List ℕ) : Type 0 where
+  pub profile_is : reader.profile ≡ profile
   pub items : List (List OffsetByte)
   pub rest : List OffsetByte
   pub splits : Splits (offset_bytes text) items rest
-  pub commands : shown items rest ≡ Ok (gone ++ reader.commands.items)
+  pub commands : shown_by profile items rest ≡ Ok (gone ++ reader.commands.items)
   pub plotting : reader.plotting ≡ is_plotting (gone ++ reader.commands.items)
   pub count : reader.items ≡ length items
   pub pending : has_end items ≡ false → reader.item.items ≡ bytes_of rest
@@ -26,39 +29,43 @@ pub record Holds (reader : Progress) (gone : Entries) (text : List ℕ) : Type 0
   pub offset : reader.offset ≡ length text
   pub ended : reader.ended ≡ has_end items
 
--- These bytes begin with items that spell these commands. The failure is the fault that the bytes show at the next place,
--- whatever follows them; or memory ran out.
-pub record FailsOnBytes (ms : List OffsetByte) (commands : Entries) (e : Fail) : Type 0 where
+-- These bytes begin with items that spell these commands in the profile. The failure is the fault that the bytes show at the next
+-- place, whatever follows them; or memory ran out.
+pub record FailsOnBytes (profile : Profile) (ms : List OffsetByte) (commands : Entries) (e : Fail) : Type 0 where
   pub items : List (List OffsetByte)
   pub rest : List OffsetByte
   pub splits : Splits ms items rest
   pub kept : ℕ
   pub within : kept ≤ length items
-  pub spelled : commands_from 1 (take kept items) [] ≡ Ok commands
-  pub reported : IfFault (λ f. (shown items rest ≡ Err f) × (f.place ≡ suc kept)) e
+  pub spelled : commands_by profile 1 (take kept items) [] ≡ Ok commands
+  pub reported : IfFault (λ f. (shown_by profile items rest ≡ Err f) × (f.place ≡ suc kept)) e
 
 -- whatever text the old reader has read, the new one has read that text and these bytes
 abbrev pub Advances : Progress → Progress → List ℕ → Type 0
-Advances old new bytes = (gone : Entries) (text : List ℕ) → Holds old gone text → Holds new gone (text ++ bytes)
+Advances old new bytes = (profile : Profile) (gone : Entries) (text : List ℕ) → Holds old profile gone text → Holds new profile gone (text ++ bytes)
 
 -- whatever text the reader has read, it stops within these bytes after it, and keeps these commands
 abbrev pub Refuses : Progress → Entries → List ℕ → Fail → Type 0
-Refuses old left bytes e = (gone : Entries) (text : List ℕ) → Holds old gone text → FailsOnBytes (offset_bytes (text ++ bytes)) (gone ++ left) e
+Refuses old left bytes e = (profile : Profile) (gone : Entries) (text : List ℕ) → Holds old profile gone text → FailsOnBytes profile (offset_bytes (text ++ bytes)) (gone ++ left) e
 
--- the failure is the fault that this text shows, or memory ran out; and these are the commands before it
-pub record FailsWith (text : List ℕ) (commands : Entries) (e : Fail) : Type 0 where
-  pub reported : IfFault (λ f. Shows text (Err f)) e
-  pub kept : SpellsBeforeFault text e commands
+-- the failure is the fault that this text shows in the profile, or memory ran out; and these are the commands before it
+pub record FailsWithIn (profile : Profile) (text : List ℕ) (commands : Entries) (e : Fail) : Type 0 where
+  pub reported : IfFault (λ f. ShowsIn profile text (Err f)) e
+  pub kept : SpellsBeforeFaultIn profile text e commands
+
+-- the same in the strict profile
+abbrev pub FailsWith : List ℕ → Entries → Fail → Type 0
+FailsWith text commands e = FailsWithIn Strict text commands e
 
 -- whatever text the reader has read, it fails within this piece after it, and keeps these commands
 abbrev pub RefusesText : Progress → Entries → List ℕ → Fail → Type 0
-RefusesText old left piece e = (gone : Entries) (text : List ℕ) → Holds old gone text → FailsWith (text ++ piece) (gone ++ left) e
+RefusesText old left piece e = (profile : Profile) (gone : Entries) (text : List ℕ) → Holds old profile gone text → FailsWithIn profile (text ++ piece) (gone ++ left) e
 
--- the text ends here: it has no fault and these commands, or it has this fault and these commands before it
-abbrev pub Ends : {X : Type 0} → List ℕ → Entries → Result X Fail → Type 0
-Ends text commands (Ok _) = Reads text (Ok commands)
-Ends text commands (Err fails.Memory) = ⊥
-Ends text commands (Err (fails.Refused f)) = Reads text (Err f) × SpellsBeforeFault text (fails.Refused f) commands
+-- the text ends here: in the profile it has no fault and these commands, or it has this fault and these commands before it
+abbrev pub Ends : {X : Type 0} → Profile → List ℕ → Entries → Result X Fail → Type 0
+Ends profile text commands (Ok _) = ReadsIn profile text (Ok commands)
+Ends profile text commands (Err fails.Memory) = ⊥
+Ends profile text commands (Err (fails.Refused f)) = ReadsIn profile text (Err f) × SpellsBeforeFaultIn profile text (fails.Refused f) commands
 
 -- the failure of a reader, `None` where it has not failed
 abbrev pub failure : WordReader → Option Fail
@@ -68,19 +75,27 @@ failure reader = reader.failed
 abbrev pub held : WordReader → Entries
 held reader = reader.progress.commands.items
 
--- The reader has read this text, which shows no fault, and has dropped these commands, the first ones.
-pub record StandsAfterDrop (reader : WordReader) (gone : Entries) (text : List ℕ) : Type 0 where
+-- The reader reads in this profile, has read this text, which shows no fault, and has dropped these commands, the first ones.
+pub record StandsIn (reader : WordReader) (profile : Profile) (gone : Entries) (text : List ℕ) : Type 0 where
   pub sound : failure reader ≡ None
-  pub holds : Holds reader.progress gone text
+  pub holds : Holds reader.progress profile gone text
+
+-- The reader reads in the strict profile, has read this text, which shows no fault, and has dropped these commands, the first ones.
+abbrev pub StandsAfterDrop : WordReader → Entries → List ℕ → Type 0
+StandsAfterDrop reader gone text = StandsIn reader Strict gone text
 
 -- The reader has read this text, which shows no fault, and holds all of its commands.
 abbrev pub StandsAfter : WordReader → List ℕ → Type 0
 StandsAfter reader text = StandsAfterDrop reader [] text
 
--- The reader has failed within this text, with this failure, and had dropped these commands, the first ones.
-pub record FailedAfterDrop (reader : WordReader) (gone : Entries) (text : List ℕ) (e : Fail) : Type 0 where
+-- The reader has failed within this text, read in this profile, with this failure, and had dropped these commands, the first ones.
+pub record FailedIn (reader : WordReader) (profile : Profile) (gone : Entries) (text : List ℕ) (e : Fail) : Type 0 where
   pub failed : failure reader ≡ Some e
-  pub fails : FailsWith text (gone ++ reader.progress.commands.items) e
+  pub fails : FailsWithIn profile text (gone ++ reader.progress.commands.items) e
+
+-- The same in the strict profile.
+abbrev pub FailedAfterDrop : WordReader → Entries → List ℕ → Fail → Type 0
+FailedAfterDrop reader gone text e = FailedIn reader Strict gone text e
 
 -- The reader has failed within this text, with this failure, and holds all commands before it.
 abbrev pub HasFailed : WordReader → List ℕ → Fail → Type 0

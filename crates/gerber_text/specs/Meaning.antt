@@ -1,8 +1,10 @@
--- What an item spells (docs/FORMATS.md, How a row fits and is read).
+-- What an item spells (docs/FORMATS.md, How a row fits and is read; The wide profile).
 use Rattle.std.specs.Prelude.{ℕ, ◌-◌, Bool, ◌==◌, List, [], ◌∷◌, length, take, if◌then◌else◌, Err}
 use Rattle.grid_units.specs.declared.fault.Reason.TheVariants.{BadWord}
+use Rattle.grid_units.specs.declared.profile.Profile.{Profile}
+use Rattle.grid_units.specs.declared.profile.Profile.TheVariants.{Strict}
 use Rattle.gerber_commands.specs.Rows.{Meaning}
-use Rattle.gerber_extended.specs.Pieces.{extended}
+use Rattle.gerber_extended.specs.Profiles.{extended_in}
 use Rattle.gerber_words.specs.Words.{word}
 use Rattle.grid_units.specs.Ascii as ascii
 
@@ -10,7 +12,11 @@ use Rattle.grid_units.specs.Ascii as ascii
 abbrev pub without_end : List ℕ → List ℕ
 without_end bytes = take (length bytes - 1) bytes
 
--- what an item spells, given whether the last operation before it is a plot: `D10*` spells Select(10)
-unfoldable pub meaning : Bool → List ℕ → Meaning
-meaning plotting [] = Err BadWord
-meaning plotting (b ∷ bs) = if b == ascii.percent then extended (without_end bs) else word plotting (without_end (b ∷ bs))
+-- what an item spells in the profile, given whether the last operation before it is a plot: `D10*` spells Select(10)
+unfoldable pub meaning_in : Profile → Bool → List ℕ → Meaning
+meaning_in profile plotting [] = Err BadWord
+meaning_in profile plotting (b ∷ bs) = if b == ascii.percent then extended_in profile (without_end bs) else word plotting (without_end (b ∷ bs))
+
+-- what an item spells in the strict profile
+abbrev pub meaning : Bool → List ℕ → Meaning
+meaning plotting item = meaning_in Strict plotting item

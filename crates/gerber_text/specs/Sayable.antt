@@ -1,10 +1,10 @@
--- Which commands some item of a Gerber text spells: the ranges of their numbers, and the bytes of their texts
+-- Which commands some item of a Gerber text spells in the strict profile: the ranges of their numbers, and the bytes of their texts
 -- (docs/FORMATS.md, The canonical Gerber text).
 use Rattle.std.specs.Prelude.{ℕ, ◌+◌, ◌^◌, ℤ, Bool, true, false, not, ◌||◌, ◌&&◌, ◌==◌, nat_le, nat_lt, unsigned_abs, List, length, Option, None, Some, is_some}
 use Rattle.std.specs.List.{list_all}
 use Rattle.grid_units.specs.Numbers.{max_units}
 use Rattle.gerber_commands.specs.declared.command.Command.{Command}
-use Rattle.gerber_commands.specs.declared.command.Command.TheVariants.{Comment, FormatIs, Define, Macro, Select, Operate, Turn, Scale, Repeat, Attribute, Remove, Finish}
+use Rattle.gerber_commands.specs.declared.command.Command.TheVariants.{Comment, FormatIs, Define, Macro, Select, Operate, Clear, Turn, Scale, Repeat, Attribute, Remove, Finish}
 use Rattle.gerber_commands.specs.declared.command.Format.{Format}
 use Rattle.gerber_commands.specs.declared.command.StepRepeat.{StepRepeat}
 use Rattle.gerber_commands.specs.declared.command.Action.{Action}
@@ -94,7 +94,8 @@ is_attribute kinds.Object text = is_text text
 
 -- ---- commands
 
--- Some item spells a command with these fields, whatever the item's length: there is one for Select(10), and none for Select(9).
+-- Some item spells a command with these fields, whatever the item's length: there is one for Select(10), and none for Select(9) and for
+-- Clear, which only the wide profile reads.
 unfoldable pub has_valid_fields : Command → Bool
 has_valid_fields (Comment text) = is_text text && not (is_negative_comment text)
 has_valid_fields (FormatIs format) = is_format format
@@ -102,6 +103,7 @@ has_valid_fields (Define number template) = is_aperture_number number && is_temp
 has_valid_fields (Macro name pieces) = is_macro_name name && list_all is_text pieces
 has_valid_fields (Select number) = is_aperture_number number
 has_valid_fields (Operate action x y i j) = is_operation action x y i j
+has_valid_fields Clear = false
 has_valid_fields (Turn degrees) = is_dec degrees
 has_valid_fields (Scale factor) = is_dec factor
 has_valid_fields (Repeat block) = is_block block

@@ -2,13 +2,13 @@
 
 ghost use Rattle.std.specs.Prelude.{◌≡◌, ◌↔◌, IsTrue};
 ghost use Rattle.gerber_text.specs.Items.{is_end_item, end_byte, IsEnded};
-ghost use Rattle.gerber_text.specs.Meaning.{meaning, without_end};
+ghost use Rattle.gerber_text.specs.Meaning.{meaning, meaning_in, without_end};
 ghost use Rattle.grid_units.specs.Results.{Gives};
 
 use gerber_commands::ItemCommands;
-use gerber_extended::read_extended;
+use gerber_extended::read_extended_in;
 use gerber_words::read_word;
-use grid_units::{ItemFail, Reason};
+use grid_units::{ItemFail, Profile, Reason};
 use std::alloc::Global;
 
 /// Whether the item is `M02*` or `M2*`, the end of the text.
@@ -48,20 +48,37 @@ fn prefix(bytes: &[u8]) -> &[u8]
     }
 }
 
-/// The commands of an item, given whether the last operation before it is a plot. An item has no line breaks, and its last
-/// byte is its end: a `%` where it begins with `%`, else a `*` ([`is_ended`]).
+/// The commands of an item in the strict profile, given whether the last operation before it is a plot. An item has no line
+/// breaks, and its last byte is its end: a `%` where it begins with `%`, else a `*` ([`is_ended`]).
 ///
 /// # Errors
 ///
 /// `Memory` where an allocation failed, else the first reason of the reading order.
-#[tactic(auto, unfolding(crate::specs::Meaning::meaning))]
 pub fn read_item(alloc: Global, plotting: bool, bytes: &[u8]) -> Result<ItemCommands, ItemFail>
     requires item { IsEnded bytes.now }
     ensures { Gives result (meaning plotting bytes.now) }
 {
+    read_item_in(alloc, Profile::Strict, plotting, bytes)
+}
+
+/// The commands of an item in a profile, as [`read_item`] gives those in the strict one.
+///
+/// # Errors
+///
+/// `Memory` where an allocation failed, else the first reason of the reading order.
+#[tactic(auto, unfolding(crate::specs::Meaning::meaning_in))]
+pub fn read_item_in(
+    alloc: Global,
+    profile: Profile,
+    plotting: bool,
+    bytes: &[u8],
+) -> Result<ItemCommands, ItemFail>
+    requires item { IsEnded bytes.now }
+    ensures { Gives result (meaning_in profile plotting bytes.now) }
+{
     match bytes {
         [] => Err(ItemFail::Refused(Reason::BadWord)),
-        [b'%', rest @ ..] => read_extended(alloc, prefix(rest)),
+        [b'%', rest @ ..] => read_extended_in(alloc, profile, prefix(rest)),
         _ => read_word(alloc, plotting, prefix(bytes)),
     }
 }

@@ -13,6 +13,10 @@ ghost use Rattle.gerber_commands.specs.Canonical.{canonical};
 ghost use Rattle.gerber_text.specs.Meaning.{meaning};
 ghost use Rattle.gerber_text.specs.CutItems.{IsCutItem, Spells, IsSpelled};
 ghost use Rattle.gerber_text.specs.Sayable.{is_sayable, is_finish};
+ghost use Rattle.grid_units.specs.declared.profile.Profile.{Profile};
+ghost use Rattle.grid_units.specs.declared.profile.Profile.TheVariants.{Strict, Wide};
+ghost use Rattle.gerber_text.specs.Reading.{ShowsIn, ReadsIn, SpellsTextIn};
+ghost use Rattle.gerber_text.specs.Laws.{SpelledTextsAreWrittenIn, TextsSpellOneListIn, WrittenTextsAreSpelledIn};
 ghost use Rattle.gerber_text.specs.Laws.{SpelledTextsAreWritten, TextsSpellOneList, WrittenTextsAreSpelled};
 
 /// A text shows one thing, and has one reading, which is some commands just where the text spells them, or a fault for one
@@ -52,4 +56,34 @@ pub fn written_texts()
 pub fn exact_texts()
     ensures spelled { WrittenTextsAreSpelled }
     ensures unique { TextsSpellOneList }
+{}
+
+/// In the strict profile a text shows, and is read as, what it does where no profile is named.
+pub fn strict_profile()
+    ensures shown { (text : List ℕ) (answer : Result Entries Fault) → (ShowsIn Strict text answer) ↔ (Shows text answer) }
+    ensures read { (text : List ℕ) (answer : Result Entries Fault) → (ReadsIn Strict text answer) ↔ (Reads text answer) }
+{}
+
+/// In each profile a text shows one thing, and has one reading, which is some commands just where the text spells them there, or a
+/// fault for one of the reasons of reading. A fault that it shows is the one that it has.
+pub fn readings_in_profiles()
+    ensures shown { (profile : Profile) (text : List ℕ) (a b : Result Entries Fault) → ShowsIn profile text a → ShowsIn profile text b → a ≡ b }
+    ensures read { (profile : Profile) (text : List ℕ) (a b : Result Entries Fault) → ReadsIn profile text a → ReadsIn profile text b → a ≡ b }
+    ensures some { (profile : Profile) (text : List ℕ) → (answer : Result Entries Fault) × ReadsIn profile text answer }
+    ensures spelled { (profile : Profile) (text : List ℕ) (commands : Entries) → SpellsTextIn profile text commands ↔ ReadsIn profile text (Ok commands) }
+    ensures faults { (profile : Profile) (text : List ℕ) (f : Fault) → ShowsIn profile text (Err f) → ReadsIn profile text (Err f) }
+    ensures reasons { (profile : Profile) (text : List ℕ) (f : Fault) → ReadsIn profile text (Err f) → IsReasonOfReading f.reason }
+{}
+
+/// A text that is read without a profile has the same commands in the wide one.
+pub fn wide_reads_more()
+    ensures { (text : List ℕ) (commands : Entries) → Reads text (Ok commands) → ReadsIn Wide text (Ok commands) }
+{}
+
+/// In each profile, so in the wide one, the texts that spell commands are just those that the grammar has for them there, and each is
+/// written for one list of commands at most.
+pub fn wide_grammar()
+    ensures written { SpelledTextsAreWrittenIn }
+    ensures spelled { WrittenTextsAreSpelledIn }
+    ensures unique { TextsSpellOneListIn }
 {}

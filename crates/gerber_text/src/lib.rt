@@ -20,9 +20,10 @@ pub use gerber_commands::{
     write_item,
 };
 pub use gerber_extended::{is_name, max_sizes, min_sizes, standard_template};
-pub use item::{end_byte, is_end_item, is_ended, read_item};
+pub use item::{end_byte, is_end_item, is_ended, read_item, read_item_in};
 pub use laws::{
-    canonical_items, exact_texts, sayable_texts, spelled_commands, unique_reading, written_texts,
+    canonical_items, exact_texts, readings_in_profiles, sayable_texts, spelled_commands,
+    strict_profile, unique_reading, wide_grammar, wide_reads_more, written_texts,
 };
 pub use placed::{PassedOperation, PassedText, Placed};
 pub use reader::{Kept, WordReader, read_kept, read_words};

@@ -8,7 +8,7 @@ ghost use Rattle.grid_units.specs.Results.{fault, Answers};
 ghost use Rattle.gerber_text.specs.Items.{end_byte, is_line_break, IsEnded};
 ghost use Rattle.gerber_commands.specs.Rows.{modes_of};
 ghost use Rattle.gerber_commands.specs.declared.command.Command.TheVariants.{Mode};
-ghost use Rattle.gerber_text.specs.Reading.{Entries, Shows, spelled, placed, ResultsIn, plot_of, is_plotting, Reads, SpellsText, ReadsUpToFault, SpellsBeforeFault, entries_of, entries_after, is_blank};
+ghost use Rattle.gerber_text.specs.Reading.{Entries, Shows, spelled_in, placed, ResultsIn, plot_of, is_plotting, Reads, SpellsText, ReadsUpToFault, SpellsBeforeFault, entries_of, entries_after, is_blank};
 ghost use Rattle.gerber_text.specs.Inner.Bytes.{IsInside, HasLeadingItem, may_follow_end};
 ghost use Rattle.gerber_text.specs.Writing.{without_places, sayable};
 
@@ -16,9 +16,9 @@ use crate::placed::{PassedOperation, PassedText, Placed};
 use crate::text_items::{LeadingText, leading_text};
 use crate::{
     Command, Interpolation, ItemCommands, LeadingOperation, end_byte, is_end_item, is_plot,
-    leading_operation, read_item,
+    leading_operation, read_item_in,
 };
-use grid_units::{Fail, Fault, ITEM_LIMIT, ItemFail, Reason};
+use grid_units::{Fail, Fault, ITEM_LIMIT, ItemFail, Profile, Reason};
 use memchr::memchr3;
 use std::alloc::{AllocError, Global};
 use std::mem::replace;
@@ -30,6 +30,7 @@ const TEXT_LIMIT: u64 = grid_units::TEXT_LIMIT as u64;
 #[derive(Debug, Drop)]
 pub(crate) struct Progress {
     alloc: Global,
+    profile: Profile,
     commands: Vec<Placed<Command>>,
     item: Vec<u8>,
     start: u64,
@@ -217,10 +218,11 @@ fn add_mode_and_command(
     Ok(())
 }
 
-/// Adds the commands that an item spells, and returns whether the last operation is a plot.
-#[tactic(auto, unfolding(crate::specs::Reading::spelled))]
+/// Adds the commands that an item spells in a profile, and returns whether the last operation is a plot.
+#[tactic(auto, unfolding(crate::specs::Reading::spelled_in))]
 fn parse_item(
     alloc: Global,
+    profile: Profile,
     plotting: bool,
     place: u64,
     byte: u64,
@@ -229,11 +231,11 @@ fn parse_item(
 ) -> Result<bool, Fail>
     requires item { IsEnded item.now }
     requires short { length item.now ≤ item_limit }
-    ensures spelled { (gone : Entries) → plotting ≡ is_plotting (gone ++ commands.old.items) → ResultsIn result (gone ++ commands.new.items) (spelled place byte item.now (gone ++ commands.old.items)) }
+    ensures spelled { (gone : Entries) → plotting ≡ is_plotting (gone ++ commands.old.items) → ResultsIn result (gone ++ commands.new.items) (spelled_in profile place byte item.now (gone ++ commands.old.items)) }
     ensures plotting { (gone : Entries) → plotting ≡ is_plotting (gone ++ commands.old.items) → IfOk result (λ new. new ≡ is_plotting (gone ++ commands.new.items)) }
     ensures err { OnErr result (commands.new.items ≡ commands.old.items) }
 {
-    match read_item(alloc, plotting, item) {
+    match read_item_in(alloc, profile, plotting, item) {
         Ok(spelled) => Ok(add(plotting, place, byte, spelled, commands)?),
         Err(ItemFail::Memory) => Err(Fail::Memory),
         Err(ItemFail::Refused(reason)) => Err(Fail::Refused(Fault {
@@ -249,6 +251,8 @@ impl Progress {
     ghost use Rattle.gerber_text.specs.FastPath.{HasLeadingOperation, HasLeadingText, operation_commands, text_command};
     ghost use Rattle.gerber_text.specs.Holding.{Advances, Refuses, RefusesText, Holds, Ends, passed_entries, passed_text, text_entries};
     ghost use Rattle.grid_units.specs.Results.{AnswersAlways};
+    ghost use Rattle.grid_units.specs.declared.profile.Profile.{Profile as TheProfile};
+    ghost use Rattle.gerber_text.specs.Reading.{ReadsIn, SpellsBeforeFaultIn};
 
     /// The refusal of the next item, for this reason.
     fn refuse(&self, byte: u64, reason: Reason) -> Fail
@@ -350,7 +354,7 @@ impl Progress {
         requires room { self.old.offset + length bytes.now ≤ text_limit }
         ensures offset { self.new.offset ≡ self.old.offset + operation.now.len }
         ensures held { self.new.commands.items ≡ self.old.commands.items }
-        ensures ok { self.old.commands.items ≡ [] → (gone : Entries) (text : List ℕ) → Holds self.old gone text → Holds self.new (gone ++ placed (self.old.items + 1) self.old.offset (operation_commands operation.now)) (text ++ take operation.now.len bytes.now) }
+        ensures ok { self.old.commands.items ≡ [] → (profile : TheProfile) (gone : Entries) (text : List ℕ) → Holds self.old profile gone text → Holds self.new profile (gone ++ placed (self.old.items + 1) self.old.offset (operation_commands operation.now)) (text ++ take operation.now.len bytes.now) }
     {
         self.plotting = is_plot(operation.action);
         self.items += 1;
@@ -364,7 +368,7 @@ impl Progress {
     fn pass_operation(&mut self, bytes: &[u8]) -> Option<PassedOperation>
         ensures within { IfSome result (λ passed. (0 < passed.len) × (passed.len ≤ length bytes.now)) }
         ensures held { self.new.commands.items ≡ self.old.commands.items }
-        ensures some { self.old.commands.items ≡ [] → (gone : Entries) (text : List ℕ) → Holds self.old gone text → IfSome result (λ passed. Holds self.new (gone ++ passed_entries passed) (text ++ take passed.len bytes.now)) }
+        ensures some { self.old.commands.items ≡ [] → (profile : TheProfile) (gone : Entries) (text : List ℕ) → Holds self.old profile gone text → IfSome result (λ passed. Holds self.new profile (gone ++ passed_entries passed) (text ++ take passed.len bytes.now)) }
         ensures none { IfNone result (self.new ≡ self.old) }
     {
         if bytes.len() as u64 > TEXT_LIMIT - self.offset {
@@ -407,7 +411,7 @@ impl Progress {
         requires room { self.old.offset + length bytes.now ≤ text_limit }
         ensures offset { self.new.offset ≡ self.old.offset + item.len }
         ensures held { self.new.commands.items ≡ self.old.commands.items }
-        ensures ok { self.old.commands.items ≡ [] → (gone : Entries) (text : List ℕ) → Holds self.old gone text → Holds self.new (gone ++ placed (self.old.items + 1) self.old.offset (text_command item.kind (take item.text_len (drop 3 bytes.now)) ∷ [])) (text ++ take item.len bytes.now) }
+        ensures ok { self.old.commands.items ≡ [] → (profile : TheProfile) (gone : Entries) (text : List ℕ) → Holds self.old profile gone text → Holds self.new profile (gone ++ placed (self.old.items + 1) self.old.offset (text_command item.kind (take item.text_len (drop 3 bytes.now)) ∷ [])) (text ++ take item.len bytes.now) }
     {
         self.items += 1;
         self.offset += item.len as u64;
@@ -419,7 +423,7 @@ impl Progress {
         ensures within { IfSome result (λ passed. (0 < passed.len) × (passed.len ≤ length bytes.now)) }
         ensures text { IfSome result (λ passed. passed.item.text_len + 3 ≤ length bytes.now) }
         ensures held { self.new.commands.items ≡ self.old.commands.items }
-        ensures some { self.old.commands.items ≡ [] → (gone : Entries) (text : List ℕ) → Holds self.old gone text → IfSome result (λ passed. Holds self.new (gone ++ text_entries passed (passed_text passed bytes.now)) (text ++ take passed.len bytes.now)) }
+        ensures some { self.old.commands.items ≡ [] → (profile : TheProfile) (gone : Entries) (text : List ℕ) → Holds self.old profile gone text → IfSome result (λ passed. Holds self.new profile (gone ++ text_entries passed (passed_text passed bytes.now)) (text ++ take passed.len bytes.now)) }
         ensures none { IfNone result (self.new ≡ self.old) }
     {
         let item = self.text(bytes)?;
@@ -475,6 +479,7 @@ impl Progress {
         let byte = self.offset;
         self.plotting = parse_item(
             self.alloc,
+            self.profile,
             self.plotting,
             place,
             byte,
@@ -538,6 +543,7 @@ impl Progress {
         self.item.push(last)?;
         self.plotting = parse_item(
             self.alloc,
+            self.profile,
             self.plotting,
             place,
             byte,
@@ -668,7 +674,7 @@ impl Progress {
 
     /// The refusal Truncated, unless the text has ended.
     fn end(&self) -> Result<(), Fail>
-        ensures { (gone : Entries) (text : List ℕ) → Holds self.now gone text → Ends text (gone ++ self.now.commands.items) result }
+        ensures { (profile : TheProfile) (gone : Entries) (text : List ℕ) → Holds self.now profile gone text → Ends profile text (gone ++ self.now.commands.items) result }
     {
         if self.ended {
             return Ok(());
@@ -679,8 +685,8 @@ impl Progress {
     /// The commands, if the text has ended.
     fn finish(self) -> Result<Vec<Placed<Command>>, Fail>
         ensures held { IfOk result (λ v. v.items ≡ self.commands.items) }
-        ensures kept { (gone : Entries) (text : List ℕ) → Holds self gone text → IfErr result (λ e. SpellsBeforeFault text e (gone ++ self.commands.items)) }
-        ensures exact { (gone : Entries) (text : List ℕ) → Holds self gone text → AnswersAlways (entries_after gone) (λ answer. Reads text answer) result }
+        ensures kept { (profile : TheProfile) (gone : Entries) (text : List ℕ) → Holds self profile gone text → IfErr result (λ e. SpellsBeforeFaultIn profile text e (gone ++ self.commands.items)) }
+        ensures exact { (profile : TheProfile) (gone : Entries) (text : List ℕ) → Holds self profile gone text → AnswersAlways (entries_after gone) (λ answer. ReadsIn profile text answer) result }
     {
         self.end()?;
         Ok(self.commands)
@@ -699,15 +705,24 @@ impl WordReader {
     ghost use Rattle.std.specs.Prelude.{List, Some, Ok, Err, [], ◌++◌};
     ghost use Rattle.grid_units.specs.declared.fault.Fail.{Fail as TheFail};
     ghost use Rattle.grid_units.specs.Results.{AnswersAlways};
-    ghost use Rattle.gerber_text.specs.Reading.{Shows, Reads, ReadsUpToFault};
-    ghost use Rattle.gerber_text.specs.Holding.{StandsAfter, StandsAfterDrop, HasFailed, FailedAfterDrop, failure, held, passed_entries, passed_text, text_entries};
+    ghost use Rattle.grid_units.specs.declared.profile.Profile.{Profile as TheProfile};
+    ghost use Rattle.gerber_text.specs.Reading.{Shows, ShowsIn, Reads, ReadsIn, ReadsUpToFault, SpellsBeforeFaultIn};
+    ghost use Rattle.gerber_text.specs.Holding.{StandsAfter, StandsAfterDrop, StandsIn, FailedIn, HasFailed, FailedAfterDrop, failure, held, passed_entries, passed_text, text_entries};
 
     /// A reader that has read nothing.
     pub fn new(alloc: Global) -> WordReader
         ensures { StandsAfter result [] }
     {
+        WordReader::in_profile(alloc, Profile::Strict)
+    }
+
+    /// A reader that has read nothing. It reads in this profile: that of [`WordReader::new`] is strict.
+    pub fn in_profile(alloc: Global, profile: Profile) -> WordReader
+        ensures { StandsIn result profile [] [] }
+    {
         let progress = Progress {
             alloc,
+            profile,
             commands: Vec::new(alloc),
             item: Vec::new(alloc),
             start: 0,
@@ -731,6 +746,8 @@ impl WordReader {
     pub fn feed(&mut self, piece: &[u8]) -> Result<(), Fail>
         ensures ok { (gone : Entries) (text : List ℕ) → StandsAfterDrop self.old gone text → OnOk result (StandsAfterDrop self.new gone (text ++ piece.now)) }
         ensures err { (gone : Entries) (text : List ℕ) → StandsAfterDrop self.old gone text → IfErr result (FailedAfterDrop self.new gone (text ++ piece.now)) }
+        ensures ok_in { (profile : TheProfile) (gone : Entries) (text : List ℕ) → StandsIn self.old profile gone text → OnOk result (StandsIn self.new profile gone (text ++ piece.now)) }
+        ensures err_in { (profile : TheProfile) (gone : Entries) (text : List ℕ) → StandsIn self.old profile gone text → IfErr result (FailedIn self.new profile gone (text ++ piece.now)) }
         ensures failed { IfSome (failure self.old) (λ e. (result ≡ Err e) × (self.new ≡ self.old)) }
         ensures fails { IfErr result (λ e. failure self.new ≡ Some e) }
     {
@@ -752,6 +769,7 @@ impl WordReader {
         ensures within { IfSome result (λ passed. (0 < passed.len) × (passed.len ≤ length bytes.now)) }
         ensures held { held self.new ≡ held self.old }
         ensures some { held self.old ≡ [] → (gone : Entries) (text : List ℕ) → StandsAfterDrop self.old gone text → IfSome result (λ passed. StandsAfterDrop self.new (gone ++ passed_entries passed) (text ++ take passed.len bytes.now)) }
+        ensures some_in { held self.old ≡ [] → (profile : TheProfile) (gone : Entries) (text : List ℕ) → StandsIn self.old profile gone text → IfSome result (λ passed. StandsIn self.new profile (gone ++ passed_entries passed) (text ++ take passed.len bytes.now)) }
         ensures none { IfNone result (self.new ≡ self.old) }
         ensures failed { failure self.new ≡ failure self.old }
     {
@@ -766,6 +784,7 @@ impl WordReader {
         ensures text { IfSome result (λ passed. passed.item.text_len + 3 ≤ length bytes.now) }
         ensures held { held self.new ≡ held self.old }
         ensures some { held self.old ≡ [] → (gone : Entries) (text : List ℕ) → StandsAfterDrop self.old gone text → IfSome result (λ passed. StandsAfterDrop self.new (gone ++ text_entries passed (passed_text passed bytes.now)) (text ++ take passed.len bytes.now)) }
+        ensures some_in { held self.old ≡ [] → (profile : TheProfile) (gone : Entries) (text : List ℕ) → StandsIn self.old profile gone text → IfSome result (λ passed. StandsIn self.new profile (gone ++ text_entries passed (passed_text passed bytes.now)) (text ++ take passed.len bytes.now)) }
         ensures none { IfNone result (self.new ≡ self.old) }
         ensures failed { failure self.new ≡ failure self.old }
     {
@@ -783,6 +802,8 @@ impl WordReader {
         ensures taken { IfOk result (λ n. (0 < n) × (n ≤ length piece.now)) }
         ensures ok { (gone : Entries) (text : List ℕ) → StandsAfterDrop self.old gone text → IfOk result (λ n. StandsAfterDrop self.new gone (text ++ take n piece.now)) }
         ensures err { (gone : Entries) (text : List ℕ) → StandsAfterDrop self.old gone text → IfErr result (FailedAfterDrop self.new gone (text ++ piece.now)) }
+        ensures ok_in { (profile : TheProfile) (gone : Entries) (text : List ℕ) → StandsIn self.old profile gone text → IfOk result (λ n. StandsIn self.new profile gone (text ++ take n piece.now)) }
+        ensures err_in { (profile : TheProfile) (gone : Entries) (text : List ℕ) → StandsIn self.old profile gone text → IfErr result (FailedIn self.new profile gone (text ++ piece.now)) }
         ensures failed { IfSome (failure self.old) (λ e. (result ≡ Err e) × (self.new ≡ self.old)) }
         ensures fails { IfErr result (λ e. failure self.new ≡ Some e) }
     {
@@ -802,6 +823,8 @@ impl WordReader {
         ensures held { result.now ≡ held self.now }
         ensures shown { (gone : Entries) (text : List ℕ) → StandsAfterDrop self.now gone text → Shows text (Ok (gone ++ result.now)) }
         ensures kept { (gone : Entries) (text : List ℕ) (e : TheFail) → FailedAfterDrop self.now gone text e → SpellsBeforeFault text e (gone ++ result.now) }
+        ensures shown_in { (profile : TheProfile) (gone : Entries) (text : List ℕ) → StandsIn self.now profile gone text → ShowsIn profile text (Ok (gone ++ result.now)) }
+        ensures kept_in { (profile : TheProfile) (gone : Entries) (text : List ℕ) (e : TheFail) → FailedIn self.now profile gone text e → SpellsBeforeFaultIn profile text e (gone ++ result.now) }
     {
         &self.progress.commands
     }
@@ -810,6 +833,7 @@ impl WordReader {
     pub fn clear_commands(&mut self)
         ensures none { held self.new ≡ [] }
         ensures gone { (gone : Entries) (text : List ℕ) → StandsAfterDrop self.old gone text → StandsAfterDrop self.new (gone ++ held self.old) text }
+        ensures gone_in { (profile : TheProfile) (gone : Entries) (text : List ℕ) → StandsIn self.old profile gone text → StandsIn self.new profile (gone ++ held self.old) text }
         ensures failed { failure self.new ≡ failure self.old }
     {
         self.progress.commands.clear();
@@ -820,6 +844,7 @@ impl WordReader {
         ensures taken { result.items ≡ held self.old }
         ensures none { held self.new ≡ [] }
         ensures gone { (gone : Entries) (text : List ℕ) → StandsAfterDrop self.old gone text → StandsAfterDrop self.new (gone ++ held self.old) text }
+        ensures gone_in { (profile : TheProfile) (gone : Entries) (text : List ℕ) → StandsIn self.old profile gone text → StandsIn self.new profile (gone ++ held self.old) text }
         ensures failed { failure self.new ≡ failure self.old }
     {
         let alloc = self.progress.alloc;
@@ -833,8 +858,10 @@ impl WordReader {
     /// The first fault of the text. A reader that has failed gives its failure again.
     pub fn finish(self) -> Result<Vec<Placed<Command>>, Fail>
         ensures exact { (gone : Entries) (text : List ℕ) → StandsAfterDrop self gone text → AnswersAlways (entries_after gone) (λ answer. Reads text answer) result }
+        ensures exact_in { (profile : TheProfile) (gone : Entries) (text : List ℕ) → StandsIn self profile gone text → AnswersAlways (entries_after gone) (λ answer. ReadsIn profile text answer) result }
         ensures held { IfOk result (λ v. v.items ≡ held self) }
         ensures kept { (gone : Entries) (text : List ℕ) → StandsAfterDrop self gone text → IfErr result (λ e. SpellsBeforeFault text e (gone ++ held self)) }
+        ensures kept_in { (profile : TheProfile) (gone : Entries) (text : List ℕ) → StandsIn self profile gone text → IfErr result (λ e. SpellsBeforeFaultIn profile text e (gone ++ held self)) }
         ensures sayable { (text : List ℕ) → StandsAfter self text → IfOk result (λ v. sayable (without_places v.items) ≡ true) }
         ensures failed { IfSome (failure self) (λ e. result ≡ Err e) }
     {

@@ -15,7 +15,7 @@ use crate::{Command, Template, is_negative_comment};
 use grid_units::{ITEM_LIMIT, Text};
 use itoa::Buffer;
 
-/// Whether the fields of a command are those that some item spells.
+/// Whether the fields of a command are those that some item of the strict profile spells.
 #[tactic(auto, unfolding(crate::specs::Sayable::has_valid_fields))]
 fn has_valid_fields(command: &Command) -> bool
     ensures { result ≡ has_valid_fields command.now }
@@ -41,6 +41,7 @@ fn has_valid_fields(command: &Command) -> bool
         Command::Repeat(block) => is_block(*block),
         Command::Attribute(kind, text) => is_attribute(*kind, text.bytes()),
         Command::Remove(text) => is_text(text.bytes()),
+        Command::Clear => false,
         _ => true,
     }
 }
@@ -122,7 +123,7 @@ fn is_short(command: &Command) -> bool
     }
 }
 
-/// Whether some item of a Gerber text spells the command, and its canonical item is at most 1,048,576
+/// Whether some item of a Gerber text in the strict profile spells the command, and its canonical item is at most 1,048,576
 /// bytes without its line breaks. It takes no memory.
 pub fn is_sayable(command: &Command) -> bool
     ensures { result ≡ is_sayable command.now }

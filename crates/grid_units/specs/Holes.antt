@@ -3,6 +3,7 @@ use Rattle.std.specs.Prelude.{ℕ, ℤ, ◌≤◌, ◌+◌, ◌≤ℤ◌, pos, B
 use Rattle.std.specs.Int.{int_min, int_max}
 use Rattle.std.specs.Ordering.{int_eq}
 use Rattle.grid_units.specs.Points.{GridPoint, square_distance, square, max_coordinate}
+use Rattle.grid_units.specs.declared.profile.Profile.{Profile}
 
 -- a drilled hole, the path of a tool of this radius from one end to the other: round where they are equal, else a slot (`G85`)
 pub record GridHole : Type 0 where
@@ -18,10 +19,11 @@ max_radius = 5000000000000
 abbrev pub IsRadius : ℕ → Type 0
 IsRadius n = (1 ≤ n) × (n ≤ max_radius)
 
--- the rules: the annular ring that a plated hole needs, and the gap that two holes need, in pm
+-- the rules: the annular ring that a plated hole needs, and the gap that two holes need, in pm; and the profile in which the board is read
 pub record GridRules : Type 0 where
   pub ring : ℕ
   pub gap : ℕ
+  pub profile : Profile
 
 -- the ring is at least 0 pm, the gap at least 1 pm, and neither is above 10 m
 abbrev pub AreRules : ℤ → ℤ → Type 0

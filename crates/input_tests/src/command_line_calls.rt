@@ -93,7 +93,7 @@ const CHECKS: [&str; 6] = [
 #[test]
 fn options_of_a_check_stand_in_any_order(rt: HostRuntime) {
     for &line in &CHECKS {
-        let request = "Check { ring: \"0.125\", gap: \"0.2\", manifest: \"m.csv\" }";
+        let request = "Check { ring: \"0.125\", gap: \"0.2\", profile: None, manifest: \"m.csv\" }";
         assert!(rt; asks(rt, line, request), "{line}");
     }
 }
@@ -102,8 +102,53 @@ fn options_of_a_check_stand_in_any_order(rt: HostRuntime) {
 #[test]
 fn a_value_may_begin_with_a_minus(rt: HostRuntime) {
     let line = "check --ring=-1 --gap 0.2 m.csv";
-    let request = "Check { ring: \"-1\", gap: \"0.2\", manifest: \"m.csv\" }";
+    let request = "Check { ring: \"-1\", gap: \"0.2\", profile: None, manifest: \"m.csv\" }";
     assert!(rt; asks(rt, line, request));
+}
+
+/// Words of a check with a profile, and the word for it: any is kept as it is.
+const PROFILES: [(&str, &str); 11] = [
+    (
+        "check --ring 0.125 --gap 0.2 --profile strict m.csv",
+        "strict",
+    ),
+    ("check --ring 0.125 --gap 0.2 --profile wide m.csv", "wide"),
+    ("check --ring 0.125 --gap 0.2 --profile=wide m.csv", "wide"),
+    ("check --profile wide --ring 0.125 --gap 0.2 m.csv", "wide"),
+    ("check m.csv --gap 0.2 --profile wide --ring 0.125", "wide"),
+    ("check --ring=0.125 --gap=0.2 m.csv --profile=wide", "wide"),
+    (
+        "check --ring=0.125 --gap=0.2 --profile=wide -- m.csv",
+        "wide",
+    ),
+    ("check --ring 0.125 --gap 0.2 --profile WIDE m.csv", "WIDE"),
+    (
+        "check --ring 0.125 --gap 0.2 --profile loose m.csv",
+        "loose",
+    ),
+    (
+        "check --ring 0.125 --gap 0.2 --profile=-wide m.csv",
+        "-wide",
+    ),
+    ("check --ring 0.125 --gap 0.2 --profile= m.csv", ""),
+];
+
+/// Whether the words of a line ask for a check in the profile of this word.
+fn asks_in_profile(rt: HostRuntime, line: &str, profile: &str) -> bool {
+    let asked = format!(in rt.alloc();
+        "Check {{ ring: \"0.125\", gap: \"0.2\", profile: Some({profile:?}), manifest: \"m.csv\" }}"
+    );
+    match asked {
+        Ok(request) => asks(rt, line, request.as_str()),
+        Err(_) => false,
+    }
+}
+
+#[test]
+fn a_profile_is_kept_as_it_is_written(rt: HostRuntime) {
+    for &(line, profile) in &PROFILES {
+        assert!(rt; asks_in_profile(rt, line, profile), "{line}");
+    }
 }
 
 /// Words, and what they ask for.
@@ -137,7 +182,7 @@ fn a_table_and_a_canonical_text_are_asked_for(rt: HostRuntime) {
     }
 }
 
-const REFUSED: [&str; 40] = [
+const REFUSED: [&str; 52] = [
     "check --ring -1 --gap 0.2 m.csv",
     // other words
     "",
@@ -160,6 +205,19 @@ const REFUSED: [&str; 40] = [
     "check --ring=0.125 --ring=0.125 --gap=0.2 m.csv",
     "check --ring=0.125 --gap=0.2 m.csv n.csv",
     "check --ring=0.125 --gap=0.2 --fast m.csv",
+    // a profile is named once, with its value, and of a check alone
+    "check --ring=0.125 --gap=0.2 m.csv --profile",
+    "check --ring=0.125 --gap=0.2 --profile m.csv",
+    "check --ring=0.125 --gap=0.2 --profile -wide m.csv",
+    "check --ring=0.125 --gap=0.2 --profile wide --profile wide m.csv",
+    "check --profile=strict --ring=0.125 --gap=0.2 --profile=wide m.csv",
+    "check --profile wide m.csv",
+    "report --profile wide --ring=0.125 --gap=0.2 m.csv",
+    "measure --profile wide m.csv",
+    "draw --profile wide m.csv",
+    "manifest --profile wide top.gbr",
+    "show --profile wide --kind layer top.gbr",
+    "rewrite --profile wide --kind layer top.gbr",
     // measures, reports and pictures with other words
     "measure",
     "measure m.csv n.csv",
@@ -206,9 +264,11 @@ const COMMANDS: [&str; 10] = [
 ];
 
 /// The values of a check.
-const VALUES: [&str; 5] = [
+const VALUES: [&str; 7] = [
     "--ring <MM>",
     "--gap <MM>",
+    "[--profile <strict|wide>]",
+    "--profile <NAME>  strict, the default: ",
     "<MANIFEST>",
     "in mm",
     "role,name,file",

@@ -197,6 +197,7 @@ cached_stays_valid cached s (command.Quadrant mode) e h = h
 cached_stays_valid cached s command.RegionStart e h = h
 cached_stays_valid cached s command.RegionEnd e h = h
 cached_stays_valid cached s command.Dark e h = h
+cached_stays_valid cached s command.Clear e h = h
 cached_stays_valid cached s (command.Mirror x y) e h = h
 cached_stays_valid cached s (command.Macro name pieces) e h = h
 cached_stays_valid cached s (command.Attribute kind text) e h = h

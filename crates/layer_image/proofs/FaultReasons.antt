@@ -10,7 +10,7 @@ use Rattle.gerber_commands.specs.declared.command.Command.{Command}
 use Rattle.gerber_text.specs.Reading.{Entries}
 use Rattle.layer_image.specs.Faults.{fault_of}
 use Rattle.layer_image.specs.Flashes.{flashes_of}
-use Rattle.layer_image.specs.Layers.{LayerReasons}
+use Rattle.layer_image.specs.Layers.{LayerReasonsIn}
 use Rattle.layer_image.specs.Lookback.{state_after}
 use Rattle.layer_image.specs.Rules.{all_rules, breaks_rule, broken_rule, first_broken}
 use Rattle.gerber_text.specs.Writing.{without_places}
@@ -49,6 +49,6 @@ first_listed first (e ∷ cs) k f h = by (broken_rule (without_places first) e.w
     by (Some r) q rest =
         subst (Contains all_rules) (reason_is _ _ (fault e.place e.byte r) f (head (Some r) q) refl refl) (rule_listed (without_places first) e.what r q)
 
-pub reason_is_of_rule : LayerReasons
-reason_is_of_rule text f (inl h) = inl (first_listed [] h.1 h.3.0 f h.3.1)
-reason_is_of_rule text f (inr h) = inr h.1
+pub reason_is_of_rule : LayerReasonsIn
+reason_is_of_rule profile text f (inl h) = inl (first_listed [] h.1 h.3.0 f h.3.1)
+reason_is_of_rule profile text f (inr h) = inr h.1

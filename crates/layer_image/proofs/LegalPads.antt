@@ -3,7 +3,8 @@ use Rattle.std.proofs.Common.{◌≡◌, ℕ, zero, suc, ◌<◌, get_or, arith,
 use Rattle.std.specs.Prelude.{is_none}
 use Rattle.std.specs.Option.{option_map, option_map_or, option_or, option_and_then}
 use Rattle.std.specs.Ordering.{int_eq}
-use Rattle.std.specs.List.{filter_map, find, flat_map, cons_option}
+use Rattle.std.specs.List.{AllByRecursion, filter_map, find, flat_map, cons_option}
+use Rattle.std.proofs.lemmas.List.{length-map}
 use Rattle.std.proofs.lemmas.List.Concat.{flat_map-cons}
 use Rattle.std.proofs.lemmas.List.Elements.{filter_map-append}
 use Rattle.grid_units.specs.Lists.{violation_at, with_prefixes_from}
@@ -31,10 +32,11 @@ use Rattle.gerber_text.specs.Writing.{without_places}
 use Rattle.layer_image.specs.Layers.{LayerImage}
 use Rattle.layer_image.specs.Lookback.{GraphicsState, state_after, current_aperture, definition_set}
 use Rattle.layer_image.specs.Numbers.{dec_length}
-use Rattle.layer_image.specs.Flashes.{added_flashes, aperture_flashes, copies, copies_at, current_unit, disc_at, flash_at, flashes_of, obround_at, pad_in, pads_of, quarter, rect_at, swaps_sides, what_at}
-use Rattle.layer_image.specs.PadLaws.{LayerPads, LegalPads}
+use Rattle.layer_image.specs.Flashes.{added_flashes, aperture_flashes, copies, copies_at, current_unit, disc_at, flash_at, flash_copies, flashes_of, grid_at, obround_at, pad_in, pads_of, quarter, rect_at, swaps_sides, what_at}
+use Rattle.layer_image.specs.PadLaws.{FlashesAreCopies, LayerPads, LegalPads}
 use Rattle.layer_image.specs.Pads.{ArePads, ArePadsFrom, ArePadsOf, MayFlash, copies_in, flashed_at, pad_at}
 use Rattle.layer_image.specs.Rules.{all_rules, breaks_rule, broken_rule, first_broken}
+use Rattle.layer_image.proofs.CopyGrids.{count_copies}
 use Rattle.layer_image.proofs.StateLemmas.{state_after-more}
 
 -- ---- what a flash leaves
@@ -166,3 +168,25 @@ legal_pads commands legal = legal_from [] commands (λ number e. absurd cc) lega
 
 pub layer_pads : LayerPads
 layer_pads text image layer = subst (ArePads (without_places image.commands)) (sym (ap (λ (l : LayerImage). l.pads) layer.1)) (legal_pads (without_places image.commands) layer.0.legal)
+
+-- ---- how many flashes
+
+count_added : (s : GraphicsState) (count : ℕ) (c : Command) → IsDefined s → first_broken s count c ≡ None → length (added_flashes s c) ≡ flash_copies s.block c
+count_added s count (command.Operate action.Flash x y i j) defined h =
+    let may = may_flash s count x y i j defined h in
+    ap (λ (o : Option Aperture). length (option_map_or (aperture_flashes s x y) o [])) may.3.selected ∙ length-map (copies_at s x y) (flash_at s may.2) ∙ count_copies (grid_at s x y)
+count_added s count c defined h = refl
+
+counts_from : (before cs : List Command) → IsDefined (state_after before) → filter_map (violation_at broken_rule) (with_prefixes_from before cs) ≡ []
+    → AllByRecursion (λ p. length (added_flashes (state_after p.0) p.1) ≡ flash_copies (state_after p.0).block p.1) (with_prefixes_from before cs)
+counts_from before [] defined h = tt
+counts_from before (c ∷ cs) defined h =
+    let both = none_broken (λ (r : Reason). (length before, r)) (broken_rule before c) _ h in
+    let defined_next : IsDefined (state_after (before ++ c ∷ [])) =
+    subst IsDefined (sym (state_after-more before c)) (defined_after (state_after before) (length (flashes_of before)) c defined both.0) in (
+      count_added (state_after before) (length (flashes_of before)) c defined both.0,
+      counts_from (before ++ c ∷ []) cs defined_next both.1,
+    )
+
+pub flashes_are_copies : FlashesAreCopies
+flashes_are_copies commands legal = counts_from [] commands (λ number e. absurd cc) legal

@@ -7,10 +7,11 @@ use Rattle.grid_units.specs.declared.fault.Fault.{Fault}
 use Rattle.grid_units.specs.declared.fault.Fail.{Fail}
 use Rattle.grid_units.specs.declared.fault.Fail.TheVariants as fails
 use Rattle.grid_units.proofs.ResultLemmas.{bind_ok}
+use Rattle.grid_units.specs.declared.profile.Profile.{Profile}
 use Rattle.gerber_text.specs.declared.reader.WordReader.{WordReader}
 use Rattle.gerber_text.specs.Cut.{OffsetByte}
-use Rattle.gerber_text.specs.Reading.{Entries, commands_from, shown, Shows, Reads, SpellsPrefix, SpellsBeforeFault, entries_after}
-use Rattle.gerber_text.specs.Holding.{StandsAfterDrop, FailedAfterDrop, FailsWith, held}
+use Rattle.gerber_text.specs.Reading.{Entries, commands_by, shown_by, ShowsIn, ReadsIn, SpellsPrefixIn, SpellsBeforeFaultIn, entries_after}
+use Rattle.gerber_text.specs.Holding.{StandsIn, FailedIn, FailsWithIn, held}
 use Rattle.gerber_text.proofs.ShowsLemmas.{shown_spelled}
 use Rattle.gerber_text.proofs.FinishLemmas.{holds_shows, shows_reads}
 use Rattle.gerber_text.proofs.FaultsStay.{fails_longer}
@@ -18,9 +19,9 @@ use Rattle.pad_shapes.specs.declared.pad.Pad.{Pad}
 use Rattle.layer_image.specs.declared.keep.Keep.{Keep}
 use Rattle.layer_image.specs.declared.keep.Keep.TheVariants as keep
 use Rattle.layer_image.specs.Faults.{IsFirstFault}
-use Rattle.layer_image.specs.Layers.{LayerImage, ReadsKept, ReadsLayer, ReadsWithoutPads}
+use Rattle.layer_image.specs.Layers.{LayerImage, ReadsKept, ReadsLayer, ReadsLayerIn, ReadsWithoutPadsIn}
 use Rattle.grid_units.specs.Lists.{IsLegal}
-use Rattle.layer_image.specs.Holding.{ShowsLayerFault}
+use Rattle.layer_image.specs.Holding.{ShowsLayerFaultIn}
 use Rattle.grid_units.specs.Limits.{text_limit}
 use Rattle.gerber_text.specs.Writing.{without_places}
 use Rattle.layer_image.specs.Rules.{broken_rule}
@@ -30,9 +31,9 @@ short_ok true x cs e h = absurd cc
 short_ok false x cs e h = cc
 
 -- all items of a text that shows no fault are kept
-shows_kept : (text : List ℕ) (cs : Entries) → Shows text (Ok cs) → (kept : ℕ) × SpellsPrefix text kept cs
-shows_kept text cs s =
-    let first = bind_ok (shown s.items s.rest) _ cs (sym s.answer_is) in
+shows_kept : (profile : Profile) (text : List ℕ) (cs : Entries) → ShowsIn profile text (Ok cs) → (kept : ℕ) × SpellsPrefixIn profile text kept cs
+shows_kept profile text cs s =
+    let first = bind_ok (shown_by profile s.items s.rest) _ cs (sym s.answer_is) in
     let same : first.0 ≡ cs = short_ok (nat_lt text_limit (length text)) first.0 cs _ first.2 in (
       length s.items,
       record {
@@ -40,69 +41,69 @@ shows_kept text cs s =
         rest = s.rest;
         splits = s.splits;
         within = omega arith;
-        spelled = ap (λ (x : List (List OffsetByte)). commands_from 1 x []) (take-length s.items) ∙ shown_spelled s.items s.rest first.0 first.1 ∙ ap (λ (x : Entries). Ok x) same;
+        spelled = ap (λ (x : List (List OffsetByte)). commands_by profile 1 x []) (take-length s.items) ∙ shown_spelled profile s.items s.rest first.0 first.1 ∙ ap (λ (x : Entries). Ok x) same;
       },
     )
 
 -- a rule's fault among the commands of the items so far is shown, whatever the word reader answered
-pub rule_shown : (text : List ℕ) (words : WordReader) (gone cs : Entries) (r : Result (Unit {0}) Fail) (e : Fail) → OnOk r (StandsAfterDrop words gone text) → IfErr r (FailedAfterDrop words gone text)
-    → (StandsAfterDrop words gone text → Shows text (Ok (gone ++ cs))) → ((d : Fail) → FailedAfterDrop words gone text d → SpellsBeforeFault text d (gone ++ cs)) → IfFault (IsFirstFault (gone ++ cs)) e → IfFault (ShowsLayerFault text) e
-rule_shown text words gone cs r fails.Memory stands failed shows keeps h = tt
-rule_shown text words gone cs (Ok x) (fails.Refused f) stands failed shows keeps h = let k = shows_kept text (gone ++ cs) (shows stands) in inl (k.0, gone ++ cs, k.1, h)
-rule_shown text words gone cs (Err fails.Memory) (fails.Refused f) stands failed shows keeps h = let k = keeps fails.Memory failed in inl (k.0, gone ++ cs, k.1, h)
-rule_shown text words gone cs (Err (fails.Refused g)) (fails.Refused f) stands failed shows keeps h = let k = keeps (fails.Refused g) failed in inl (k.0, gone ++ cs, k.2, h)
+pub rule_shown : (profile : Profile) (text : List ℕ) (words : WordReader) (gone cs : Entries) (r : Result (Unit {0}) Fail) (e : Fail) → OnOk r (StandsIn words profile gone text) → IfErr r (FailedIn words profile gone text)
+    → (StandsIn words profile gone text → ShowsIn profile text (Ok (gone ++ cs))) → ((d : Fail) → FailedIn words profile gone text d → SpellsBeforeFaultIn profile text d (gone ++ cs)) → IfFault (IsFirstFault (gone ++ cs)) e → IfFault (ShowsLayerFaultIn profile text) e
+rule_shown profile text words gone cs r fails.Memory stands failed shows keeps h = tt
+rule_shown profile text words gone cs (Ok x) (fails.Refused f) stands failed shows keeps h = let k = shows_kept profile text (gone ++ cs) (shows stands) in inl (k.0, gone ++ cs, k.1, h)
+rule_shown profile text words gone cs (Err fails.Memory) (fails.Refused f) stands failed shows keeps h = let k = keeps fails.Memory failed in inl (k.0, gone ++ cs, k.1, h)
+rule_shown profile text words gone cs (Err (fails.Refused g)) (fails.Refused f) stands failed shows keeps h = let k = keeps (fails.Refused g) failed in inl (k.0, gone ++ cs, k.2, h)
 
 -- a fault of reading is shown where the commands before it are legal
-pub words_shown : (text : List ℕ) (words : WordReader) (gone cs : Entries) (e : Fail) → FailedAfterDrop words gone text e → SpellsBeforeFault text e (gone ++ cs) → IsLegal broken_rule (without_places (gone ++ cs)) → IfFault (ShowsLayerFault text) e
-words_shown text words gone cs fails.Memory failed kept legal = tt
-words_shown text words gone cs (fails.Refused f) failed kept legal = inr (gone ++ cs, failed.fails.reported, kept, legal)
+pub words_shown : (profile : Profile) (text : List ℕ) (words : WordReader) (gone cs : Entries) (e : Fail) → FailedIn words profile gone text e → SpellsBeforeFaultIn profile text e (gone ++ cs) → IsLegal broken_rule (without_places (gone ++ cs)) → IfFault (ShowsLayerFaultIn profile text) e
+words_shown profile text words gone cs fails.Memory failed kept legal = tt
+words_shown profile text words gone cs (fails.Refused f) failed kept legal = inr (gone ++ cs, failed.fails.reported, kept, legal)
 
 -- a fault that a text shows is the one that it has
-pub shown_read : (text : List ℕ) (f : Fault) → ShowsLayerFault text f → ReadsLayer text (Err f)
-shown_read text f (inl h) = inl h
-shown_read text f (inr h) = inr (h.0, shows_reads text f h.1, h.2, h.3)
+pub shown_read : (profile : Profile) (text : List ℕ) (f : Fault) → ShowsLayerFaultIn profile text f → ReadsLayerIn profile text (Err f)
+shown_read profile text f (inl h) = inl h
+shown_read profile text f (inr h) = inr (h.0, shows_reads profile text f h.1, h.2, h.3)
 
 -- each longer text shows it too
-pub shown_longer : (text more : List ℕ) (f : Fault) → ShowsLayerFault text f → ShowsLayerFault (text ++ more) f
-shown_longer text more f (inl h) =
-    let here : FailsWith text h.1 fails.Memory = record { reported = tt; kept = (h.0, h.2) } in
-    let on = fails_longer text more h.1 fails.Memory here in
+pub shown_longer : (profile : Profile) (text more : List ℕ) (f : Fault) → ShowsLayerFaultIn profile text f → ShowsLayerFaultIn profile (text ++ more) f
+shown_longer profile text more f (inl h) =
+    let here : FailsWithIn profile text h.1 fails.Memory = record { reported = tt; kept = (h.0, h.2) } in
+    let on = fails_longer profile text more h.1 fails.Memory here in
     inl (on.kept.0, h.1, on.kept.1, h.3)
-shown_longer text more f (inr h) =
-    let here : FailsWith text h.0 (fails.Refused f) = record { reported = h.1; kept = h.2 } in
-    let on = fails_longer text more h.0 (fails.Refused f) here in
+shown_longer profile text more f (inr h) =
+    let here : FailsWithIn profile text h.0 (fails.Refused f) = record { reported = h.1; kept = h.2 } in
+    let on = fails_longer profile text more h.0 (fails.Refused f) here in
     inr (h.0, on.reported, on.kept, h.3)
 
-longer : (text bytes : List ℕ) (n : ℕ) (e : Fail) → IfFault (ShowsLayerFault (text ++ take n bytes)) e → IfFault (ShowsLayerFault (text ++ bytes)) e
-longer text bytes n fails.Memory h = tt
-longer text bytes n (fails.Refused f) h =
-    subst (λ (t : List ℕ). ShowsLayerFault t f) (append_assoc text (take n bytes) (drop n bytes) ∙ ap (λ (x : List ℕ). text ++ x) (take-append-drop n bytes)) (shown_longer (text ++ take n bytes) (drop n bytes) f h)
+longer : (profile : Profile) (text bytes : List ℕ) (n : ℕ) (e : Fail) → IfFault (ShowsLayerFaultIn profile (text ++ take n bytes)) e → IfFault (ShowsLayerFaultIn profile (text ++ bytes)) e
+longer profile text bytes n fails.Memory h = tt
+longer profile text bytes n (fails.Refused f) h =
+    subst (λ (t : List ℕ). ShowsLayerFaultIn profile t f) (append_assoc text (take n bytes) (drop n bytes) ∙ ap (λ (x : List ℕ). text ++ x) (take-append-drop n bytes)) (shown_longer profile (text ++ take n bytes) (drop n bytes) f h)
 
 -- a rule's fault among the commands of some of these bytes is shown, whatever the word reader answered
-pub part_shown : (text bytes : List ℕ) (words : WordReader) (gone cs : Entries) (r : Result ℕ Fail) (e : Fail) → IfOk r (λ n. StandsAfterDrop words gone (text ++ take n bytes)) → IfErr r (FailedAfterDrop words gone (text ++ bytes))
-    → ((t : List ℕ) → StandsAfterDrop words gone t → Shows t (Ok (gone ++ cs))) → ((t : List ℕ) (d : Fail) → FailedAfterDrop words gone t d → SpellsBeforeFault t d (gone ++ cs)) → IfFault (IsFirstFault (gone ++ cs)) e → IfFault (ShowsLayerFault (text ++ bytes)) e
-part_shown text bytes words gone cs (Ok n) e stands failed shows keeps h = longer text bytes n e (rule_shown (text ++ take n bytes) words gone cs (Ok tt) e stands tt (shows (text ++ take n bytes)) (keeps (text ++ take n bytes)) h)
-part_shown text bytes words gone cs (Err d) e stands failed shows keeps h = rule_shown (text ++ bytes) words gone cs (Err d) e tt failed (shows (text ++ bytes)) (keeps (text ++ bytes)) h
+pub part_shown : (profile : Profile) (text bytes : List ℕ) (words : WordReader) (gone cs : Entries) (r : Result ℕ Fail) (e : Fail) → IfOk r (λ n. StandsIn words profile gone (text ++ take n bytes)) → IfErr r (FailedIn words profile gone (text ++ bytes))
+    → ((t : List ℕ) → StandsIn words profile gone t → ShowsIn profile t (Ok (gone ++ cs))) → ((t : List ℕ) (d : Fail) → FailedIn words profile gone t d → SpellsBeforeFaultIn profile t d (gone ++ cs)) → IfFault (IsFirstFault (gone ++ cs)) e → IfFault (ShowsLayerFaultIn profile (text ++ bytes)) e
+part_shown profile text bytes words gone cs (Ok n) e stands failed shows keeps h = longer profile text bytes n e (rule_shown profile (text ++ take n bytes) words gone cs (Ok tt) e stands tt (shows (text ++ take n bytes)) (keeps (text ++ take n bytes)) h)
+part_shown profile text bytes words gone cs (Err d) e stands failed shows keeps h = rule_shown profile (text ++ bytes) words gone cs (Err d) e tt failed (shows (text ++ bytes)) (keeps (text ++ bytes)) h
 
 -- a rule's fault among the commands that were read is shown, and all of them are gone
-pub gone_shown : (text bytes : List ℕ) (n : ℕ) (words : WordReader) (gone : Entries) (e : Fail) → StandsAfterDrop words gone (text ++ take n bytes) → held words ≡ [] → IfFault (IsFirstFault gone) e → IfFault (ShowsLayerFault (text ++ bytes)) e
-gone_shown text bytes n words gone fails.Memory stands none h = tt
-gone_shown text bytes n words gone (fails.Refused f) stands none h =
+pub gone_shown : (profile : Profile) (text bytes : List ℕ) (n : ℕ) (words : WordReader) (gone : Entries) (e : Fail) → StandsIn words profile gone (text ++ take n bytes) → held words ≡ [] → IfFault (IsFirstFault gone) e → IfFault (ShowsLayerFaultIn profile (text ++ bytes)) e
+gone_shown profile text bytes n words gone fails.Memory stands none h = tt
+gone_shown profile text bytes n words gone (fails.Refused f) stands none h =
     let so_far = text ++ take n bytes in
     let all : gone ≡ gone ++ held words = sym (append-nil gone) ∙ ap (λ (x : Entries). gone ++ x) (sym none) in
-    let k = shows_kept so_far gone (holds_shows words.progress gone so_far gone all words.progress.in_text stands.holds) in
-    longer text bytes n (fails.Refused f) (inl (k.0, gone, k.1, h))
+    let k = shows_kept profile so_far gone (holds_shows profile words.progress gone so_far gone all words.progress.in_text stands.holds) in
+    longer profile text bytes n (fails.Refused f) (inl (k.0, gone, k.1, h))
 
 -- where commands are not kept, none is, whatever came
 pub none_kept : (b : Bool) (xs ys : Entries) → b ≡ false → cond b xs [] ≡ cond b ys []
 none_kept b xs ys h = (λ i. cond (h i) xs []) ∙ sym (λ i. cond (h i) ys [])
 
-pub shown_joined : (text more : List ℕ) (f : Fault) → ShowsLayerFault text f → ReadsLayer (text ++ more) (Err f)
-shown_joined text more f h = shown_read (text ++ more) f (shown_longer text more f h)
+pub shown_joined : (profile : Profile) (text more : List ℕ) (f : Fault) → ShowsLayerFaultIn profile text f → ReadsLayerIn profile (text ++ more) (Err f)
+shown_joined profile text more f h = shown_read profile (text ++ more) f (shown_longer profile text more f h)
 
-pub layer_shows_reads : (text : List ℕ) (e : Fail) → IfFault (ShowsLayerFault text) e → Answers {T = LayerImage} (λ layer. layer) (ReadsLayer text) (Err e)
-layer_shows_reads text fails.Memory h = tt
-layer_shows_reads text (fails.Refused f) h = shown_read text f h
+pub layer_shows_reads : (profile : Profile) (text : List ℕ) (e : Fail) → IfFault (ShowsLayerFaultIn profile text) e → Answers {T = LayerImage} (λ layer. layer) (ReadsLayerIn profile text) (Err e)
+layer_shows_reads profile text fails.Memory h = tt
+layer_shows_reads profile text (fails.Refused f) h = shown_read profile text f h
 
 -- where all is kept, that is the layer
 pub all_kept : (text : List ℕ) (r : Result LayerImage Fail) → Answers (λ (layer : LayerImage). layer) (ReadsKept keep.All text) r → Answers (λ (layer : LayerImage). layer) (ReadsLayer text) r
@@ -111,7 +112,7 @@ all_kept text (Err fails.Memory) h = tt
 all_kept text (Err (fails.Refused f)) h = h
 
 -- the end that was refused is a layer's fault
-pub end_err : (text : List ℕ) (gone : Entries) (keep : Keep) (taken : List Pad) (e : Fail) → AnswersAlways (entries_after gone) (λ answer. Reads text answer) (Err e) → SpellsBeforeFault text e gone → IsLegal broken_rule (without_places gone)
-    → Answers {T = LayerImage} (λ layer. layer) (ReadsWithoutPads keep taken text) (Err e)
-end_err text gone keep taken fails.Memory h kept legal = tt
-end_err text gone keep taken (fails.Refused f) h kept legal = inr (gone, h, kept, legal)
+pub end_err : (profile : Profile) (text : List ℕ) (gone : Entries) (keep : Keep) (taken : List Pad) (e : Fail) → AnswersAlways (entries_after gone) (λ answer. ReadsIn profile text answer) (Err e) → SpellsBeforeFaultIn profile text e gone → IsLegal broken_rule (without_places gone)
+    → Answers {T = LayerImage} (λ layer. layer) (ReadsWithoutPadsIn profile keep taken text) (Err e)
+end_err profile text gone keep taken fails.Memory h kept legal = tt
+end_err profile text gone keep taken (fails.Refused f) h kept legal = inr (gone, h, kept, legal)

@@ -3,11 +3,12 @@ use Rattle.std.proofs.Common.{◌≡◌, ℕ, List, length, Bool, true, false, c
 use Rattle.std.proofs.Math.Seq.{take-length}
 use Rattle.grid_units.specs.declared.fault.Fault.{Fault}
 use Rattle.grid_units.proofs.ResultLemmas.{bind_ok}
+use Rattle.grid_units.specs.declared.profile.Profile.{Profile}
 use Rattle.gerber_text.specs.Cut.{OffsetByte, has_end}
-use Rattle.gerber_text.specs.Reading.{Entries, commands_from, shown, Reads, SpellsPrefix}
+use Rattle.gerber_text.specs.Reading.{Entries, commands_by, shown_by, ReadsIn, SpellsPrefixIn}
 use Rattle.gerber_text.proofs.ShowsLemmas.{shown_spelled}
 use Rattle.gerber_text.proofs.SpellsTextLemmas.{reads_spells}
-use Rattle.layer_image.specs.Layers.{LayerImage, ReadsLayer, image_of}
+use Rattle.layer_image.specs.Layers.{LayerImage, ReadsLayerIn, image_of}
 use Rattle.grid_units.specs.Lists.{IsLegal}
 use Rattle.grid_units.specs.Limits.{text_limit}
 use Rattle.gerber_text.specs.Writing.{without_places}
@@ -19,9 +20,9 @@ ended_ok false true x cs e d h = cc
 ended_ok false false x cs e d h = absurd cc
 
 -- all items of a text that is read are kept
-pub kept_all : (text : List ℕ) (cs : Entries) → Reads text (Ok cs) → (kept : ℕ) × (k : SpellsPrefix text kept cs) × (kept ≡ length k.items)
-kept_all text cs r =
-    let first = bind_ok (shown r.items r.rest) _ cs (sym r.answer_is) in
+pub kept_all : (profile : Profile) (text : List ℕ) (cs : Entries) → ReadsIn profile text (Ok cs) → (kept : ℕ) × (k : SpellsPrefixIn profile text kept cs) × (kept ≡ length k.items)
+kept_all profile text cs r =
+    let first = bind_ok (shown_by profile r.items r.rest) _ cs (sym r.answer_is) in
     let same : first.0 ≡ cs = ended_ok (nat_lt text_limit (length text)) (has_end r.items) first.0 cs _ _ first.2 in (
       length r.items,
       record {
@@ -29,11 +30,11 @@ kept_all text cs r =
         rest = r.rest;
         splits = r.splits;
         within = omega arith;
-        spelled = ap (λ (x : List (List OffsetByte)). commands_from 1 x []) (take-length r.items) ∙ shown_spelled r.items r.rest first.0 first.1 ∙ ap (λ (x : Entries). Ok x) same;
+        spelled = ap (λ (x : List (List OffsetByte)). commands_by profile 1 x []) (take-length r.items) ∙ shown_spelled profile r.items r.rest first.0 first.1 ∙ ap (λ (x : Entries). Ok x) same;
       },
       refl,
     )
 
 -- legal commands make a layer
-pub legal_layer : (text : List ℕ) (entries : Entries) (layer : LayerImage) → Reads text (Ok entries) → IsLegal broken_rule (without_places entries) → layer ≡ image_of entries → ReadsLayer text (Ok layer)
-legal_layer text entries layer r legal is = subst (λ (l : LayerImage). ReadsLayer text (Ok l)) (sym is) (record { spells = reads_spells text entries r; legal = legal }, refl)
+pub legal_layer : (profile : Profile) (text : List ℕ) (entries : Entries) (layer : LayerImage) → ReadsIn profile text (Ok entries) → IsLegal broken_rule (without_places entries) → layer ≡ image_of entries → ReadsLayerIn profile text (Ok layer)
+legal_layer profile text entries layer r legal is = subst (λ (l : LayerImage). ReadsLayerIn profile text (Ok l)) (sym is) (record { spells = reads_spells profile text entries r; legal = legal }, refl)

@@ -9,13 +9,14 @@ use Rattle.grid_units.specs.Results.{◌>>=◌, fault}
 use Rattle.grid_units.specs.declared.fault.Fault.{Fault}
 use Rattle.grid_units.specs.declared.fault.Reason.{Reason}
 use Rattle.grid_units.proofs.ResultLemmas.{bind_ok, bind_err}
+use Rattle.grid_units.specs.declared.profile.Profile.{Profile}
 use Rattle.gerber_commands.specs.declared.command.Command.{Command}
 use Rattle.gerber_text.specs.declared.placed.Placed.{Placed}
 use Rattle.gerber_text.specs.Cut.{OffsetByte, bytes_of, first_offset, has_end}
-use Rattle.gerber_text.specs.Reading.{Entries, SpellsPrefix, Reads, commands_from, is_blank, read_in, shown, spelled}
+use Rattle.gerber_text.specs.Reading.{Entries, SpellsPrefixIn, ReadsIn, commands_by, is_blank, read_by, shown_by, spelled_in}
 use Rattle.gerber_text.proofs.Some.{some_reading}
 use Rattle.layer_image.specs.Faults.{fault_of, IsFirstFault}
-use Rattle.layer_image.specs.Layers.{EachTextAnswers, LayerImage, ReadsLayer, image_of}
+use Rattle.layer_image.specs.Layers.{EachTextAnswersIn, LayerImage, ReadsLayerIn, image_of}
 use Rattle.layer_image.specs.Rules.{broken_rule}
 use Rattle.layer_image.proofs.Reading.{legal_layer, kept_all}
 use Rattle.layer_image.proofs.UniqueReading.{rest_place, ended_place}
@@ -55,54 +56,54 @@ first_or_legal entries = by (violations fault_of entries) refl
 
 -- ---- the items before the place of a fault spell commands
 
-stops_within : (place : ℕ) (items : List (List OffsetByte)) (before : Entries) (f : Fault) → commands_from place items before ≡ Err f
-    → (kept : ℕ) × (cs : Entries) × (f.place ≡ place + kept) × (kept ≤ length items) × (commands_from place (take kept items) before ≡ Ok cs)
-stops_within place [] before f h = absurd cc
-stops_within place (item ∷ items) before f h = elim (bind_err (spelled place (first_offset item) (bytes_of item) before) (commands_from (suc place) items) f h) [
-  | inl here ↦ (0, before, omega (arith, spelled_place place (first_offset item) (bytes_of item) before f here), omega arith, refl)
+stops_within : (profile : Profile) (place : ℕ) (items : List (List OffsetByte)) (before : Entries) (f : Fault) → commands_by profile place items before ≡ Err f
+    → (kept : ℕ) × (cs : Entries) × (f.place ≡ place + kept) × (kept ≤ length items) × (commands_by profile place (take kept items) before ≡ Ok cs)
+stops_within profile place [] before f h = absurd cc
+stops_within profile place (item ∷ items) before f h = elim (bind_err (spelled_in profile place (first_offset item) (bytes_of item) before) (commands_by profile (suc place) items) f h) [
+  | inl here ↦ (0, before, omega (arith, spelled_place profile place (first_offset item) (bytes_of item) before f here), omega arith, refl)
   | inr there ↦
-      let r = stops_within (suc place) items there.0 f there.2 in
-      (suc r.0, r.1, omega (arith, r.2), omega (arith, r.3), ap (λ (o : Result Entries Fault). o >>= commands_from (suc place) (take r.0 items)) there.1 ∙ r.4)
+      let r = stops_within profile (suc place) items there.0 f there.2 in
+      (suc r.0, r.1, omega (arith, r.2), omega (arith, r.3), ap (λ (o : Result Entries Fault). o >>= commands_by profile (suc place) (take r.0 items)) there.1 ∙ r.4)
 ]
 
-shown_stop : (items : List (List OffsetByte)) (rest : List OffsetByte) (f : Fault) → shown items rest ≡ Err f → (commands_from 1 items [] ≡ Err f) ⊎ ((cs : Entries) × (commands_from 1 items [] ≡ Ok cs) × (f.place ≡ suc (length items)))
-shown_stop items rest f h = elim (bind_err (commands_from 1 items []) _ f h) [
+shown_stop : (profile : Profile) (items : List (List OffsetByte)) (rest : List OffsetByte) (f : Fault) → shown_by profile items rest ≡ Err f → (commands_by profile 1 items [] ≡ Err f) ⊎ ((cs : Entries) × (commands_by profile 1 items [] ≡ Ok cs) × (f.place ≡ suc (length items)))
+shown_stop profile items rest f h = elim (bind_err (commands_by profile 1 items []) _ f h) [
   | inl e ↦ inl e
   | inr there ↦ inr (there.0, there.1, rest_place (has_end items) (nat_lt item_limit (length rest)) (suc (length items)) (first_offset rest) there.0 rest f there.2)
 ]
 
-read_stop : (len : ℕ) (items : List (List OffsetByte)) (rest : List OffsetByte) (f : Fault) → read_in len items rest ≡ Err f → (commands_from 1 items [] ≡ Err f) ⊎ ((cs : Entries) × (commands_from 1 items [] ≡ Ok cs) × (f.place ≡ suc (length items)))
-read_stop len items rest f h = elim (bind_err (shown items rest) _ f h) [
-  | inl e ↦ shown_stop items rest f e
+read_stop : (profile : Profile) (len : ℕ) (items : List (List OffsetByte)) (rest : List OffsetByte) (f : Fault) → read_by profile len items rest ≡ Err f → (commands_by profile 1 items [] ≡ Err f) ⊎ ((cs : Entries) × (commands_by profile 1 items [] ≡ Ok cs) × (f.place ≡ suc (length items)))
+read_stop profile len items rest f h = elim (bind_err (shown_by profile items rest) _ f h) [
+  | inl e ↦ shown_stop profile items rest f e
   | inr there ↦
-      let all = bind_ok (commands_from 1 items []) _ there.0 there.1 in
+      let all = bind_ok (commands_by profile 1 items []) _ there.0 there.1 in
       inr (all.0, all.1, ended_place (nat_lt text_limit len) (has_end items) (suc (length items)) text_limit (cond (list_all is_blank (bytes_of rest)) len (first_offset rest)) there.0 f there.2)
 ]
 
-kept_before_fault : (text : List ℕ) (f : Fault) → Reads text (Err f) → (entries : Entries) × (kept : ℕ) × (f.place ≡ suc kept) × SpellsPrefix text kept entries
-kept_before_fault text f r = elim (read_stop (length text) r.items r.rest f (sym r.answer_is)) [
+kept_before_fault : (profile : Profile) (text : List ℕ) (f : Fault) → ReadsIn profile text (Err f) → (entries : Entries) × (kept : ℕ) × (f.place ≡ suc kept) × SpellsPrefixIn profile text kept entries
+kept_before_fault profile text f r = elim (read_stop profile (length text) r.items r.rest f (sym r.answer_is)) [
   | inl e ↦
-      let s = stops_within 1 r.items [] f e in
+      let s = stops_within profile 1 r.items [] f e in
       (s.1, s.0, omega (arith, s.2), record { items = r.items; rest = r.rest; splits = r.splits; within = s.3; spelled = s.4 })
   | inr e ↦ (
     e.0,
     length r.items,
     e.2,
-    record { items = r.items; rest = r.rest; splits = r.splits; within = omega arith; spelled = ap (λ (x : List (List OffsetByte)). commands_from 1 x []) (take-length r.items) ∙ e.1 },
+    record { items = r.items; rest = r.rest; splits = r.splits; within = omega arith; spelled = ap (λ (x : List (List OffsetByte)). commands_by profile 1 x []) (take-length r.items) ∙ e.1 },
   )
 ]
 
-answer_of : (text : List ℕ) (r : Result Entries Fault) → Reads text r → (answer : Result LayerImage Fault) × ReadsLayer text answer
-answer_of text (Ok entries) r = elim (first_or_legal entries) [
-  | inl first ↦ let all = kept_all text entries r in (Err first.0, inl (all.0, entries, all.1, first.1))
-  | inr legal ↦ (Ok (image_of entries), legal_layer text entries (image_of entries) r legal refl)
+answer_of : (profile : Profile) (text : List ℕ) (r : Result Entries Fault) → ReadsIn profile text r → (answer : Result LayerImage Fault) × ReadsLayerIn profile text answer
+answer_of profile text (Ok entries) r = elim (first_or_legal entries) [
+  | inl first ↦ let all = kept_all profile text entries r in (Err first.0, inl (all.0, entries, all.1, first.1))
+  | inr legal ↦ (Ok (image_of entries), legal_layer profile text entries (image_of entries) r legal refl)
 ]
-answer_of text (Err f) r =
-    let before = kept_before_fault text f r in
+answer_of profile text (Err f) r =
+    let before = kept_before_fault profile text f r in
     elim (first_or_legal before.0) [
       | inl first ↦ (Err first.0, inl (before.1, before.0, before.3, first.1))
       | inr legal ↦ (Err f, inr (before.0, r, (before.1, before.2, before.3), legal))
     ]
 
-pub each_answers : EachTextAnswers
-each_answers text = let some = some_reading text in answer_of text some.0 some.1
+pub each_answers : EachTextAnswersIn
+each_answers profile text = let some = some_reading profile text in answer_of profile text some.0 some.1

@@ -12,6 +12,7 @@ use Rattle.pad_shapes.specs.Shapes.{GridDisc, GridRect, GridObround}
 use Rattle.pad_shapes.specs.declared.pad.Pad.{Pad}
 use Rattle.pad_shapes.specs.declared.pad.Pad.TheVariants as pads
 use Rattle.gerber_commands.specs.declared.command.Format.{Format}
+use Rattle.gerber_commands.specs.declared.command.StepRepeat.{StepRepeat}
 use Rattle.gerber_commands.specs.declared.command.Action.{Action}
 use Rattle.gerber_commands.specs.declared.command.Action.TheVariants as action
 use Rattle.gerber_commands.specs.declared.command.Command.{Command}
@@ -153,6 +154,11 @@ is_flash _ = false
 abbrev pub added_flashes : GraphicsState → Command → List Flash
 added_flashes s (command.Operate action x y i j) = if is_flash action then option_map_or (aperture_flashes s x y) (current_aperture s) [] else []
 added_flashes s _ = []
+
+-- how many flashes a command makes in a block: one for each copy of a flash
+abbrev pub flash_copies : StepRepeat → Command → ℕ
+flash_copies block (command.Operate action x y i j) = if is_flash action then block.columns * block.rows else 0
+flash_copies block _ = 0
 
 -- ---- over a whole list
 

@@ -6,8 +6,10 @@ use Rattle.grid_units.specs.declared.fault.Fail.{Fail}
 use Rattle.grid_units.specs.declared.fault.Fail.TheVariants as fails
 use Rattle.pad_shapes.specs.declared.pad.Pad.{Pad}
 use Rattle.gerber_commands.specs.declared.command.Command.{Command}
-use Rattle.gerber_text.specs.Reading.{Entries, Shows, SpellsPrefix, SpellsBeforeFault}
-use Rattle.gerber_text.specs.Holding.{StandsAfterDrop, held}
+use Rattle.grid_units.specs.declared.profile.Profile.{Profile}
+use Rattle.grid_units.specs.declared.profile.Profile.TheVariants.{Strict}
+use Rattle.gerber_text.specs.Reading.{Entries, ShowsIn, SpellsPrefixIn, SpellsBeforeFaultIn}
+use Rattle.gerber_text.specs.Holding.{StandsIn, held}
 use Rattle.layer_image.specs.declared.keep.Keep.{Keep}
 use Rattle.grid_units.specs.declared.item_fail.ItemFail.{ItemFail}
 use Rattle.grid_units.specs.declared.item_fail.ItemFail.TheVariants.{Memory, Refused}
@@ -20,12 +22,16 @@ use Rattle.layer_image.specs.Inner.IsStateAfter.{IsStateAfter}
 use Rattle.layer_image.specs.Rules.{broken_rule}
 use Rattle.gerber_text.specs.Writing.{without_places}
 
--- A text shows this fault of a layer, whatever follows it. Some first items spell commands, and this is their first fault by the
--- rules; or the text itself shows the fault, and the commands before it are legal.
+-- A text shows this fault of a layer in a profile, whatever follows it. Some first items spell commands, and this is their first fault
+-- by the rules; or the text itself shows the fault, and the commands before it are legal.
+abbrev pub ShowsLayerFaultIn : Profile → List ℕ → Fault → Type 0
+ShowsLayerFaultIn profile text f =
+    ((kept : ℕ) × (entries : Entries) × SpellsPrefixIn profile text kept entries × IsFirstFault entries f)
+    ⊎ ((entries : Entries) × ShowsIn profile text (Err f) × SpellsBeforeFaultIn profile text (fails.Refused f) entries × IsLegal broken_rule (without_places entries))
+
+-- the same in the strict profile
 abbrev pub ShowsLayerFault : List ℕ → Fault → Type 0
-ShowsLayerFault text f =
-    ((kept : ℕ) × (entries : Entries) × SpellsPrefix text kept entries × IsFirstFault entries f)
-    ⊎ ((entries : Entries) × Shows text (Err f) × SpellsBeforeFault text (fails.Refused f) entries × IsLegal broken_rule (without_places entries))
+ShowsLayerFault text f = ShowsLayerFaultIn Strict text f
 
 -- the scan has met just these commands
 pub record HasScanned (scan : Scan) (parts : KeptParts) (before : List Command) : Type 0 where
@@ -47,16 +53,24 @@ pub record HasScannedLegal (scan : Scan) (parts : KeptParts) (entries : Entries)
 abbrev pub held_pads : LayerReader → List Pad
 held_pads reader = reader.scan.state.state.flashes.pads.items
 
--- The reader keeps these parts, and has read this text, which shows no fault; the scan has met its commands, which are kept where that is asked for.
--- These pads, the first ones of the layer, were taken from it.
-pub record LayerStandsAfterPads (reader : LayerReader) (keep : Keep) (taken : List Pad) (text : List ℕ) : Type 0 where
+-- The reader reads in this profile and keeps these parts, and has read this text, which shows no fault; the scan has met its commands,
+-- which are kept where that is asked for. These pads, the first ones of the layer, were taken from it.
+pub record LayerStandsInAfterPads (reader : LayerReader) (profile : Profile) (keep : Keep) (taken : List Pad) (text : List ℕ) : Type 0 where
   pub sound : reader.failed ≡ None
   pub same : reader.keep ≡ keep
   pub gone : Entries
-  pub words : StandsAfterDrop reader.words gone text
+  pub words : StandsIn reader.words profile gone text
   pub none : held reader.words ≡ []
   pub scanned : HasScannedLegal reader.scan (without_pads keep taken) gone
   pub kept : reader.kept.items ≡ (if keeps_commands keep then gone else [])
+
+-- the same in the strict profile
+abbrev pub LayerStandsAfterPads : LayerReader → Keep → List Pad → List ℕ → Type 0
+LayerStandsAfterPads reader keep taken text = LayerStandsInAfterPads reader Strict keep taken text
+
+-- the reader reads in this profile and keeps these parts, and has read this text, which shows no fault; no pads were taken from it
+abbrev pub LayerStandsIn : LayerReader → Profile → Keep → List ℕ → Type 0
+LayerStandsIn reader profile keep text = LayerStandsInAfterPads reader profile keep [] text
 
 -- the reader keeps these parts, and has read this text, which shows no fault; no pads were taken from it
 abbrev pub LayerStandsAfter : LayerReader → Keep → List ℕ → Type 0

@@ -1,12 +1,13 @@
 -- Laws of the pads of a list of commands.
-use Rattle.std.specs.Prelude.{◌≡◌, ◌↔◌, ℕ, List}
-use Rattle.std.specs.List.{Contains}
-use Rattle.grid_units.specs.Lists.{IsLegal}
+use Rattle.std.specs.Prelude.{◌≡◌, ◌↔◌, ℕ, List, length}
+use Rattle.std.specs.List.{AllByRecursion, Contains}
+use Rattle.grid_units.specs.Lists.{IsLegal, with_prefixes}
 use Rattle.pad_shapes.specs.declared.pad.Pad.{Pad}
 use Rattle.gerber_commands.specs.declared.command.Command.{Command}
 use Rattle.gerber_text.specs.Writing.{without_places}
-use Rattle.layer_image.specs.Flashes.{flashes_of, pads_of}
+use Rattle.layer_image.specs.Flashes.{added_flashes, flash_copies, flashes_of, pads_of}
 use Rattle.layer_image.specs.Layers.{IsLayer, LayerImage}
+use Rattle.layer_image.specs.Lookback.{state_after}
 use Rattle.layer_image.specs.Pads.{ArePads, IsFlashed}
 use Rattle.layer_image.specs.Rules.{broken_rule}
 
@@ -25,3 +26,8 @@ PadsAreUnique = (commands : List Command) (a b : List Pad) → ArePads commands 
 -- the list has just the pads that some command makes
 abbrev pub PadsAreFlashed : Type 0
 PadsAreFlashed = (commands : List Command) (made : List Pad) → ArePads commands made → (pad : Pad) → Contains made pad ↔ IsFlashed commands pad
+
+-- each command of a legal list adds a flash for each copy that it makes
+abbrev pub FlashesAreCopies : Type 0
+FlashesAreCopies = (commands : List Command) → IsLegal broken_rule commands
+    → AllByRecursion (λ p. length (added_flashes (state_after p.0) p.1) ≡ flash_copies (state_after p.0).block p.1) (with_prefixes commands)

@@ -38,7 +38,7 @@ pub enum DrawnAperture {
 
 impl DrawnAperture {
     /// The shape that the aperture flashes.
-    pub(crate) fn shape(&self) -> Option<&SharedRounded>
+    pub fn shape(&self) -> Option<&SharedRounded>
         ensures { option_copied result ≡ shape_in self.now }
     {
         match self {

@@ -1,10 +1,15 @@
 //! Laws of layers, and of what a reader in pieces answers. A call of one does nothing; its clauses are what is proved.
 
-ghost use Rattle.std.specs.Prelude.{◌++◌, ℕ, List, Err};
+ghost use Rattle.std.specs.Prelude.{◌≡◌, ◌↔◌, ◌++◌, ℕ, List, Result, Err};
+ghost use Rattle.grid_units.specs.declared.profile.Profile.{Profile};
+ghost use Rattle.grid_units.specs.declared.profile.Profile.TheVariants.{Strict};
+ghost use Rattle.gerber_commands.specs.declared.command.Command.{Command};
+ghost use Rattle.gerber_commands.specs.declared.command.Command.TheVariants.{Clear, Dark};
+ghost use Rattle.layer_image.specs.Rules.{broken_rule};
 ghost use Rattle.grid_units.specs.declared.fault.Fault.{Fault};
-ghost use Rattle.layer_image.specs.Layers.{EachTextAnswers, EqualCommands, LayerReasons, LayerTexts, LayersOfTexts, ReadingIsUnique, ReadsLayer};
-ghost use Rattle.layer_image.specs.Holding.{ShowsLayerFault};
-ghost use Rattle.layer_image.specs.PadLaws.{LayerPads, LegalPads, PadsAreFlashed, PadsAreUnique};
+ghost use Rattle.layer_image.specs.Layers.{EachTextAnswers, EachTextAnswersIn, EqualCommands, LayerImage, LayerReasons, LayerReasonsIn, LayerTexts, LayersOfTexts, LayersOfTextsIn, ReadingIsUnique, ReadingIsUniqueIn, ReadsLayer, ReadsLayerIn, WideReadsMore};
+ghost use Rattle.layer_image.specs.Holding.{ShowsLayerFault, ShowsLayerFaultIn};
+ghost use Rattle.layer_image.specs.PadLaws.{FlashesAreCopies, LayerPads, LegalPads, PadsAreFlashed, PadsAreUnique};
 
 /// A fault that a text shows is shown by each longer text too, and is the fault that the text has.
 pub fn shown_faults()
@@ -43,4 +48,38 @@ pub fn flashed_pads()
     ensures layer { LayerPads }
     ensures unique { PadsAreUnique }
     ensures each { PadsAreFlashed }
+{}
+
+/// Each command of a legal list adds a flash for each copy that it makes.
+pub fn copied_flashes()
+    ensures { FlashesAreCopies }
+{}
+
+/// Clear polarity is judged as dark polarity is, after any commands: in a region it is InRegion, else it breaks no rule.
+pub fn clear_polarity()
+    ensures { (before : List Command) → broken_rule before Clear ≡ broken_rule before Dark }
+{}
+
+/// In the strict profile a text shows the fault, and is read as the layer, that it does where no profile is named.
+pub fn strict_profile()
+    ensures shown { (text : List ℕ) (f : Fault) → (ShowsLayerFaultIn Strict text f) ↔ (ShowsLayerFault text f) }
+    ensures read { (text : List ℕ) (answer : Result LayerImage Fault) → (ReadsLayerIn Strict text answer) ↔ (ReadsLayer text answer) }
+{}
+
+/// In each profile a text reads as one layer, just where reading it gives legal commands, those of the layer, or has one fault, which
+/// has the reason of a rule or is that of the text. A fault that it shows is shown by each longer text too, and is the one that both
+/// have.
+pub fn readings_in_profiles()
+    ensures unique { ReadingIsUniqueIn }
+    ensures each { EachTextAnswersIn }
+    ensures reads { LayersOfTextsIn }
+    ensures reasons { LayerReasonsIn }
+    ensures stays { (profile : Profile) (text more : List ℕ) (f : Fault) → ShowsLayerFaultIn profile text f → ShowsLayerFaultIn profile (text ++ more) f }
+    ensures read { (profile : Profile) (text : List ℕ) (f : Fault) → ShowsLayerFaultIn profile text f → ReadsLayerIn profile text (Err f) }
+    ensures joined { (profile : Profile) (text more : List ℕ) (f : Fault) → ShowsLayerFaultIn profile text f → ReadsLayerIn profile (text ++ more) (Err f) }
+{}
+
+/// A text that reads as a layer without a profile reads as the same one in the wide profile.
+pub fn wide_reads_more()
+    ensures { WideReadsMore }
 {}

@@ -26,11 +26,14 @@ mod state;
 mod tables;
 
 pub use drawn::Drawn;
+pub use drawn_apertures::DrawnAperture;
 pub use flash::{Flash, What, Why};
 pub use keep::Keep;
 pub use laws::{
-    equal_commands, flashed_pads, layer_reasons, layer_texts, shown_faults, unique_reading,
+    clear_polarity, copied_flashes, equal_commands, flashed_pads, layer_reasons, layer_texts,
+    readings_in_profiles, shown_faults, strict_profile, unique_reading, wide_reads_more,
 };
 pub use layer::{Layer, read_layer};
+pub use pencil::Pencil;
 pub use reader::LayerReader;
 pub use shared::SharedRounded;

@@ -24,7 +24,7 @@ use std::alloc::{AllocError, Global};
 
 /// The state that the commands so far make, as far as a draw needs it.
 #[derive(Drop)]
-pub(crate) struct Pencil {
+pub struct Pencil {
     alloc: Global,
     unit: Option<Unit>,
     decimals: u8,
@@ -43,7 +43,7 @@ pub(crate) struct Pencil {
 
 impl Pencil {
     /// A pencil that has met no command.
-    pub(crate) fn new(alloc: Global) -> Self
+    pub fn new(alloc: Global) -> Self
         ensures { draw_state result ≡ draw_state_after [] }
     {
         Pencil {
@@ -69,7 +69,7 @@ impl Pencil {
     /// # Errors
     ///
     /// An `AllocError` where there is no memory for an aperture or a macro.
-    pub(crate) fn take(&mut self, command: &Command) -> Result<(), AllocError>
+    pub fn take(&mut self, command: &Command) -> Result<(), AllocError>
         ensures { OnOk result (draw_state self.new ≡ after_command command.now (draw_state self.old)) }
     {
         match command {
@@ -90,6 +90,7 @@ impl Pencil {
             Command::Mirror { x, y } => self.mirrored = *x || *y,
             Command::Comment(_)
             | Command::Dark
+            | Command::Clear
             | Command::Repeat(_)
             | Command::RepeatEnd
             | Command::Attribute(_, _)
@@ -113,6 +114,41 @@ impl Pencil {
     {
         self.x = x.unwrap_or(self.x);
         self.y = y.unwrap_or(self.y);
+    }
+
+    /// Whether a region is open.
+    pub fn in_region(&self) -> bool
+        ensures { result ≡ (draw_state self.now).in_region }
+    {
+        self.in_region
+    }
+
+    /// How plots go from point to point.
+    pub fn mode(&self) -> Interpolation
+        ensures { result ≡ (draw_state self.now).mode }
+    {
+        self.mode
+    }
+
+    /// How the centre of an arc is found, where a command said so.
+    pub fn quadrant(&self) -> Option<QuadrantMode>
+        ensures { result ≡ (draw_state self.now).quadrant }
+    {
+        self.quadrant
+    }
+
+    /// The scale of flashes, in units of 10^-8.
+    pub fn scale(&self) -> Dec
+        ensures { result ≡ (draw_state self.now).scale }
+    {
+        self.scale
+    }
+
+    /// How far flashes are turned counterclockwise, in units of 10^-8 degrees.
+    pub fn turn(&self) -> Dec
+        ensures { result ≡ (draw_state self.now).turn }
+    {
+        self.turn
     }
 
     /// What a command draws, if it draws anything.
@@ -256,14 +292,14 @@ impl Pencil {
     }
 
     /// The current point, if it is near.
-    fn current_point(&self) -> Option<Point>
+    pub fn current_point(&self) -> Option<Point>
         ensures { result ≡ current_point (draw_state self.now) }
     {
         self.point(i128::from(self.x), i128::from(self.y))
     }
 
     /// The point of an operation, if it is near.
-    fn operation_point(&self, x: Option<i64>, y: Option<i64>) -> Option<Point>
+    pub fn operation_point(&self, x: Option<i64>, y: Option<i64>) -> Option<Point>
         ensures { result ≡ operation_point (draw_state self.now) x y }
     {
         self.point(
@@ -295,7 +331,7 @@ impl Pencil {
     }
 
     /// The unit that was named.
-    fn unit(&self) -> Unit
+    pub fn unit(&self) -> Unit
         ensures { result ≡ draw_unit (draw_state self.now) }
     {
         self.unit.unwrap_or(Unit::Millimetre)
@@ -330,7 +366,7 @@ impl Pencil {
     }
 
     /// The aperture of the number that was selected last.
-    fn aperture(&self) -> Option<&DrawnAperture>
+    pub fn aperture(&self) -> Option<&DrawnAperture>
         ensures { option_copied result ≡ selected_aperture (draw_state self.now) }
     {
         match self.selected {

@@ -4,12 +4,13 @@ ghost use Rattle.std.specs.Prelude.{◌≡◌, ◌++◌, ◌<◌, ◌≤◌, [],
 ghost use Rattle.grid_units.specs.Results.{Answers, IfFault};
 ghost use Rattle.layer_image.specs.declared.keep.Keep.{Keep as TheKeep};
 ghost use Rattle.pad_shapes.specs.declared.pad.Pad.{Pad as ThePad};
+ghost use Rattle.grid_units.specs.declared.profile.Profile.{Profile as TheProfile};
 
 use crate::keep::Keep;
 use crate::layer::Layer;
 use crate::scan::Scan;
 use gerber_text::{Command, Placed, WordReader};
-use grid_units::Fail;
+use grid_units::{Fail, Profile};
 use pad_shapes::Pad;
 use std::alloc::{AllocError, Global};
 
@@ -27,10 +28,10 @@ pub struct LayerReader {
 
 impl LayerReader {
     ghost use Rattle.gerber_text.specs.Reading.{Entries};
-    ghost use Rattle.gerber_text.specs.Holding.{StandsAfterDrop, held};
+    ghost use Rattle.gerber_text.specs.Holding.{StandsIn, held};
     ghost use Rattle.layer_image.specs.KeptFlashes.{keeps_commands};
-    ghost use Rattle.layer_image.specs.Layers.{ReadsKept, ReadsWithoutPads};
-    ghost use Rattle.layer_image.specs.Holding.{LayerStandsAfter, LayerStandsAfterPads, ShowsLayerFault, held_pads, layer_failure};
+    ghost use Rattle.layer_image.specs.Layers.{ReadsKept, ReadsKeptIn, ReadsWithoutPads, ReadsWithoutPadsIn};
+    ghost use Rattle.layer_image.specs.Holding.{LayerStandsAfter, LayerStandsAfterPads, LayerStandsIn, LayerStandsInAfterPads, ShowsLayerFault, ShowsLayerFaultIn, held_pads, layer_failure};
 
     /// A reader that has read nothing, and keeps all of the layer.
     pub fn new(alloc: Global) -> LayerReader
@@ -43,9 +44,17 @@ impl LayerReader {
     pub fn keeping(alloc: Global, keep: Keep) -> LayerReader
         ensures { LayerStandsAfter result keep [] }
     {
+        LayerReader::in_profile(alloc, keep, Profile::Strict)
+    }
+
+    /// A reader that has read nothing, and keeps these parts of the layer. It reads in this profile: the other readers are
+    /// strict.
+    pub fn in_profile(alloc: Global, keep: Keep, profile: Profile) -> LayerReader
+        ensures { LayerStandsIn result profile keep [] }
+    {
         LayerReader {
             alloc,
-            words: WordReader::new(alloc),
+            words: WordReader::in_profile(alloc, profile),
             scan: Scan::new(alloc, keep),
             keep,
             kept: Vec::new(alloc),
@@ -64,6 +73,8 @@ impl LayerReader {
         ensures err { (keep : TheKeep) (text : List ℕ) → LayerStandsAfter self.old keep text → IfErr result (IfFault (ShowsLayerFault (text ++ piece.now))) }
         ensures ok_after_pads { (keep : TheKeep) (taken : List ThePad) (text : List ℕ) → LayerStandsAfterPads self.old keep taken text → OnOk result (LayerStandsAfterPads self.new keep taken (text ++ piece.now)) }
         ensures err_after_pads { (keep : TheKeep) (taken : List ThePad) (text : List ℕ) → LayerStandsAfterPads self.old keep taken text → IfErr result (IfFault (ShowsLayerFault (text ++ piece.now))) }
+        ensures ok_in { (profile : TheProfile) (keep : TheKeep) (taken : List ThePad) (text : List ℕ) → LayerStandsInAfterPads self.old profile keep taken text → OnOk result (LayerStandsInAfterPads self.new profile keep taken (text ++ piece.now)) }
+        ensures err_in { (profile : TheProfile) (keep : TheKeep) (taken : List ThePad) (text : List ℕ) → LayerStandsInAfterPads self.old profile keep taken text → IfErr result (IfFault (ShowsLayerFaultIn profile (text ++ piece.now))) }
         ensures failed { IfSome (layer_failure self.old) (λ e. result ≡ Err e) }
         ensures fails { IfErr result (λ e. layer_failure self.new ≡ Some e) }
     {
@@ -79,8 +90,8 @@ impl LayerReader {
 
     /// Reads the next piece of the text.
     fn advance(&mut self, piece: &[u8]) -> Result<(), Fail>
-        ensures ok { (keep : TheKeep) (taken : List ThePad) (text : List ℕ) → LayerStandsAfterPads self.old keep taken text → OnOk result (LayerStandsAfterPads self.new keep taken (text ++ piece.now)) }
-        ensures err { (keep : TheKeep) (taken : List ThePad) (text : List ℕ) → LayerStandsAfterPads self.old keep taken text → IfErr result (IfFault (ShowsLayerFault (text ++ piece.now))) }
+        ensures ok { (profile : TheProfile) (keep : TheKeep) (taken : List ThePad) (text : List ℕ) → LayerStandsInAfterPads self.old profile keep taken text → OnOk result (LayerStandsInAfterPads self.new profile keep taken (text ++ piece.now)) }
+        ensures err { (profile : TheProfile) (keep : TheKeep) (taken : List ThePad) (text : List ℕ) → LayerStandsInAfterPads self.old profile keep taken text → IfErr result (IfFault (ShowsLayerFaultIn profile (text ++ piece.now))) }
     {
         if self.keep.commands() {
             self.take_whole(piece)
@@ -92,8 +103,8 @@ impl LayerReader {
     /// Takes the next piece of the text where commands are kept: the items that it ends are read, then their commands
     /// are judged.
     fn take_whole(&mut self, piece: &[u8]) -> Result<(), Fail>
-        ensures ok { (keep : TheKeep) (taken : List ThePad) (text : List ℕ) → LayerStandsAfterPads self.old keep taken text → OnOk result (LayerStandsAfterPads self.new keep taken (text ++ piece.now)) }
-        ensures err { (keep : TheKeep) (taken : List ThePad) (text : List ℕ) → LayerStandsAfterPads self.old keep taken text → IfErr result (IfFault (ShowsLayerFault (text ++ piece.now))) }
+        ensures ok { (profile : TheProfile) (keep : TheKeep) (taken : List ThePad) (text : List ℕ) → LayerStandsInAfterPads self.old profile keep taken text → OnOk result (LayerStandsInAfterPads self.new profile keep taken (text ++ piece.now)) }
+        ensures err { (profile : TheProfile) (keep : TheKeep) (taken : List ThePad) (text : List ℕ) → LayerStandsInAfterPads self.old profile keep taken text → IfErr result (IfFault (ShowsLayerFaultIn profile (text ++ piece.now))) }
     {
         let outcome = self.words.feed(piece);
         self.scan.scan(self.alloc, self.words.commands())?;
@@ -105,8 +116,8 @@ impl LayerReader {
     /// Takes the next piece of the text where commands are dropped, part by part.
     fn take_parts(&mut self, piece: &[u8]) -> Result<(), Fail>
         requires { keeps_commands self.old.keep ≡ false }
-        ensures ok { (keep : TheKeep) (taken : List ThePad) (text : List ℕ) → LayerStandsAfterPads self.old keep taken text → OnOk result (LayerStandsAfterPads self.new keep taken (text ++ piece.now)) }
-        ensures err { (keep : TheKeep) (taken : List ThePad) (text : List ℕ) → LayerStandsAfterPads self.old keep taken text → IfErr result (IfFault (ShowsLayerFault (text ++ piece.now))) }
+        ensures ok { (profile : TheProfile) (keep : TheKeep) (taken : List ThePad) (text : List ℕ) → LayerStandsInAfterPads self.old profile keep taken text → OnOk result (LayerStandsInAfterPads self.new profile keep taken (text ++ piece.now)) }
+        ensures err { (profile : TheProfile) (keep : TheKeep) (taken : List ThePad) (text : List ℕ) → LayerStandsInAfterPads self.old profile keep taken text → IfErr result (IfFault (ShowsLayerFaultIn profile (text ++ piece.now))) }
     {
         let mut taken = 0;
         while taken < piece.len() {
@@ -122,8 +133,8 @@ impl LayerReader {
         requires dropped { keeps_commands self.old.keep ≡ false }
         ensures taken { IfOk result (λ n. (0 < n) × (n ≤ length bytes.now)) }
         ensures keep { self.new.keep ≡ self.old.keep }
-        ensures ok { (keep : TheKeep) (taken : List ThePad) (text : List ℕ) → LayerStandsAfterPads self.old keep taken text → IfOk result (λ n. LayerStandsAfterPads self.new keep taken (text ++ take n bytes.now)) }
-        ensures err { (keep : TheKeep) (taken : List ThePad) (text : List ℕ) → LayerStandsAfterPads self.old keep taken text → IfErr result (IfFault (ShowsLayerFault (text ++ bytes.now))) }
+        ensures ok { (profile : TheProfile) (keep : TheKeep) (taken : List ThePad) (text : List ℕ) → LayerStandsInAfterPads self.old profile keep taken text → IfOk result (λ n. LayerStandsInAfterPads self.new profile keep taken (text ++ take n bytes.now)) }
+        ensures err { (profile : TheProfile) (keep : TheKeep) (taken : List ThePad) (text : List ℕ) → LayerStandsInAfterPads self.old profile keep taken text → IfErr result (IfFault (ShowsLayerFaultIn profile (text ++ bytes.now))) }
     {
         match self.words.pass_operation(bytes) {
             Some(passed) => {
@@ -144,8 +155,8 @@ impl LayerReader {
         requires dropped { keeps_commands self.old.keep ≡ false }
         ensures taken { IfOk result (λ n. (0 < n) × (n ≤ length bytes.now)) }
         ensures keep { self.new.keep ≡ self.old.keep }
-        ensures ok { (keep : TheKeep) (taken : List ThePad) (text : List ℕ) → LayerStandsAfterPads self.old keep taken text → IfOk result (λ n. LayerStandsAfterPads self.new keep taken (text ++ take n bytes.now)) }
-        ensures err { (keep : TheKeep) (taken : List ThePad) (text : List ℕ) → LayerStandsAfterPads self.old keep taken text → IfErr result (IfFault (ShowsLayerFault (text ++ bytes.now))) }
+        ensures ok { (profile : TheProfile) (keep : TheKeep) (taken : List ThePad) (text : List ℕ) → LayerStandsInAfterPads self.old profile keep taken text → IfOk result (λ n. LayerStandsInAfterPads self.new profile keep taken (text ++ take n bytes.now)) }
+        ensures err { (profile : TheProfile) (keep : TheKeep) (taken : List ThePad) (text : List ℕ) → LayerStandsInAfterPads self.old profile keep taken text → IfErr result (IfFault (ShowsLayerFaultIn profile (text ++ bytes.now))) }
     {
         if self.scan.state.state.in_region {
             return self.take_part(bytes);
@@ -168,8 +179,8 @@ impl LayerReader {
         requires { 0 < length bytes.now }
         ensures taken { IfOk result (λ n. (0 < n) × (n ≤ length bytes.now)) }
         ensures keep { self.new.keep ≡ self.old.keep }
-        ensures ok { (keep : TheKeep) (taken : List ThePad) (text : List ℕ) → LayerStandsAfterPads self.old keep taken text → IfOk result (λ n. LayerStandsAfterPads self.new keep taken (text ++ take n bytes.now)) }
-        ensures err { (keep : TheKeep) (taken : List ThePad) (text : List ℕ) → LayerStandsAfterPads self.old keep taken text → IfErr result (IfFault (ShowsLayerFault (text ++ bytes.now))) }
+        ensures ok { (profile : TheProfile) (keep : TheKeep) (taken : List ThePad) (text : List ℕ) → LayerStandsInAfterPads self.old profile keep taken text → IfOk result (λ n. LayerStandsInAfterPads self.new profile keep taken (text ++ take n bytes.now)) }
+        ensures err { (profile : TheProfile) (keep : TheKeep) (taken : List ThePad) (text : List ℕ) → LayerStandsInAfterPads self.old profile keep taken text → IfErr result (IfFault (ShowsLayerFaultIn profile (text ++ bytes.now))) }
     {
         let outcome = self.words.feed_part(bytes);
         self.scan.scan(self.alloc, self.words.commands())?;
@@ -180,7 +191,7 @@ impl LayerReader {
 
     /// Holds the commands that the word reader holds, or drops them. The first that are kept take no memory anew.
     fn keep_commands(&mut self) -> Result<(), AllocError>
-        ensures words { (gone : Entries) (text : List ℕ) → StandsAfterDrop self.old.words gone text → StandsAfterDrop self.new.words (gone ++ held self.old.words) text }
+        ensures words { (profile : TheProfile) (gone : Entries) (text : List ℕ) → StandsIn self.old.words profile gone text → StandsIn self.new.words profile (gone ++ held self.old.words) text }
         ensures none { held self.new.words ≡ [] }
         ensures scan { self.new.scan ≡ self.old.scan }
         ensures kept { OnOk result (self.new.kept.items ≡ self.old.kept.items ++ (if keeps_commands self.old.keep then held self.old.words else [])) }
@@ -212,6 +223,7 @@ impl LayerReader {
     pub fn clear_pads(&mut self)
         ensures none { held_pads self.new ≡ [] }
         ensures gone { (keep : TheKeep) (taken : List ThePad) (text : List ℕ) → LayerStandsAfterPads self.old keep taken text → LayerStandsAfterPads self.new keep (taken ++ held_pads self.old) text }
+        ensures gone_in { (profile : TheProfile) (keep : TheKeep) (taken : List ThePad) (text : List ℕ) → LayerStandsInAfterPads self.old profile keep taken text → LayerStandsInAfterPads self.new profile keep (taken ++ held_pads self.old) text }
         ensures failed { layer_failure self.new ≡ layer_failure self.old }
     {
         self.scan.clear_pads();
@@ -225,6 +237,8 @@ impl LayerReader {
     pub fn finish(self) -> Result<Layer, Fail>
         ensures exact { (keep : TheKeep) (text : List ℕ) → LayerStandsAfter self keep text → Answers (λ layer. layer) (ReadsKept keep text) result }
         ensures rest { (keep : TheKeep) (taken : List ThePad) (text : List ℕ) → LayerStandsAfterPads self keep taken text → Answers (λ layer. layer) (ReadsWithoutPads keep taken text) result }
+        ensures exact_in { (profile : TheProfile) (keep : TheKeep) (text : List ℕ) → LayerStandsIn self profile keep text → Answers (λ layer. layer) (ReadsKeptIn profile keep text) result }
+        ensures rest_in { (profile : TheProfile) (keep : TheKeep) (taken : List ThePad) (text : List ℕ) → LayerStandsInAfterPads self profile keep taken text → Answers (λ layer. layer) (ReadsWithoutPadsIn profile keep taken text) result }
         ensures failed { IfSome (layer_failure self) (λ e. result ≡ Err e) }
     {
         let LayerReader {

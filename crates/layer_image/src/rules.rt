@@ -52,6 +52,7 @@ impl State {
             | Command::Quadrant(_)
             | Command::RegionStart
             | Command::Dark
+            | Command::Clear
             | Command::Mirror { .. }
             | Command::Turn(_)
             | Command::RepeatEnd

@@ -27,7 +27,7 @@ impl SharedRounded {
     /// # Errors
     ///
     /// An `AllocError` where there is no memory for it.
-    pub(crate) fn new(alloc: Global, shape: Rounded) -> Result<Self, AllocError>
+    pub fn new(alloc: Global, shape: Rounded) -> Result<Self, AllocError>
         ensures { IfOk result (λ shared. shared ≡ shape) }
     {
         Ok(SharedRounded {
@@ -47,7 +47,7 @@ impl SharedRounded {
     /// # Errors
     ///
     /// An `AllocError` where it is shared too often.
-    pub(crate) fn share(&self) -> Result<Self, AllocError>
+    pub fn share(&self) -> Result<Self, AllocError>
         ensures { IfOk result (λ shared. shared ≡ self.now) }
     {
         Ok(SharedRounded {

@@ -99,6 +99,7 @@ impl State {
             | Command::Mode(_)
             | Command::Quadrant(_)
             | Command::Dark
+            | Command::Clear
             | Command::Mirror { .. }
             | Command::Attribute(_, _)
             | Command::Remove(_)

@@ -32,14 +32,14 @@ pub record IsAtLeast (o : Option ℕ) (d : ℕ) : Type 0 where
   pub found : o ≡ Some size
   pub enough : d ≤ size
 
-least_parts : (a b : Option ℕ) (d : ℕ) → least a b ≡ Some d → IsAtLeast a d × IsAtLeast b d
+pub least_parts : (a b : Option ℕ) (d : ℕ) → least a b ≡ Some d → IsAtLeast a d × IsAtLeast b d
 least_parts None b d h = none_some d h
 least_parts (Some a) None d h = none_some d h
 least_parts (Some a) (Some b) d h =
     let e : min a b ≡ d = same_Some (min a b) d h in
     (record { size = a; found = refl; enough = omega (arith, e) }, record { size = b; found = refl; enough = omega (arith, e) })
 
-weaker : (o : Option ℕ) (d e : ℕ) → e ≤ d → IsAtLeast o d → IsAtLeast o e
+pub weaker : (o : Option ℕ) (d e : ℕ) → e ≤ d → IsAtLeast o d → IsAtLeast o e
 weaker o d e less h = record { size = h.size; found = h.found; enough = le_trans less h.enough }
 
 fold_least : {X : Type 0} (f : X → Option ℕ) (start : Option ℕ) (xs : List X) (d : ℕ) → fold (λ found x. least found (f x)) start xs ≡ Some d → IsAtLeast start d × All (λ x. IsAtLeast (f x) d) xs
@@ -106,7 +106,7 @@ circle_at v p size d (primitive.CentreLine c m n) h less near = none_some d h
 circle_at v p size d (primitive.Outline r) h less near = none_some d h
 
 -- p lies beside an edge, no further from its line than half of a lesser size
-in_line : (e : Edge) (p : GridPoint) (size w : ℕ) → size ≤ w → is_beside e (size / 2) p ≡ true → IsInLine e w p
+pub in_line : (e : Edge) (p : GridPoint) (size w : ℕ) → size ≤ w → is_beside e (size / 2) p ≡ true → IsInLine e w p
 in_line e p size w less h =
     let parts = and_parts (int_lt (pos 0) (along e p) && int_lt (along e p) (pos (square_edge e))) (nat_le (square (unsigned_abs (cross e p))) (square (size / 2) * square_edge e)) h in
     let ends = and_parts (int_lt (pos 0) (along e p)) (int_lt (along e p) (pos (square_edge e))) parts.0 in
@@ -155,7 +155,7 @@ cross_back_z ax ay bx by x y =
     (is_n 0) (omega arith)
 
 -- a line and its way back have the same points
-line_back : (a b : GridPoint) (w : ℕ) (p : GridPoint) → IsInLine (edge a b) w p → IsInLine (edge b a) w p
+pub line_back : (a b : GridPoint) (w : ℕ) (p : GridPoint) → IsInLine (edge a b) w p → IsInLine (edge b a) w p
 line_back a b w p h =
     let s = square_distance_comm b a in
     let whole : along (edge a b) p +ℤ along (edge b a) p ≡ pos (square_edge (edge a b)) = along_back_z a.x a.y b.x b.y p.x p.y ∙ length_is (b.x -ℤ a.x) (b.y -ℤ a.y) in

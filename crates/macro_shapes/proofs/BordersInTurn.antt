@@ -5,8 +5,8 @@ use Rattle.std.proofs.lemmas.List.Sums.{fold-append}
 use Rattle.std.proofs.lemmas.List.Folds.{fold-map}
 use Rattle.grid_units.specs.Points.{GridPoint}
 use Rattle.pad_shapes.specs.Rounded.{GridRounded, Edge, corners, edges}
-use Rattle.macro_shapes.specs.Shapes.{diameter_at, width_along, disc_at, line_along, least_of, border, other_end, rounded_or_along, line_shape}
-use Rattle.macro_shapes.specs.Inner.Borders.{greatest, least, disc_in_turn, line_in_turn, discs_in_turn, border_in_turn}
+use Rattle.macro_shapes.specs.Shapes.{diameter_at, width_along, disc_at, line_along, least_of, border, cross_border, other_end, rounded_or_along, line_shape}
+use Rattle.macro_shapes.specs.Inner.Borders.{greatest, least, disc_in_turn, line_in_turn, discs_in_turn, border_in_turn, cross_border_in_turn}
 use Rattle.macro_shapes.specs.declared.primitive.Primitive.{Primitive}
 
 -- ---- the greatest
@@ -64,6 +64,13 @@ border_is qs r = by (eqb (length r.others) 0)
     by : (t : Bool) → cond t (discs_in_turn qs r) (fold (λ found e. least found (line_along qs e)) (discs_in_turn qs r) (edges r)) ≡ least_of (map (disc_at qs) (corners r) ++ map (line_along qs) (cond t [] (edges r)))
     by true = all []
     by false = all (edges r)
+
+pub cross_border_is : (qs : List Primitive) (common : GridRounded) (widths heights : ℕ) → cross_border_in_turn qs common widths heights ≡ cross_border qs common widths heights
+unfolding cross_border
+cross_border_is qs common widths heights =
+    ap (λ a. least (least a (Some widths)) (Some heights)) (sym (fold-map least (disc_at qs) (disc_at qs common.first) common.others))
+    ∙ (sym (fold-append least (disc_at qs common.first) (map (disc_at qs) common.others) (Some widths ∷ Some heights ∷ []))
+    ∙ least_from (disc_at qs common.first) (map (disc_at qs) common.others ++ Some widths ∷ Some heights ∷ []))
 
 -- the shape of a line by its border
 pub line_shape_is : (qs : List Primitive) (a b : GridPoint) (width : ℕ) (others : List GridPoint) (size : Option ℕ) → others ≡ other_end a b

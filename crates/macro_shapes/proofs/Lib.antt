@@ -7,6 +7,8 @@ pub mod SplitLemmas
 pub mod GridLemmas
 pub mod BordersInTurn
 pub mod BorderLemmas
+pub mod SidesLemmas
+pub mod CrossLemmas
 pub mod ShapeLemmas
 pub mod RectangleLemmas
 pub mod OutlineLemmas

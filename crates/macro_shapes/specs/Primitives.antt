@@ -196,6 +196,11 @@ either_way corners = if nat_le (length corners) max_corners && are_different cor
 abbrev pub outline_of : List GridPoint → Option Primitive
 outline_of run = if is_closed run then option_map primitive.Outline (either_way (stops run)) else None
 
+-- the polygon that a closed run goes round once and counterclockwise, where it is convex and has at least three corners
+abbrev pub polygon_round : List GridPoint → Option GridRounded
+polygon_round run =
+    if is_closed run && (nat_le 3 (length (stops run)) && (nat_le (length (stops run)) max_corners && are_different (stops run))) then polygon_of (stops run) else None
+
 -- an outline with these values, whose count is that of its points and whose exposure is on
 abbrev pub outline_at : Units → ℤ → ℤ → List ℤ → ℤ → Option Primitive
 outline_at unit exposure count coordinates rotation =

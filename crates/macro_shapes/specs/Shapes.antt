@@ -1,7 +1,8 @@
 -- The shape of a macro: a rounded polygon that is inside of its primitives.
-use Rattle.std.specs.Prelude.{◌≡◌, ℕ, ℤ, pos, ◌+ℤ◌, ◌-ℤ◌, ◌/◌, max, min, ◌&&◌, ◌||◌, ◌==◌, not, nat_le, nat_lt, List, [], ◌∷◌, ◌++◌, length, map, if◌then◌else◌, Option, None, Some, is_none, option_and_then}
+use Rattle.std.specs.Prelude.{◌≡◌, ℕ, ℤ, pos, ◌-◌, ◌+ℤ◌, ◌-ℤ◌, ◌/◌, max, min, Bool, ◌&&◌, ◌||◌, ◌==◌, not, nat_le, nat_lt, List, [], ◌∷◌, ◌++◌, length, map, if◌then◌else◌, Option, None, Some, is_none, option_and_then}
 use Rattle.std.specs.Int.{int_min, int_max}
 use Rattle.std.specs.List.{filter_map, list_any, reduce, Contains}
+use Rattle.std.specs.Option.{option_or}
 use Rattle.std.specs.Ordering.{int_eq}
 use Rattle.grid_units.specs.Points.{GridPoint, max_coordinate}
 use Rattle.pad_shapes.specs.Rounded.{GridRounded, Edge, corners, edges, IsInRounded}
@@ -89,11 +90,54 @@ or_0 (Some n) = n
 abbrev pub with_border : GridRounded → ℕ → Option GridRounded
 with_border r size = if nat_lt 1 (length r.others) || nat_lt 0 size then rounded_of r.first r.others size else None
 
+-- ---- crosses
+
+-- two rectangles about one centre cross: one of them is no wider, and the other no taller
+abbrev pub do_cross : ℕ → ℕ → ℕ → ℕ → Bool
+do_cross width height other_width other_height = (nat_le other_width width && nat_le height other_height) || (nat_le width other_width && nat_le other_height height)
+
+-- the sides of a primitive that is a rectangle about this centre and crosses the one with these sides
+abbrev pub crossing : GridPoint → ℕ → ℕ → Primitive → Option (ℕ × ℕ)
+crossing c w h (primitive.Circle centre diameter) = None
+crossing c w h (primitive.VectorLine from to width) = None
+crossing c w h (primitive.CentreLine centre width height) = if is_same centre c && do_cross w h width height then Some (width, height) else None
+crossing c w h (primitive.Outline corners) = None
+
+-- the sides of the second primitive, where that is a rectangle which crosses the first one
+abbrev pub second_crossing : GridPoint → ℕ → ℕ → List Primitive → Option (ℕ × ℕ)
+second_crossing c w h [] = None
+second_crossing c w h (q ∷ []) = None
+second_crossing c w h (q ∷ second ∷ qs) = crossing c w h second
+
+-- the difference of two sizes
+abbrev pub difference : ℕ → ℕ → ℕ
+difference a b = max a b - min a b
+
+-- the least of the circles at the corners of the part that two rectangles have in common, the difference of their widths and that of
+-- their heights, where no circle lacks
+unfoldable pub cross_border : List Primitive → GridRounded → ℕ → ℕ → Option ℕ
+cross_border qs common widths heights = least_of (map (disc_at qs) (corners common) ++ Some widths ∷ Some heights ∷ [])
+
+-- the common part with a border above 0
+abbrev pub with_arms : GridRounded → ℕ → Option GridRounded
+with_arms common size = if nat_lt 0 size then rounded_of common.first common.others size else None
+
+-- the shape of two rectangles about a centre that cross: their common part with its border, where that is above 0
+abbrev pub cross_shape : List Primitive → GridPoint → ℕ → ℕ → ℕ × ℕ → Option GridRounded
+cross_shape qs c width height other =
+    option_and_then (λ common. with_arms common (or_0 (cross_border qs common (difference width other.0) (difference height other.1)))) (rectangle_about c (min width other.0) (min height other.1))
+
+-- the shape of a centre line: with the one that crosses it, and else the rectangle alone
+abbrev pub centre_shape : List Primitive → GridPoint → ℕ → ℕ → Option GridRounded
+centre_shape qs c width height = option_or (option_and_then (cross_shape qs c width height) (second_crossing c width height qs)) (rectangle_about c width height)
+
+-- ---- shapes by the first primitive
+
 -- the shape of these primitives by this one of them
 abbrev pub shape_from : List Primitive → Primitive → Option GridRounded
 shape_from qs (primitive.Circle centre diameter) = rounded_of centre [] diameter
 shape_from qs (primitive.VectorLine from to width) = line_shape qs from to width
-shape_from qs (primitive.CentreLine centre width height) = rectangle_about centre width height
+shape_from qs (primitive.CentreLine centre width height) = centre_shape qs centre width height
 shape_from qs (primitive.Outline corners) = with_border corners (or_0 (border qs corners))
 
 -- the shape of a macro with these primitives, by its first one; the others, all dark, only add to it

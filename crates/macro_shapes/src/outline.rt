@@ -1,7 +1,7 @@
 //! Outlines of a macro: the polygons that closed runs of points go round.
 
 ghost use Rattle.std.specs.Prelude.{◌≡◌, ◌<◌, ◌∷◌, IfOk, option_map, reverse, length, zip};
-ghost use Rattle.macro_shapes.specs.Primitives.{is_same, is_count, run_of, is_closed, point_at, moved, moves, stops, are_different, rounded_of, polygon_of, either_way, outline_of, outline_at, outline};
+ghost use Rattle.macro_shapes.specs.Primitives.{is_same, is_count, run_of, is_closed, point_at, moved, moves, stops, are_different, rounded_of, polygon_of, either_way, outline_of, outline_at, outline, polygon_round};
 ghost use Rattle.std.specs.List.{filter_map, list_any};
 
 use crate::primitive::{Primitive, dark_turns, placed};
@@ -157,6 +157,25 @@ fn either_way(alloc: Global, corners: &[Point]) -> Result<Option<Rounded>, Alloc
             polygon_of(alloc, &back)
         }
     }
+}
+
+/// The polygon that a closed run of points, the last one being the first again, goes round once and counterclockwise: it is
+/// convex and has 3 to 256 corners. `None` of any other run.
+///
+/// # Errors
+///
+/// An `AllocError` where there is no memory for it.
+pub fn polygon_round(alloc: Global, run: &[Point]) -> Result<Option<Rounded>, AllocError>
+    ensures { IfOk result (λ answer. answer ≡ polygon_round run.now) }
+{
+    if !is_closed(run) {
+        return Ok(None);
+    }
+    let corners = stops(alloc, run)?;
+    if corners.len() < 3 || MAX_CORNERS < corners.len() || !are_different(&corners) {
+        return Ok(None);
+    }
+    polygon_of(alloc, &corners)
 }
 
 /// The outline of a run of points, where it is judged.

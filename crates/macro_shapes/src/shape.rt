@@ -1,7 +1,8 @@
 //! The shape of a macro: a rounded polygon that is inside of its primitives.
 
-ghost use Rattle.std.specs.Prelude.{◌≡◌, IfOk};
-ghost use Rattle.macro_shapes.specs.Shapes.{diameter_at, width_along, disc_at, line_along, border, rectangle_of, rectangle_about, rectangle_along, other_end, rounded_or_along, line_shape, or_0, with_border, shape_from, shape_of};
+ghost use Rattle.std.specs.Prelude.{◌≡◌, IfOk, option_and_then};
+ghost use Rattle.macro_shapes.specs.Primitives.{rounded_of};
+ghost use Rattle.macro_shapes.specs.Shapes.{diameter_at, width_along, disc_at, line_along, border, rectangle_of, rectangle_about, rectangle_along, other_end, rounded_or_along, line_shape, or_0, with_border, crossing, second_crossing, difference, cross_border, with_arms, cross_shape, centre_shape, do_cross, shape_from, shape_of};
 ghost use Rattle.macro_shapes.specs.Inner.Borders.{greatest, least, disc_in_turn, line_in_turn, discs_in_turn, border_in_turn};
 
 use crate::outline::{is_same, rounded_of};
@@ -231,6 +232,14 @@ fn or_0(size: Option<u64>) -> u64
     }
 }
 
+/// The polygon of these corners with half of a size for its radius, where there is one.
+fn rounded_by(alloc: Global, corners: &Rounded, size: u64) -> Result<Option<Rounded>, AllocError>
+    ensures { IfOk result (λ answer. answer ≡ rounded_of corners.now.first corners.now.others size) }
+{
+    let others = corners.others().iter().copied().collect(alloc)?;
+    Ok(rounded_of(corners.first(), others, size))
+}
+
 /// The outline with a border of this size.
 fn with_border(alloc: Global, corners: &Rounded, size: u64) -> Result<Option<Rounded>, AllocError>
     ensures { IfOk result (λ answer. answer ≡ with_border corners.now size) }
@@ -239,8 +248,7 @@ fn with_border(alloc: Global, corners: &Rounded, size: u64) -> Result<Option<Rou
     if others.len() <= 1 && size == 0 {
         return Ok(None);
     }
-    let others = others.iter().copied().collect(alloc)?;
-    Ok(rounded_of(corners.first(), others, size))
+    rounded_by(alloc, corners, size)
 }
 
 /// The shape of an outline.
@@ -254,6 +262,140 @@ fn outline_shape(
 {
     let size = or_0(border(primitives, corners.first(), corners.others()));
     with_border(alloc, corners, size)
+}
+
+/// Whether two rectangles about one centre cross: one of them is no wider, and the other no taller.
+fn do_cross(width: u64, height: u64, other_width: u64, other_height: u64) -> bool
+    ensures { result ≡ do_cross width height other_width other_height }
+{
+    (other_width <= width && height <= other_height)
+        || (width <= other_width && other_height <= height)
+}
+
+/// The sides of a primitive that is a rectangle about this centre and crosses the one with these sides.
+fn crossing(centre: Point, width: u64, height: u64, primitive: &Primitive) -> Option<(u64, u64)>
+    ensures { result ≡ crossing centre width height primitive.now }
+{
+    match primitive {
+        Primitive::CentreLine {
+            centre: other,
+            width: other_width,
+            height: other_height,
+        } => {
+            if is_same(*other, centre) && do_cross(width, height, *other_width, *other_height) {
+                Some((*other_width, *other_height))
+            } else {
+                None
+            }
+        }
+        Primitive::Circle { .. } => None,
+        Primitive::VectorLine { .. } => None,
+        Primitive::Outline(_) => None,
+    }
+}
+
+/// The sides of the second primitive, where that is a rectangle which crosses the first one.
+fn second_crossing(
+    centre: Point,
+    width: u64,
+    height: u64,
+    primitives: &[Primitive],
+) -> Option<(u64, u64)>
+    ensures { result ≡ second_crossing centre width height primitives.now }
+{
+    match primitives {
+        [] => None,
+        [_] => None,
+        [_, second, ..] => crossing(centre, width, height, second),
+    }
+}
+
+/// The difference of two sizes.
+fn difference(a: u64, b: u64) -> u64
+    ensures { result ≡ difference a b }
+{
+    a.max(b) - a.min(b)
+}
+
+/// The least of the circles at the corners of the common part of two rectangles and of the differences of their widths and
+/// heights, where no circle lacks.
+#[tactic(auto, using(crate::proofs::BordersInTurn::cross_border_is))]
+fn cross_border(
+    primitives: &[Primitive],
+    common: &Rounded,
+    widths: u64,
+    heights: u64,
+) -> Option<u64>
+    ensures { result ≡ cross_border primitives.now common.now widths heights }
+{
+    let discs = discs_at(primitives, common.first(), common.others());
+    least(least(discs, Some(widths)), Some(heights))
+}
+
+/// The common part of two rectangles with a border of this size, which is above 0.
+fn with_arms(alloc: Global, common: &Rounded, size: u64) -> Result<Option<Rounded>, AllocError>
+    ensures { IfOk result (λ answer. answer ≡ with_arms common.now size) }
+{
+    if 0 < size {
+        rounded_by(alloc, common, size)
+    } else {
+        Ok(None)
+    }
+}
+
+/// The shape of two rectangles about a centre that cross.
+fn cross_shape(
+    alloc: Global,
+    primitives: &[Primitive],
+    centre: Point,
+    width: u64,
+    height: u64,
+    other: (u64, u64),
+) -> Result<Option<Rounded>, AllocError>
+    ensures { IfOk result (λ answer. answer ≡ cross_shape primitives.now centre width height other) }
+{
+    let (other_width, other_height) = other;
+    let narrow = width.min(other_width);
+    let low = height.min(other_height);
+    let Some(common) = rectangle_about(alloc, centre, narrow, low)? else {
+        return Ok(None);
+    };
+    let widths = difference(width, other_width);
+    let heights = difference(height, other_height);
+    let size = or_0(cross_border(primitives, &common, widths, heights));
+    with_arms(alloc, &common, size)
+}
+
+/// The shape of a centre line and the one that crosses it, where one does.
+fn crossed_shape(
+    alloc: Global,
+    primitives: &[Primitive],
+    centre: Point,
+    width: u64,
+    height: u64,
+) -> Result<Option<Rounded>, AllocError>
+    ensures { IfOk result (λ answer. answer ≡ option_and_then (cross_shape primitives.now centre width height) (second_crossing centre width height primitives.now)) }
+{
+    match second_crossing(centre, width, height, primitives) {
+        Some(other) => cross_shape(alloc, primitives, centre, width, height, other),
+        None => Ok(None),
+    }
+}
+
+/// The shape of a centre line: with the one that crosses it, and else the rectangle alone.
+fn centre_shape(
+    alloc: Global,
+    primitives: &[Primitive],
+    centre: Point,
+    width: u64,
+    height: u64,
+) -> Result<Option<Rounded>, AllocError>
+    ensures { IfOk result (λ answer. answer ≡ centre_shape primitives.now centre width height) }
+{
+    match crossed_shape(alloc, primitives, centre, width, height)? {
+        Some(shape) => Ok(Some(shape)),
+        None => rectangle_about(alloc, centre, width, height),
+    }
 }
 
 /// The shape of a macro, by its first primitive.
@@ -275,7 +417,7 @@ fn shape_from(
             centre,
             width,
             height,
-        } => rectangle_about(alloc, *centre, *width, *height),
+        } => centre_shape(alloc, primitives, *centre, *width, *height),
         Primitive::Outline(corners) => outline_shape(alloc, primitives, corners),
     }
 }
@@ -283,7 +425,8 @@ fn shape_from(
 /// The shape of a macro with these primitives, by its first one, or `None` where it is not judged. A circle is a disc, a vector
 /// line with circles at both ends a line with round ends, a vector line along an axis or a centre line a rectangle, and an
 /// outline a convex polygon: rounded by half of the least of the circles at its corners and of the vector lines along its edges,
-/// where none of them lacks.
+/// where none of them lacks. A centre line that a second one about the same centre crosses is their common part, rounded by half
+/// of the least of the circles at its corners, the difference of the widths and that of the heights, where this is above 0.
 ///
 /// # Errors
 ///

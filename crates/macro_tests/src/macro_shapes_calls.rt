@@ -79,9 +79,95 @@ const HOUSE: &[&str] = &[
 /// A rectangle that is turned by a parameter.
 const TURNED: &[&str] = &["21,1,$1,$2,0,0,$3"];
 
+/// Two rectangles that cross, and circles of 0.4 mm at the corners of their common part.
+const CROSS: &[&str] = &[
+    "21,1,1.0,0.6,0,0,0",
+    "21,1,0.6,1.0,0,0,0",
+    "1,1,0.4,-0.3,-0.3",
+    "1,1,0.4,0.3,-0.3",
+    "1,1,0.4,0.3,0.3",
+    "1,1,0.4,-0.3,0.3",
+];
+
+/// That cross with the tall rectangle first.
+const TALL_FIRST: &[&str] = &[
+    "21,1,0.6,1.0,0,0,0",
+    "21,1,1.0,0.6,0,0,0",
+    "1,1,0.4,-0.3,-0.3",
+    "1,1,0.4,0.3,-0.3",
+    "1,1,0.4,0.3,0.3",
+    "1,1,0.4,-0.3,0.3",
+];
+
+/// That cross with one circle beside its corner.
+const CIRCLE_BESIDE: &[&str] = &[
+    "21,1,1.0,0.6,0,0,0",
+    "21,1,0.6,1.0,0,0,0",
+    "1,1,0.4,-0.3,-0.3",
+    "1,1,0.4,0.3,-0.3",
+    "1,1,0.4,0.3,0.31",
+    "1,1,0.4,-0.3,0.3",
+];
+
+/// A cross whose least circle is 0.2 mm, one whose heights differ by 0.2 mm, and one whose widths do.
+const SMALL_CIRCLE: &[&str] = &[
+    "21,1,1.0,0.6,0,0,0",
+    "21,1,0.6,1.0,0,0,0",
+    "1,1,0.4,-0.3,-0.3",
+    "1,1,0.4,0.3,-0.3",
+    "1,1,0.2,0.3,0.3",
+    "1,1,0.4,-0.3,0.3",
+];
+
+const SHORT_ARM: &[&str] = &[
+    "21,1,1.0,0.6,0,0,0",
+    "21,1,0.6,0.8,0,0,0",
+    "1,1,0.4,-0.3,-0.3",
+    "1,1,0.4,0.3,-0.3",
+    "1,1,0.4,0.3,0.3",
+    "1,1,0.4,-0.3,0.3",
+];
+
+const NARROW_ARM: &[&str] = &[
+    "21,1,0.8,0.6,0,0,0",
+    "21,1,0.6,1.0,0,0,0",
+    "1,1,0.4,-0.3,-0.3",
+    "1,1,0.4,0.3,-0.3",
+    "1,1,0.4,0.3,0.3",
+    "1,1,0.4,-0.3,0.3",
+];
+
+/// Two rectangles of equal height, one about another centre, and one that holds the other, with circles at the corners.
+const EQUAL_HEIGHTS: &[&str] = &[
+    "21,1,1.0,0.6,0,0,0",
+    "21,1,0.6,0.6,0,0,0",
+    "1,1,0.4,-0.3,-0.3",
+    "1,1,0.4,0.3,-0.3",
+    "1,1,0.4,0.3,0.3",
+    "1,1,0.4,-0.3,0.3",
+];
+
+const OTHER_CENTRE: &[&str] = &[
+    "21,1,1.0,0.6,0,0,0",
+    "21,1,0.6,1.0,0.01,0,0",
+    "1,1,0.4,-0.3,-0.3",
+    "1,1,0.4,0.3,-0.3",
+    "1,1,0.4,0.3,0.3",
+    "1,1,0.4,-0.3,0.3",
+];
+
+const HELD: &[&str] = &[
+    "21,1,1.0,1.0,0,0,0",
+    "21,1,0.6,0.6,0,0,0",
+    "1,1,0.4,-0.3,-0.3",
+    "1,1,0.4,0.3,-0.3",
+    "1,1,0.4,0.3,0.3",
+    "1,1,0.4,-0.3,0.3",
+];
+
 /// Pieces and the parameters of an aperture, in millimetres, a place in nm, a reach in pm, and whether a hole there is covered;
 /// `None` where the macro is not judged.
-const HOLES: [(&[&str], Option<&str>, i64, i64, i64, Option<bool>); 51] = [
+const HOLES: [(&[&str], Option<&str>, i64, i64, i64, Option<bool>); 74] = [
     (ROUNDED, SQUARE, 175_000, 175_000, 325_000_000, Some(true)),
     (ROUNDED, SQUARE, 175_001, 0, 325_000_000, Some(false)),
     (ROUNDED, SQUARE, 265_000, 270_000, 225_000_000, Some(true)),
@@ -244,6 +330,29 @@ const HOLES: [(&[&str], Option<&str>, i64, i64, i64, Option<bool>); 51] = [
     (TURNED, Some("0X0.65X0.0"), 0, 0, 325_000_000, None),
     (&["1,1,99999.0,0,0"], None, 0, 0, 325_000_000, None),
     (&["1,1,10000.0,0,0"], None, 0, 0, 325_000_000, Some(true)),
+    (CROSS, None, 0, 0, 500_000_000, Some(true)),
+    (CROSS, None, 0, 0, 500_001_000, Some(false)),
+    (CROSS, None, 300_000, 300_000, 200_000_000, Some(true)),
+    (CROSS, None, 300_000, 300_000, 200_001_000, Some(false)),
+    (TALL_FIRST, None, 0, 0, 500_000_000, Some(true)),
+    (TALL_FIRST, None, 0, 0, 500_001_000, Some(false)),
+    (CIRCLE_BESIDE, None, 0, 0, 300_000_000, Some(true)),
+    (CIRCLE_BESIDE, None, 0, 0, 300_001_000, Some(false)),
+    (CIRCLE_BESIDE, None, 200_000, 0, 300_000_000, Some(true)),
+    (CIRCLE_BESIDE, None, 200_001, 0, 300_000_000, Some(false)),
+    (SMALL_CIRCLE, None, 0, 0, 400_000_000, Some(true)),
+    (SMALL_CIRCLE, None, 0, 0, 400_001_000, Some(false)),
+    (SHORT_ARM, None, 0, 0, 400_000_000, Some(true)),
+    (SHORT_ARM, None, 0, 0, 400_001_000, Some(false)),
+    (NARROW_ARM, None, 0, 0, 400_000_000, Some(true)),
+    (NARROW_ARM, None, 0, 0, 400_001_000, Some(false)),
+    (EQUAL_HEIGHTS, None, 200_000, 0, 300_000_000, Some(true)),
+    (EQUAL_HEIGHTS, None, 200_001, 0, 300_000_000, Some(false)),
+    (OTHER_CENTRE, None, 0, 0, 300_000_000, Some(true)),
+    (OTHER_CENTRE, None, 0, 0, 300_001_000, Some(false)),
+    (HELD, None, 0, 0, 500_000_000, Some(true)),
+    (HELD, None, 500_000, 500_000, 0, Some(true)),
+    (HELD, None, 500_001, 500_000, 0, Some(false)),
     (&[], None, 0, 0, 325_000_000, None),
 ];
 

@@ -1,5 +1,5 @@
 -- The best pads of holes, where pads are tried in any order.
-use Rattle.std.proofs.Common.{◌≡◌, ◌↔◌, ℕ, ℤ, pos, negsuc, ◌+◌, ◌<◌, ◌≤◌, ◌≤ℤ◌, ◌⊎◌, inl, inr, Bool, true, false, Option, Some, None, List, [], ◌∷◌, ◌++◌, length, get_or, set, refl, sym, subst, ap, ◌∙◌, w64, to_z, of_z, arith}
+use Rattle.std.proofs.Common.{◌≡◌, ◌↔◌, ℕ, ℤ, pos, negsuc, ◌+◌, ◌<◌, ◌≤◌, ◌≤ℤ◌, ◌<ℤ◌, ◌⊎◌, inl, inr, Bool, true, false, Option, Some, None, List, [], ◌∷◌, ◌++◌, length, get_or, set, refl, sym, subst, ap, ◌∙◌, w64, to_z, of_z, arith}
 use Rattle.std.specs.Prelude.{unsigned_abs}
 use Rattle.std.specs.List.{Contains}
 use Rattle.std.proofs.lemmas.Int.{ints}
@@ -12,7 +12,6 @@ use Rattle.grid_units.proofs.BoolLemmas.{both_true, either}
 use Rattle.pad_shapes.specs.Shapes.{covers_both_ends}
 use Rattle.pad_shapes.specs.Zones.{IsInZone, CoversNone}
 use Rattle.pad_shapes.specs.declared.zone.Zone.{Zone}
-use Rattle.ring_rules.specs.Findings.{is_oblique}
 use Rattle.ring_rules.specs.Places.{hole_at, entry_at}
 use Rattle.ring_rules.specs.declared.finding.Drilled.{Drilled}
 use Rattle.margins.specs.Depths.{CoversLess}
@@ -70,7 +69,7 @@ asks_more (Some best) now deep other = elim (cases_lt now.pad best.pad) [
 ]
 
 -- a depth that is not below 0, as a call passes it on
-pub depth_is : (z : ℤ) (m a : ℕ) → m ≡ unsigned_abs (to_z w64 (of_z w64 z)) → pos a ≤ℤ z → z ≤ℤ pos 5000000000000 → z ≡ pos m
+pub depth_is : (z : ℤ) (m a : ℕ) → m ≡ unsigned_abs (to_z w64 (of_z w64 z)) → pos a ≤ℤ z → z <ℤ pos 20000000000000 → z ≡ pos m
 depth_is (pos n) m a e low high = ap pos (sym (natural (pos n) n m (omega (arith, ints, high)) refl e))
 depth_is (negsuc n) m a e low high = absurd (omega (arith, ints, low))
 
@@ -87,34 +86,29 @@ contains_last xs x = (length xs, (let longer = length-append xs (x ∷ []) in om
 module _ {S : Type 0} (covers : S → GridPoint → ℕ → Bool) (pads : List S) where
   -- nothing was tried
   pub improves_none : (h : GridHole) (best : Option BestPad) → Improves covers pads h best best
-  improves_none h best = record { oblique = λ e. refl; more = λ place. omega arith; held = λ was. was }
+  improves_none h best = record { more = λ place. omega arith; held = λ was. was }
 
   pub improves_twice : (h : GridHole) (a b c : Option BestPad) → Improves covers pads h a b → Improves covers pads h b c → Improves covers pads h a c
   improves_twice h a b c first second = record {
-    oblique = λ e. second.oblique e ∙ first.oblique e;
     more = λ place. (let f = first.more place in let s = second.more place in omega (arith, f, s));
     held = λ was. second.held (first.held was);
   }
 
   -- a shape that was no better is no better now
   pub still_no_better : (place : ℕ) (h : GridHole) (a b : Option BestPad) → Improves covers pads h a b → IsNoBetter covers pads place h a → IsNoBetter covers pads place h b
-  still_no_better place h a b more was s reach straight e = (let l = was s reach straight e in let m = more.more place in omega (arith, l, m))
+  still_no_better place h a b more was s reach e = (let l = was s reach e in let m = more.more place in omega (arith, l, m))
 
   -- a shape that does not cover a hole so deep is no better
   pub no_better : CoversLess covers → (place : ℕ) (pad : S) (h : GridHole) (best : Option BestPad) → ((s : S) → get_or pads place s ≡ pad) → covers_both_ends covers pad h.from h.to (required best place) ≡ false → IsNoBetter covers pads place h best
-  no_better covers_less place pad h best is fails s reach straight e = elim (cases_lt reach (required best place)) [
+  no_better covers_less place pad h best is fails s reach e = elim (cases_lt reach (required best place)) [
     | inl less ↦ less
     | inr more ↦
         let here : covers_both_ends covers pad h.from h.to reach ≡ true = ap (λ (p : S). covers_both_ends covers p h.from h.to reach) (sym (is s)) ∙ e in
         not_both (covers_both_ends covers pad h.from h.to (required best place)) (ends_less covers covers_less pad h.from h.to (required best place) reach more here) fails
   ]
 
-  -- nor is any shape for an oblique slot
-  pub no_better_oblique : (place : ℕ) (h : GridHole) (best : Option BestPad) → is_oblique h ≡ true → IsNoBetter covers pads place h best
-  no_better_oblique place h best oblique s reach straight e = not_both (is_oblique h) oblique straight
-
   -- a shape that covers a hole so deep is better, and none is deeper than itself
-  module _ (place : ℕ) (pad : S) (h : GridHole) (best : Option BestPad) (deep : ℤ) (now : BestPad) (is : (s : S) → get_or pads place s ≡ pad) (exact : (reach : ℕ) → (covers_both_ends covers pad h.from h.to reach ≡ true) ↔ (pos reach ≤ℤ deep)) (bound : deep ≤ℤ pos 5000000000000) (at : now.pad ≡ place) (depth : now.depth ≡ unsigned_abs (to_z w64 (of_z w64 deep))) (better : covers_both_ends covers pad h.from h.to (required best place) ≡ true) where
+  module _ (place : ℕ) (pad : S) (h : GridHole) (best : Option BestPad) (deep : ℤ) (now : BestPad) (is : (s : S) → get_or pads place s ≡ pad) (exact : (reach : ℕ) → (covers_both_ends covers pad h.from h.to reach ≡ true) ↔ (pos reach ≤ℤ deep)) (bound : deep <ℤ pos 20000000000000) (at : now.pad ≡ place) (depth : now.depth ≡ unsigned_abs (to_z w64 (of_z w64 deep))) (better : covers_both_ends covers pad h.from h.to (required best place) ≡ true) where
     deep_is : deep ≡ pos now.depth
     deep_is = depth_is deep now.depth (required best place) depth ((exact (required best place)).0 better) bound
 
@@ -130,40 +124,32 @@ module _ {S : Type 0} (covers : S → GridPoint → ℕ → Bool) (pads : List S
         (let d = deep_is in let low : pos (required best place) ≤ℤ deep = (exact (required best place)).0 better in let e : required best now.pad ≡ required best place = ap (required best) at in omega (arith, ints, d, low, e))
 
     pub taken_below : IsNoBetter covers pads place h (Some now)
-    taken_below s reach straight e =
+    taken_below s reach e =
         let here : covers_both_ends covers pad h.from h.to reach ≡ true = ap (λ (p : S). covers_both_ends covers p h.from h.to reach) (sym (is s)) ∙ e in
         let d = deep_is in
         let u : pos reach ≤ℤ deep = (exact reach).0 here in
         let one = not_before_is place now.pad (omega (arith, at)) in
         omega (arith, ints, d, u, one)
 
-  pub taken_step : (place : ℕ) (h : GridHole) (best : Option BestPad) (now : BestPad) → is_oblique h ≡ false → IsDepthInPad covers pads h now → ((other : ℕ) → required best other ≤ required (Some now) other) → IsNoBetter covers pads place h (Some now) → IsTriedAt covers pads place h best (Some now)
-  taken_step place h best now straight held more below = record {
-    improves = record { oblique = λ e. not_both (is_oblique h) e straight; more = more; held = λ was. held };
+  pub taken_step : (place : ℕ) (h : GridHole) (best : Option BestPad) (now : BestPad) → IsDepthInPad covers pads h now → ((other : ℕ) → required best other ≤ required (Some now) other) → IsNoBetter covers pads place h (Some now) → IsTriedAt covers pads place h best (Some now)
+  taken_step place h best now held more below = record {
+    improves = record { more = more; held = λ was. held };
     below = below;
   }
 
   -- once all shapes are tried
   pub best_of_all : CoversLess covers → (h : GridHole) (best : Option BestPad) → Improves covers pads h None best → ((place : ℕ) → place < length pads → IsNoBetter covers pads place h best) → IsBestPad covers pads h best
-  best_of_all covers_less h None improves below = elim (either (is_oblique h)) [
-    | inl oblique ↦ inl oblique
-    | inr straight ↦ inr (λ s k reach l. refuted (covers_both_ends covers (get_or pads k s) h.from h.to reach) (λ e. (let f = below k l s reach straight e in omega (arith, f))))
-  ]
-  best_of_all covers_less h (Some best) improves below = elim (either (is_oblique h)) [
-    | inl oblique ↦ absurd (let f : Some best ≡ None = improves.oblique oblique in cc)
-    | inr straight ↦
-        let held : IsDepthInPad covers pads h best = improves.held tt in (
-          straight,
-          record {
-            inside = held.inside;
-            in_range = held.in_range;
-            covered = held.covered;
-            deepest = λ s k reach l e. (let f = below k l s reach straight e in let one = one_at_most k best.pad in omega (arith, f, one));
-            first = λ s k l. refuted (covers_both_ends covers (get_or pads k s) h.from h.to best.depth)
-                (λ e. (let f = below k (let i = held.inside in omega (arith, l, i)) s best.depth straight e in let zero = before_is k best.pad l in omega (arith, f, zero)));
-          },
-        )
-  ]
+  best_of_all covers_less h None improves below = λ s k reach l. refuted (covers_both_ends covers (get_or pads k s) h.from h.to reach) (λ e. (let f = below k l s reach e in omega (arith, f)))
+  best_of_all covers_less h (Some best) improves below =
+      let held : IsDepthInPad covers pads h best = improves.held tt in
+      record {
+        inside = held.inside;
+        in_range = held.in_range;
+        covered = held.covered;
+        deepest = λ s k reach l e. (let f = below k l s reach e in let one = one_at_most k best.pad in omega (arith, f, one));
+        first = λ s k l. refuted (covers_both_ends covers (get_or pads k s) h.from h.to best.depth)
+            (λ e. (let f = below k (let i = held.inside in omega (arith, l, i)) s best.depth e in let zero = before_is k best.pad l in omega (arith, f, zero)));
+      }
 
   module _ (holes : List Drilled) where
     -- nothing was tried at any hole
@@ -205,16 +191,16 @@ module _ {S : Type 0} (covers : S → GridPoint → ℕ → Bool) (pads : List S
 
     -- a shape that was tried at all holes that it covers
     pub no_better_elsewhere : (place : ℕ) (pad : S) (near : List ℕ) (bests : List (Option BestPad)) → ((s : S) → get_or pads place s ≡ pad) → AreAllCovered covers pad holes near → IsNoBetterAt covers pads place holes near (length near) bests → IsNoBetterForAll covers pads place holes bests
-    no_better_elsewhere place pad near bests is all was k h s reach straight e =
+    no_better_elsewhere place pad near bests is all was k h s reach e =
         let here : covers_both_ends covers pad (hole_at holes k).from (hole_at holes k).to reach ≡ true = ap (λ (p : S). covers_both_ends covers p (hole_at holes k).from (hole_at holes k).to reach) (sym (is s)) ∙ e in
         let from : covers pad (hole_at holes k).from reach ≡ true = (both_true (covers pad (hole_at holes k).from reach) (covers pad (hole_at holes k).to reach) here).0 in
         let among : Contains near k = all k reach h from in
         let listed : get_or near among.0 0 ≡ k = get_or_default near among.0 0 k among.1 ∙ among.2 in
-        subst (λ (n : ℕ). IsNoBetter covers pads place (hole_at holes n) (get_or bests n None)) listed (was among.0 among.1) s reach straight e
+        subst (λ (n : ℕ). IsNoBetter covers pads place (hole_at holes n) (get_or bests n None)) listed (was among.0 among.1) s reach e
 
     -- a shape that covers no hole
     pub no_better_outside : (place : ℕ) (pad : S) (zone : Zone) (bests : List (Option BestPad)) → ((s : S) → get_or pads place s ≡ pad) → ((k : ℕ) → k < length holes → IsInZone zone (entry_at holes k)) → CoversNone covers pad 0 zone → IsNoBetterForAll covers pads place holes bests
-    no_better_outside place pad zone bests is within none k h s reach straight e =
+    no_better_outside place pad zone bests is within none k h s reach e =
         let here : covers_both_ends covers pad (hole_at holes k).from (hole_at holes k).to reach ≡ true = ap (λ (p : S). covers_both_ends covers p (hole_at holes k).from (hole_at holes k).to reach) (sym (is s)) ∙ e in
         let from : covers pad (entry_at holes k) reach ≡ true = (both_true (covers pad (hole_at holes k).from reach) (covers pad (hole_at holes k).to reach) here).0 in
         not_both (covers pad (entry_at holes k) reach) from (none (entry_at holes k) reach (omega arith) (within k h))

@@ -1,13 +1,15 @@
 -- Depths from roots that are rounded up.
-use Rattle.std.proofs.Common.{◌≡◌, ◌↔◌, ℕ, ℤ, pos, ◌+◌, ◌-◌, ◌≤◌, ◌-ℤ◌, ◌≤ℤ◌, Bool, true, refl, sym, subst, arith}
+use Rattle.std.proofs.Common.{◌≡◌, ◌↔◌, ℕ, ℤ, pos, negsuc, ◌+◌, ◌-◌, ◌≤◌, ◌<◌, ◌-ℤ◌, ◌≤ℤ◌, Bool, true, false, refl, sym, subst, ◌∙◌, w64, to_z, arith}
 use Rattle.std.specs.Prelude.{◌&&◌, nat_le}
 use Rattle.std.specs.Int.{int_min}
 use Rattle.std.proofs.lemmas.Int.{ints, clamps}
+use Rattle.std.proofs.lemmas.Bool.{false≢true}
 use Rattle.grid_units.specs.Points.{GridPoint, abs_diff, square, square_distance}
 use Rattle.grid_units.specs.Holes.{GridHole}
 use Rattle.pad_shapes.specs.Shapes.{GridDisc, GridObround, end_radius, square_axis_distance, disc_covers, obround_covers}
+use Rattle.pad_shapes.specs.Rounded.{GridRounded, IsGreatestReach, rounded_covers}
 use Rattle.margins.specs.Depths.{IsDepth, IsDepthOfHole}
-use Rattle.margins.specs.Inner.DepthLaws.{both_le, le_both}
+use Rattle.margins.specs.Inner.DepthLaws.{both_le, le_both, rounded_covers_less}
 use Rattle.grid_units.proofs.BoolLemmas.{both_true}
 
 -- within a circle: a point is covered up to the radius less its distance, rounded up
@@ -63,4 +65,19 @@ round_hole covers pad h depth same is reach = (
       let first : covers pad h.from reach ≡ true = (is reach).1 l in
       let second : covers pad h.to reach ≡ true = subst (λ (p : GridPoint). covers pad p reach ≡ true) same first in
       rw (first, second) refl,
+)
+
+-- a rounded polygon: the greatest reach, as the code answers it
+pub reach_is_depth : (r : GridRounded) (c : GridPoint) (reach : ℕ) → IsGreatestReach r c reach → IsDepth rounded_covers r c (to_z w64 reach)
+reach_is_depth r c reach is n =
+    let bound : reach < 20000000000000 = is.in_range in (
+      λ e. let below : n ≤ reach = is.greatest n e in omega (arith, ints, below, bound),
+      λ h. rounded_covers_less r c n reach (omega (arith, ints, h, bound)) is.covered,
+    )
+
+-- what does not cover a point with the reach 0 covers it with none
+pub none_is_depth : (r : GridRounded) (c : GridPoint) → rounded_covers r c 0 ≡ false → IsDepth rounded_covers r c (negsuc 0)
+none_is_depth r c not_covered n = (
+  λ e. absurd (false≢true (sym not_covered ∙ rounded_covers_less r c 0 n (omega arith) e)),
+  λ h. absurd (omega (arith, ints, h)),
 )

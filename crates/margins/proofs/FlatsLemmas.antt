@@ -7,7 +7,6 @@ use Rattle.grid_units.specs.Points.{GridPoint}
 use Rattle.grid_units.specs.Holes.{GridHole}
 use Rattle.grid_units.proofs.BoolLemmas.{both_true}
 use Rattle.pad_shapes.specs.Shapes.{covers_both_ends}
-use Rattle.ring_rules.specs.Findings.{is_oblique}
 use Rattle.pad_shapes.specs.Zones.{IsInZone, CoversNone}
 use Rattle.pad_shapes.specs.declared.zone.Zone.{Zone}
 use Rattle.ring_rules.specs.Places.{hole_at, entry_at}
@@ -53,23 +52,21 @@ module _ {S T : Type 0} (covers : S → GridPoint → ℕ → Bool) (covers_less
     at p k inside = get_or-map make pads k p (make p) inside
 
     bare_flat : IsBare flat (map make pads) h → IsBare covers pads h
-    bare_flat (inl oblique) = inl oblique
-    bare_flat (inr none) = inr (λ p k reach inside. refused (covers_both_ends covers (get_or pads k p) h.from h.to reach) (λ e.
+    bare_flat none = λ p k reach inside. refused (covers_both_ends covers (get_or pads k p) h.from h.to reach) (λ e.
         never (covers_both_ends flat (make (get_or pads k p)) h.from h.to 0) (flat_ends (get_or pads k p) h reach e)
-        (ap (λ (t : T). covers_both_ends flat t h.from h.to 0) (sym (at p k inside)) ∙ none (make p) k 0 (let size : length (map make pads) ≡ length pads = length-map pads make in omega (arith, size, inside)))))
+        (ap (λ (t : T). covers_both_ends flat t h.from h.to 0) (sym (at p k inside)) ∙ none (make p) k 0 (let size : length (map make pads) ≡ length pads = length-map pads make in omega (arith, size, inside))))
 
     told : (b : Option BestPad) → IsBestPad flat (map make pads) h b → (has_no_best_pad b ≡ true) ↔ IsBare covers pads h
     told None bare = (λ e. bare_flat bare, λ e. refl)
     told (Some best) is = (λ e. absurd cc, λ bare. held bare) where
       held : IsBare covers pads h → has_no_best_pad (Some best) ≡ true
-      held (inl oblique) = never (is_oblique h) oblique is.0
-      held (inr none) =
+      held none =
           let size : length (map make pads) ≡ length pads = length-map pads make in
-          let listed : best.pad < length (map make pads) = is.1.inside in
+          let listed : best.pad < length (map make pads) = is.inside in
           let inside : best.pad < length pads = omega (arith, size, listed) in
           let p : S = some_of pads best.pad inside in
           never (covers_both_ends covers (get_or pads best.pad p) h.from h.to 0)
-          (round_ends (get_or pads best.pad p) h best.depth (ap (λ (t : T). covers_both_ends flat t h.from h.to best.depth) (sym (at p best.pad inside)) ∙ is.1.covered (make p)))
+          (round_ends (get_or pads best.pad p) h best.depth (ap (λ (t : T). covers_both_ends flat t h.from h.to best.depth) (sym (at p best.pad inside)) ∙ is.covered (make p)))
           (none p best.pad 0 inside)
 
   -- which of some holes are bare
@@ -98,10 +95,10 @@ pub bare_none : {S : Type 0} (covers : S → GridPoint → ℕ → Bool) (pads :
 bare_none covers pads holes zone bare within none is = record {
   size = ap length is ∙ length-replicate (length holes) true;
   each = λ k h. (
-    λ e. inr (λ p j reach inside. refused (covers_both_ends covers (get_or pads j p) (hole_at holes k).from (hole_at holes k).to reach) (λ t.
+    λ e p j reach inside. refused (covers_both_ends covers (get_or pads j p) (hole_at holes k).from (hole_at holes k).to reach) (λ t.
         never (covers (get_or pads j p) (entry_at holes k) reach)
         (both_true (covers (get_or pads j p) (hole_at holes k).from reach) (covers (get_or pads j p) (hole_at holes k).to reach) t).0
-        (none p j inside (entry_at holes k) reach (omega arith) (within k h)))),
+        (none p j inside (entry_at holes k) reach (omega arith) (within k h))),
     λ lacks. ap (λ (bs : List Bool). get_or bs k false) is ∙ get_or-replicate (length holes) k true false h,
   );
 }

@@ -51,8 +51,8 @@ module _ {S : Type 0} (covers : S → GridPoint → ℕ → Bool) (pads : List S
 
   -- a pad of a group whose hull does not hold a hole so deep is no better
   pub no_better_in_group : (place first : ℕ) (hull : Option Hull) (h : GridHole) (best : Option BestPad) → IsInGroup covers pads place first hull → HoldsNone hull (required best first) h → IsNoBetter covers pads place h best
-  no_better_in_group place first None h best was none s reach straight e = absurd none
-  no_better_in_group place first (Some hull) h best was none s reach straight e = elim (cases_lt reach (required best place)) [
+  no_better_in_group place first None h best was none s reach e = absurd none
+  no_better_in_group place first (Some hull) h best was none s reach e = elim (cases_lt reach (required best place)) [
     | inl less ↦ less
     | inr more ↦
         let t = both_true (covers (get_or pads place s) h.from reach) (covers (get_or pads place s) h.to reach) e in

@@ -3,6 +3,7 @@ use Rattle.std.proofs.Common.{◌≡◌, ℕ, ◌<◌, Bool, Option, None, List,
 use Rattle.std.specs.Prelude.{◌&&◌}
 use Rattle.std.proofs.lemmas.List.{get_or_default}
 use Rattle.grid_units.specs.Points.{GridPoint}
+use Rattle.grid_units.specs.declared.profile.Profile.{Profile}
 use Rattle.ring_rules.specs.Findings.{is_ring_finding}
 use Rattle.ring_rules.specs.Places.{hole_at, default_hole}
 use Rattle.ring_rules.specs.declared.finding.Drilled.{Drilled}
@@ -15,10 +16,10 @@ use Rattle.margins.specs.declared.best.BestPad.{BestPad}
 use Rattle.margins.proofs.MeetsLemmas.{ring_of_best}
 use Rattle.margins.proofs.WithoutFindings.{short_lacks}
 
-module _ {S : Type 0} (covers : S → GridPoint → ℕ → Bool) (less : CoversLess covers) (pads : List S) (holes : List Drilled) (bests : List (Option BestPad)) (are : AreBestPads covers pads holes bests) where
+module _ {S : Type 0} (covers : S → GridPoint → ℕ → Bool) (less : CoversLess covers) (profile : Profile) (pads : List S) (holes : List Drilled) (bests : List (Option BestPad)) (are : AreBestPads covers pads holes bests) where
   -- the hole at a place lacks its ring just where it falls short by the best pad there
-  pub short_lacks_ring : (layer q k : ℕ) (d : Drilled) (best : Option BestPad) → k < length holes → d ≡ get_or holes k d → best ≡ get_or bests k best → falls_short q layer d best ≡ is_ring_finding covers q layer pads d
-  short_lacks_ring layer q k d best inside at there = ap (λ b. needs_ring layer d && b) (short_lacks covers pads d.hole q less (ring_from_best best d.hole) (ring_of_best covers pads d.hole best is))
+  pub short_lacks_ring : (layer q k : ℕ) (d : Drilled) (best : Option BestPad) → k < length holes → d ≡ get_or holes k d → best ≡ get_or bests k best → falls_short profile q layer d best ≡ is_ring_finding covers profile q layer pads d
+  short_lacks_ring layer q k d best inside at there = ap (λ b. needs_ring layer d && b) (short_lacks covers profile pads d.hole q less (ring_from_best profile best d.hole) (ring_of_best covers profile pads d.hole best is))
     where
       hole_is : get_or holes k default_hole ≡ d
       hole_is = sym (at ∙ get_or_default holes k d default_hole inside)

@@ -1,11 +1,15 @@
 -- What is met, pair by pair.
-use Rattle.std.proofs.Common.{◌≡◌, ℕ, ℤ, ◌+◌, ◌<◌, ◌≤ℤ◌, ◌⊎◌, inl, inr, Bool, true, false, Option, Some, None, List, [], length, get_or, refl, sym, subst, ap, ◌∙◌, arith}
+use Rattle.std.proofs.Common.{◌≡◌, ℕ, ℤ, pos, ◌+◌, ◌<◌, ◌-ℤ◌, ◌≤ℤ◌, ◌⊎◌, inl, inr, Bool, true, false, Option, Some, None, List, [], length, get_or, refl, sym, subst, ap, ◌∙◌, arith}
+use Rattle.std.specs.Prelude.{if◌then◌else◌}
 use Rattle.std.specs.Int.{int_min}
 use Rattle.std.proofs.lemmas.Int.{ints, clamps}
 use Rattle.std.proofs.lemmas.Bool.{cases_lt}
 use Rattle.std.proofs.lemmas.List.{get_or_default}
 use Rattle.grid_units.specs.Points.{GridPoint}
 use Rattle.grid_units.specs.Holes.{GridHole}
+use Rattle.grid_units.specs.declared.profile.Profile.{Profile}
+use Rattle.grid_units.proofs.BoolLemmas.{either}
+use Rattle.ring_rules.specs.Findings.{is_refused_slot}
 use Rattle.ring_rules.specs.Places.{default_hole, hole_at}
 use Rattle.ring_rules.specs.declared.finding.Drilled.{Drilled}
 use Rattle.margins.specs.Meets.{HasLeast, IsLeast, LacksAll, HasLeastInPads, IsLeastInPads, AreLeast, NeedsRing, HasRing, IsRingOf, needs_ring}
@@ -226,21 +230,26 @@ no_layer has holes met ring held = record { ring = subst (IsLeast (NeedsRing 0 h
   none i j h = let l : i < 0 = h.in_layers in absurd (omega (arith, l))
 
 -- the ring of a hole by its best pad
-pub ring_of_best : {S : Type 0} (covers : S → GridPoint → ℕ → Bool) (pads : List S) (hole : GridHole) (best : Option BestPad) → IsBestPad covers pads hole best → IsRingOf covers pads hole (ring_from_best best hole)
-ring_of_best covers pads hole None is = is
-ring_of_best covers pads hole (Some best) is = record { best = best; straight = is.0; deepest = is.1; less = refl }
+pub ring_of_best : {S : Type 0} (covers : S → GridPoint → ℕ → Bool) (profile : Profile) (pads : List S) (hole : GridHole) (best : Option BestPad) → IsBestPad covers pads hole best → IsRingOf covers profile pads hole (ring_from_best profile best hole)
+ring_of_best covers profile pads hole None is = inr is
+ring_of_best covers profile pads hole (Some best) is = elim (either (is_refused_slot profile hole)) [
+  | inl refused ↦
+      subst (IsRingOf covers profile pads hole) (sym (ap (λ b. if b then None else Some (pos best.depth -ℤ pos hole.radius)) refused)) (inl refused)
+  | inr judged ↦
+      subst (IsRingOf covers profile pads hole) (sym (ap (λ b. if b then None else Some (pos best.depth -ℤ pos hole.radius)) judged)) (record { best = best; judged = judged; deepest = is; less = refl })
+]
 
 -- one more hole that needs a ring, by its best pad
-pub hole_by_best : {S : Type 0} (covers : S → GridPoint → ℕ → Bool) (layers : List (List S)) (pads : List S) (holes : List Drilled) (bests : List (Option BestPad)) (at count : ℕ) (d : Drilled) (best : Option BestPad) (met next : RingsMet)
+pub hole_by_best : {S : Type 0} (covers : S → GridPoint → ℕ → Bool) (profile : Profile) (layers : List (List S)) (pads : List S) (holes : List Drilled) (bests : List (Option BestPad)) (at count : ℕ) (d : Drilled) (best : Option BestPad) (met next : RingsMet)
     → get_or layers at [] ≡ pads → AreBestPads covers pads holes bests → count < length holes → d ≡ get_or holes count d → best ≡ get_or bests count best → needs_ring at d ≡ true
-    → next.ring ≡ with_length met.ring (ring_from_best best d.hole) → next.in_pads ≡ with_length_in_pads met.in_pads (ring_from_best best d.hole)
-    → AreLeast (NeedsRingBefore at count holes) (HasRing covers layers holes) met → AreLeast (NeedsRingBefore at (count + 1) holes) (HasRing covers layers holes) next
-hole_by_best {S} covers layers pads holes bests at count d best met next at_layer are inside here is needs ring_is held_is so =
+    → next.ring ≡ with_length met.ring (ring_from_best profile best d.hole) → next.in_pads ≡ with_length_in_pads met.in_pads (ring_from_best profile best d.hole)
+    → AreLeast (NeedsRingBefore at count holes) (HasRing covers profile layers holes) met → AreLeast (NeedsRingBefore at (count + 1) holes) (HasRing covers profile layers holes) next
+hole_by_best {S} covers profile layers pads holes bests at count d best met next at_layer are inside here is needs ring_is held_is so =
     let d_is : d ≡ get_or holes count default_hole = here ∙ get_or_default holes count d default_hole inside in
     let best_is : best ≡ get_or bests count None = is ∙ get_or_default bests count best None (let s : length bests ≡ length holes = are.size in omega (arith, s, inside)) in
-    let ring : IsRingOf covers pads (hole_at holes count) (ring_from_best best (hole_at holes count)) =
-    ring_of_best covers pads (hole_at holes count) best (subst (IsBestPad covers pads (hole_at holes count)) (sym best_is) (are.each count inside)) in
-    let has : HasRing covers layers holes at count (ring_from_best best d.hole) =
-    subst (λ (ps : List S). IsRingOf covers ps (hole_at holes count) (ring_from_best best d.hole)) (sym at_layer)
-    (subst (λ (x : Drilled). IsRingOf covers pads (hole_at holes count) (ring_from_best best x.hole)) (sym d_is) ring) in
-    hole_needs_ring (NeedsRing at holes) (HasRing covers layers holes) at count holes met next (ring_from_best best d.hole) inside (ap (needs_ring at) (sym d_is) ∙ needs) has ring_is held_is so
+    let ring : IsRingOf covers profile pads (hole_at holes count) (ring_from_best profile best (hole_at holes count)) =
+    ring_of_best covers profile pads (hole_at holes count) best (subst (IsBestPad covers pads (hole_at holes count)) (sym best_is) (are.each count inside)) in
+    let has : HasRing covers profile layers holes at count (ring_from_best profile best d.hole) =
+    subst (λ (ps : List S). IsRingOf covers profile ps (hole_at holes count) (ring_from_best profile best d.hole)) (sym at_layer)
+    (subst (λ (x : Drilled). IsRingOf covers profile pads (hole_at holes count) (ring_from_best profile best x.hole)) (sym d_is) ring) in
+    hole_needs_ring (NeedsRing at holes) (HasRing covers profile layers holes) at count holes met next (ring_from_best profile best d.hole) inside (ap (needs_ring at) (sym d_is) ∙ needs) has ring_is held_is so

@@ -10,14 +10,15 @@ use Rattle.std.proofs.lemmas.List.FromFn.{get_or-enumerate_from, length-enumerat
 use Rattle.std.proofs.lemmas.List.Folds.{list_any_at}
 use Rattle.grid_units.specs.Points.{GridPoint, square}
 use Rattle.grid_units.specs.Holes.{GridHole}
+use Rattle.grid_units.specs.declared.profile.Profile.{Profile}
+use Rattle.wide_pads.specs.Holding.{covers_hole}
 use Rattle.ring_rules.specs.Cores.{square_of_cores, are_clear}
 use Rattle.ring_rules.specs.Places.{default_hole, hole_at}
-use Rattle.ring_rules.specs.Findings.{is_oblique, covers_hole, lacks_ring, is_ring_finding, finding_of, layer_findings, ring_findings, hole_findings, gap_findings}
+use Rattle.ring_rules.specs.Findings.{is_refused_slot, lacks_ring, is_ring_finding, finding_of, layer_findings, ring_findings, hole_findings, gap_findings}
 use Rattle.ring_rules.specs.declared.finding.Drilled.{Drilled}
 use Rattle.ring_rules.specs.declared.finding.Finding.TheVariants.{Gap}
 use Rattle.margins.specs.Depths.{CoversLess}
 use Rattle.margins.specs.Gaps.{IsGap}
-use Rattle.margins.specs.BestPads.{IsBare}
 use Rattle.margins.specs.Meets.{needs_ring, IsRing, IsRingOf, RingsPassExactly, GapsPassExactly}
 use Rattle.margins.specs.Inner.Lacking.{is_short}
 use Rattle.margins.specs.declared.met.Met.TheVariants as mets
@@ -70,14 +71,14 @@ some (x ∷ xs) k h = x
 
 -- ---- one hole among the pads of a layer
 
-module _ {S : Type 0} (covers : S → GridPoint → ℕ → Bool) (pads : List S) (h : GridHole) (q : ℕ) where
+module _ {S : Type 0} (covers : S → GridPoint → ℕ → Bool) (profile : Profile) (pads : List S) (h : GridHole) (q : ℕ) where
   -- the pad that covers a hole that does not lack its ring
-  covering : lacks_ring covers q pads h ≡ false → (is_oblique h ≡ false) × ((x : S) × Contains pads x × (covers_hole covers q h x ≡ true))
+  covering : lacks_ring covers profile q pads h ≡ false → (is_refused_slot profile h ≡ false) × ((x : S) × Contains pads x × (covers_hole covers q h x ≡ true))
   covering e =
-      let t = or_is_false (is_oblique h) (not (list_any (covers_hole covers q h) pads)) e in
+      let t = or_is_false (is_refused_slot profile h) (not (list_any (covers_hole covers q h) pads)) e in
       (t.0, list_any_element (covers_hole covers q h) pads (not_false (list_any (covers_hole covers q h) pads) t.1))
 
-  ring_covers : CoversLess covers → (ring : ℤ) → IsRing covers pads h ring → pos q ≤ℤ ring → lacks_ring covers q pads h ≡ false
+  ring_covers : CoversLess covers → (ring : ℤ) → IsRing covers profile pads h ring → pos q ≤ℤ ring → lacks_ring covers profile q pads h ≡ false
   ring_covers less ring is le =
       let p : S = some pads is.best.pad is.deepest.inside in
       let pad : S = get_or pads is.best.pad p in
@@ -88,9 +89,9 @@ module _ {S : Type 0} (covers : S → GridPoint → ℕ → Bool) (pads : List S
       let to : covers (get_or pads is.best.pad p) h.to (h.radius + q) ≡ true = less (get_or pads is.best.pad p) h.to (h.radius + q) is.best.depth within ends.1 in
       let test : covers_hole covers q h (get_or pads is.best.pad p) ≡ true = ap (λ b. b && covers (get_or pads is.best.pad p) h.to (h.radius + q)) from ∙ to in
       let any : list_any (covers_hole covers q h) pads ≡ true = list_any_at (covers_hole covers q h) pads is.best.pad p is.deepest.inside test in
-      ap (λ b. b || not (list_any (covers_hole covers q h) pads)) is.straight ∙ true_not (list_any (covers_hole covers q h) pads) any
+      ap (λ b. b || not (list_any (covers_hole covers q h) pads)) is.judged ∙ true_not (list_any (covers_hole covers q h) pads) any
 
-  covers_ring : (ring : ℤ) → IsRing covers pads h ring → lacks_ring covers q pads h ≡ false → pos q ≤ℤ ring
+  covers_ring : (ring : ℤ) → IsRing covers profile pads h ring → lacks_ring covers profile q pads h ≡ false → pos q ≤ℤ ring
   covers_ring ring is none =
       let found = (covering none).1 in
       let there = found.1 in
@@ -98,8 +99,8 @@ module _ {S : Type 0} (covers : S → GridPoint → ℕ → Bool) (pads : List S
       let e : ring ≡ pos is.best.depth -ℤ pos h.radius = is.less in
       omega (arith, ints, e, within)
 
-  bare_lacks : IsBare covers pads h → lacks_ring covers q pads h ≡ false → ⊥
-  bare_lacks (inl oblique) none = let f : true ≡ false = sym oblique ∙ (covering none).0 in cc
+  bare_lacks : IsRingOf covers profile pads h None → lacks_ring covers profile q pads h ≡ false → ⊥
+  bare_lacks (inl refused) none = let f : true ≡ false = sym refused ∙ (covering none).0 in cc
   bare_lacks (inr shallow) none =
       let found = (covering none).1 in
       let there = found.1 in
@@ -112,43 +113,43 @@ module _ {S : Type 0} (covers : S → GridPoint → ℕ → Bool) (pads : List S
   same_tests false false f g = refl
 
   -- a hole has less than a rule just where it lacks that ring
-  pub short_lacks : CoversLess covers → (ring : Option ℤ) → IsRingOf covers pads h ring → is_short q ring ≡ lacks_ring covers q pads h
-  short_lacks less None is = same_tests true (lacks_ring covers q pads h) (λ none e. bare_lacks is none) (λ e. absurd cc)
-  short_lacks less (Some ring) is = same_tests (int_lt ring (pos q)) (lacks_ring covers q pads h)
+  pub short_lacks : CoversLess covers → (ring : Option ℤ) → IsRingOf covers profile pads h ring → is_short q ring ≡ lacks_ring covers profile q pads h
+  short_lacks less None is = same_tests true (lacks_ring covers profile q pads h) (λ none e. bare_lacks is none) (λ e. absurd cc)
+  short_lacks less (Some ring) is = same_tests (int_lt ring (pos q)) (lacks_ring covers profile q pads h)
       (λ none e. let within : pos q ≤ℤ ring = covers_ring ring is none in omega (arith, ints, within, e))
       (λ e. ring_covers less ring is (let within : pos q ≤ℤ ring = omega (arith, ints, e) in within))
 
 -- ---- all rings
 
-module _ {S : Type 0} (covers : S → GridPoint → ℕ → Bool) (q : ℕ) (layers : List (List S)) (holes : List Drilled) where
-  lacking_none : ring_findings covers q layers holes ≡ [] → (l k : ℕ) → l < length layers → k < length holes → is_ring_finding covers q l (get_or layers l []) (get_or holes k default_hole) ≡ false
+module _ {S : Type 0} (covers : S → GridPoint → ℕ → Bool) (profile : Profile) (q : ℕ) (layers : List (List S)) (holes : List Drilled) where
+  lacking_none : ring_findings covers profile q layers holes ≡ [] → (l k : ℕ) → l < length layers → k < length holes → is_ring_finding covers profile q l (get_or layers l []) (get_or holes k default_hole) ≡ false
   lacking_none none l k in_layers in_holes =
-      let at_layer : layer_findings covers q holes l (get_or layers l []) ≡ [] = none_placed (λ layer. layer_findings covers q holes layer.0 layer.1) layers none l [] in_layers in
-      fails_placed (λ hole. is_ring_finding covers q l (get_or layers l []) hole.1) holes (map_is_nil (finding_of l) _ at_layer) k default_hole in_holes
+      let at_layer : layer_findings covers profile q holes l (get_or layers l []) ≡ [] = none_placed (λ layer. layer_findings covers profile q holes layer.0 layer.1) layers none l [] in_layers in
+      fails_placed (λ hole. is_ring_finding covers profile q l (get_or layers l []) hole.1) holes (map_is_nil (finding_of profile l) _ at_layer) k default_hole in_holes
 
-  none_lacking : ((l k : ℕ) → l < length layers → k < length holes → is_ring_finding covers q l (get_or layers l []) (get_or holes k default_hole) ≡ false) → ring_findings covers q layers holes ≡ []
-  none_lacking none = all_none_placed (λ layer. layer_findings covers q holes layer.0 layer.1) layers (λ l d in_layers.
-      ap (λ pads. layer_findings covers q holes l pads) (get_or_default layers l d [] in_layers)
-      ∙ ap (map (finding_of l)) (all_fail_placed (λ hole. is_ring_finding covers q l (get_or layers l []) hole.1) holes (λ k e in_holes.
-      ap (is_ring_finding covers q l (get_or layers l [])) (get_or_default holes k e default_hole in_holes) ∙ none l k in_layers in_holes)))
+  none_lacking : ((l k : ℕ) → l < length layers → k < length holes → is_ring_finding covers profile q l (get_or layers l []) (get_or holes k default_hole) ≡ false) → ring_findings covers profile q layers holes ≡ []
+  none_lacking none = all_none_placed (λ layer. layer_findings covers profile q holes layer.0 layer.1) layers (λ l d in_layers.
+      ap (λ pads. layer_findings covers profile q holes l pads) (get_or_default layers l d [] in_layers)
+      ∙ ap (map (finding_of profile l)) (all_fail_placed (λ hole. is_ring_finding covers profile q l (get_or layers l []) hole.1) holes (λ k e in_holes.
+      ap (is_ring_finding covers profile q l (get_or layers l [])) (get_or_default holes k e default_hole in_holes) ∙ none l k in_layers in_holes)))
 
 pub rings_pass : {S : Type 0} (covers : S → GridPoint → ℕ → Bool) → CoversLess covers → RingsPassExactly covers
-rings_pass covers less layers holes mets.Any so q = (
+rings_pass covers less profile layers holes mets.Any so q = (
   λ e. tt,
-  λ u. none_lacking covers q layers holes (λ l k in_layers in_holes.
-      unless (needs_ring l (get_or holes k default_hole)) (lacks_ring covers q (get_or layers l []) (hole_at holes k)) (λ needs. absurd (so l k (record { in_layers = in_layers; in_holes = in_holes; needs = needs })))),
+  λ u. none_lacking covers profile q layers holes (λ l k in_layers in_holes.
+      unless (needs_ring l (get_or holes k default_hole)) (lacks_ring covers profile q (get_or layers l []) (hole_at holes k)) (λ needs. absurd (so l k (record { in_layers = in_layers; in_holes = in_holes; needs = needs })))),
 )
-rings_pass covers less layers holes (mets.UpTo m) so q = (
-  λ e. covers_ring covers (get_or layers so.i []) (hole_at holes so.j) q m so.reached
-      (and_false_right (needs_ring so.i (get_or holes so.j default_hole)) (lacks_ring covers q (get_or layers so.i []) (hole_at holes so.j)) so.there.needs (lacking_none covers q layers holes e so.i so.j so.there.in_layers so.there.in_holes)),
-  λ le. none_lacking covers q layers holes (λ l k in_layers in_holes.
-      unless (needs_ring l (get_or holes k default_hole)) (lacks_ring covers q (get_or layers l []) (hole_at holes k)) (λ needs.
+rings_pass covers less profile layers holes (mets.UpTo m) so q = (
+  λ e. covers_ring covers profile (get_or layers so.i []) (hole_at holes so.j) q m so.reached
+      (and_false_right (needs_ring so.i (get_or holes so.j default_hole)) (lacks_ring covers profile q (get_or layers so.i []) (hole_at holes so.j)) so.there.needs (lacking_none covers profile q layers holes e so.i so.j so.there.in_layers so.there.in_holes)),
+  λ le. none_lacking covers profile q layers holes (λ l k in_layers in_holes.
+      unless (needs_ring l (get_or holes k default_hole)) (lacks_ring covers profile q (get_or layers l []) (hole_at holes k)) (λ needs.
       let w = so.least l k (record { in_layers = in_layers; in_holes = in_holes; needs = needs }) in
-      ring_covers covers (get_or layers l []) (hole_at holes k) q less w.0 w.1 (let n : m ≤ℤ w.0 = w.2 in omega (arith, ints, le, n)))),
+      ring_covers covers profile (get_or layers l []) (hole_at holes k) q less w.0 w.1 (let n : m ≤ℤ w.0 = w.2 in omega (arith, ints, le, n)))),
 )
-rings_pass covers less layers holes mets.None so q = (
-  λ e. bare_lacks covers (get_or layers so.i []) (hole_at holes so.j) q so.nothing
-      (and_false_right (needs_ring so.i (get_or holes so.j default_hole)) (lacks_ring covers q (get_or layers so.i []) (hole_at holes so.j)) so.there.needs (lacking_none covers q layers holes e so.i so.j so.there.in_layers so.there.in_holes)),
+rings_pass covers less profile layers holes mets.None so q = (
+  λ e. bare_lacks covers profile (get_or layers so.i []) (hole_at holes so.j) q so.nothing
+      (and_false_right (needs_ring so.i (get_or holes so.j default_hole)) (lacks_ring covers profile q (get_or layers so.i []) (hole_at holes so.j)) so.there.needs (lacking_none covers profile q layers holes e so.i so.j so.there.in_layers so.there.in_holes)),
   λ h. absurd h,
 )
 

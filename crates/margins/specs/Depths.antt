@@ -5,6 +5,8 @@ use Rattle.grid_units.specs.Holes.{GridHole}
 use Rattle.pad_shapes.specs.Shapes.{covers_both_ends}
 use Rattle.pad_shapes.specs.declared.pad.Pad.{Pad}
 use Rattle.pad_shapes.specs.declared.pad.Pad.TheVariants.{Disc, Rect, Obround}
+use Rattle.wide_pads.specs.declared.wide_pad.WidePad.{WidePad}
+use Rattle.wide_pads.specs.declared.wide_pad.WidePad.TheVariants.{Plain, Rounded}
 
 -- what a shape covers with a reach it covers with each lesser reach
 abbrev pub CoversLess : {S : Type 0} → (S → GridPoint → ℕ → Bool) → Type 0
@@ -23,3 +25,8 @@ abbrev pub pad_middle : Pad → GridPoint
 pad_middle (Disc d) = d.centre
 pad_middle (Rect r) = r.centre
 pad_middle (Obround o) = o.centre
+
+-- the centre of the plain pad inside a wide pad, or the first corner of the rounded polygon
+abbrev pub wide_pad_middle : WidePad → GridPoint
+wide_pad_middle (Plain pad) = pad_middle pad
+wide_pad_middle (Rounded rounded) = rounded.first

@@ -3,8 +3,9 @@ use Rattle.std.specs.Prelude.{◌≡◌, ◌↔◌, ℕ, ℤ, pos, ◌<◌, ◌-
 use Rattle.grid_units.specs.Points.{GridPoint}
 use Rattle.grid_units.specs.Holes.{GridHole}
 use Rattle.grid_units.specs.Spans.{is_in_span}
+use Rattle.grid_units.specs.declared.profile.Profile.{Profile}
 use Rattle.ring_rules.specs.Places.{default_hole, hole_at}
-use Rattle.ring_rules.specs.Findings.{is_oblique, ring_findings, gap_findings}
+use Rattle.ring_rules.specs.Findings.{is_refused_slot, ring_findings, gap_findings}
 use Rattle.ring_rules.specs.declared.finding.Drilled.{Drilled}
 use Rattle.margins.specs.Gaps.{IsGap}
 use Rattle.margins.specs.BestPads.{IsDeepest, IsBare}
@@ -73,20 +74,20 @@ pub record NeedsRing (count : ℕ) (holes : List Drilled) (layer hole : ℕ) : T
   pub needs : needs_ring layer (get_or holes hole default_hole) ≡ true
 
 -- the ring of a hole on a layer: how deep it lies in the best pad, less its radius; below 0 where the hole is wider than the copper round it
-pub record IsRing {S : Type 0} (covers : S → GridPoint → ℕ → Bool) (pads : List S) (hole : GridHole) (ring : ℤ) : Type 0 where
+pub record IsRing {S : Type 0} (covers : S → GridPoint → ℕ → Bool) (profile : Profile) (pads : List S) (hole : GridHole) (ring : ℤ) : Type 0 where
   pub best : BestPad
-  pub straight : is_oblique hole ≡ false
+  pub judged : is_refused_slot profile hole ≡ false
   pub deepest : IsDeepest covers pads (length pads) hole best
   pub less : ring ≡ pos best.depth -ℤ pos hole.radius
 
--- the ring of a hole among the pads of a layer, or none where the hole is bare
-abbrev pub IsRingOf : {S : Type 0} → (S → GridPoint → ℕ → Bool) → List S → GridHole → Option ℤ → Type 0
-IsRingOf covers pads hole None = IsBare covers pads hole
-IsRingOf covers pads hole (Some ring) = IsRing covers pads hole ring
+-- the ring of a hole among the pads of a layer, or none where the hole is bare or a slot that the profile refuses
+abbrev pub IsRingOf : {S : Type 0} → (S → GridPoint → ℕ → Bool) → Profile → List S → GridHole → Option ℤ → Type 0
+IsRingOf covers profile pads hole None = (is_refused_slot profile hole ≡ true) ⊎ IsBare covers pads hole
+IsRingOf covers profile pads hole (Some ring) = IsRing covers profile pads hole ring
 
 -- the ring of the hole at a place, on the layer at a place
-abbrev pub HasRing : {S : Type 0} → (S → GridPoint → ℕ → Bool) → List (List S) → List Drilled → ℕ → ℕ → Option ℤ → Type 0
-HasRing covers layers holes layer hole ring = IsRingOf covers (get_or layers layer []) (hole_at holes hole) ring
+abbrev pub HasRing : {S : Type 0} → (S → GridPoint → ℕ → Bool) → Profile → List (List S) → List Drilled → ℕ → ℕ → Option ℤ → Type 0
+HasRing covers profile layers holes layer hole ring = IsRingOf covers profile (get_or layers layer []) (hole_at holes hole) ring
 
 -- the gap of the holes at two places; any two holes have one
 abbrev pub HasGap : List Drilled → ℕ → ℕ → Option ℤ → Type 0
@@ -94,12 +95,12 @@ HasGap holes i j None = ⊥
 HasGap holes i j (Some gap) = IsGap (hole_at holes i) (hole_at holes j) gap
 
 -- the rings that a board meets at all holes that need one
-abbrev pub MeetsRings : {S : Type 0} → (S → GridPoint → ℕ → Bool) → List (List S) → List Drilled → Met → Type 0
-MeetsRings covers layers holes met = IsLeast (NeedsRing (length layers) holes) (HasRing covers layers holes) met
+abbrev pub MeetsRings : {S : Type 0} → (S → GridPoint → ℕ → Bool) → Profile → List (List S) → List Drilled → Met → Type 0
+MeetsRings covers profile layers holes met = IsLeast (NeedsRing (length layers) holes) (HasRing covers profile layers holes) met
 
 -- the rings that a board meets at the holes that need one and are not bare
-abbrev pub MeetsRingsInPads : {S : Type 0} → (S → GridPoint → ℕ → Bool) → List (List S) → List Drilled → Met → Type 0
-MeetsRingsInPads covers layers holes met = IsLeastInPads (NeedsRing (length layers) holes) (HasRing covers layers holes) met
+abbrev pub MeetsRingsInPads : {S : Type 0} → (S → GridPoint → ℕ → Bool) → Profile → List (List S) → List Drilled → Met → Type 0
+MeetsRingsInPads covers profile layers holes met = IsLeastInPads (NeedsRing (length layers) holes) (HasRing covers profile layers holes) met
 
 -- what is met by pairs that are asked for a length, those without one counted (`ring`) and skipped (`held`)
 pub record AreLeast (required : ℕ → ℕ → Type 0) (has : ℕ → ℕ → Option ℤ → Type 0) (met : RingsMet) : Type 0 where
@@ -107,16 +108,16 @@ pub record AreLeast (required : ℕ → ℕ → Type 0) (has : ℕ → ℕ → O
   pub held : IsLeastInPads required has met.in_pads
 
 -- the rings that the first `count` layers of a board meet
-abbrev pub MeetsOnLayers : {S : Type 0} → (S → GridPoint → ℕ → Bool) → List (List S) → List Drilled → ℕ → RingsMet → Type 0
-MeetsOnLayers covers layers holes count met = AreLeast (NeedsRing count holes) (HasRing covers layers holes) met
+abbrev pub MeetsOnLayers : {S : Type 0} → (S → GridPoint → ℕ → Bool) → Profile → List (List S) → List Drilled → ℕ → RingsMet → Type 0
+MeetsOnLayers covers profile layers holes count met = AreLeast (NeedsRing count holes) (HasRing covers profile layers holes) met
 
 -- the gaps that a board meets: the least gap of two of its holes, plated or not
 abbrev pub MeetsGaps : List Drilled → Met → Type 0
 MeetsGaps holes met = IsLeast (IsPair holes) (HasGap holes) met
 
 -- for every ring: nothing is found of rings under it just where it is allowed
-abbrev pub RingsPass : {S : Type 0} → (S → GridPoint → ℕ → Bool) → List (List S) → List Drilled → Met → Type 0
-RingsPass covers layers holes met = (ring : ℕ) → (ring_findings covers ring layers holes ≡ []) ↔ allows met ring
+abbrev pub RingsPass : {S : Type 0} → (S → GridPoint → ℕ → Bool) → Profile → List (List S) → List Drilled → Met → Type 0
+RingsPass covers profile layers holes met = (ring : ℕ) → (ring_findings covers profile ring layers holes ≡ []) ↔ allows met ring
 
 -- for every gap: nothing is found of gaps under it just where it is allowed
 abbrev pub GapsPass : List Drilled → Met → Type 0
@@ -124,7 +125,7 @@ GapsPass holes met = (gap : ℕ) → (gap_findings gap holes ≡ []) ↔ allows 
 
 -- the rings that a board meets are just those under which nothing is found of rings
 abbrev pub RingsPassExactly : {S : Type 0} → (S → GridPoint → ℕ → Bool) → Type 0
-RingsPassExactly {S} covers = (layers : List (List S)) (holes : List Drilled) (met : Met) → MeetsRings covers layers holes met → RingsPass covers layers holes met
+RingsPassExactly {S} covers = (profile : Profile) (layers : List (List S)) (holes : List Drilled) (met : Met) → MeetsRings covers profile layers holes met → RingsPass covers profile layers holes met
 
 -- the gaps that a board meets are just those under which nothing is found of gaps
 abbrev pub GapsPassExactly : Type 0

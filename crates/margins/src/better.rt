@@ -1,14 +1,13 @@
 //! The better of two pads for a hole.
 
 ghost use Rattle.std.specs.Prelude.{◌≡◌, ◌<◌, ◌≤◌, ℕ, Some, true, pos, length, get_or};
-ghost use Rattle.pad_shapes.specs.Shapes.{covers_both_ends, IsAxisAligned, IsReach};
+ghost use Rattle.pad_shapes.specs.Shapes.{covers_both_ends, IsReach};
 ghost use Rattle.margins.specs.BestPads.{IsBestPad};
 ghost use Rattle.margins.specs.Inner.BestPads.{required, IsDepthInPad, IsNoBetter, Improves, IsTriedAt};
 
 use crate::best::BestPad;
 use crate::deep::{DepthShape, depth_of_hole};
 use grid_units::Hole;
-use ring_rules::is_oblique;
 
 /// How deep a hole must lie at least in the pad at a place that is better than its best so far, in pm: deeper than
 /// there, or as deep where the pad comes before it.
@@ -25,10 +24,10 @@ pub(crate) fn required(best: Option<BestPad>, place: usize) -> i64
 
 /// Whether the pad at a place is better for a hole than its best so far. No root is taken.
 fn is_better<S: DepthShape>(pad: &S, place: usize, hole: &Hole, best: Option<BestPad>) -> bool
-    requires { IsAxisAligned hole.now.from hole.now.to }
     ensures { result ≡ covers_both_ends S.covers pad.now hole.now.from hole.now.to (required best place) }
 {
-    pad.covers_slot(hole.from(), hole.to(), required(best, place))
+    let reach = required(best, place);
+    pad.covers(hole.from(), reach) && pad.covers(hole.to(), reach)
 }
 
 /// A pad that is better for a hole, as its best pad.
@@ -52,7 +51,7 @@ fn best_in<S: DepthShape>(
     }
 }
 
-/// The better of the best pad so far and the pad at a place. An oblique slot keeps what it has.
+/// The better of the best pad so far and the pad at a place.
 pub(crate) fn better<S: DepthShape>(
     best: Option<BestPad>,
     pads: &[S],
@@ -63,17 +62,13 @@ pub(crate) fn better<S: DepthShape>(
     ensures { IsTriedAt S.covers pads.now place hole.now best result }
 {
     let pad = &pads[place];
-    if is_oblique(hole) {
-        return best;
-    }
     if !is_better(pad, place, hole, best) {
         return best;
     }
     Some(best_in(pads, place, pad, hole, best))
 }
 
-/// The first of the pads in which a hole lies deepest. There is none where the hole is an oblique slot, or where no pad covers both
-/// of its ends with any reach.
+/// The first of the pads in which a hole lies deepest. There is none where no pad covers both of its ends with any reach.
 pub fn best_pad<S: DepthShape>(pads: &[S], hole: &Hole) -> Option<BestPad>
     ensures { IsBestPad S.covers pads.now hole.now result }
 {

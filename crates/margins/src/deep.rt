@@ -1,8 +1,8 @@
 //! How deep a point and a hole lie in a shape.
 
-ghost use Rattle.std.specs.Prelude.{◌≡◌, ◌≤ℤ◌, pos, IfSome};
+ghost use Rattle.std.specs.Prelude.{◌≡◌, ◌<ℤ◌, pos, IfSome};
 ghost use Rattle.grid_units.specs.Points.{GridPoint};
-ghost use Rattle.pad_shapes.specs.Shapes.{max_half_side};
+ghost use Rattle.pad_shapes.specs.Shapes.{max_reach};
 ghost use Rattle.margins.specs.Depths.{IsDepth, IsDepthOfHole, CoversLess};
 ghost use Rattle.margins.specs.Hulls.{IsHullOf};
 
@@ -18,10 +18,10 @@ pub trait DepthShape: PadShape {
     /// Its middle, such as the centre of a pad.
     ghost middle: { Self → GridPoint };
 
-    /// How deep the point lies in it, in pm: at most five metres. Below 0 the point is not covered, and the number says no more.
+    /// How deep the point lies in it, in pm: less than twenty metres. Below 0 the point is not covered, and the number says no more.
     fn depth(&self, at: Point) -> i64
         ensures exact { IsDepth Self.covers self.now at result }
-        ensures in_range { result ≤ℤ pos max_half_side };
+        ensures in_range { result <ℤ pos max_reach };
 
     /// Its middle, such as the centre of a pad.
     fn middle(&self) -> Point
@@ -48,7 +48,7 @@ pub trait DepthShape: PadShape {
 /// How deep a hole lies in a shape, in pm: the lesser of the depths of its two ends, which are one point where it is round.
 pub fn depth_of_hole<S: DepthShape>(pad: &S, hole: &Hole) -> i64
     ensures exact { IsDepthOfHole S.covers pad.now hole.now result }
-    ensures in_range { result ≤ℤ pos max_half_side }
+    ensures in_range { result <ℤ pos max_reach }
 {
     let from = pad.depth(hole.from());
     if hole.is_round() {

@@ -132,8 +132,8 @@ fn bare_by_flats<S: DepthShape + Copy>(
     without_best_pad(alloc, &bests)
 }
 
-/// Whether each of some holes is bare, in their order: an oblique slot, or covered by no pad at both ends with any
-/// reach. `best_pads` answers that too. Here a hole is not asked again once a pad covers it, and no shape is copied
+/// Whether each of some holes is bare, in their order: covered by no pad at both ends with any reach. `best_pads`
+/// answers that too. Here a hole is not asked again once a pad covers it, and no shape is copied
 /// where none is near.
 ///
 /// # Errors

@@ -25,9 +25,9 @@ fn is_short(ring: Option<i64>, rules: Rules) -> bool
 
 /// Whether a hole needs a ring on a layer, and its best pad there gives it none or less than the rule.
 fn falls_short(layer: usize, drilled: &Drilled, best: Option<BestPad>, rules: Rules) -> bool
-    ensures { result ≡ falls_short rules.ring layer drilled.now best }
+    ensures { result ≡ falls_short rules.profile rules.ring layer drilled.now best }
 {
-    needs_ring(layer, drilled) && is_short(ring_of(best, &drilled.hole), rules)
+    needs_ring(layer, drilled) && is_short(ring_of(rules.profile(), best, &drilled.hole), rules)
 }
 
 /// Whether each hole lacks its ring on a layer, by the best pads of the holes there.
@@ -40,7 +40,7 @@ fn lacking_by<S: DepthShape>(
     rules: Rules,
 ) -> Result<Vec<bool>, AllocError>
     requires { AreBestPads S.covers (get_or (map (λ pads. pads.now) layers.now) layer []) holes.now bests.now }
-    ensures { IfOk result (λ lacking. lacking.items ≡ map (is_ring_finding S.covers rules.ring layer (get_or (map (λ pads. pads.now) layers.now) layer [])) holes.now) }
+    ensures { IfOk result (λ lacking. lacking.items ≡ map (is_ring_finding S.covers rules.profile rules.ring layer (get_or (map (λ pads. pads.now) layers.now) layer [])) holes.now) }
 {
     let mut lacking = Vec::new(alloc);
     for (hole, drilled) in holes.iter().enumerate() {
@@ -60,10 +60,10 @@ fn add_lacking<S: DepthShape>(
     rules: Rules,
 ) -> Result<(), AllocError>
     requires { AreBestPads S.covers (get_or (map (λ pads. pads.now) layers.now) layer []) holes.now bests.now }
-    ensures { OnOk result (findings.new.items ≡ findings.old.items ++ layer_findings S.covers rules.ring holes.now layer (get_or (map (λ pads. pads.now) layers.now) layer [])) }
+    ensures { OnOk result (findings.new.items ≡ findings.old.items ++ layer_findings S.covers rules.profile rules.ring holes.now layer (get_or (map (λ pads. pads.now) layers.now) layer [])) }
 {
     let lacking = lacking_by(alloc, layers, layer, bests, holes, rules)?;
-    layer_findings(findings, layer, holes, &lacking)
+    layer_findings(findings, rules.profile(), layer, holes, &lacking)
 }
 
 /// The findings of [`ring_rules::ring_findings`], by the best pads of the holes on each layer: no pad is looked at again.
@@ -79,7 +79,7 @@ pub fn ring_findings_from_bests<S: DepthShape>(
     rules: Rules,
 ) -> Result<Vec<Finding>, AllocError>
     requires { AreBestPadsByLayer S.covers (map (λ pads. pads.now) layers.now) holes.now (map (λ layer_bests. layer_bests.items) bests.now) }
-    ensures { IfOk result (λ findings. findings.items ≡ ring_findings S.covers rules.ring (map (λ pads. pads.now) layers.now) holes.now) }
+    ensures { IfOk result (λ findings. findings.items ≡ ring_findings S.covers rules.profile rules.ring (map (λ pads. pads.now) layers.now) holes.now) }
 {
     let mut findings = Vec::new(alloc);
     for (layer, layer_bests) in bests.iter().enumerate() {

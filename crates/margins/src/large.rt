@@ -13,7 +13,7 @@ use crate::deep::DepthShape;
 use crate::hull::Hull;
 use crate::order::order_key;
 use grid_units::Hole;
-use ring_rules::{Drilled, is_oblique};
+use ring_rules::Drilled;
 use std::alloc::{AllocError, Global};
 
 /// How many pads the smallest groups have at most. Any number is right: only the time depends on it.
@@ -233,16 +233,13 @@ impl<S: DepthShape> LargePads<'_, S> {
         held
     }
 
-    /// Tries first a pad that may well be the best of a hole, and then all pads of the order. An oblique slot is not tried.
+    /// Tries first a pad that may well be the best of a hole, and then all pads of the order.
     fn try_guess(&self, guess: usize, hole: &Hole, best: Option<BestPad>) -> Option<BestPad>
         requires order { All (λ k. k < length self.now.pads.now) self.now.order.now }
         requires levels { All (AreGroups S.covers self.now.pads.now self.now.order.now) self.now.levels.items }
         ensures improves { Improves S.covers self.now.pads.now hole.now best result }
         ensures below { AreNoBetter S.covers self.now.pads.now self.now.order.now 0 (length self.now.order.now) hole.now result }
     {
-        if is_oblique(hole) {
-            return best;
-        }
         if guess < self.pads.len() {
             let best = better(best, self.pads, guess, hole);
             return self.try_order(hole, best);

@@ -12,7 +12,7 @@ use crate::bests::best_pads;
 use crate::deep::DepthShape;
 use crate::nearest::{Nearest, nearest_holes};
 use crate::row::ring_of;
-use grid_units::is_in_span;
+use grid_units::{Profile, is_in_span};
 use ring_rules::Drilled;
 use std::alloc::{AllocError, Global};
 
@@ -79,7 +79,7 @@ fn with_ring(met: RingsMet, ring: Option<i64>) -> RingsMet
 
 /// What a board without a layer meets.
 pub fn met_without_layers<S: DepthShape>(layers: &[&[S]], holes: &[Drilled]) -> RingsMet
-    ensures { MeetsOnLayers S.covers (map (λ pads. pads.now) layers.now) holes.now 0 result }
+    ensures { (profile : Profile) → MeetsOnLayers S.covers profile (map (λ pads. pads.now) layers.now) holes.now 0 result }
 {
     RingsMet {
         ring: Met::Any,
@@ -93,17 +93,18 @@ pub fn met_with_layer<S: DepthShape>(
     layer: usize,
     bests: &[Option<BestPad>],
     holes: &[Drilled],
+    profile: Profile,
     met: RingsMet,
 ) -> RingsMet
     requires inside { layer < length layers.now }
     requires bests { AreBestPads S.covers (get_or (map (λ pads. pads.now) layers.now) layer []) holes.now bests.now }
-    requires so_far { MeetsOnLayers S.covers (map (λ pads. pads.now) layers.now) holes.now layer met }
-    ensures { MeetsOnLayers S.covers (map (λ pads. pads.now) layers.now) holes.now (layer + 1) result }
+    requires so_far { MeetsOnLayers S.covers profile (map (λ pads. pads.now) layers.now) holes.now layer met }
+    ensures { MeetsOnLayers S.covers profile (map (λ pads. pads.now) layers.now) holes.now (layer + 1) result }
 {
     let mut met = met;
     for (hole, drilled) in holes.iter().enumerate() {
         if needs_ring(layer, drilled) {
-            met = with_ring(met, ring_of(bests[hole], &drilled.hole));
+            met = with_ring(met, ring_of(profile, bests[hole], &drilled.hole));
         }
     }
     met
@@ -120,15 +121,16 @@ pub fn rings_met<S: DepthShape>(
     alloc: Global,
     layers: &[&[S]],
     holes: &[Drilled],
+    profile: Profile,
 ) -> Result<RingsMet, AllocError>
-    ensures ring { IfOk result (λ met. MeetsRings S.covers (map (λ pads. pads.now) layers.now) holes.now met.ring) }
-    ensures held { IfOk result (λ met. MeetsRingsInPads S.covers (map (λ pads. pads.now) layers.now) holes.now met.in_pads) }
-    ensures passes { IfOk result (λ met. RingsPass S.covers (map (λ pads. pads.now) layers.now) holes.now met.ring) }
+    ensures ring { IfOk result (λ met. MeetsRings S.covers profile (map (λ pads. pads.now) layers.now) holes.now met.ring) }
+    ensures held { IfOk result (λ met. MeetsRingsInPads S.covers profile (map (λ pads. pads.now) layers.now) holes.now met.in_pads) }
+    ensures passes { IfOk result (λ met. RingsPass S.covers profile (map (λ pads. pads.now) layers.now) holes.now met.ring) }
 {
     let mut met = met_without_layers(layers, holes);
     for layer in 0..layers.len() {
         let bests = best_pads(alloc, layers[layer], holes)?;
-        met = met_with_layer(layers, layer, &bests, holes, met);
+        met = met_with_layer(layers, layer, &bests, holes, profile, met);
     }
     Ok(met)
 }
@@ -144,11 +146,12 @@ pub fn ring_met<S: DepthShape>(
     alloc: Global,
     layers: &[&[S]],
     holes: &[Drilled],
+    profile: Profile,
 ) -> Result<Met, AllocError>
-    ensures exact { IfOk result (λ met. MeetsRings S.covers (map (λ pads. pads.now) layers.now) holes.now met) }
-    ensures passes { IfOk result (λ met. RingsPass S.covers (map (λ pads. pads.now) layers.now) holes.now met) }
+    ensures exact { IfOk result (λ met. MeetsRings S.covers profile (map (λ pads. pads.now) layers.now) holes.now met) }
+    ensures passes { IfOk result (λ met. RingsPass S.covers profile (map (λ pads. pads.now) layers.now) holes.now met) }
 {
-    let met = rings_met(alloc, layers, holes)?;
+    let met = rings_met(alloc, layers, holes, profile)?;
     Ok(met.ring)
 }
 
@@ -163,10 +166,11 @@ pub fn ring_in_pads_met<S: DepthShape>(
     alloc: Global,
     layers: &[&[S]],
     holes: &[Drilled],
+    profile: Profile,
 ) -> Result<Met, AllocError>
-    ensures { IfOk result (λ met. MeetsRingsInPads S.covers (map (λ pads. pads.now) layers.now) holes.now met) }
+    ensures { IfOk result (λ met. MeetsRingsInPads S.covers profile (map (λ pads. pads.now) layers.now) holes.now met) }
 {
-    let met = rings_met(alloc, layers, holes)?;
+    let met = rings_met(alloc, layers, holes, profile)?;
     Ok(met.in_pads)
 }
 

@@ -2,13 +2,13 @@
 
 ghost use Rattle.std.specs.Prelude.{◌≡◌, ◌-ℤ◌, ◌<◌, pos, length};
 ghost use Rattle.std.specs.List.{All};
-ghost use Rattle.margins.specs.Rows.{ring_from_best, has_no_best_pad, IsRingRow};
+ghost use Rattle.margins.specs.Rows.{ring_from_best, has_no_ring, IsRingRow};
 ghost use Rattle.margins.specs.Inner.Rows.{IsLesser};
 
 use crate::best::BestPad;
 use crate::roots::less;
-use grid_units::Hole;
-use ring_rules::Drilled;
+use grid_units::{Hole, Profile};
+use ring_rules::{Drilled, is_refused_slot};
 
 /// The least ring of some holes on a layer.
 #[derive(Clone, Copy, Debug, PartialEq, Eq)]
@@ -24,9 +24,9 @@ pub struct RowLeast {
 pub struct RingRow {
     /// How many holes these are.
     pub holes: usize,
-    /// How many of them are bare: they have no ring at all.
+    /// How many of them have no ring at all: they are bare, or slots that the profile refuses.
     pub bare: usize,
-    /// The least ring, if one of them is not bare.
+    /// The least ring, if one of them has a ring.
     pub least: Option<RowLeast>,
 }
 
@@ -37,21 +37,21 @@ pub(crate) fn ring_in(best: &BestPad, hole: &Hole) -> i64
     less(best.depth, hole.radius().unsigned_abs())
 }
 
-/// The ring of a hole by its best pad, none where it is bare.
-pub(crate) fn ring_of(best: Option<BestPad>, hole: &Hole) -> Option<i64>
-    ensures { result ≡ ring_from_best best hole.now }
+/// The ring of a hole by its best pad; none where it is bare, or a slot that the profile refuses.
+pub(crate) fn ring_of(profile: Profile, best: Option<BestPad>, hole: &Hole) -> Option<i64>
+    ensures { result ≡ ring_from_best profile best hole.now }
 {
     match best {
-        Some(best) => Some(ring_in(&best, hole)),
-        None => None,
+        Some(best) if !is_refused_slot(profile, hole) => Some(ring_in(&best, hole)),
+        _ => None,
     }
 }
 
-/// Whether a hole with such a best pad is bare.
-fn is_bare(best: Option<BestPad>) -> bool
-    ensures { result ≡ has_no_best_pad best }
+/// Whether a hole has no ring.
+fn has_none(ring: Option<i64>) -> bool
+    ensures { result ≡ has_no_ring ring }
 {
-    best.is_none()
+    ring.is_none()
 }
 
 /// The lesser of the least ring so far and that of one more hole. Of equal rings the first stays.
@@ -65,22 +65,27 @@ fn lesser(least: Option<RowLeast>, hole: usize, ring: Option<i64>) -> Option<Row
     }
 }
 
-/// What rings some holes have on a layer: how many holes they are, how many of them are bare, and the least ring with
+/// What rings some holes have on a layer: how many holes they are, how many of them have none, and the least ring with
 /// the first hole that has it. The best pads are those of all holes on this layer; the holes are chosen by their
 /// places, from 0. Only the chosen holes are looked at.
-pub fn ring_row(bests: &[Option<BestPad>], holes: &[Drilled], chosen: &[usize]) -> RingRow
+pub fn ring_row(
+    profile: Profile,
+    bests: &[Option<BestPad>],
+    holes: &[Drilled],
+    chosen: &[usize],
+) -> RingRow
     requires bests { length bests.now ≡ length holes.now }
     requires chosen { All (λ k. k < length holes.now) chosen.now }
-    ensures { IsRingRow bests.now holes.now chosen.now result }
+    ensures { IsRingRow profile bests.now holes.now chosen.now result }
 {
     let mut bare = 0;
     let mut least = None;
     for hole in chosen {
-        let best = bests[*hole];
-        if is_bare(best) {
+        let ring = ring_of(profile, bests[*hole], &holes[*hole].hole);
+        if has_none(ring) {
             bare += 1;
         }
-        least = lesser(least, *hole, ring_of(best, &holes[*hole].hole));
+        least = lesser(least, *hole, ring);
     }
     RingRow {
         holes: chosen.len(),

@@ -1,14 +1,15 @@
-//! The depths of points in discs, rectangles, obrounds and pads.
+//! The depths of points in discs, rectangles, obrounds, rounded polygons and pads.
 
-ghost use Rattle.margins.specs.Depths.{pad_middle};
-ghost use Rattle.margins.specs.Inner.DepthLaws.{disc_covers_less, rect_covers_less, obround_covers_less, pad_covers_less};
+ghost use Rattle.margins.specs.Depths.{pad_middle, wide_pad_middle};
+ghost use Rattle.margins.specs.Inner.DepthLaws.{disc_covers_less, rect_covers_less, obround_covers_less, pad_covers_less, rounded_covers_less, wide_pad_covers_less};
 
 use crate::apart::{apart_x, apart_y};
 use crate::deep::DepthShape;
 use crate::hull::Hull;
 use crate::roots::{length_rounded_up, less};
 use grid_units::Point;
-use pad_shapes::{Disc, Obround, Pad, Rect};
+use pad_shapes::{Disc, Obround, Pad, Rect, Rounded};
+use wide_pads::WidePad;
 
 impl DepthShape for Disc {
     ghost middle = { λ d. d.centre };
@@ -129,6 +130,50 @@ impl DepthShape for Pad {
             Pad::Disc(disc) => disc.hull(),
             Pad::Rect(rect) => rect.hull(),
             Pad::Obround(obround) => obround.hull(),
+        }
+    }
+}
+
+impl DepthShape for Rounded {
+    ghost middle = { λ r. r.first };
+
+    ghost covers_less = { rounded_covers_less };
+
+    fn depth(&self, at: Point) -> i64 {
+        match self.greatest_reach(at) {
+            Some(reach) => reach as i64,
+            None => -1,
+        }
+    }
+
+    fn middle(&self) -> Point {
+        self.first()
+    }
+}
+
+impl DepthShape for WidePad {
+    ghost middle = { wide_pad_middle };
+
+    ghost covers_less = { wide_pad_covers_less };
+
+    fn depth(&self, at: Point) -> i64 {
+        match self {
+            WidePad::Plain(pad) => pad.depth(at),
+            WidePad::Rounded(rounded) => rounded.depth(at),
+        }
+    }
+
+    fn middle(&self) -> Point {
+        match self {
+            WidePad::Plain(pad) => pad.middle(),
+            WidePad::Rounded(rounded) => rounded.middle(),
+        }
+    }
+
+    fn hull(&self) -> Option<Hull> {
+        match self {
+            WidePad::Plain(pad) => pad.hull(),
+            WidePad::Rounded(rounded) => rounded.hull(),
         }
     }
 }

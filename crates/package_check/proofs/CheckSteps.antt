@@ -15,11 +15,11 @@ use Rattle.grid_units.specs.declared.fault.Fail.TheVariants as fails
 use Rattle.ring_rules.specs.declared.finding.Drilled.{Drilled}
 use Rattle.manifest.specs.declared.Role.TheVariants as role
 use Rattle.package_check.specs.Boards.{hole_count}
-use Rattle.package_check.specs.CheckViews.{CheckView, holes_in_slot, is_drill_in, is_drill_sum}
+use Rattle.package_check.specs.CheckViews.{CheckView, holes_in_slot, is_drill_in, is_drill_sum, setting_of}
 use Rattle.package_check.specs.Checking.{AreHolesOf, HasJudged, HasJudgedAll, IsJudgedOf, JudgesThose, TakesCopper, drill_files, layer_number}
 use Rattle.package_check.specs.Holding.{HoldsThose, IsPutAt, ReadsInto, is_kind_at, is_kind_of, is_wanted, kept_at, next_stop}
 use Rattle.package_check.specs.Judging.{IsLeftOf, Judges, JudgesCopper}
-use Rattle.package_check.specs.Package.{FileView, HasContent, HaveContents, bad_span, is_copper, sum_of, unnamed_file}
+use Rattle.package_check.specs.Package.{Setting, FileView, HasContent, HaveContents, bad_span, is_copper, sum_of, unnamed_file}
 use Rattle.package_check.specs.declared.FileSum.{FileSum}
 use Rattle.package_check.specs.declared.FileSum.TheVariants as sum
 use Rattle.package_check.specs.declared.PackageFault.{PackageFault}
@@ -52,7 +52,7 @@ pub same_slots : (before after : List (Option Judged)) → ((i : ℕ) → kept_a
 same_slots before after same = same_holes after before (λ i. ap holes_in_slot (same i))
 
 no_holes_counted : (s : FileSum) → is_drill_sum s ≡ false → hole_count s ≡ 0
-no_holes_counted (sum.Layer pads other) is = refl
+no_holes_counted (sum.Layer pads other contours) is = refl
 no_holes_counted (sum.Drill plated span round slots) is = absurd (false≢true (sym is))
 
 no_holes : (o : Option Judged) → is_drill_in o ≡ false → holes_in_slot o ≡ 0
@@ -81,7 +81,7 @@ layer_left rules holes layer s one copper h = ap is_drill_sum h.2.sum ∙ layer_
 
 -- a copper file without a span is judged by its bytes
 pub judged_bytes : (rules : GridRules) (holes : List Drilled) (layer layers : ℕ) (span : Option LayerSpan) (bytes : List ℕ) (r : Result Judged Fail) → span ≡ None → Answers {T = Judged} (λ one. one) (JudgesCopper rules holes layer bytes) r
-    → Answers {T = Judged} (λ one. one) (Judges rules holes layer (unnamed_file role.Copper span layers bytes)) r
+    → Answers {T = Judged} (λ one. one) (Judges rules holes layer (unnamed_file role.Copper span (record { layers = layers; profile = rules.profile }) bytes)) r
 judged_bytes rules holes layer layers None bytes (Ok one) none h = h
 judged_bytes rules holes layer layers None bytes (Err fails.Memory) none h = tt
 judged_bytes rules holes layer layers None bytes (Err (fails.Refused f)) none h = h
@@ -89,26 +89,26 @@ judged_bytes rules holes layer layers (Some s) bytes r none h = absurd (none-som
 
 -- and one with a span is refused
 pub judged_span : (rules : GridRules) (holes : List Drilled) (layer layers : ℕ) (span : Option LayerSpan) (s : LayerSpan) (bytes : List ℕ) (e : Fail) → span ≡ Some s → e ≡ fails.Refused bad_span
-    → Answers {T = Judged} (λ one. one) (Judges rules holes layer (unnamed_file role.Copper span layers bytes)) (Err e)
+    → Answers {T = Judged} (λ one. one) (Judges rules holes layer (unnamed_file role.Copper span (record { layers = layers; profile = rules.profile }) bytes)) (Err e)
 judged_span rules holes layer layers None s bytes e some is = absurd (none-some s some)
 judged_span rules holes layer layers (Some t) s bytes e some is =
-    subst (λ (x : Fail). Answers {T = Judged} (λ one. one) (Judges rules holes layer (unnamed_file role.Copper (Some t) layers bytes)) (Err x)) (sym is) refl
+    subst (λ (x : Fail). Answers {T = Judged} (λ one. one) (Judges rules holes layer (unnamed_file role.Copper (Some t) (record { layers = layers; profile = rules.profile }) bytes)) (Err x)) (sym is) refl
 
 -- ---- a file is judged, and put into its slot
 
 module _ (rules : GridRules) (holes : List Drilled) (layer index layers : ℕ) (span : Option LayerSpan) (bytes : List ℕ) (before : List (Option Judged)) where
   -- what a step of reading does
   abbrev Puts : List (Option Judged) → Result (Unit {0}) Fail → Type 0
-  Puts after r = ReadsInto (λ one. Judges rules holes layer (unnamed_file role.Copper span layers bytes) (Ok one)) index (unnamed_file role.Copper span layers bytes) before after r
+  Puts after r = ReadsInto (λ one. Judges rules holes layer (unnamed_file role.Copper span (record { layers = layers; profile = rules.profile }) bytes) (Ok one)) index (unnamed_file role.Copper span (record { layers = layers; profile = rules.profile }) bytes) before after r
 
-  pub puts_none : (e : Fail) → Answers {T = Judged} (λ one. one) (Judges rules holes layer (unnamed_file role.Copper span layers bytes)) (Err e) → Puts before (Err e)
+  pub puts_none : (e : Fail) → Answers {T = Judged} (λ one. one) (Judges rules holes layer (unnamed_file role.Copper span (record { layers = layers; profile = rules.profile }) bytes)) (Err e) → Puts before (Err e)
   puts_none fails.Memory h = tt
   puts_none (fails.Refused f) h = (h, refl)
 
 -- what is read of a file does not depend on its name
-judged_named : (rules : GridRules) (holes : List Drilled) (layer number index : ℕ) (name : List ℕ) (span : Option LayerSpan) (bytes : List ℕ) (n : ℕ) (before after : List (Option Judged)) (r : Result (Unit {0}) Fail) → layer ≡ number
+judged_named : (rules : GridRules) (holes : List Drilled) (layer number index : ℕ) (name : List ℕ) (span : Option LayerSpan) (bytes : List ℕ) (n : Setting) (before after : List (Option Judged)) (r : Result (Unit {0}) Fail) → layer ≡ number
     → ReadsInto (λ one. Judges rules holes layer (unnamed_file role.Copper span n bytes) (Ok one)) index (unnamed_file role.Copper span n bytes) before after r
-    → ReadsInto (λ one. Judges rules holes number (record { role = role.Copper; name = name; span = span; bytes = bytes; layers = n }) (Ok one)) index (record { role = role.Copper; name = name; span = span; bytes = bytes; layers = n }) before after r
+    → ReadsInto (λ one. Judges rules holes number (record { role = role.Copper; name = name; span = span; bytes = bytes; setting = n }) (Ok one)) index (record { role = role.Copper; name = name; span = span; bytes = bytes; setting = n }) before after r
 judged_named rules holes layer number index name span bytes n before after (Ok u) same h =
     (h.0, (h.1.0, any_name role.Copper name span bytes n (Ok h.1.0) h.1.1, subst (λ (k : ℕ). IsLeftOf rules holes k h.1.0 h.0) same h.1.2), h.2)
 judged_named rules holes layer number index name span bytes n before after (Err fails.Memory) same h = tt
@@ -138,14 +138,14 @@ judged_passed check index layer source off = λ sources at number rules taken h.
 -- a copper file that stands before any that is refused so far
 pub judged_more : (before after : CheckView) (index layer : ℕ) (name : List ℕ) (span : Option LayerSpan) (bytes : List ℕ) (read : Result (Unit {0}) Fail) (r : Result (Unit {0}) AllocError) → is_wanted before.stopped index ≡ true
     → after.holes ≡ before.holes → after.rules ≡ before.rules
-    → (is_drill_in (kept_at before.slots index) ≡ false → ReadsInto (λ one. Judges before.rules before.holes layer (unnamed_file role.Copper span before.layers bytes) (Ok one)) index (unnamed_file role.Copper span before.layers bytes) before.slots after.slots read)
+    → (is_drill_in (kept_at before.slots index) ≡ false → ReadsInto (λ one. Judges before.rules before.holes layer (unnamed_file role.Copper span (setting_of before) bytes) (Ok one)) index (unnamed_file role.Copper span (setting_of before) bytes) before.slots after.slots read)
     → after.stopped ≡ next_stop before.stopped index read → (after.stopped ≡ Some stop.Memory → r ≡ Err alloc_error)
-    → OnOk r (TakesCopper before after index layer (record { role = role.Copper; name = name; span = span; bytes = bytes; layers = before.layers }))
+    → OnOk r (TakesCopper before after index layer (record { role = role.Copper; name = name; span = span; bytes = bytes; setting = setting_of before }))
 judged_more before after index layer name span bytes read (Err e) on holes rules reads stops memory = tt
 judged_more before after index layer name span bytes read (Ok v) on holes rules reads stops memory = λ sources at number under taken h.
-    let source : FileView = record { role = role.Copper; name = name; span = span; bytes = bytes; layers = before.layers } in
+    let source : FileView = record { role = role.Copper; name = name; span = span; bytes = bytes; setting = setting_of before } in
     let free = no_drill before sources under taken index source h at refl on in
-    let named = judged_named before.rules before.holes layer (layer_number sources index) index name span bytes before.layers before.slots after.slots read number (reads free) in
+    let named = judged_named before.rules before.holes layer (layer_number sources index) index name span bytes (setting_of before) before.slots after.slots read number (reads free) in
     record {
       same_rules = rules ∙ h.same_rules;
       holds = subst (λ (rs : GridRules). HoldsThose (IsJudgedOf rs after.holes sources) after.slots after.stopped sources (λ i. taken i || eqb i index)) (sym rules)

@@ -6,16 +6,16 @@ use Rattle.grid_units.specs.Spans.{LayerSpan}
 use Rattle.manifest.specs.declared.Role.{Role}
 use Rattle.manifest.specs.declared.Role.TheVariants as role
 use Rattle.package_check.specs.declared.contents.Content.{Content}
-use Rattle.package_check.specs.Package.{FileView, HasContent, BytesHaveContent, Reads, ReadsBytes, ReadsUnlessBadSpan, bad_span, is_bad_span}
+use Rattle.package_check.specs.Package.{FileView, Setting, HasContent, BytesHaveContent, Reads, ReadsBytes, ReadsUnlessBadSpan, bad_span, is_bad_span}
 
-bytes_content : (q : Role) (name : List ℕ) (span : Option LayerSpan) (bytes : List ℕ) (n : ℕ) (c : Content) → ReadsBytes (record { role = q; name = name; span = span; bytes = bytes; layers = n }) (Ok c)
-    → BytesHaveContent (record { role = q; name = name; span = span; bytes = bytes; layers = n }) c
+bytes_content : (q : Role) (name : List ℕ) (span : Option LayerSpan) (bytes : List ℕ) (n : Setting) (c : Content) → ReadsBytes (record { role = q; name = name; span = span; bytes = bytes; setting = n }) (Ok c)
+    → BytesHaveContent (record { role = q; name = name; span = span; bytes = bytes; setting = n }) c
 bytes_content role.Copper name span bytes n c h = h
 bytes_content role.Plated name span bytes n c h = h
 bytes_content role.Unplated name span bytes n c h = h
 
-bytes_read : (q : Role) (name : List ℕ) (span : Option LayerSpan) (bytes : List ℕ) (n : ℕ) (c : Content) → BytesHaveContent (record { role = q; name = name; span = span; bytes = bytes; layers = n }) c
-    → ReadsBytes (record { role = q; name = name; span = span; bytes = bytes; layers = n }) (Ok c)
+bytes_read : (q : Role) (name : List ℕ) (span : Option LayerSpan) (bytes : List ℕ) (n : Setting) (c : Content) → BytesHaveContent (record { role = q; name = name; span = span; bytes = bytes; setting = n }) c
+    → ReadsBytes (record { role = q; name = name; span = span; bytes = bytes; setting = n }) (Ok c)
 bytes_read role.Copper name span bytes n c h = h
 bytes_read role.Plated name span bytes n c h = h
 bytes_read role.Unplated name span bytes n c h = h
@@ -31,8 +31,8 @@ read_unless false s c e h = h
 
 pub content_read : (s : FileView) (c : Content) → Reads s (Ok c) → HasContent s c
 content_read s c h =
-    let good = good_span (is_bad_span s.role s.span s.layers) s c h in
-    (good.0, bytes_content s.role s.name s.span s.bytes s.layers c good.1)
+    let good = good_span (is_bad_span s.role s.span s.setting.layers) s c h in
+    (good.0, bytes_content s.role s.name s.span s.bytes s.setting c good.1)
 
 pub reading_of : (s : FileView) (c : Content) → HasContent s c → Reads s (Ok c)
-reading_of s c h = read_unless (is_bad_span s.role s.span s.layers) s c h.0 (bytes_read s.role s.name s.span s.bytes s.layers c h.1)
+reading_of s c h = read_unless (is_bad_span s.role s.span s.setting.layers) s c h.0 (bytes_read s.role s.name s.span s.bytes s.setting c h.1)

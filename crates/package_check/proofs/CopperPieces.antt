@@ -1,21 +1,28 @@
 -- A check that reads a copper file piece by piece.
-use Rattle.std.proofs.Common.{◌≡◌, ℕ, Bool, true, false, List, Ok, Err, Option, None, Some, Result, OnOk, ap, subst, sym, ◌∙◌}
+use Rattle.std.proofs.Common.{◌≡◌, ℕ, Bool, true, false, List, [], Ok, Err, Option, None, Some, Result, OnOk, IfErr, ap, subst, sym, ◌∙◌}
 use Rattle.std.specs.declared.alloc.AllocError.{AllocError}
 use Rattle.grid_units.specs.Holes.{GridRules}
-use Rattle.grid_units.specs.Results.{Answers}
+use Rattle.grid_units.specs.Results.{Answers, IfFault}
 use Rattle.grid_units.specs.Spans.{LayerSpan}
 use Rattle.grid_units.specs.declared.fault.Fail.{Fail}
 use Rattle.grid_units.specs.declared.fault.Fail.TheVariants as fails
 use Rattle.manifest.specs.declared.Role.TheVariants as role
 use Rattle.ring_rules.specs.declared.finding.Drilled.{Drilled}
-use Rattle.package_check.specs.CheckViews.{CheckView, holes_of}
+use Rattle.package_check.specs.CheckViews.{CheckView, holes_of, setting_of}
 use Rattle.package_check.specs.Checking.{AreHolesOf, HasJudged, IsJudgedOf, TakesCopper}
 use Rattle.package_check.specs.Holding.{HoldsThose, is_wanted}
-use Rattle.package_check.specs.Judging.{Judges}
-use Rattle.package_check.specs.OpenFiles.{HasFailed, HasOpenedCopper, HasReadCopper}
-use Rattle.package_check.specs.Package.{FileView, is_bad_span, unnamed_file}
+use Rattle.package_check.specs.Judging.{HasTriedPadsOf, Judges}
+use Rattle.package_check.specs.OpenFiles.{HasFailed, HasOpenedCopper, HasReadCopper, HasReadLayer, keep_in}
+use Rattle.package_check.specs.Package.{Setting, FileView, is_bad_span, unnamed_file}
 use Rattle.package_check.specs.declared.PackageFault.{PackageFault}
 use Rattle.package_check.specs.declared.judged.Judged.{Judged}
+use Rattle.grid_units.specs.declared.profile.Profile.{Profile}
+use Rattle.grid_units.specs.declared.profile.Profile.TheVariants.{Strict, Wide}
+use Rattle.layer_image.specs.Holding.{LayerStandsIn, ShowsLayerFaultIn}
+use Rattle.layer_image.specs.declared.keep.Keep.TheVariants as keep
+use Rattle.layer_image.specs.declared.reader.LayerReader.{LayerReader}
+use Rattle.package_check.specs.HoleViews.{HolesView}
+use Rattle.package_check.proofs.JudgedCopper.{none_tried}
 use Rattle.package_check.specs.declared.open_copper.OpenCopper.{OpenCopper}
 use Rattle.package_check.proofs.OpenFiles.{failed_read}
 
@@ -33,7 +40,7 @@ also_on C (Ok u) a h = (a, h)
 also_on C (Err e) a h = tt
 
 -- a file that has failed is refused in the end
-pub failed_judged : (rules : GridRules) (holes : List Drilled) (layer : ℕ) (span : Option LayerSpan) (n : ℕ) (text : List ℕ) (e : Fail) → HasFailed role.Copper span n e text
+pub failed_judged : (rules : GridRules) (holes : List Drilled) (layer : ℕ) (span : Option LayerSpan) (n : Setting) (text : List ℕ) (e : Fail) → HasFailed role.Copper span n e text
     → Answers {T = Judged} (λ one. one) (Judges rules holes layer (unnamed_file role.Copper span n text)) (Err e)
 failed_judged rules holes layer span n text fails.Memory h = tt
 failed_judged rules holes layer span n text (fails.Refused f) h = failed_read role.Copper span n text (fails.Refused f) h
@@ -63,10 +70,33 @@ own_copper start check index layer span file text h on =
 
 -- an open file is ended
 pub ended : (start check after : CheckView) (file : OpenCopper) (index layer : ℕ) (span : Option LayerSpan) (text name : List ℕ) (r : Result (Unit {0}) AllocError) → HasOpenedCopper start check index layer span file text
-    → OnOk r (TakesCopper check after file.index file.layer (record { role = role.Copper; name = name; span = span; bytes = text; layers = check.layers }))
-    → OnOk r (TakesCopper start after index layer (record { role = role.Copper; name = name; span = span; bytes = text; layers = start.layers }))
+    → OnOk r (TakesCopper check after file.index file.layer (record { role = role.Copper; name = name; span = span; bytes = text; setting = setting_of check }))
+    → OnOk r (TakesCopper start after index layer (record { role = role.Copper; name = name; span = span; bytes = text; setting = setting_of start }))
 ended start check after file index layer span text name r h takes =
-    since start check h.same_holes h.same_rules h.same_slots h.same_stop after index layer (record { role = role.Copper; name = name; span = span; bytes = text; layers = start.layers }) r
-    (subst (λ (n : ℕ). OnOk r (TakesCopper check after index layer (record { role = role.Copper; name = name; span = span; bytes = text; layers = n }))) h.same_layers
-    (subst (λ (k : ℕ). OnOk r (TakesCopper check after index k (record { role = role.Copper; name = name; span = span; bytes = text; layers = check.layers }))) h.same_layer
-    (subst (λ (k : ℕ). OnOk r (TakesCopper check after k file.layer (record { role = role.Copper; name = name; span = span; bytes = text; layers = check.layers }))) h.same_index takes)))
+    since start check h.same_holes h.same_rules h.same_slots h.same_stop after index layer (record { role = role.Copper; name = name; span = span; bytes = text; setting = setting_of start }) r
+    (subst (λ (n : Setting). OnOk r (TakesCopper check after index layer (record { role = role.Copper; name = name; span = span; bytes = text; setting = n }))) (λ j. record { layers = h.same_layers j; profile = (h.same_rules j).profile })
+    (subst (λ (k : ℕ). OnOk r (TakesCopper check after index k (record { role = role.Copper; name = name; span = span; bytes = text; setting = setting_of check }))) h.same_layer
+    (subst (λ (k : ℕ). OnOk r (TakesCopper check after k file.layer (record { role = role.Copper; name = name; span = span; bytes = text; setting = setting_of check }))) h.same_index takes)))
+
+-- ---- readers of layers, by the profile
+
+-- in the strict profile the pads of the text were tried
+pub strictly_read : (p : Profile) (holes : HolesView) (layer : ℕ) (reader : LayerReader) (text : List ℕ) → p ≡ Strict → HasReadLayer p holes layer reader text → HasTriedPadsOf holes layer reader text
+strictly_read p holes layer reader text is h = subst (λ (q : Profile). HasReadLayer q holes layer reader text) is h
+
+-- in the wide one the whole layer is held
+pub widely_read : (p : Profile) (holes : HolesView) (layer : ℕ) (reader : LayerReader) (text : List ℕ) → p ≡ Wide → HasReadLayer p holes layer reader text → HasReadLayer Wide holes layer reader text
+widely_read p holes layer reader text is h = subst (λ (q : Profile). HasReadLayer q holes layer reader text) is h
+
+-- a reader that has read nothing
+pub nothing_read : (p q : Profile) (holes : HolesView) (layer : ℕ) (reader : LayerReader) → q ≡ p → holes.search ≡ None → LayerStandsIn reader p (keep_in p keep.Pads) [] → HasReadLayer q holes layer reader []
+nothing_read Strict q holes layer reader is none stands = subst (λ (r : Profile). HasReadLayer r holes layer reader []) (sym is) (none_tried holes layer reader [] stands none)
+nothing_read Wide q holes layer reader is none stands = subst (λ (r : Profile). HasReadLayer r holes layer reader []) (sym is) (none, stands)
+
+-- what was read in a profile was read in the same one
+pub read_on : (p q : Profile) (holes : HolesView) (layer : ℕ) (reader : LayerReader) (text : List ℕ) (r : Result (Unit {0}) Fail) → p ≡ q → OnOk r (HasReadLayer p holes layer reader text) → OnOk r (HasReadLayer q holes layer reader text)
+read_on p q holes layer reader text r is h = subst (λ (s : Profile). OnOk r (HasReadLayer s holes layer reader text)) is h
+
+-- a fault that is shown in a profile is shown in the same one
+pub shown_on : (p q : Profile) (text : List ℕ) (r : Result (Unit {0}) Fail) → p ≡ q → IfErr r (IfFault (ShowsLayerFaultIn p text)) → IfErr r (IfFault (ShowsLayerFaultIn q text))
+shown_on p q text r is h = subst (λ (s : Profile). IfErr r (IfFault (ShowsLayerFaultIn s text))) is h

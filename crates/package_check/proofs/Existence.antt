@@ -6,51 +6,69 @@ use Rattle.grid_units.specs.declared.fault.Fault.{Fault}
 use Rattle.drill_text.specs.Faults.{HasAnswer, IsFirstFault}
 use Rattle.drill_text.specs.Holes.{holes_of}
 use Rattle.drill_text.specs.Reading as drills
+use Rattle.drill_text.specs.Profiles.{ReadsIn}
+use Rattle.drill_lines.specs.declared.command.DrillCommand.{DrillCommand}
+use Rattle.gerber_text.specs.Writing.{without_places}
+use Rattle.grid_units.specs.declared.profile.Profile.{Profile}
+use Rattle.grid_units.specs.declared.profile.Profile.TheVariants.{Strict, Wide}
 use Rattle.layer_image.specs.Layers as layers
+use Rattle.wide_layers.specs.WideLayers.{WideImage, wide_image_of}
 use Rattle.manifest.specs.declared.Role.{Role}
 use Rattle.manifest.specs.declared.Role.TheVariants as role
 use Rattle.package_check.specs.declared.contents.Content.{Content}
 use Rattle.package_check.specs.declared.contents.Content.TheVariants as content
 use Rattle.package_check.specs.AlikePackages.{ReadingExists, AnswerExists}
 use Rattle.package_check.specs.LayerViews.{LayerView}
-use Rattle.package_check.specs.Package.{FileView, Reads, ReadsBytes, ReadsUnlessBadSpan, ReadsCopper, ReadsHoles, HasContent, HaveContents, IsFirstRefused, IsAnswer, is_bad_span, bad_span, not_copper, report_on}
-use Rattle.package_check.specs.FileTexts.{ReadsLayer, layer_view}
+use Rattle.package_check.specs.Package.{FileView, Setting, Reads, ReadsBytes, ReadsUnlessBadSpan, ReadsCopper, ReadsHoles, HasContent, HaveContents, IsFirstRefused, IsAnswer, is_bad_span, bad_span, not_copper, report_on}
+use Rattle.package_check.specs.FileTexts.{ReadsLayer, layer_view, wide_view}
 use Rattle.package_check.specs.Reports.{ReportView}
 use Rattle.package_check.proofs.ContentIsReading.{content_read}
 
-module _ (each_layer : layers.EachTextAnswers) (each_drill : (text : List ℕ) → HasAnswer text)
-    (first : (text : List ℕ) (f : Fault) → drills.Reads text (Err f) ↔ IsFirstFault text f) where
+module _ (each_layer : layers.EachTextAnswersIn) (each_drill : (text : List ℕ) → HasAnswer text)
+    (first : (text : List ℕ) (f : Fault) → drills.Reads text (Err f) ↔ IsFirstFault text f)
+    (each_drill_in : (profile : Profile) (text : List ℕ) → (answer : Result (List DrillCommand) Fault) × ReadsIn profile text answer) where
   -- a layer is copper, or is refused as NotCopper
-  of_image : (bytes : List ℕ) (image : LayerView) → ReadsLayer bytes (Ok image) → (copper : Bool) → image.is_copper ≡ copper → (answer : Result Content Fault) × ReadsCopper bytes answer
-  of_image bytes image h true e = (Ok (content.Layer image), (h, e))
-  of_image bytes image h false e = (Err not_copper, inr (image, h, e, refl))
+  of_image : (profile : Profile) (bytes : List ℕ) (image : LayerView) → ReadsLayer profile bytes (Ok image) → (copper : Bool) → image.is_copper ≡ copper → (answer : Result Content Fault) × ReadsCopper profile bytes answer
+  of_image profile bytes image h true e = (Ok (content.Layer image), (h, e))
+  of_image profile bytes image h false e = (Err not_copper, inr (image, h, e, refl))
 
-  of_layer : (bytes : List ℕ) (answer : Result layers.LayerImage Fault) → layers.ReadsLayer bytes answer → (answer : Result Content Fault) × ReadsCopper bytes answer
-  of_layer bytes (Ok layer) h = of_image bytes (layer_view layer) (layer, h, refl) (layer_view layer).is_copper refl
-  of_layer bytes (Err f) h = (Err f, inl h)
+  of_layer : (profile : Profile) (bytes : List ℕ) (answer : Result layers.LayerImage Fault) → layers.ReadsLayerIn profile bytes answer → (answer : Result Content Fault) × ReadsCopper profile bytes answer
+  of_layer Strict bytes (Ok layer) h = of_image Strict bytes (layer_view layer) (layer, h, refl) (layer_view layer).is_copper refl
+  of_layer Wide bytes (Ok layer) h =
+      let image : WideImage = wide_image_of (without_places layer.commands) in
+      of_image Wide bytes (wide_view image) (image, (layer, h, refl), refl) (wide_view image).is_copper refl
+  of_layer profile bytes (Err f) h = (Err f, inl h)
 
-  some_copper : (bytes : List ℕ) → (answer : Result Content Fault) × ReadsCopper bytes answer
-  some_copper bytes = let read = each_layer bytes in of_layer bytes read.0 read.1
+  some_copper : (profile : Profile) (bytes : List ℕ) → (answer : Result Content Fault) × ReadsCopper profile bytes answer
+  some_copper profile bytes = let read = each_layer profile bytes in of_layer profile bytes read.0 read.1
 
-  of_drill : (plated : Bool) (span : Option LayerSpan) (bytes : List ℕ) → HasAnswer bytes → (answer : Result Content Fault) × ReadsHoles plated span bytes answer
+  of_drill : (plated : Bool) (span : Option LayerSpan) (bytes : List ℕ) → HasAnswer bytes → (answer : Result Content Fault) × ReadsHoles Strict plated span bytes answer
   of_drill plated span bytes (inl h) = (Ok (content.Drill plated span (holes_of h.0)), ((h.0, h.1, refl), refl, refl))
   of_drill plated span bytes (inr h) = (Err h.0, (first bytes h.0).1 h.1)
 
-  by_role : (r : Role) (name : List ℕ) (span : Option LayerSpan) (bytes : List ℕ) (n : ℕ)
-      → (answer : Result Content Fault) × ReadsBytes (record { role = r; name = name; span = span; bytes = bytes; layers = n }) answer
-  by_role role.Copper name span bytes n = some_copper bytes
-  by_role role.Plated name span bytes n = of_drill true span bytes (each_drill bytes)
-  by_role role.Unplated name span bytes n = of_drill false span bytes (each_drill bytes)
+  of_wide_drill : (plated : Bool) (span : Option LayerSpan) (bytes : List ℕ) (answer : Result (List DrillCommand) Fault) → ReadsIn Wide bytes answer → (answer : Result Content Fault) × ReadsHoles Wide plated span bytes answer
+  of_wide_drill plated span bytes (Ok commands) h = (Ok (content.Drill plated span (holes_of commands)), ((commands, h, refl), refl, refl))
+  of_wide_drill plated span bytes (Err f) h = (Err f, h)
+
+  some_holes : (profile : Profile) (plated : Bool) (span : Option LayerSpan) (bytes : List ℕ) → (answer : Result Content Fault) × ReadsHoles profile plated span bytes answer
+  some_holes Strict plated span bytes = of_drill plated span bytes (each_drill bytes)
+  some_holes Wide plated span bytes = let read = each_drill_in Wide bytes in of_wide_drill plated span bytes read.0 read.1
+
+  by_role : (r : Role) (name : List ℕ) (span : Option LayerSpan) (bytes : List ℕ) (n : Setting)
+      → (answer : Result Content Fault) × ReadsBytes (record { role = r; name = name; span = span; bytes = bytes; setting = n }) answer
+  by_role role.Copper name span bytes n = some_copper n.profile bytes
+  by_role role.Plated name span bytes n = some_holes n.profile true span bytes
+  by_role role.Unplated name span bytes n = some_holes n.profile false span bytes
 
   some_bytes : (source : FileView) → (answer : Result Content Fault) × ReadsBytes source answer
-  some_bytes source = by_role source.role source.name source.span source.bytes source.layers
+  some_bytes source = by_role source.role source.name source.span source.bytes source.setting
 
   some_unless : (bad : Bool) (source : FileView) → (answer : Result Content Fault) × ReadsUnlessBadSpan bad source answer
   some_unless true source = (Err bad_span, refl)
   some_unless false source = some_bytes source
 
   pub reading_exists : ReadingExists
-  reading_exists source = some_unless (is_bad_span source.role source.span source.layers) source
+  reading_exists source = some_unless (is_bad_span source.role source.span source.setting.layers) source
 
 module _ (some : ReadingExists) where
   -- what follows a file that is read is all read, or its first refused file is that of all files, one place further on

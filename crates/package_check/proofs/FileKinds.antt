@@ -10,30 +10,30 @@ use Rattle.manifest.specs.declared.Role.{Role}
 use Rattle.manifest.specs.declared.Role.TheVariants as role
 use Rattle.package_check.specs.Checking.{drill_files}
 use Rattle.package_check.specs.LayerViews.{LayerView}
-use Rattle.package_check.specs.Package.{BytesHaveContent, FileView, HasContent, HaveContents, is_copper}
+use Rattle.package_check.specs.Package.{Setting, BytesHaveContent, FileView, HasContent, HaveContents, is_copper}
 use Rattle.package_check.specs.SoundnessAsRead.{drilled_in}
 use Rattle.package_check.specs.declared.contents.Content.{Content}
 use Rattle.package_check.specs.declared.contents.Content.TheVariants as content
 
-layer_role : (q : Role) (name : List ℕ) (span : Option LayerSpan) (bytes : List ℕ) (n : ℕ) (image : LayerView) → BytesHaveContent (record { role = q; name = name; span = span; bytes = bytes; layers = n }) (content.Layer image)
+layer_role : (q : Role) (name : List ℕ) (span : Option LayerSpan) (bytes : List ℕ) (n : Setting) (image : LayerView) → BytesHaveContent (record { role = q; name = name; span = span; bytes = bytes; setting = n }) (content.Layer image)
     → is_copper q ≡ true
 layer_role role.Copper name span bytes n image h = refl
 layer_role role.Plated name span bytes n image h = absurd h
 layer_role role.Unplated name span bytes n image h = absurd h
 
-drill_role : (q : Role) (name : List ℕ) (span : Option LayerSpan) (bytes : List ℕ) (n : ℕ) (plated : Bool) (through : Option LayerSpan) (holes : List GridHole)
-    → BytesHaveContent (record { role = q; name = name; span = span; bytes = bytes; layers = n }) (content.Drill plated through holes) → is_copper q ≡ false
+drill_role : (q : Role) (name : List ℕ) (span : Option LayerSpan) (bytes : List ℕ) (n : Setting) (plated : Bool) (through : Option LayerSpan) (holes : List GridHole)
+    → BytesHaveContent (record { role = q; name = name; span = span; bytes = bytes; setting = n }) (content.Drill plated through holes) → is_copper q ≡ false
 drill_role role.Copper name span bytes n plated through holes h = absurd h
 drill_role role.Plated name span bytes n plated through holes h = refl
 drill_role role.Unplated name span bytes n plated through holes h = refl
 
 -- a file that is read as a layer is copper
 pub layer_is_copper : (s : FileView) (image : LayerView) → HasContent s (content.Layer image) → is_copper s.role ≡ true
-layer_is_copper s image h = layer_role s.role s.name s.span s.bytes s.layers image h.1
+layer_is_copper s image h = layer_role s.role s.name s.span s.bytes s.setting image h.1
 
 -- and one that is read as a drill file is not
 pub drill_is_no_copper : (s : FileView) (plated : Bool) (through : Option LayerSpan) (holes : List GridHole) → HasContent s (content.Drill plated through holes) → is_copper s.role ≡ false
-drill_is_no_copper s plated through holes h = drill_role s.role s.name s.span s.bytes s.layers plated through holes h.1
+drill_is_no_copper s plated through holes h = drill_role s.role s.name s.span s.bytes s.setting plated through holes h.1
 
 -- the role of a copper file
 pub role_copper : (q : Role) → is_copper q ≡ true → q ≡ role.Copper

@@ -4,7 +4,7 @@ use Rattle.std.specs.List.{All, flat_map, enumerate_from}
 use Rattle.std.proofs.lemmas.List.{length-map}
 use Rattle.std.proofs.lemmas.List.Elements.{All-append}
 use Rattle.std.proofs.lemmas.List.Concat.{flat_map-cons}
-use Rattle.pad_shapes.specs.Pads.{pad_covers}
+use Rattle.wide_pads.specs.WidePads.{wide_pad_covers}
 use Rattle.ring_rules.specs.WithoutFindings.{NamesPlaces, RingsNamePlaces, GapsNamePlaces}
 use Rattle.ring_rules.specs.Findings.{ring_findings, gap_findings}
 use Rattle.package_check.specs.declared.contents.Content.{Content}
@@ -21,14 +21,14 @@ indexed_from n (content.Drill plated span holes ∷ cs) =
     ap length (flat_map-cons index_of (n, content.Drill plated span holes) (enumerate_from (n + 1) cs))
     ∙ (indexed_from (n + 1) cs ∙ sym (ap length (flat_map-cons pads_of (content.Drill plated span holes) cs)))
 
-pub findings_name_their_places : RingsNamePlaces pad_covers → GapsNamePlaces → FindingsNameTheirPlaces
+pub findings_name_their_places : RingsNamePlaces wide_pad_covers → GapsNamePlaces → FindingsNameTheirPlaces
 findings_name_their_places rings gaps sources rules report is =
     let contents = is.contents in
     let ls = layers contents in
     let ds = drilled contents in
-    let named = All-append (NamesPlaces (length ls) (length ds)) (ring_findings pad_covers rules.ring ls ds) (gap_findings rules.gap ds) (rings rules.ring ls ds) (gaps rules.gap (length ls) ds) in
+    let named = All-append (NamesPlaces (length ls) (length ds)) (ring_findings wide_pad_covers rules.profile rules.ring ls ds) (gap_findings rules.gap ds) (rings rules.profile rules.ring ls ds) (gaps rules.gap (length ls) ds) in
     let all_layers : length ls ≡ length (layer_indexes contents) = sym (indexed_from 0 contents) in
     let all_holes : length ds ≡ length (numbered_holes contents) = length-map (numbered_holes contents) (λ hole. hole.drilled) in
     subst (λ account. All (NamesPlaces (length account.layers) (length account.holes)) account.findings) (sym is.is)
-    (subst (λ n. All (NamesPlaces n (length (numbered_holes contents))) (ring_findings pad_covers rules.ring ls ds ++ gap_findings rules.gap ds)) all_layers
-    (subst (λ n. All (NamesPlaces (length ls) n) (ring_findings pad_covers rules.ring ls ds ++ gap_findings rules.gap ds)) all_holes named))
+    (subst (λ n. All (NamesPlaces n (length (numbered_holes contents))) (ring_findings wide_pad_covers rules.profile rules.ring ls ds ++ gap_findings rules.gap ds)) all_layers
+    (subst (λ n. All (NamesPlaces (length ls) n) (ring_findings wide_pad_covers rules.profile rules.ring ls ds ++ gap_findings rules.gap ds)) all_holes named))

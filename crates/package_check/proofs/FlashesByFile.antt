@@ -5,12 +5,12 @@ use Rattle.grid_units.specs.declared.fault.Fault.{Fault}
 use Rattle.gerber_text.specs.Writing.{without_places}
 use Rattle.layer_image.specs.Drawn.{drawn_of}
 use Rattle.layer_image.specs.KeptFlashes.{keeps_commands, keeps_flashes}
-use Rattle.layer_image.specs.Layers.{LayerImage, ReadingIsUnique, ReadsFlashes, ReadsLayer}
+use Rattle.layer_image.specs.Layers.{LayerImage, ReadingIsUniqueIn}
 use Rattle.layer_image.specs.declared.drawn.Drawn.{Drawn}
 use Rattle.layer_image.specs.declared.flash.Flash.{Flash}
 use Rattle.layer_image.specs.declared.keep.Keep.{Keep}
 use Rattle.layer_image.specs.declared.keep.Keep.TheVariants as keep
-use Rattle.package_check.specs.FileTexts.{Draws}
+use Rattle.package_check.specs.FileTexts.{Draws, HasFlashes}
 use Rattle.package_check.specs.Package.{FileView}
 use Rattle.package_check.specs.Boards.{AreDrawnOf, AreFileLists, AreFlashesOf}
 
@@ -27,14 +27,13 @@ ok_same : {a b : LayerImage} → the_ok a ≡ the_ok b → a ≡ b
 ok_same e = cc
 
 -- the flashes that are read of a text are those of each layer that it reads as
-pub flashes_read : ReadingIsUnique → (source : FileView) (text : List ℕ) (flashes : List Flash) → source.bytes ≡ text → ReadsFlashes text (Ok flashes) → AreFlashesOf source flashes
-flashes_read one source text flashes same read = λ copper image reads.
-    read.2 ∙ ap (λ (i : LayerImage). i.flashes) (ok_same (one text (Ok read.0) (Ok image) read.1 (subst (λ (t : List ℕ). ReadsLayer t (Ok image)) same reads)))
+pub flashes_read : ReadingIsUniqueIn → (source : FileView) (flashes : List Flash) → HasFlashes source.setting.profile source.bytes flashes → AreFlashesOf source flashes
+flashes_read one source flashes read = λ copper image reads. read.2 ∙ ap (λ (i : LayerImage). i.flashes) (ok_same (one source.setting.profile source.bytes (Ok read.0) (Ok image) read.1 reads))
 
 -- what a text draws is what each layer draws that it reads as
-pub drawn_read : ReadingIsUnique → (source : FileView) (text : List ℕ) (drawn : List Drawn) → source.bytes ≡ text → Draws text drawn → AreDrawnOf source drawn
-drawn_read one source text drawn same read = λ copper image reads.
-    read.2 ∙ ap (λ (i : LayerImage). drawn_of (without_places i.commands)) (ok_same (one text (Ok read.0) (Ok image) read.1 (subst (λ (t : List ℕ). ReadsLayer t (Ok image)) same reads)))
+pub drawn_read : ReadingIsUniqueIn → (source : FileView) (drawn : List Drawn) → Draws source.setting.profile source.bytes drawn → AreDrawnOf source drawn
+drawn_read one source drawn read = λ copper image reads.
+    read.2 ∙ ap (λ (i : LayerImage). drawn_of (without_places i.commands)) (ok_same (one source.setting.profile source.bytes (Ok read.0) (Ok image) read.1 reads))
 
 -- no file
 pub no_lists : {X : Type 0} (IsOf : FileView → List X → Type 0) → AreFileLists IsOf [] []

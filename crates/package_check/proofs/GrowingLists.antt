@@ -8,7 +8,7 @@ use Rattle.std.specs.Prelude.{Option}
 use Rattle.grid_units.specs.Spans.{LayerSpan}
 use Rattle.manifest.specs.declared.Role.{Role}
 use Rattle.package_check.specs.declared.contents.Content.{Content}
-use Rattle.package_check.specs.Package.{Reads, ReadsUnlessBadSpan, is_bad_span, unnamed_file}
+use Rattle.package_check.specs.Package.{Setting, Reads, ReadsUnlessBadSpan, is_bad_span, unnamed_file}
 
 -- what one more element gives
 pub flat_map_indexed_more : {X Y : Type 0} (f : ℕ × X → List Y) (out ys : List Y) (xs : List X) (i : ℕ) (x : X) → i < length xs → x ≡ get_or xs i x → f (i, x) ≡ ys
@@ -22,10 +22,10 @@ pub flat_map_indexed_none : {X Y : Type 0} (f : ℕ × X → List Y) (out : List
 flat_map_indexed_none f out xs i x lt is value was = sym (append-nil out) ∙ flat_map_indexed_more f out [] xs i x lt is value was
 
 -- the content or the fault of a file does not depend on its name
-pub any_name : (q : Role) (name : List ℕ) (span : Option LayerSpan) (bytes : List ℕ) (n : ℕ) (answer : Result Content Fault) → Reads (unnamed_file q span n bytes) answer
-    → Reads (record { role = q; name = name; span = span; bytes = bytes; layers = n }) answer
-any_name q name span bytes n answer h = by (is_bad_span q span n) h
+pub any_name : (q : Role) (name : List ℕ) (span : Option LayerSpan) (bytes : List ℕ) (n : Setting) (answer : Result Content Fault) → Reads (unnamed_file q span n bytes) answer
+    → Reads (record { role = q; name = name; span = span; bytes = bytes; setting = n }) answer
+any_name q name span bytes n answer h = by (is_bad_span q span n.layers) h
   where
-    by : (t : Bool) → ReadsUnlessBadSpan t (unnamed_file q span n bytes) answer → ReadsUnlessBadSpan t (record { role = q; name = name; span = span; bytes = bytes; layers = n }) answer
+    by : (t : Bool) → ReadsUnlessBadSpan t (unnamed_file q span n bytes) answer → ReadsUnlessBadSpan t (record { role = q; name = name; span = span; bytes = bytes; setting = n }) answer
     by true k = k
     by false k = k

@@ -1,5 +1,5 @@
 -- A copper file whose pads are tried as they are read.
-use Rattle.std.proofs.Common.{◌≡◌, ◌++◌, ℕ, List, [], None, Ok, Err, false, true, ap, inl, subst, sym, inr, refl, ◌∙◌, length}
+use Rattle.std.proofs.Common.{◌≡◌, ◌++◌, ℕ, List, [], None, Ok, Err, false, true, ap, inl, subst, sym, inr, refl, ◌∙◌, ◌+◌, length, map, add-zero, append_assoc}
 use Rattle.grid_units.specs.Holes.{GridRules}
 use Rattle.grid_units.specs.Results.{Answers, IfFault}
 use Rattle.grid_units.specs.declared.fault.Fault.{Fault}
@@ -10,13 +10,21 @@ use Rattle.layer_image.specs.Layers as layers
 use Rattle.layer_image.specs.Layers.{LayerImage, ReadsWithoutPads}
 use Rattle.layer_image.specs.declared.keep.Keep.TheVariants as keep
 use Rattle.layer_image.specs.declared.reader.LayerReader.{LayerReader}
-use Rattle.pad_shapes.specs.Pads.{pad_covers}
+use Rattle.grid_units.specs.declared.profile.Profile.{Profile}
+use Rattle.grid_units.specs.declared.profile.Profile.TheVariants.{Strict, Wide}
+use Rattle.wide_pads.specs.WidePads.{wide_pad_covers}
+use Rattle.wide_pads.specs.declared.wide_pad.WidePad.{WidePad}
+use Rattle.std.proofs.lemmas.List.{append-nil, map-append}
+use Rattle.package_check.specs.LayerViews.{all_pads, plain, rounded}
+use Rattle.pad_shapes.specs.Rounded.{GridRounded}
+use Rattle.gerber_text.specs.Writing.{without_places}
+use Rattle.wide_layers.specs.WideLayers.{WideImage, wide_image_of}
 use Rattle.pad_shapes.specs.declared.pad.Pad.{Pad}
 use Rattle.ring_rules.specs.Findings.{layer_findings}
 use Rattle.ring_rules.specs.declared.finding.Drilled.{Drilled}
 use Rattle.ring_rules.specs.declared.finding.Finding.{Finding}
 use Rattle.std.specs.Global.{Vec}
-use Rattle.package_check.specs.FileTexts.{is_copper_function, layer_view}
+use Rattle.package_check.specs.FileTexts.{HasLayerView, is_copper_function, layer_view, wide_view}
 use Rattle.package_check.specs.HoleViews.{HolesView}
 use Rattle.package_check.specs.Judging.{HasTriedIn, HasTriedPadsOf, JudgesCopper}
 use Rattle.package_check.specs.Package.{not_copper}
@@ -32,45 +40,45 @@ fault_of_longer law text more whole (fails.Refused f) is h = subst (λ (t : List
 
 -- the next pads are tried, and then dropped
 pub tried_more : (holes : HolesView) (layer : ℕ) (reader after : LayerReader) (text : List ℕ) (dropped pads : List Pad) → pads ≡ held_pads reader
-    → LayerStandsAfterPads after keep.Pads (dropped ++ held_pads reader) text → HasTriedIn holes.holes holes.index layer (dropped ++ pads) holes.search → HasTriedPadsOf holes layer after text
+    → LayerStandsAfterPads after keep.Pads (dropped ++ held_pads reader) text → HasTriedIn holes.holes holes.index layer (map plain dropped ++ map plain pads) holes.search → HasTriedPadsOf holes layer after text
 tried_more holes layer reader after text dropped pads is stands tried = record {
   dropped = dropped ++ pads;
   read = subst (λ (ps : List Pad). LayerStandsAfterPads after keep.Pads (dropped ++ ps) text) (sym is) stands;
-  tried = tried;
+  tried = subst (λ (ps : List WidePad). HasTriedIn holes.holes holes.index layer ps holes.search) (sym (map-append plain dropped pads)) tried;
 }
 
 -- what is left of a layer, of which some pads were dropped
-module _ (rules : GridRules) (holes : List Drilled) (layer : ℕ) (text : List ℕ) (dropped : List Pad) (rest : LayerImage) (read : ReadsWithoutPads keep.Pads dropped text (Ok rest)) where
+module _ (rules : GridRules) (strict : rules.profile ≡ Strict) (holes : List Drilled) (layer : ℕ) (text : List ℕ) (dropped : List Pad) (rest : LayerImage) (read : ReadsWithoutPads keep.Pads dropped text (Ok rest)) where
   function_is : rest.file_function ≡ read.0.file_function
   function_is = ap (λ (l : LayerImage). l.file_function) read.2
 
-  pub is_left : is_copper_function rest.file_function ≡ true → (one : Judged) → one.sum ≡ sum.Layer rest.pad_count rest.other
-      → one.rings.items ≡ layer_findings pad_covers rules.ring holes layer (dropped ++ rest.pads) → JudgesCopper rules holes layer text (Ok one)
+  pub is_left : is_copper_function rest.file_function ≡ true → (one : Judged) → one.sum ≡ sum.Layer rest.pad_count rest.other 0
+      → one.rings.items ≡ layer_findings wide_pad_covers rules.profile rules.ring holes layer (map plain dropped ++ map plain rest.pads) → JudgesCopper rules holes layer text (Ok one)
   is_left copper one counts rings = (
     content.Layer (layer_view read.0),
-    ((read.0, read.1, refl), ap is_copper_function (sym function_is) ∙ copper),
+    (subst (λ (p : Profile). HasLayerView p text (layer_view read.0)) (sym strict) (read.0, read.1, refl), ap is_copper_function (sym function_is) ∙ copper),
     record {
       sum = counts
-          ∙ ((λ j. sum.Layer ((ap (λ (l : LayerImage). l.pad_count) read.2 ∙ (ap (λ (l : LayerImage). l.pad_count) read.1.1 ∙ sym (ap (λ (l : LayerImage). length l.pads) read.1.1))) j) rest.other)
-          ∙ (λ j. sum.Layer (length read.0.pads) (ap (λ (l : LayerImage). l.other) read.2 j)));
-      rings = rings ∙ ap (λ (ps : List Pad). layer_findings pad_covers rules.ring holes layer ps) (ap (λ (l : LayerImage). l.pads) read.2);
+          ∙ ((λ j. sum.Layer ((ap (λ (l : LayerImage). l.pad_count) read.2 ∙ (ap (λ (l : LayerImage). l.pad_count) read.1.1 ∙ sym (ap (λ (l : LayerImage). length l.pads) read.1.1))) j) rest.other 0)
+          ∙ ((λ j. sum.Layer (length read.0.pads) (ap (λ (l : LayerImage). l.other) read.2 j) 0) ∙ ap (λ (n : ℕ). sum.Layer n read.0.other 0) (sym (add-zero (length read.0.pads)))));
+      rings = rings ∙ ap (λ (ps : List WidePad). layer_findings wide_pad_covers rules.profile rules.ring holes layer ps) (sym (map-append plain dropped rest.pads) ∙ (ap (λ (l : LayerImage). map plain l.pads) read.2 ∙ sym (append-nil (map plain read.0.pads))));
     },
   )
 
   is_no_copper : is_copper_function rest.file_function ≡ false → JudgesCopper rules holes layer text (Err not_copper)
-  is_no_copper other = inr (layer_view read.0, (read.0, read.1, refl), ap is_copper_function (sym function_is) ∙ other, refl)
+  is_no_copper other = inr (layer_view read.0, subst (λ (p : Profile). HasLayerView p text (layer_view read.0)) (sym strict) (read.0, read.1, refl), ap is_copper_function (sym function_is) ∙ other, refl)
 
   pub refused_as_no_copper : (e : Fail) → e ≡ fails.Refused not_copper → is_copper_function rest.file_function ≡ false → Answers {T = Judged} (λ one. one) (JudgesCopper rules holes layer text) (Err e)
   refused_as_no_copper e is other = subst (λ (x : Fail). Answers {T = Judged} (λ one. one) (JudgesCopper rules holes layer text) (Err x)) (sym is) (is_no_copper other)
 
 -- the fault of the rest of a layer is that of its file
-pub rest_fault : (rules : GridRules) (holes : List Drilled) (layer : ℕ) (text : List ℕ) (dropped : List Pad) (e : Fail) → Answers {T = LayerImage} (λ rest. rest) (ReadsWithoutPads keep.Pads dropped text) (Err e)
+pub rest_fault : (rules : GridRules) → rules.profile ≡ Strict → (holes : List Drilled) (layer : ℕ) (text : List ℕ) (dropped : List Pad) (e : Fail) → Answers {T = LayerImage} (λ rest. rest) (ReadsWithoutPads keep.Pads dropped text) (Err e)
     → Answers {T = Judged} (λ one. one) (JudgesCopper rules holes layer text) (Err e)
-rest_fault rules holes layer text dropped fails.Memory h = tt
-rest_fault rules holes layer text dropped (fails.Refused f) h = inl h
+rest_fault rules strict holes layer text dropped fails.Memory h = tt
+rest_fault rules strict holes layer text dropped (fails.Refused f) h = inl (subst (λ (p : Profile). layers.ReadsLayerIn p text (Err f)) (sym strict) h)
 
 -- and so is one that is met before
-pub fault_of_file : (rules : GridRules) (holes : List Drilled) (layer : ℕ) (text : List ℕ) (e : Fail) → IfFault (λ f. layers.ReadsLayer text (Err f)) e → Answers {T = Judged} (λ one. one) (JudgesCopper rules holes layer text) (Err e)
+pub fault_of_file : (rules : GridRules) (holes : List Drilled) (layer : ℕ) (text : List ℕ) (e : Fail) → IfFault (λ f. layers.ReadsLayerIn rules.profile text (Err f)) e → Answers {T = Judged} (λ one. one) (JudgesCopper rules holes layer text) (Err e)
 fault_of_file rules holes layer text fails.Memory h = tt
 fault_of_file rules holes layer text (fails.Refused f) h = inl h
 
@@ -79,7 +87,39 @@ pub none_tried : (holes : HolesView) (layer : ℕ) (reader : LayerReader) (text 
 none_tried holes layer reader text stands none = record { dropped = []; read = stands; tried = subst (HasTriedIn holes.holes holes.index layer []) (sym none) refl }
 
 -- the findings at the holes as they stand later are those at the holes as they stood
-pub rings_there : (later rules : GridRules) (there holes : List Drilled) (layer : ℕ) (dropped tried pads : List Pad) (rings : Vec Finding) → later ≡ rules → there ≡ holes → tried ≡ pads
-    → rings.items ≡ layer_findings pad_covers later.ring there layer (dropped ++ tried) → rings.items ≡ layer_findings pad_covers rules.ring holes layer (dropped ++ pads)
-rings_there later rules there holes layer dropped tried pads rings same_rules same_holes same_pads is =
-    is ∙ (λ j. layer_findings pad_covers (same_rules j).ring (same_holes j) layer (dropped ++ same_pads j))
+pub rings_there : (later rules : GridRules) (there holes : List Drilled) (layer : ℕ) (tried pads : List WidePad) (rings : Vec Finding) → later ≡ rules → there ≡ holes → tried ≡ pads
+    → rings.items ≡ layer_findings wide_pad_covers later.profile later.ring there layer tried → rings.items ≡ layer_findings wide_pad_covers rules.profile rules.ring holes layer pads
+rings_there later rules there holes layer tried pads rings same_rules same_holes same_pads is =
+    is ∙ (λ j. layer_findings wide_pad_covers (same_rules j).profile (same_rules j).ring (same_holes j) layer (same_pads j))
+
+-- ---- layers in the wide profile, which are judged whole
+
+-- what is left of a whole layer
+module _ (rules : GridRules) (wide : rules.profile ≡ Wide) (holes : List Drilled) (layer : ℕ) (text : List ℕ) (whole : LayerImage) (image : WideImage) (reads : layers.ReadsLayerIn Wide text (Ok whole))
+    (is : image ≡ wide_image_of (without_places whole.commands)) where
+  whole_view : HasLayerView rules.profile text (wide_view image)
+  whole_view = subst (λ (p : Profile). HasLayerView p text (wide_view image)) (sym wide) (image, (whole, reads, is), refl)
+
+  pub whole_left : is_copper_function image.file_function ≡ true → (one : Judged) → one.sum ≡ sum.Layer (length image.pads + length image.flashed) image.other (length image.contours)
+      → one.rings.items ≡ layer_findings wide_pad_covers rules.profile rules.ring holes layer (all_pads (wide_view image)) → JudgesCopper rules holes layer text (Ok one)
+  whole_left copper one counts rings = (content.Layer (wide_view image), (whole_view, copper), record { sum = counts; rings = rings })
+
+  whole_no_copper : is_copper_function image.file_function ≡ false → JudgesCopper rules holes layer text (Err not_copper)
+  whole_no_copper other = inr (wide_view image, whole_view, other, refl)
+
+  pub whole_refused : (e : Fail) → e ≡ fails.Refused not_copper → is_copper_function image.file_function ≡ false → Answers {T = Judged} (λ one. one) (JudgesCopper rules holes layer text) (Err e)
+  whole_refused e refused other = subst (λ (x : Fail). Answers {T = Judged} (λ one. one) (JudgesCopper rules holes layer text) (Err x)) (sym refused) (whole_no_copper other)
+
+-- a layer that is kept whole is what its text reads as
+pub whole_read : (text : List ℕ) (kept : LayerImage) → layers.ReadsKeptIn Wide keep.All text (Ok kept) → layers.ReadsLayerIn Wide text (Ok kept)
+whole_read text kept h = subst (λ (l : LayerImage). layers.ReadsLayerIn Wide text (Ok l)) (sym h.2) h.1
+
+-- the fault of a whole layer is that of its file
+pub whole_fault : (rules : GridRules) → rules.profile ≡ Wide → (holes : List Drilled) (layer : ℕ) (text : List ℕ) (e : Fail) → Answers {T = LayerImage} (λ kept. kept) (layers.ReadsKeptIn Wide keep.All text) (Err e)
+    → Answers {T = Judged} (λ one. one) (JudgesCopper rules holes layer text) (Err e)
+whole_fault rules wide holes layer text fails.Memory h = tt
+whole_fault rules wide holes layer text (fails.Refused f) h = inl (subst (λ (p : Profile). layers.ReadsLayerIn p text (Err f)) (sym wide) h)
+
+-- all pads of a layer, as they are tried one kind after the other
+pub kinds_joined : (pads : List Pad) (flashed contours : List GridRounded) → (([] ++ map plain pads) ++ map rounded flashed) ++ map rounded contours ≡ map plain pads ++ map rounded (flashed ++ contours)
+kinds_joined pads flashed contours = append_assoc (map plain pads) (map rounded flashed) (map rounded contours) ∙ ap (λ (ps : List WidePad). map plain pads ++ ps) (sym (map-append rounded flashed contours))

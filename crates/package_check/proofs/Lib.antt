@@ -25,3 +25,5 @@ pub mod SameAnswerLemmas
 pub mod SlotLemmas
 pub mod TakeSteps
 pub mod WrittenPackages
+mod WiderFindings
+mod WiderContents

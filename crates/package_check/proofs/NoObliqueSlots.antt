@@ -5,15 +5,18 @@ use Rattle.std.proofs.lemmas.Bool.{le-leb}
 use Rattle.std.proofs.lemmas.List.Sums.{sum_by-cons}
 use Rattle.std.proofs.lemmas.Slice.Zip.{AllZip-long}
 use Rattle.grid_units.specs.Holes.{GridRules}
+use Rattle.grid_units.specs.declared.profile.Profile.{Profile}
+use Rattle.grid_units.specs.declared.profile.Profile.TheVariants.{Strict, Wide}
+use Rattle.pad_shapes.specs.Shapes.{IsAxisAligned}
 use Rattle.grid_units.specs.Spans.{LayerSpan, is_in_span}
 use Rattle.grid_units.proofs.ListLemmas.{flat_map_at}
 use Rattle.ring_rules.specs.declared.finding.Drilled.{Drilled}
 use Rattle.manifest.specs.declared.Role.{Role}
 use Rattle.manifest.specs.declared.Role.TheVariants as role
 use Rattle.package_check.specs.declared.PackageFault.{PackageFault}
-use Rattle.package_check.specs.Package.{FileView, ReturnsReport, is_copper}
+use Rattle.package_check.specs.Package.{FileView, Setting, ReturnsReport, is_copper}
 use Rattle.package_check.specs.Reports.{ReportView}
-use Rattle.package_check.specs.Soundness.{AreStraight, HolesAreSaidOnce, IsRun, IsSound, PassingIsSound, SaysHoles, SaysPads, is_plated}
+use Rattle.package_check.specs.Soundness.{AreStraight, HolesAreSaidOnce, IsRun, IsSound, LiesAsAllowed, PassingIsSound, SaysHoles, SaysPads, is_plated}
 use Rattle.package_check.proofs.WrittenPackages.{hole_among}
 
 -- some layer lies in a span that is a run of layers
@@ -56,38 +59,44 @@ said_by (f ∷ fs) (d ∷ ds) all file (suc k) lt e =
     let more = said_by fs ds all.1 file k (omega arith) e in
     (more.0, (suc more.1.0, (let inside = more.1.1 in omega arith), more.1.2), more.2)
 
-module _ {X : Type 0} (seen : X → FileView) (role_of : X → Role) (n : ℕ) (same : (x : X) → (seen x).role ≡ role_of x) (all : (x : X) → (seen x).layers ≡ n) where
+-- a hole that lies as the strict profile allows lies along an axis
+along : (profile : Profile) (d : Drilled) → profile ≡ Strict → LiesAsAllowed profile d.hole → IsAxisAligned d.hole.from d.hole.to
+along Strict d is h = h
+along Wide d is h = absurd cc
+
+module _ {X : Type 0} (seen : X → FileView) (role_of : X → Role) (n : Setting) (same : (x : X) → (seen x).role ≡ role_of x) (all : (x : X) → (seen x).setting ≡ n) where
   counted : (xs : List X) → length (filter (λ file. is_copper file.role) (map seen xs)) ≡ count_by (λ x. is_copper (role_of x)) xs
   counted [] = refl
   counted (x ∷ xs) =
       kept_count (is_copper (seen x).role) (seen x) (filter (λ file. is_copper file.role) (map seen xs))
       ∙ ((λ i. cond (is_copper (same x i)) 1 0 + counted xs i) ∙ sym (sum_by-cons (λ y. cond (is_copper (role_of y)) 1 0) x xs))
 
-  layers_of : (xs : List X) (file : FileView) (k : ℕ) → k < length (map seen xs) → get_or (map seen xs) k file ≡ file → file.layers ≡ n
-  layers_of [] file k lt e = absurd (omega arith)
-  layers_of (x ∷ xs) file zero lt e = sym (ap (λ (f : FileView). f.layers) e) ∙ all x
-  layers_of (x ∷ xs) file (suc k) lt e = layers_of xs file k (omega arith) e
+  setting_of_file : (xs : List X) (file : FileView) (k : ℕ) → k < length (map seen xs) → get_or (map seen xs) k file ≡ file → file.setting ≡ n
+  setting_of_file [] file k lt e = absurd (omega arith)
+  setting_of_file (x ∷ xs) file zero lt e = sym (ap (λ (f : FileView). f.setting) e) ∙ all x
+  setting_of_file (x ∷ xs) file (suc k) lt e = setting_of_file xs file k (omega arith) e
 
-  straight : HolesAreSaidOnce → (rules : GridRules) (xs : List X) → IsSound (map seen xs) rules → n ≡ count_by (λ x. is_copper (role_of x)) xs → 0 < n → AreStraight (map seen xs)
-  straight once rules xs sound counts some file drilled d among said inside plated =
+  straight : HolesAreSaidOnce → (rules : GridRules) (xs : List X) → rules.profile ≡ Strict → n.profile ≡ Strict → IsSound (map seen xs) rules → n.layers ≡ count_by (λ x. is_copper (role_of x)) xs → 0 < n.layers → AreStraight (map seen xs)
+  straight once rules xs strict reads sound counts some file drilled d among said inside plated =
       let from = hole_among (is_plated file.role) file.span said.holes d (subst (λ (ds : List Drilled). Contains ds d) said.is inside) in
       let is_drill : not (is_copper file.role) ≡ true = plated_is_drill file.role (sym from.1 ∙ plated) in
       let files = filter (λ (f : FileView). not (is_copper f.role)) (map seen xs) in
       let place = kept (λ (f : FileView). not (is_copper f.role)) (map seen xs) file among.0 among.1 among.2 is_drill in
       let other = said_by files sound.drills sound.holes file place.0 place.1 place.2 in
-      let listed : Contains other.0 d = subst (λ (ds : List Drilled). Contains ds d) (once file drilled other.0 said other.2) inside in
+      let setting_is : file.setting ≡ n = setting_of_file xs file among.0 among.1 among.2 in
+      let listed : Contains other.0 d = subst (λ (ds : List Drilled). Contains ds d) (once file drilled other.0 (ap (λ (m : Setting). m.profile) setting_is ∙ reads) said other.2) inside in
       let at = other.1 in
       let far : at.0 < length sound.drills = at.1 in
       let spot : get_or sound.drills at.0 other.0 ≡ other.0 = at.2 in
       let whole : Contains (flat_map (λ (one : List Drilled). one) sound.drills) d = flat_map_at (λ (one : List Drilled). one) sound.drills other.0 d at.0 far spot listed in
-      let layers_are : file.layers ≡ n = layers_of xs file among.0 among.1 among.2 in
-      let layer = some_layer file.span file.layers (subst (λ m. 0 < m) (sym layers_are) some) said.run in
-      let below : layer.0 < file.layers = layer.1 in
+      let layers_are : file.setting.layers ≡ n.layers = ap (λ (m : Setting). m.layers) setting_is in
+      let layer = some_layer file.span file.setting.layers (subst (λ m. 0 < m) (sym layers_are) some) said.run in
+      let below : layer.0 < file.setting.layers = layer.1 in
       let long : length sound.layers ≡ length (filter (λ (f : FileView). is_copper f.role) (map seen xs)) = AllZip-long SaysPads (filter (λ (f : FileView). is_copper f.role) (map seen xs)) sound.layers sound.pads in
       let within : layer.0 < length sound.layers = omega (arith, below, layers_are, counts, counted xs, long) in
-      (sound.held layer.0 d within whole plated (ap (is_in_span layer.0) from.2 ∙ layer.2)).0
+      along rules.profile d strict (sound.held layer.0 d within whole plated (ap (is_in_span layer.0) from.2 ∙ layer.2)).0
 
-  pub passed_straight : HolesAreSaidOnce → PassingIsSound → (rules : GridRules) (xs : List X) (r : Result ReportView PackageFault) → n ≡ count_by (λ x. is_copper (role_of x)) xs → ReturnsReport (map seen xs) rules r
-      → IfOk r (λ report. report.findings ≡ [] → 0 < n → AreStraight (map seen xs))
-  passed_straight once law rules xs (Ok report) counts h = λ none some. straight once rules xs (law (map seen xs) rules report h none) counts some
-  passed_straight once law rules xs (Err e) counts h = tt
+  pub passed_straight : HolesAreSaidOnce → PassingIsSound → (rules : GridRules) (xs : List X) (r : Result ReportView PackageFault) → rules.profile ≡ Strict → n.profile ≡ Strict → n.layers ≡ count_by (λ x. is_copper (role_of x)) xs → ReturnsReport (map seen xs) rules r
+      → IfOk r (λ report. report.findings ≡ [] → 0 < n.layers → AreStraight (map seen xs))
+  passed_straight once law rules xs (Ok report) strict reads counts h = λ none some. straight once rules xs strict reads (law (map seen xs) rules report h none) counts some
+  passed_straight once law rules xs (Err e) strict reads counts h = tt

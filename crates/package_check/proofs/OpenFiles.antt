@@ -8,21 +8,24 @@ use Rattle.grid_units.specs.declared.fault.Fault.{Fault}
 use Rattle.grid_units.specs.declared.fault.Fail.{Fail}
 use Rattle.grid_units.specs.declared.fault.Fail.TheVariants as fails
 use Rattle.drill_text.specs.Outcome.{DrillFile, file_of}
-use Rattle.drill_text.specs.Reading as drills
-use Rattle.drill_text.specs.Texts.{ReadsAs}
+use Rattle.drill_text.specs.Profiles.{ReadsAsIn, ReadsIn, ShowsIn}
+use Rattle.drill_text.proofs.ProfileLemmas.{reads_strictly}
+use Rattle.drill_text.proofs.SpellsTextLemmas.{reads_drill_text}
+use Rattle.grid_units.specs.declared.profile.Profile.{Profile}
+use Rattle.grid_units.specs.declared.profile.Profile.TheVariants.{Strict, Wide}
 use Rattle.drill_text.specs.declared.kept.Keep.TheVariants as drill_keep
 use Rattle.grid_units.specs.Holes.{GridHole}
-use Rattle.layer_image.specs.Holding.{ShowsLayerFault}
+use Rattle.layer_image.specs.Holding.{ShowsLayerFaultIn}
 use Rattle.layer_image.specs.Layers as layers
-use Rattle.layer_image.specs.Layers.{LayerImage, ReadsKept}
+use Rattle.layer_image.specs.Layers.{LayerImage, ReadsKeptIn}
 use Rattle.layer_image.specs.declared.keep.Keep.{Keep}
 use Rattle.manifest.specs.declared.Role.{Role}
 use Rattle.manifest.specs.declared.Role.TheVariants as role
 use Rattle.package_check.specs.FileTexts.{ReadsDrill, ReadsLayer}
 use Rattle.package_check.specs.LayerViews.{LayerView}
-use Rattle.package_check.specs.Holding.{TakesFile, copper_files, is_wanted}
+use Rattle.package_check.specs.Holding.{TakesFile, is_wanted, setting_of}
 use Rattle.package_check.specs.OpenFiles.{HasFailed, HasOpened, HasReadText, drill_role}
-use Rattle.package_check.specs.Package.{FileView, Reads, ReadsBytes, ReadsCopper, ReadsHoles, ReadsUnlessBadSpan, bad_span, is_bad_span, is_copper, unnamed_file}
+use Rattle.package_check.specs.Package.{FileView, Setting, Reads, ReadsBytes, ReadsCopper, ReadsHoles, ReadsUnlessBadSpan, bad_span, is_bad_span, is_copper, unnamed_file}
 use Rattle.package_check.specs.declared.contents.Content.{Content}
 use Rattle.package_check.specs.declared.open_file.OpenFile.{OpenFile}
 use Rattle.package_check.specs.declared.package_reader.PackageReader.{PackageReader}
@@ -34,23 +37,23 @@ by_bytes true s r e h = absurd (false≢true (sym e))
 by_bytes false s r e h = h
 
 -- what is read of a copper file is read by its bytes
-pub read_as_copper : (of : Role) (span : Option LayerSpan) (layers : ℕ) (bytes : List ℕ) (r : Result Content Fail) → of ≡ role.Copper → is_bad_span of span layers ≡ false → Answers {T = Content} (λ x. x) (ReadsCopper bytes) r
-    → Answers {T = Content} (λ x. x) (Reads (unnamed_file of span layers bytes)) r
-read_as_copper role.Copper span layers bytes r is good h = by_bytes (is_bad_span role.Copper span layers) (unnamed_file role.Copper span layers bytes) r good h
-read_as_copper role.Plated span layers bytes r is good h = absurd (false≢true (ap is_copper is))
-read_as_copper role.Unplated span layers bytes r is good h = absurd (false≢true (ap is_copper is))
+pub read_as_copper : (of : Role) (span : Option LayerSpan) (setting : Setting) (bytes : List ℕ) (r : Result Content Fail) → of ≡ role.Copper → is_bad_span of span setting.layers ≡ false → Answers {T = Content} (λ x. x) (ReadsCopper setting.profile bytes) r
+    → Answers {T = Content} (λ x. x) (Reads (unnamed_file of span setting bytes)) r
+read_as_copper role.Copper span setting bytes r is good h = by_bytes (is_bad_span role.Copper span setting.layers) (unnamed_file role.Copper span setting bytes) r good h
+read_as_copper role.Plated span setting bytes r is good h = absurd (false≢true (ap is_copper is))
+read_as_copper role.Unplated span setting bytes r is good h = absurd (false≢true (ap is_copper is))
 
 -- and of a drill file
-as_drill : (plated : Bool) (span : Option LayerSpan) (layers : ℕ) (bytes : List ℕ) (r : Result Content Fail) → is_bad_span (drill_role plated) span layers ≡ false → Answers {T = Content} (λ x. x) (ReadsHoles plated span bytes) r
-    → Answers {T = Content} (λ x. x) (Reads (unnamed_file (drill_role plated) span layers bytes)) r
-as_drill true span layers bytes r good h = by_bytes (is_bad_span role.Plated span layers) (unnamed_file role.Plated span layers bytes) r good h
-as_drill false span layers bytes r good h = by_bytes (is_bad_span role.Unplated span layers) (unnamed_file role.Unplated span layers bytes) r good h
+as_drill : (plated : Bool) (span : Option LayerSpan) (setting : Setting) (bytes : List ℕ) (r : Result Content Fail) → is_bad_span (drill_role plated) span setting.layers ≡ false → Answers {T = Content} (λ x. x) (ReadsHoles setting.profile plated span bytes) r
+    → Answers {T = Content} (λ x. x) (Reads (unnamed_file (drill_role plated) span setting bytes)) r
+as_drill true span setting bytes r good h = by_bytes (is_bad_span role.Plated span setting.layers) (unnamed_file role.Plated span setting bytes) r good h
+as_drill false span setting bytes r good h = by_bytes (is_bad_span role.Unplated span setting.layers) (unnamed_file role.Unplated span setting bytes) r good h
 
-pub read_as_drill : (of : Role) (plated : Bool) (span : Option LayerSpan) (layers : ℕ) (bytes : List ℕ) (r : Result Content Fail) → of ≡ drill_role plated → is_bad_span of span layers ≡ false → Answers {T = Content} (λ x. x) (ReadsHoles plated span bytes) r
-    → Answers {T = Content} (λ x. x) (Reads (unnamed_file of span layers bytes)) r
-read_as_drill of plated span layers bytes r is good h =
-    subst (λ (q : Role). Answers {T = Content} (λ x. x) (Reads (unnamed_file q span layers bytes)) r) (sym is)
-    (as_drill plated span layers bytes r (ap (λ (q : Role). is_bad_span q span layers) (sym is) ∙ good) h)
+pub read_as_drill : (of : Role) (plated : Bool) (span : Option LayerSpan) (setting : Setting) (bytes : List ℕ) (r : Result Content Fail) → of ≡ drill_role plated → is_bad_span of span setting.layers ≡ false → Answers {T = Content} (λ x. x) (ReadsHoles setting.profile plated span bytes) r
+    → Answers {T = Content} (λ x. x) (Reads (unnamed_file of span setting bytes)) r
+read_as_drill of plated span setting bytes r is good h =
+    subst (λ (q : Role). Answers {T = Content} (λ x. x) (Reads (unnamed_file q span setting bytes)) r) (sym is)
+    (as_drill plated span setting bytes r (ap (λ (q : Role). is_bad_span q span setting.layers) (sym is) ∙ good) h)
 
 -- a drill file is not copper
 pub drill_no_copper : (of : Role) (plated : Bool) → of ≡ drill_role plated → is_copper of ≡ false
@@ -64,31 +67,36 @@ refused_span true s f is same = λ j. Err (same j)
 refused_span false s f is same = absurd (false≢true is)
 
 -- a bad span is a fault, whatever the text is
-pub span_failed : (of : Role) (span : Option LayerSpan) (layers : ℕ) (text : List ℕ) (e : Fail) → is_bad_span of span layers ≡ true → e ≡ fails.Refused bad_span → HasFailed of span layers e text
-span_failed of span layers text e bad is =
-    subst (λ (x : Fail). HasFailed of span layers x text) (sym is) (λ more. refused_span (is_bad_span of span layers) (unnamed_file of span layers (text ++ more)) bad_span bad refl)
+pub span_failed : (of : Role) (span : Option LayerSpan) (setting : Setting) (text : List ℕ) (e : Fail) → is_bad_span of span setting.layers ≡ true → e ≡ fails.Refused bad_span → HasFailed of span setting e text
+span_failed of span setting text e bad is =
+    subst (λ (x : Fail). HasFailed of span setting x text) (sym is) (λ more. refused_span (is_bad_span of span setting.layers) (unnamed_file of span setting (text ++ more)) bad_span bad refl)
+
+-- the fault of a drill text is that of its file
+drill_refused : (profile : Profile) (plated : Bool) (span : Option LayerSpan) (text : List ℕ) (f : Fault) → ReadsIn profile text (Err f) → ReadsHoles profile plated span text (Err f)
+drill_refused Strict plated span text f h = reads_strictly text (Err f) h
+drill_refused Wide plated span text f h = h
 
 -- the fault that the text of a layer shows stays
-pub layer_failed : ((text more : List ℕ) (f : Fault) → ShowsLayerFault text f → layers.ReadsLayer (text ++ more) (Err f)) → (of : Role) (span : Option LayerSpan) (layers : ℕ) (text : List ℕ) (e : Fail)
-    → of ≡ role.Copper → is_bad_span of span layers ≡ false → IfFault (ShowsLayerFault text) e → HasFailed of span layers e text
-layer_failed law of span layers text fails.Memory is good h = tt
-layer_failed law of span layers text (fails.Refused f) is good h = λ more. read_as_copper of span layers (text ++ more) (Err (fails.Refused f)) is good (inl (law text more f h))
+pub layer_failed : ((profile : Profile) (text more : List ℕ) (f : Fault) → ShowsLayerFaultIn profile text f → layers.ReadsLayerIn profile (text ++ more) (Err f)) → (of : Role) (span : Option LayerSpan) (setting : Setting) (text : List ℕ) (e : Fail)
+    → of ≡ role.Copper → is_bad_span of span setting.layers ≡ false → IfFault (ShowsLayerFaultIn setting.profile text) e → HasFailed of span setting e text
+layer_failed law of span setting text fails.Memory is good h = tt
+layer_failed law of span setting text (fails.Refused f) is good h = λ more. read_as_copper of span setting (text ++ more) (Err (fails.Refused f)) is good (inl (law setting.profile text more f h))
 
 -- and that of a drill text
-pub drill_failed : ((text more : List ℕ) (f : Fault) → drills.Shows text (Err f) → drills.Reads (text ++ more) (Err f)) → (of : Role) (plated : Bool) (span : Option LayerSpan) (layers : ℕ) (text : List ℕ) (e : Fail)
-    → of ≡ drill_role plated → is_bad_span of span layers ≡ false → IfFault (λ f. drills.Shows text (Err f)) e → HasFailed of span layers e text
-drill_failed law of plated span layers text fails.Memory is good h = tt
-drill_failed law of plated span layers text (fails.Refused f) is good h = λ more. read_as_drill of plated span layers (text ++ more) (Err (fails.Refused f)) is good (law text more f h)
+pub drill_failed : ((profile : Profile) (text more : List ℕ) (f : Fault) → ShowsIn profile text (Err f) → ReadsIn profile (text ++ more) (Err f)) → (of : Role) (plated : Bool) (span : Option LayerSpan) (setting : Setting) (text : List ℕ) (e : Fail)
+    → of ≡ drill_role plated → is_bad_span of span setting.layers ≡ false → IfFault (λ f. ShowsIn setting.profile text (Err f)) e → HasFailed of span setting e text
+drill_failed law of plated span setting text fails.Memory is good h = tt
+drill_failed law of plated span setting text (fails.Refused f) is good h = λ more. read_as_drill of plated span setting (text ++ more) (Err (fails.Refused f)) is good (drill_refused setting.profile plated span (text ++ more) f (law setting.profile text more f h))
 
 -- a file that has failed has failed after the next piece too
-pub failed_on : (of : Role) (span : Option LayerSpan) (layers : ℕ) (text piece : List ℕ) (e : Fail) → HasFailed of span layers e text → HasFailed of span layers e (text ++ piece)
-failed_on of span layers text piece fails.Memory h = tt
-failed_on of span layers text piece (fails.Refused f) h = λ more. subst (λ (t : List ℕ). Reads (unnamed_file of span layers t) (Err f)) (sym (append_assoc text piece more)) (h (piece ++ more))
+pub failed_on : (of : Role) (span : Option LayerSpan) (setting : Setting) (text piece : List ℕ) (e : Fail) → HasFailed of span setting e text → HasFailed of span setting e (text ++ piece)
+failed_on of span setting text piece fails.Memory h = tt
+failed_on of span setting text piece (fails.Refused f) h = λ more. subst (λ (t : List ℕ). Reads (unnamed_file of span setting t) (Err f)) (sym (append_assoc text piece more)) (h (piece ++ more))
 
 -- and so it is refused in the end
-pub failed_read : (of : Role) (span : Option LayerSpan) (layers : ℕ) (text : List ℕ) (e : Fail) → HasFailed of span layers e text → Answers {T = Content} (λ x. x) (Reads (unnamed_file of span layers text)) (Err e)
-failed_read of span layers text fails.Memory h = tt
-failed_read of span layers text (fails.Refused f) h = subst (λ (t : List ℕ). Reads (unnamed_file of span layers t) (Err f)) (append-nil text) (h [])
+pub failed_read : (of : Role) (span : Option LayerSpan) (setting : Setting) (text : List ℕ) (e : Fail) → HasFailed of span setting e text → Answers {T = Content} (λ x. x) (Reads (unnamed_file of span setting text)) (Err e)
+failed_read of span setting text fails.Memory h = tt
+failed_read of span setting text (fails.Refused f) h = subst (λ (t : List ℕ). Reads (unnamed_file of span setting t) (Err f)) (append-nil text) (h [])
 
 -- ---- steps
 
@@ -98,44 +106,50 @@ and_on C (Ok u) a b h = (a, b, h)
 and_on C (Err e) a b h = tt
 
 -- why the next piece of a layer was refused
-pub layer_errs : ((text more : List ℕ) (f : Fault) → ShowsLayerFault text f → layers.ReadsLayer (text ++ more) (Err f)) → (of : Role) (span : Option LayerSpan) (layers : ℕ) (text : List ℕ) (r : Result (Unit {0}) Fail)
-    → of ≡ role.Copper → is_bad_span of span layers ≡ false → IfErr r (IfFault (ShowsLayerFault text)) → IfErr r (λ fail. HasFailed of span layers fail text)
-layer_errs law of span layers text (Ok u) is good h = tt
-layer_errs law of span layers text (Err e) is good h = layer_failed law of span layers text e is good h
+pub layer_errs : ((profile : Profile) (text more : List ℕ) (f : Fault) → ShowsLayerFaultIn profile text f → layers.ReadsLayerIn profile (text ++ more) (Err f)) → (of : Role) (span : Option LayerSpan) (setting : Setting) (text : List ℕ) (r : Result (Unit {0}) Fail)
+    → of ≡ role.Copper → is_bad_span of span setting.layers ≡ false → IfErr r (IfFault (ShowsLayerFaultIn setting.profile text)) → IfErr r (λ fail. HasFailed of span setting fail text)
+layer_errs law of span setting text (Ok u) is good h = tt
+layer_errs law of span setting text (Err e) is good h = layer_failed law of span setting text e is good h
 
 -- and of a drill file
-pub drill_errs : ((text more : List ℕ) (f : Fault) → drills.Shows text (Err f) → drills.Reads (text ++ more) (Err f)) → (of : Role) (plated : Bool) (span : Option LayerSpan) (layers : ℕ) (text : List ℕ) (r : Result (Unit {0}) Fail)
-    → of ≡ drill_role plated → is_bad_span of span layers ≡ false → IfErr r (IfFault (λ f. drills.Shows text (Err f))) → IfErr r (λ fail. HasFailed of span layers fail text)
-drill_errs law of plated span layers text (Ok u) is good h = tt
-drill_errs law of plated span layers text (Err e) is good h = drill_failed law of plated span layers text e is good h
+pub drill_errs : ((profile : Profile) (text more : List ℕ) (f : Fault) → ShowsIn profile text (Err f) → ReadsIn profile (text ++ more) (Err f)) → (of : Role) (plated : Bool) (span : Option LayerSpan) (setting : Setting) (text : List ℕ) (r : Result (Unit {0}) Fail)
+    → of ≡ drill_role plated → is_bad_span of span setting.layers ≡ false → IfErr r (IfFault (λ f. ShowsIn setting.profile text (Err f))) → IfErr r (λ fail. HasFailed of span setting fail text)
+drill_errs law of plated span setting text (Ok u) is good h = tt
+drill_errs law of plated span setting text (Err e) is good h = drill_failed law of plated span setting text e is good h
 
 -- the fault of a text is that of what is kept of it
-pub layer_fault : (keep : Keep) (text : List ℕ) (e : Fail) → Answers {T = LayerImage} (λ layer. layer) (ReadsKept keep text) (Err e) → Answers {T = LayerView} (λ x. x) (ReadsLayer text) (Err e)
-layer_fault keep text fails.Memory h = tt
-layer_fault keep text (fails.Refused f) h = h
+pub layer_fault : (profile : Profile) (keep : Keep) (text : List ℕ) (e : Fail) → Answers {T = LayerImage} (λ layer. layer) (ReadsKeptIn profile keep text) (Err e) → Answers {T = LayerView} (λ x. x) (ReadsLayer profile text) (Err e)
+layer_fault profile keep text fails.Memory h = tt
+layer_fault profile keep text (fails.Refused f) h = h
 
-pub drill_fault : (text : List ℕ) (e : Fail) → Answers {T = DrillFile} (λ drill. drill) (ReadsAs (file_of drill_keep.Holes) text) (Err e) → Answers {T = List GridHole} (λ x. x) (ReadsDrill text) (Err e)
-drill_fault text fails.Memory h = tt
-drill_fault text (fails.Refused f) h = h
+pub drill_fault : (profile : Profile) (text : List ℕ) (e : Fail) → Answers {T = DrillFile} (λ drill. drill) (ReadsAsIn profile (file_of drill_keep.Holes) text) (Err e) → Answers {T = List GridHole} (λ x. x) (ReadsDrill profile text) (Err e)
+drill_fault profile text fails.Memory h = tt
+drill_fault Strict text (fails.Refused f) h = reads_strictly text (Err f) h
+drill_fault Wide text (fails.Refused f) h = h
 
-pub holes_fault : (plated : Bool) (span : Option LayerSpan) (text : List ℕ) (e : Fail) → Answers {T = List GridHole} (λ x. x) (ReadsDrill text) (Err e) → Answers {T = Content} (λ x. x) (ReadsHoles plated span text) (Err e)
-holes_fault plated span text fails.Memory h = tt
-holes_fault plated span text (fails.Refused f) h = h
+-- the holes of a text are those of what is kept of it
+pub drill_read : (profile : Profile) (text : List ℕ) (d : DrillFile) → ReadsAsIn profile (file_of drill_keep.Holes) text (Ok d) → ReadsDrill profile text (Ok d.holes)
+drill_read Strict text d h = (h.0, reads_drill_text text h.0 (reads_strictly text (Ok h.0) h.1), ap (λ (d : DrillFile). d.holes) h.2)
+drill_read Wide text d h = (h.0, h.1, ap (λ (d : DrillFile). d.holes) h.2)
+
+pub holes_fault : (profile : Profile) (plated : Bool) (span : Option LayerSpan) (text : List ℕ) (e : Fail) → Answers {T = List GridHole} (λ x. x) (ReadsDrill profile text) (Err e) → Answers {T = Content} (λ x. x) (ReadsHoles profile plated span text) (Err e)
+holes_fault profile plated span text fails.Memory h = tt
+holes_fault profile plated span text (fails.Refused f) h = h
 
 -- ---- open files
 
 -- an open file has read its text as the file that it is
 pub own_reads : (reader : PackageReader) (file : OpenFile) (index : ℕ) (of : Role) (span : Option LayerSpan) (text : List ℕ) → HasOpened reader index of span file text → is_wanted reader.stopped file.index ≡ true
-    → HasReadText reader.keep file.role file.span reader.layers file.reading text
+    → HasReadText reader.keep file.role file.span (setting_of reader) file.reading text
 own_reads reader file index of span text h on =
-    subst (λ (q : Role). HasReadText reader.keep q file.span reader.layers file.reading text) (sym h.same_role)
-    (subst (λ (s : Option LayerSpan). HasReadText reader.keep of s reader.layers file.reading text) (sym h.same_span) (h.reads (ap (λ (k : ℕ). is_wanted reader.stopped k) (sym h.same_index) ∙ on)))
+    subst (λ (q : Role). HasReadText reader.keep q file.span (setting_of reader) file.reading text) (sym h.same_role)
+    (subst (λ (s : Option LayerSpan). HasReadText reader.keep of s (setting_of reader) file.reading text) (sym h.same_span) (h.reads (ap (λ (k : ℕ). is_wanted reader.stopped k) (sym h.same_index) ∙ on)))
 
 -- and is taken as that
 pub opened_takes : (old new : PackageReader) (file : OpenFile) (index : ℕ) (of : Role) (span : Option LayerSpan) (text name : List ℕ) (r : Result (Unit {0}) AllocError) → HasOpened old index of span file text
-    → OnOk r (TakesFile old new file.index (record { role = file.role; name = name; span = file.span; bytes = text; layers = copper_files old }))
-    → OnOk r (TakesFile old new index (record { role = of; name = name; span = span; bytes = text; layers = copper_files old }))
+    → OnOk r (TakesFile old new file.index (record { role = file.role; name = name; span = file.span; bytes = text; setting = setting_of old }))
+    → OnOk r (TakesFile old new index (record { role = of; name = name; span = span; bytes = text; setting = setting_of old }))
 opened_takes old new file index of span text name r h takes =
-    subst (λ (k : ℕ). OnOk r (TakesFile old new k (record { role = of; name = name; span = span; bytes = text; layers = copper_files old }))) h.same_index
-    (subst (λ (q : Role). OnOk r (TakesFile old new file.index (record { role = q; name = name; span = span; bytes = text; layers = copper_files old }))) h.same_role
-    (subst (λ (s : Option LayerSpan). OnOk r (TakesFile old new file.index (record { role = file.role; name = name; span = s; bytes = text; layers = copper_files old }))) h.same_span takes))
+    subst (λ (k : ℕ). OnOk r (TakesFile old new k (record { role = of; name = name; span = span; bytes = text; setting = setting_of old }))) h.same_index
+    (subst (λ (q : Role). OnOk r (TakesFile old new file.index (record { role = q; name = name; span = span; bytes = text; setting = setting_of old }))) h.same_role
+    (subst (λ (s : Option LayerSpan). OnOk r (TakesFile old new file.index (record { role = file.role; name = name; span = s; bytes = text; setting = setting_of old }))) h.same_span takes))

@@ -1,12 +1,15 @@
 -- A package that passes is sound by what is read of it.
-use Rattle.std.proofs.Common.{◌≡◌, ◌+◌, ◌++◌, ℕ, Bool, true, List, [], ◌∷◌, map, ap, refl, sym, ◌∙◌, subst}
+use Rattle.std.proofs.Common.{◌≡◌, ◌<◌, ◌+◌, ◌++◌, ℕ, Bool, true, List, [], ◌∷◌, length, map, ap, refl, sym, ◌∙◌, subst}
 use Rattle.std.specs.List.{Contains, flat_map, enumerate_from}
 use Rattle.std.proofs.lemmas.List.{map-append}
 use Rattle.std.proofs.lemmas.List.Concat.{flat_map-cons}
 use Rattle.grid_units.specs.Holes.{GridHole}
-use Rattle.pad_shapes.specs.Pads.{IsInPad, pad_covers}
-use Rattle.ring_rules.specs.WithoutFindings.{RingsHoldWithoutFindings, SlotsHoldWithoutFindings, StraightWithoutFindings, ApartWithoutFindings, AreAllApart}
-use Rattle.grid_units.specs.Spans.{LayerSpan}
+use Rattle.grid_units.specs.declared.profile.Profile.{Profile}
+use Rattle.grid_units.specs.declared.profile.Profile.TheVariants.{Strict, Wide}
+use Rattle.wide_pads.specs.WidePads.{IsInWidePad, wide_pad_covers}
+use Rattle.wide_pads.specs.declared.wide_pad.WidePad.{WidePad}
+use Rattle.ring_rules.specs.WithoutFindings.{HolesHoldWithoutFindings, StraightWithoutFindings, ApartWithoutFindings, AreAllApart}
+use Rattle.grid_units.specs.Spans.{LayerSpan, is_in_span}
 use Rattle.std.specs.Prelude.{Option}
 use Rattle.ring_rules.specs.Findings.{ring_findings, gap_findings}
 use Rattle.ring_rules.specs.declared.finding.Drilled.{Drilled}
@@ -14,6 +17,7 @@ use Rattle.package_check.specs.declared.Numbered.{Numbered}
 use Rattle.package_check.specs.declared.contents.Content.{Content}
 use Rattle.package_check.specs.declared.contents.Content.TheVariants as content
 use Rattle.package_check.specs.Package.{drilled, holes_of, layers}
+use Rattle.package_check.specs.Soundness.{LiesAsAllowed}
 use Rattle.package_check.specs.SoundnessAsRead.{PassingIsSoundAsRead, IsPlatedThrough, drilled_in}
 use Rattle.grid_units.proofs.ListLemmas.{append_nil_left, append_nil_right, map_contains, flat_map_at}
 
@@ -50,19 +54,24 @@ among_all contents layer hole h =
     subst (λ (ds : List Drilled). Contains ds one) (sym (all_drilled contents))
     (flat_among drilled_in contents (content.Drill true h.span h.holes) one h.file (map_contains (λ (g : GridHole). let d : Drilled = record { hole = g; plated = true; span = h.span } in d) h.holes hole h.drilled))
 
-pub passing_is_sound : RingsHoldWithoutFindings IsInPad pad_covers → SlotsHoldWithoutFindings IsInPad pad_covers → StraightWithoutFindings pad_covers → ApartWithoutFindings → PassingIsSoundAsRead
-passing_is_sound held slots_held straight apart sources rules report is passes =
+-- where no ring is a finding, each plated hole lies as the profile allows
+allowed : StraightWithoutFindings wide_pad_covers → (profile : Profile) (ring : ℕ) (layers : List (List WidePad)) (holes : List Drilled) → ring_findings wide_pad_covers profile ring layers holes ≡ []
+    → (l : ℕ) (d : Drilled) → l < length layers → Contains holes d → d.plated ≡ true → is_in_span l d.span ≡ true → LiesAsAllowed profile d.hole
+allowed straight Strict ring layers holes none l d inside among plated through = straight ring layers holes none l d inside among plated through
+allowed straight Wide ring layers holes none l d inside among plated through = tt
+
+pub passing_is_sound : HolesHoldWithoutFindings IsInWidePad wide_pad_covers → StraightWithoutFindings wide_pad_covers → ApartWithoutFindings → PassingIsSoundAsRead
+passing_is_sound held straight apart sources rules report is passes =
     let none = sym (ap (λ r. r.findings) is.is) ∙ passes in
-    let rings = ring_findings pad_covers rules.ring (layers is.contents) (drilled is.contents) in
+    let rings = ring_findings wide_pad_covers rules.profile rules.ring (layers is.contents) (drilled is.contents) in
     let gaps = gap_findings rules.gap (drilled is.contents) in
     record {
       contents = is.contents;
       read = is.read;
-      rings = λ layer hole inside h round.
-          held rules.ring (layers is.contents) (drilled is.contents) (append_nil_left rings gaps none) layer (record { hole = hole; plated = true; span = h.span }) inside (among_all is.contents layer hole h) refl h.through round;
-      slots = λ layer hole inside h along.
-          slots_held rules.ring (layers is.contents) (drilled is.contents) (append_nil_left rings gaps none) layer (record { hole = hole; plated = true; span = h.span }) inside (among_all is.contents layer hole h) refl h.through along;
-      straight = λ layer hole inside h.
-          straight rules.ring (layers is.contents) (drilled is.contents) (append_nil_left rings gaps none) layer (record { hole = hole; plated = true; span = h.span }) inside (among_all is.contents layer hole h) refl h.through;
+      held = λ layer hole inside h.
+          let one : Drilled = record { hole = hole; plated = true; span = h.span } in
+          let all = among_all is.contents layer hole h in
+          let clean = append_nil_left rings gaps none in
+          (allowed straight rules.profile rules.ring (layers is.contents) (drilled is.contents) clean layer one inside all refl h.through, held rules.profile rules.ring (layers is.contents) (drilled is.contents) clean layer one inside all refl h.through);
       gaps = subst (λ (ds : List Drilled). AreAllApart rules.gap ds) (all_drilled is.contents) (apart rules.gap (drilled is.contents) (append_nil_right rings gaps none));
     }

@@ -7,7 +7,8 @@ use Rattle.grid_units.specs.declared.fault.Fault.{Fault}
 use Rattle.grid_units.specs.declared.fault.Fail.{Fail}
 use Rattle.grid_units.specs.declared.fault.Fail.TheVariants as fails
 use Rattle.grid_units.specs.Results.{IfFault}
-use Rattle.layer_image.specs.Holding.{ShowsLayerFault}
+use Rattle.grid_units.specs.declared.profile.Profile.{Profile}
+use Rattle.layer_image.specs.Holding.{ShowsLayerFaultIn}
 
 -- ---- joining
 
@@ -40,6 +41,6 @@ joined_all xs i d lt =
 -- ---- a text goes on
 
 -- the fault that the text so far shows is shown by the whole piece
-pub fault_stays_in_longer : ((text more : List ℕ) (f : Fault) → ShowsLayerFault text f → ShowsLayerFault (text ++ more) f) → (text more whole : List ℕ) (e : Fail) → text ++ more ≡ whole → IfFault (ShowsLayerFault text) e → IfFault (ShowsLayerFault whole) e
-fault_stays_in_longer law text more whole fails.Memory is h = tt
-fault_stays_in_longer law text more whole (fails.Refused f) is h = subst (λ (t : List ℕ). ShowsLayerFault t f) is (law text more f h)
+pub fault_stays_in_longer : (profile : Profile) → ((text more : List ℕ) (f : Fault) → ShowsLayerFaultIn profile text f → ShowsLayerFaultIn profile (text ++ more) f) → (text more whole : List ℕ) (e : Fail) → text ++ more ≡ whole → IfFault (ShowsLayerFaultIn profile text) e → IfFault (ShowsLayerFaultIn profile whole) e
+fault_stays_in_longer profile law text more whole fails.Memory is h = tt
+fault_stays_in_longer profile law text more whole (fails.Refused f) is h = subst (λ (t : List ℕ). ShowsLayerFaultIn profile t f) is (law text more f h)

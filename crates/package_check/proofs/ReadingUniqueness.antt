@@ -6,8 +6,11 @@ use Rattle.drill_lines.specs.declared.command.DrillCommand.{DrillCommand}
 use Rattle.drill_text.specs.Holes.{holes_of}
 use Rattle.drill_text.specs.Reading as drills
 use Rattle.drill_text.specs.Texts.{IsDrillText}
+use Rattle.drill_text.specs.Profiles.{ReadsIn}
+use Rattle.grid_units.specs.declared.profile.Profile.{Profile}
+use Rattle.grid_units.specs.declared.profile.Profile.TheVariants.{Strict, Wide}
 use Rattle.layer_image.specs.Layers as layers
-use Rattle.layer_image.specs.Layers.{LayerImage}
+use Rattle.wide_layers.specs.WideLayers as wide
 use Rattle.std.specs.Prelude.{Option}
 use Rattle.grid_units.specs.Spans.{LayerSpan}
 use Rattle.manifest.specs.declared.Role.{Role}
@@ -15,8 +18,8 @@ use Rattle.manifest.specs.declared.Role.TheVariants as role
 use Rattle.package_check.specs.declared.contents.Content.{Content}
 use Rattle.package_check.specs.declared.contents.Content.TheVariants as content
 use Rattle.package_check.specs.LayerViews.{LayerView}
-use Rattle.package_check.specs.FileTexts.{ReadsLayer, ReadsDrill, layer_view}
-use Rattle.package_check.specs.Package.{ReadsBytes, ReadsUnlessBadSpan, ReadsCopper, ReadsHoles, is_bad_span}
+use Rattle.package_check.specs.FileTexts.{ReadsLayer, ReadsDrill, layer_view, wide_view}
+use Rattle.package_check.specs.Package.{Setting, ReadsBytes, ReadsUnlessBadSpan, ReadsCopper, ReadsHoles, is_bad_span}
 use Rattle.package_check.specs.AlikePackages.{ReadingIsUnique}
 
 abbrev answered : {A : Type 0} → A → Result A Fault
@@ -38,59 +41,69 @@ true_or_false : (t : Bool) → t ≡ true → t ≡ false → ⊥
 true_or_false true e k = cc
 true_or_false false e k = cc
 
-module _ (layer_once : layers.ReadingIsUnique)
+module _ (layer_once : layers.ReadingIsUniqueIn) (wide_once : wide.ReadingIsUnique)
     (drill_once : (text : List ℕ) (a b : Result (List DrillCommand) Fault) → drills.Reads text a → drills.Reads text b → a ≡ b)
+    (drill_once_in : (profile : Profile) (text : List ℕ) (a b : Result (List DrillCommand) Fault) → ReadsIn profile text a → ReadsIn profile text b → a ≡ b)
     (texts : (text : List ℕ) (commands : List DrillCommand) → (drills.Reads text (Ok commands)) ↔ (IsDrillText text commands)) where
-  one_image : (bytes : List ℕ) (a b : LayerView) → ReadsLayer bytes (Ok a) → ReadsLayer bytes (Ok b) → a ≡ b
-  one_image bytes a b h k = h.2 ∙ (ap layer_view (ok_same (layer_once bytes (Ok h.0) (Ok k.0) h.1 k.1)) ∙ sym k.2)
+  one_image : (profile : Profile) (bytes : List ℕ) (a b : LayerView) → ReadsLayer profile bytes (Ok a) → ReadsLayer profile bytes (Ok b) → a ≡ b
+  one_image Strict bytes a b h k = h.2 ∙ (ap layer_view (ok_same (layer_once Strict bytes (Ok h.0) (Ok k.0) h.1 k.1)) ∙ sym k.2)
+  one_image Wide bytes a b h k = h.2 ∙ (ap wide_view (ok_same (wide_once bytes (Ok h.0) (Ok k.0) h.1 k.1)) ∙ sym k.2)
 
-  no_layer : (bytes : List ℕ) (a : LayerView) (f : Fault) → ReadsLayer bytes (Ok a) → ReadsLayer bytes (Err f) → ⊥
-  no_layer bytes a f h k = not_both (layer_once bytes (Ok h.0) (Err f) h.1 k)
+  no_layer : (profile : Profile) (bytes : List ℕ) (a : LayerView) (f : Fault) → ReadsLayer profile bytes (Ok a) → ReadsLayer profile bytes (Err f) → ⊥
+  no_layer Strict bytes a f h k = not_both (layer_once Strict bytes (Ok h.0) (Err f) h.1 k)
+  no_layer Wide bytes a f h k = not_both (wide_once bytes (Ok h.0) (Err f) h.1 k)
 
-  copper_or_not : (bytes : List ℕ) (a : LayerView) (f : Fault) → ReadsCopper bytes (Ok (content.Layer a)) → ReadsCopper bytes (Err f) → ⊥
-  copper_or_not bytes a f h (inl k) = no_layer bytes a f h.0 k
-  copper_or_not bytes a f h (inr k) = true_or_false a.is_copper h.1 (ap (λ (i : LayerView). i.is_copper) (one_image bytes a k.0 h.0 k.1) ∙ k.2)
+  module _ (profile : Profile) where
+    copper_or_not : (bytes : List ℕ) (a : LayerView) (f : Fault) → ReadsCopper profile bytes (Ok (content.Layer a)) → ReadsCopper profile bytes (Err f) → ⊥
+    copper_or_not bytes a f h (inl k) = no_layer profile bytes a f h.0 k
+    copper_or_not bytes a f h (inr k) = true_or_false a.is_copper h.1 (ap (λ (i : LayerView). i.is_copper) (one_image profile bytes a k.0 h.0 k.1) ∙ k.2)
 
-  one_copper_fault : (bytes : List ℕ) (f g : Fault) → ReadsCopper bytes (Err f) → ReadsCopper bytes (Err g) → f ≡ g
-  one_copper_fault bytes f g (inl h) (inl k) = err_same (layer_once bytes (Err f) (Err g) h k)
-  one_copper_fault bytes f g (inl h) (inr k) = absurd (no_layer bytes k.0 f k.1 h)
-  one_copper_fault bytes f g (inr h) (inl k) = absurd (no_layer bytes h.0 g h.1 k)
-  one_copper_fault bytes f g (inr h) (inr k) = h.3 ∙ sym k.3
+    one_copper_fault : (bytes : List ℕ) (f g : Fault) → ReadsCopper profile bytes (Err f) → ReadsCopper profile bytes (Err g) → f ≡ g
+    one_copper_fault bytes f g (inl h) (inl k) = err_same (layer_once profile bytes (Err f) (Err g) h k)
+    one_copper_fault bytes f g (inl h) (inr k) = absurd (no_layer profile bytes k.0 f k.1 h)
+    one_copper_fault bytes f g (inr h) (inl k) = absurd (no_layer profile bytes h.0 g h.1 k)
+    one_copper_fault bytes f g (inr h) (inr k) = h.3 ∙ sym k.3
 
-  one_copper : (bytes : List ℕ) (a b : Result Content Fault) → ReadsCopper bytes a → ReadsCopper bytes b → a ≡ b
-  one_copper bytes (Ok (content.Layer a)) (Ok (content.Layer b)) h k = ap (λ (i : LayerView). answered (content.Layer i)) (one_image bytes a b h.0 k.0)
-  one_copper bytes (Ok (content.Drill p v d)) b h k = absurd h
-  one_copper bytes (Ok (content.Layer a)) (Ok (content.Drill p v d)) h k = absurd k
-  one_copper bytes (Ok (content.Layer a)) (Err g) h k = absurd (copper_or_not bytes a g h k)
-  one_copper bytes (Err f) (Ok (content.Layer b)) h k = absurd (copper_or_not bytes b f k h)
-  one_copper bytes (Err f) (Ok (content.Drill p v d)) h k = absurd k
-  one_copper bytes (Err f) (Err g) h k = ap refused (one_copper_fault bytes f g h k)
+    one_copper : (bytes : List ℕ) (a b : Result Content Fault) → ReadsCopper profile bytes a → ReadsCopper profile bytes b → a ≡ b
+    one_copper bytes (Ok (content.Layer a)) (Ok (content.Layer b)) h k = ap (λ (i : LayerView). answered (content.Layer i)) (one_image profile bytes a b h.0 k.0)
+    one_copper bytes (Ok (content.Drill p v d)) b h k = absurd h
+    one_copper bytes (Ok (content.Layer a)) (Ok (content.Drill p v d)) h k = absurd k
+    one_copper bytes (Ok (content.Layer a)) (Err g) h k = absurd (copper_or_not bytes a g h k)
+    one_copper bytes (Err f) (Ok (content.Layer b)) h k = absurd (copper_or_not bytes b f k h)
+    one_copper bytes (Err f) (Ok (content.Drill p v d)) h k = absurd k
+    one_copper bytes (Err f) (Err g) h k = ap refused (one_copper_fault bytes f g h k)
 
-  one_drill : (bytes : List ℕ) (a b : List GridHole) → ReadsDrill bytes (Ok a) → ReadsDrill bytes (Ok b) → a ≡ b
-  one_drill bytes a b h k = h.2 ∙ (ap holes_of (ok_same (drill_once bytes (Ok h.0) (Ok k.0) ((texts bytes h.0).1 h.1) ((texts bytes k.0).1 k.1))) ∙ sym k.2)
+  one_drill : (profile : Profile) (bytes : List ℕ) (a b : List GridHole) → ReadsDrill profile bytes (Ok a) → ReadsDrill profile bytes (Ok b) → a ≡ b
+  one_drill Strict bytes a b h k = h.2 ∙ (ap holes_of (ok_same (drill_once bytes (Ok h.0) (Ok k.0) ((texts bytes h.0).1 h.1) ((texts bytes k.0).1 k.1))) ∙ sym k.2)
+  one_drill Wide bytes a b h k = h.2 ∙ (ap holes_of (ok_same (drill_once_in Wide bytes (Ok h.0) (Ok k.0) h.1 k.1)) ∙ sym k.2)
 
-  no_drill : (bytes : List ℕ) (a : List GridHole) (f : Fault) → ReadsDrill bytes (Ok a) → ReadsDrill bytes (Err f) → ⊥
-  no_drill bytes a f h k = not_both (drill_once bytes (Ok h.0) (Err f) ((texts bytes h.0).1 h.1) k)
+  no_drill : (profile : Profile) (bytes : List ℕ) (a : List GridHole) (f : Fault) → ReadsDrill profile bytes (Ok a) → ReadsDrill profile bytes (Err f) → ⊥
+  no_drill Strict bytes a f h k = not_both (drill_once bytes (Ok h.0) (Err f) ((texts bytes h.0).1 h.1) k)
+  no_drill Wide bytes a f h k = not_both (drill_once_in Wide bytes (Ok h.0) (Err f) h.1 k)
 
-  one_holes : (plated : Bool) (span : Option LayerSpan) (bytes : List ℕ) (a b : Result Content Fault) → ReadsHoles plated span bytes a → ReadsHoles plated span bytes b → a ≡ b
-  one_holes plated span bytes (Ok (content.Drill p v d)) (Ok (content.Drill q w e)) h k =
+  one_drill_fault : (profile : Profile) (bytes : List ℕ) (f g : Fault) → ReadsDrill profile bytes (Err f) → ReadsDrill profile bytes (Err g) → f ≡ g
+  one_drill_fault Strict bytes f g h k = err_same (drill_once bytes (Err f) (Err g) h k)
+  one_drill_fault Wide bytes f g h k = err_same (drill_once_in Wide bytes (Err f) (Err g) h k)
+
+  one_holes : (profile : Profile) (plated : Bool) (span : Option LayerSpan) (bytes : List ℕ) (a b : Result Content Fault) → ReadsHoles profile plated span bytes a → ReadsHoles profile plated span bytes b → a ≡ b
+  one_holes profile plated span bytes (Ok (content.Drill p v d)) (Ok (content.Drill q w e)) h k =
       ap (λ (t : Bool). answered (content.Drill t v d)) (h.1 ∙ sym k.1)
-      ∙ (ap (λ (s : Option LayerSpan). answered (content.Drill q s d)) (h.2 ∙ sym k.2) ∙ ap (λ (l : List GridHole). answered (content.Drill q w l)) (one_drill bytes d e h.0 k.0))
-  one_holes plated span bytes (Ok (content.Layer a)) b h k = absurd h
-  one_holes plated span bytes (Ok (content.Drill p v d)) (Ok (content.Layer b)) h k = absurd k
-  one_holes plated span bytes (Ok (content.Drill p v d)) (Err g) h k = absurd (no_drill bytes d g h.0 k)
-  one_holes plated span bytes (Err f) (Ok (content.Drill q w e)) h k = absurd (no_drill bytes e f k.0 h)
-  one_holes plated span bytes (Err f) (Ok (content.Layer b)) h k = absurd k
-  one_holes plated span bytes (Err f) (Err g) h k = ap refused (err_same (drill_once bytes (Err f) (Err g) h k))
+      ∙ (ap (λ (s : Option LayerSpan). answered (content.Drill q s d)) (h.2 ∙ sym k.2) ∙ ap (λ (l : List GridHole). answered (content.Drill q w l)) (one_drill profile bytes d e h.0 k.0))
+  one_holes profile plated span bytes (Ok (content.Layer a)) b h k = absurd h
+  one_holes profile plated span bytes (Ok (content.Drill p v d)) (Ok (content.Layer b)) h k = absurd k
+  one_holes profile plated span bytes (Ok (content.Drill p v d)) (Err g) h k = absurd (no_drill profile bytes d g h.0 k)
+  one_holes profile plated span bytes (Err f) (Ok (content.Drill q w e)) h k = absurd (no_drill profile bytes e f k.0 h)
+  one_holes profile plated span bytes (Err f) (Ok (content.Layer b)) h k = absurd k
+  one_holes profile plated span bytes (Err f) (Err g) h k = ap refused (one_drill_fault profile bytes f g h k)
 
-  by_role : (r : Role) (name : List ℕ) (span : Option LayerSpan) (bytes : List ℕ) (n : ℕ) (a b : Result Content Fault) → ReadsBytes (record { role = r; name = name; span = span; bytes = bytes; layers = n }) a → ReadsBytes (record { role = r; name = name; span = span; bytes = bytes; layers = n }) b → a ≡ b
-  by_role role.Copper name span bytes n a b h k = one_copper bytes a b h k
-  by_role role.Plated name span bytes n a b h k = one_holes true span bytes a b h k
-  by_role role.Unplated name span bytes n a b h k = one_holes false span bytes a b h k
+  by_role : (r : Role) (name : List ℕ) (span : Option LayerSpan) (bytes : List ℕ) (n : Setting) (a b : Result Content Fault) → ReadsBytes (record { role = r; name = name; span = span; bytes = bytes; setting = n }) a → ReadsBytes (record { role = r; name = name; span = span; bytes = bytes; setting = n }) b → a ≡ b
+  by_role role.Copper name span bytes n a b h k = one_copper n.profile bytes a b h k
+  by_role role.Plated name span bytes n a b h k = one_holes n.profile true span bytes a b h k
+  by_role role.Unplated name span bytes n a b h k = one_holes n.profile false span bytes a b h k
 
   pub unique_reading : ReadingIsUnique
-  unique_reading source a b h k = by (is_bad_span source.role source.span source.layers) h k
+  unique_reading source a b h k = by (is_bad_span source.role source.span source.setting.layers) h k
     where
       by : (t : Bool) → ReadsUnlessBadSpan t source a → ReadsUnlessBadSpan t source b → a ≡ b
       by true h k = h ∙ sym k
-      by false h k = by_role source.role source.name source.span source.bytes source.layers a b h k
+      by false h k = by_role source.role source.name source.span source.bytes source.setting a b h k

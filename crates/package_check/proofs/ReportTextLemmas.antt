@@ -3,57 +3,58 @@ use Rattle.std.proofs.Common.{◌≡◌, ◌<◌, ◌≤◌, ◌+◌, ◌++◌, 
 use Rattle.std.proofs.lemmas.List.{append-nil}
 use Rattle.package_check.specs.declared.File.{File}
 use Rattle.package_check.specs.declared.FileSum.{FileSum}
-use Rattle.package_check.specs.Package.{file_view}
+use Rattle.grid_units.specs.declared.profile.Profile.{Profile}
+use Rattle.package_check.specs.Package.{Setting, file_view}
 use Rattle.package_check.specs.Texts.{file_line, file_lines}
 
 abbrev pub texts_of : List (Bor (List ℕ)) → List (List ℕ)
 texts_of names = map (λ name. name.now) names
 
 -- the line of the file at a place, and those after it
-next_line : (names : List (Bor (List ℕ))) (sums : List FileSum) (i n : ℕ) (d : Bor (List ℕ)) (e : FileSum) → i < length names → i < length sums
-    → file_lines n (drop i (texts_of names)) (drop i sums) ≡ file_line n (get_or names i d).now (get_or sums i e) ++ file_lines (n + 1) (drop (i + 1) (texts_of names)) (drop (i + 1) sums)
+next_line : (p : Profile) (names : List (Bor (List ℕ))) (sums : List FileSum) (i n : ℕ) (d : Bor (List ℕ)) (e : FileSum) → i < length names → i < length sums
+    → file_lines p n (drop i (texts_of names)) (drop i sums) ≡ file_line p n (get_or names i d).now (get_or sums i e) ++ file_lines p (n + 1) (drop (i + 1) (texts_of names)) (drop (i + 1) sums)
 unfolding file_lines
-next_line [] sums i n d e lt more = absurd (omega arith)
-next_line (f ∷ names) [] i n d e lt more = absurd (omega arith)
-next_line (f ∷ names) (s ∷ sums) zero n d e lt more = refl
-next_line (f ∷ names) (s ∷ sums) (suc i) n d e lt more = let k : suc i + 1 ≡ suc (i + 1) = omega arith in rw k (next_line names sums i n d e (omega arith) (omega arith))
+next_line p [] sums i n d e lt more = absurd (omega arith)
+next_line p (f ∷ names) [] i n d e lt more = absurd (omega arith)
+next_line p (f ∷ names) (s ∷ sums) zero n d e lt more = refl
+next_line p (f ∷ names) (s ∷ sums) (suc i) n d e lt more = let k : suc i + 1 ≡ suc (i + 1) = omega arith in rw k (next_line p names sums i n d e (omega arith) (omega arith))
 
-none_without : (n : ℕ) (xs : List (List ℕ)) → file_lines n xs [] ≡ []
+none_without : (p : Profile) (n : ℕ) (xs : List (List ℕ)) → file_lines p n xs [] ≡ []
 unfolding file_lines
-none_without n [] = refl
-none_without n (x ∷ xs) = refl
+none_without p n [] = refl
+none_without p n (x ∷ xs) = refl
 
-no_line : (names : List (Bor (List ℕ))) (sums : List FileSum) (i n : ℕ) → length names ≤ i → file_lines n (drop i (texts_of names)) (drop i sums) ≡ []
+no_line : (p : Profile) (names : List (Bor (List ℕ))) (sums : List FileSum) (i n : ℕ) → length names ≤ i → file_lines p n (drop i (texts_of names)) (drop i sums) ≡ []
 unfolding file_lines
-no_line [] sums zero n lt = refl
-no_line [] sums (suc i) n lt = refl
-no_line (f ∷ names) sums zero n lt = absurd (omega arith)
-no_line (f ∷ names) [] (suc i) n lt = none_without n (drop i (texts_of names))
-no_line (f ∷ names) (s ∷ sums) (suc i) n lt = no_line names sums i n (omega arith)
+no_line p [] sums zero n lt = refl
+no_line p [] sums (suc i) n lt = refl
+no_line p (f ∷ names) sums zero n lt = absurd (omega arith)
+no_line p (f ∷ names) [] (suc i) n lt = none_without p n (drop i (texts_of names))
+no_line p (f ∷ names) (s ∷ sums) (suc i) n lt = no_line p names sums i n (omega arith)
 
-no_sum : (names : List (Bor (List ℕ))) (sums : List FileSum) (i n : ℕ) → length sums ≤ i → file_lines n (drop i (texts_of names)) (drop i sums) ≡ []
-no_sum names [] zero n lt = none_without n (texts_of names)
-no_sum names [] (suc i) n lt = none_without n (drop (suc i) (texts_of names))
-no_sum names (s ∷ sums) zero n lt = absurd (omega arith)
-no_sum [] (s ∷ sums) (suc i) n lt = no_line [] (s ∷ sums) (suc i) n (omega arith)
-no_sum (f ∷ names) (s ∷ sums) (suc i) n lt = no_sum names sums i n (omega arith)
+no_sum : (p : Profile) (names : List (Bor (List ℕ))) (sums : List FileSum) (i n : ℕ) → length sums ≤ i → file_lines p n (drop i (texts_of names)) (drop i sums) ≡ []
+no_sum p names [] zero n lt = none_without p n (texts_of names)
+no_sum p names [] (suc i) n lt = none_without p n (drop (suc i) (texts_of names))
+no_sum p names (s ∷ sums) zero n lt = absurd (omega arith)
+no_sum p [] (s ∷ sums) (suc i) n lt = no_line p [] (s ∷ sums) (suc i) n (omega arith)
+no_sum p (f ∷ names) (s ∷ sums) (suc i) n lt = no_sum p names sums i n (omega arith)
 
 -- one more line
-pub line_more : (names : List (Bor (List ℕ))) (sums : List FileSum) (i n : ℕ) (d : Bor (List ℕ)) (e : FileSum) (all before after : List ℕ) → i < length names → i < length sums
-    → all ≡ before ++ file_lines n (drop i (texts_of names)) (drop i sums) → after ≡ before ++ file_line n (get_or names i d).now (get_or sums i e)
-    → all ≡ after ++ file_lines (n + 1) (drop (i + 1) (texts_of names)) (drop (i + 1) sums)
-line_more names sums i n d e all before after lt more was is =
-    was ∙ ap (λ t. before ++ t) (next_line names sums i n d e lt more)
-    ∙ sym (append_assoc before (file_line n (get_or names i d).now (get_or sums i e)) (file_lines (n + 1) (drop (i + 1) (texts_of names)) (drop (i + 1) sums)))
-    ∙ ap (λ t. t ++ file_lines (n + 1) (drop (i + 1) (texts_of names)) (drop (i + 1) sums)) (sym is)
+pub line_more : (p : Profile) (names : List (Bor (List ℕ))) (sums : List FileSum) (i n : ℕ) (d : Bor (List ℕ)) (e : FileSum) (all before after : List ℕ) → i < length names → i < length sums
+    → all ≡ before ++ file_lines p n (drop i (texts_of names)) (drop i sums) → after ≡ before ++ file_line p n (get_or names i d).now (get_or sums i e)
+    → all ≡ after ++ file_lines p (n + 1) (drop (i + 1) (texts_of names)) (drop (i + 1) sums)
+line_more p names sums i n d e all before after lt more was is =
+    was ∙ ap (λ t. before ++ t) (next_line p names sums i n d e lt more)
+    ∙ sym (append_assoc before (file_line p n (get_or names i d).now (get_or sums i e)) (file_lines p (n + 1) (drop (i + 1) (texts_of names)) (drop (i + 1) sums)))
+    ∙ ap (λ t. t ++ file_lines p (n + 1) (drop (i + 1) (texts_of names)) (drop (i + 1) sums)) (sym is)
 
-pub lines_end : (names : List (Bor (List ℕ))) (sums : List FileSum) (i n : ℕ) (all before : List ℕ) → length names ≤ i → all ≡ before ++ file_lines n (drop i (texts_of names)) (drop i sums) → before ≡ all
-lines_end names sums i n all before lt was = sym (was ∙ ap (λ t. before ++ t) (no_line names sums i n lt) ∙ append-nil before)
+pub lines_end : (p : Profile) (names : List (Bor (List ℕ))) (sums : List FileSum) (i n : ℕ) (all before : List ℕ) → length names ≤ i → all ≡ before ++ file_lines p n (drop i (texts_of names)) (drop i sums) → before ≡ all
+lines_end p names sums i n all before lt was = sym (was ∙ ap (λ t. before ++ t) (no_line p names sums i n lt) ∙ append-nil before)
 
-pub sums_end : (names : List (Bor (List ℕ))) (sums : List FileSum) (i n : ℕ) (all before : List ℕ) → length sums ≤ i → all ≡ before ++ file_lines n (drop i (texts_of names)) (drop i sums) → before ≡ all
-sums_end names sums i n all before lt was = sym (was ∙ ap (λ t. before ++ t) (no_sum names sums i n lt) ∙ append-nil before)
+pub sums_end : (p : Profile) (names : List (Bor (List ℕ))) (sums : List FileSum) (i n : ℕ) (all before : List ℕ) → length sums ≤ i → all ≡ before ++ file_lines p n (drop i (texts_of names)) (drop i sums) → before ≡ all
+sums_end p names sums i n all before lt was = sym (was ∙ ap (λ t. before ++ t) (no_sum p names sums i n lt) ∙ append-nil before)
 
 -- the names of the files, as the sources have them
-pub same_names : (n : ℕ) (files : List File) → map (λ source. source.name) (map (file_view n) files) ≡ map (λ file. file.name.now) files
+pub same_names : (n : Setting) (files : List File) → map (λ source. source.name) (map (file_view n) files) ≡ map (λ file. file.name.now) files
 same_names n [] = refl
 same_names n (f ∷ files) = ap (λ (t : List (List ℕ)). f.name.now ∷ t) (same_names n files)

@@ -1,24 +1,35 @@
 -- What a file says by the grammar of its format, it says once.
-use Rattle.std.proofs.Common.{◌≡◌, List, map, ap, sym, subst, ◌∙◌}
+use Rattle.std.proofs.Common.{◌≡◌, ℕ, List, map, ap, sym, subst, ◌∙◌}
 use Rattle.grid_units.specs.Holes.{GridHole}
 use Rattle.ring_rules.specs.declared.finding.Drilled.{Drilled}
 use Rattle.gerber_commands.specs.declared.command.Command.{Command}
-use Rattle.gerber_text.specs.Laws.{TextsSpellOneList}
+use Rattle.gerber_text.specs.Laws.{TextsSpellOneListIn}
+use Rattle.grid_units.specs.declared.profile.Profile.{Profile}
+use Rattle.grid_units.specs.declared.profile.Profile.TheVariants.{Strict, Wide}
+use Rattle.wide_pads.specs.declared.wide_pad.WidePad.{WidePad}
+use Rattle.package_check.specs.LayerViews.{plain}
 use Rattle.layer_image.specs.PadLaws.{PadsAreUnique}
-use Rattle.layer_image.specs.Pads.{ArePads}
 use Rattle.drill_lines.specs.declared.command.DrillCommand.{DrillCommand}
 use Rattle.drill_text.specs.Drilling.{AreHoles}
 use Rattle.drill_text.specs.Laws.{DrillsAtMostOneList, IsTextOfAtMostOne}
-use Rattle.package_check.specs.Soundness.{HolesAreSaidOnce, PadsAreSaidOnce, is_plated}
+use Rattle.package_check.specs.Soundness.{HolesAreSaidOnce, IsDrillText, MakePads, PadsAreSaidOnce, is_plated}
 
-pub pads_once : TextsSpellOneList → PadsAreUnique → PadsAreSaidOnce
+makes_once : PadsAreUnique → (profile : Profile) (commands : List Command) (a b : List WidePad) → MakePads profile commands a → MakePads profile commands b → a ≡ b
+makes_once one_list Strict commands a b h k = h.2 ∙ (ap (map plain) (one_list commands h.0 k.0 h.1 k.1) ∙ sym k.2)
+makes_once one_list Wide commands a b h k = h ∙ sym k
+
+pub pads_once : TextsSpellOneListIn → PadsAreUnique → PadsAreSaidOnce
 pads_once one_text one_list file a b s t =
-    let same : s.commands ≡ t.commands = one_text file.bytes s.commands t.commands s.written t.written in
-    one_list t.commands a b (subst (λ (cs : List Command). ArePads cs a) same s.made) t.made
+    let same : s.commands ≡ t.commands = one_text file.setting.profile file.bytes s.commands t.commands s.written t.written in
+    makes_once one_list file.setting.profile t.commands a b (subst (λ (cs : List Command). MakePads file.setting.profile cs a) same s.made) t.made
+
+one_drill_text : IsTextOfAtMostOne → (profile : Profile) (bytes : List ℕ) (a b : List DrillCommand) → profile ≡ Strict → IsDrillText profile bytes a → IsDrillText profile bytes b → a ≡ b
+one_drill_text one Strict bytes a b is h k = one bytes a b h k
+one_drill_text one Wide bytes a b is h k = absurd cc
 
 pub holes_once : IsTextOfAtMostOne → DrillsAtMostOneList → HolesAreSaidOnce
-holes_once one_text one_list file a b s t =
-    let same : s.commands ≡ t.commands = one_text file.bytes s.commands t.commands s.written t.written in
+holes_once one_text one_list file a b strict s t =
+    let same : s.commands ≡ t.commands = one_drill_text one_text file.setting.profile file.bytes s.commands t.commands strict s.written t.written in
     let holes : s.holes ≡ t.holes = one_list t.commands s.holes t.holes (subst (λ (cs : List DrillCommand). AreHoles cs s.holes) same s.made) t.made in
     let said : GridHole → Drilled = λ hole. record { hole = hole; plated = is_plated file.role; span = file.span } in
     s.is ∙ (ap (map said) holes ∙ sym t.is)

@@ -12,7 +12,7 @@ use Rattle.grid_units.specs.declared.fault.Fault.{Fault}
 use Rattle.grid_units.specs.declared.fault.Fail.{Fail}
 use Rattle.grid_units.specs.declared.fault.Fail.TheVariants as fails
 use Rattle.layer_image.specs.KeptFlashes.{keeps_commands, keeps_flashes}
-use Rattle.layer_image.specs.Layers.{ReadingIsUnique}
+use Rattle.layer_image.specs.Layers.{ReadingIsUniqueIn}
 use Rattle.layer_image.specs.declared.keep.Keep.{Keep}
 use Rattle.manifest.specs.declared.Role.{Role}
 use Rattle.package_check.specs.declared.PackageFault.{PackageFault}
@@ -21,7 +21,7 @@ use Rattle.package_check.specs.declared.contents.Content.{Content}
 use Rattle.package_check.specs.declared.package_reader.PackageReader.{PackageReader}
 use Rattle.package_check.specs.declared.readers.Shown.{Shown}
 use Rattle.package_check.specs.declared.slots.Kept.{Kept}
-use Rattle.package_check.specs.Package.{FileView, HaveContents, IsFirstRefused, Reads, is_copper, unnamed_file}
+use Rattle.package_check.specs.Package.{FileView, Setting, HaveContents, IsFirstRefused, Reads, is_copper, unnamed_file}
 use Rattle.package_check.specs.Boards.{AreDrawnOf, AreFileLists, AreFlashesOf, BoardView, IsBoard, IsDrawnBoard, IsFlashedBoard, ReturnsBoard, ReturnsDrawnBoard, ReturnsFlashedBoard, board_of}
 use Rattle.package_check.specs.Holding.{HasTaken, HasTakenAll, HoldsThose, IsKeptOf, IsPutAt, IsOutOfMemory, ReadsAt, ReadsInto, StoppedAmong, TakesFile, TakesThose, all_drawn, all_flashes, contents_in, is_kind, is_kind_at, is_kind_of, is_wanted, kept_at, next_stop, shown_in}
 use Rattle.package_check.proofs.ContentIsReading.{content_read}
@@ -195,8 +195,8 @@ wanted_before (Some stop.Memory) i index lt h = absurd (false≢true h)
 wanted_before (Some (stop.File r f)) i index lt h = let below = ltb-true index r h in lt-ltb i r (omega arith)
 
 -- what is read of a file does not depend on its name
-pub read_named : (keep : Keep) (index : ℕ) (q : Role) (name : List ℕ) (span : Option LayerSpan) (bytes : List ℕ) (n : ℕ) (before after : List (Option Kept)) (r : Result (Unit {0}) Fail)
-    → ReadsAt keep index (unnamed_file q span n bytes) before after r → ReadsAt keep index (record { role = q; name = name; span = span; bytes = bytes; layers = n }) before after r
+pub read_named : (keep : Keep) (index : ℕ) (q : Role) (name : List ℕ) (span : Option LayerSpan) (bytes : List ℕ) (n : Setting) (before after : List (Option Kept)) (r : Result (Unit {0}) Fail)
+    → ReadsAt keep index (unnamed_file q span n bytes) before after r → ReadsAt keep index (record { role = q; name = name; span = span; bytes = bytes; setting = n }) before after r
 read_named keep index q name span bytes n before after (Ok u) h = (h.0, record { content = any_name q name span bytes n (Ok h.0.content) h.1.content; flashes = h.1.flashes; drawn = h.1.drawn }, h.2)
 read_named keep index q name span bytes n before after (Err fails.Memory) h = tt
 read_named keep index q name span bytes n before after (Err (fails.Refused f)) h = (any_name q name span bytes n (Err f) h.0, h.1)
@@ -323,12 +323,12 @@ module _ (keep : Keep) where
       (all_lists IsOf list_of told ss xs (omega (arith, le)) (λ i t at. each (suc i) t at)))
 
   -- the flashes of each file
-  pub flashes_told : ReadingIsUnique → keeps_flashes keep ≡ true → (s : FileView) (one : Kept) → IsKeptOf keep s one → AreFlashesOf s one.shown.flashes.items
-  flashes_told once keeps s one kept = λ copper. flashes_read once s s.bytes one.shown.flashes.items refl (kept.flashes keeps copper) copper
+  pub flashes_told : ReadingIsUniqueIn → keeps_flashes keep ≡ true → (s : FileView) (one : Kept) → IsKeptOf keep s one → AreFlashesOf s one.shown.flashes.items
+  flashes_told once keeps s one kept = λ copper. flashes_read once s one.shown.flashes.items (kept.flashes keeps copper) copper
 
   -- what each file draws
-  pub drawn_told : ReadingIsUnique → keeps_commands keep ≡ true → (s : FileView) (one : Kept) → IsKeptOf keep s one → AreDrawnOf s one.shown.drawn.items
-  drawn_told once keeps s one kept = λ copper. drawn_read once s s.bytes one.shown.drawn.items refl (kept.drawn keeps copper) copper
+  pub drawn_told : ReadingIsUniqueIn → keeps_commands keep ≡ true → (s : FileView) (one : Kept) → IsKeptOf keep s one → AreDrawnOf s one.shown.drawn.items
+  drawn_told once keeps s one kept = λ copper. drawn_read once s one.shown.drawn.items (kept.drawn keeps copper) copper
 
 -- the contents of the files before an index
 first_contents : (n : ℕ) (sources : List FileView) → n ≤ length sources → ((i : ℕ) (s : FileView) → i < n → slice_get sources i ≡ Some s → (one : Content) × Reads s (Ok one))
@@ -383,14 +383,14 @@ module _ (reader : PackageReader) (keep : Keep) (sources : List FileView) (all :
       is = is ∙ sym (ap (λ (b : BoardView). board_of (flat_map contents_in reader.slots.items) b.flashes b.drawn) is);
     }
 
-    pub flashed_board_read : ReadingIsUnique → keeps_flashes keep ≡ true → IsFlashedBoard sources board
+    pub flashed_board_read : ReadingIsUniqueIn → keeps_flashes keep ≡ true → IsFlashedBoard sources board
     flashed_board_read once keeps = record {
       is = board_read;
       flashes = subst (AreFileLists AreFlashesOf sources) (sym (ap (λ (b : BoardView). b.flashes) is))
           (all_lists keep AreFlashesOf (λ (one : Shown). one.flashes.items) (flashes_told keep once keeps) sources reader.slots.items all.holds.inside each_kept);
     }
 
-    pub drawn_board_read : ReadingIsUnique → keeps_commands keep ≡ true → IsDrawnBoard sources board
+    pub drawn_board_read : ReadingIsUniqueIn → keeps_commands keep ≡ true → IsDrawnBoard sources board
     drawn_board_read once keeps = record {
       is = flashed_board_read once (flashes_too keep keeps);
       drawn = subst (AreFileLists AreDrawnOf sources) (sym (ap (λ (b : BoardView). b.drawn) is))

@@ -1,29 +1,37 @@
 -- What is sound by what is read of it is sound by what is written.
 use Rattle.std.proofs.Common.{◌≡◌, ◌⊎◌, inl, inr, ◌<◌, ℕ, zero, suc, Bool, true, false, not, ◌||◌, ◌&&◌, leb, List, [], ◌∷◌, ◌++◌, map, length, get_or, refl, sym, ap, subst, ◌∙◌, arith}
-use Rattle.std.specs.Prelude.{Option, None, Some}
+use Rattle.std.specs.Prelude.{Option, None, Some, Ok}
 use Rattle.std.specs.List.{AllZip, Contains, filter, flat_map}
 use Rattle.std.proofs.lemmas.Bool.{leb-true}
+use Rattle.std.proofs.lemmas.List.{append-nil}
 use Rattle.std.proofs.lemmas.List.Concat.{flat_map-cons}
 use Rattle.std.proofs.lemmas.List.Elements.{Contains-append_cases}
 use Rattle.grid_units.specs.Holes.{GridHole}
 use Rattle.grid_units.specs.Spans.{LayerSpan, is_in_span}
-use Rattle.pad_shapes.specs.declared.pad.Pad.{Pad}
+use Rattle.grid_units.specs.Lists.{last_set}
+use Rattle.grid_units.specs.declared.profile.Profile.{Profile}
+use Rattle.grid_units.specs.declared.profile.Profile.TheVariants.{Strict, Wide}
+use Rattle.wide_pads.specs.declared.wide_pad.WidePad.{WidePad}
 use Rattle.ring_rules.specs.declared.finding.Drilled.{Drilled}
 use Rattle.ring_rules.specs.WithoutFindings.{AreAllApart}
-use Rattle.gerber_text.specs.Laws.{SpelledTextsAreWritten}
+use Rattle.gerber_commands.specs.declared.command.Command.{Command}
+use Rattle.gerber_text.specs.Grammar.{IsTextIn}
+use Rattle.gerber_text.specs.Laws.{SpelledTextsAreWrittenIn}
 use Rattle.gerber_text.specs.Writing.{without_places}
 use Rattle.layer_image.specs.PadLaws.{LayerPads}
-use Rattle.layer_image.specs.Pads.{ArePads}
+use Rattle.layer_image.specs.FileFunction.{function_set}
 use Rattle.drill_text.specs.Laws.{ListedHolesAreDrilled, SpelledIsWritten}
 use Rattle.drill_text.specs.Drilling.{AreHoles}
+use Rattle.drill_text.specs.WideGrammar.{ReadIsWritten, WideHolesAreDrilled}
+use Rattle.drill_lines.specs.declared.command.DrillCommand.{DrillCommand}
 use Rattle.manifest.specs.declared.Role.{Role}
 use Rattle.manifest.specs.declared.Role.TheVariants as role
-use Rattle.package_check.specs.LayerViews.{LayerView}
-use Rattle.package_check.specs.FileTexts.{HasLayerView, is_copper_function}
+use Rattle.package_check.specs.LayerViews.{LayerView, all_pads, plain}
+use Rattle.package_check.specs.FileTexts.{HasLayerView, ReadsDrill, is_copper_function, wide_view}
 use Rattle.package_check.specs.declared.contents.Content.{Content}
 use Rattle.package_check.specs.declared.contents.Content.TheVariants as content
-use Rattle.package_check.specs.Package.{FileView, HasContent, HasDrillContent, HaveContents, is_bad_span, is_copper, layers, pads_of}
-use Rattle.package_check.specs.Soundness.{IsRun, SaysHoles, SaysPads, is_plated}
+use Rattle.package_check.specs.Package.{FileView, Setting, HasContent, HasDrillContent, HaveContents, is_bad_span, is_copper, layers, pads_of}
+use Rattle.package_check.specs.Soundness.{IsDrillText, IsRun, MakePads, SaysHoles, SaysPads, is_plated}
 use Rattle.package_check.specs.SoundnessAsRead.{IsPlatedThrough, SoundAsReadIsSound, drilled_in}
 
 -- ---- spans
@@ -105,52 +113,68 @@ is_through (c ∷ cs) layer d h plated within =
 
 -- ---- one file
 
-module _ (texts : SpelledTextsAreWritten) (layer_pads : LayerPads) (lines : SpelledIsWritten) (listed : ListedHolesAreDrilled) where
-  says_pads : (s : FileView) (image : LayerView) → HasLayerView s.bytes image → image.is_copper ≡ true → s.span ≡ None → SaysPads s image.pads
+module _ (texts : SpelledTextsAreWrittenIn) (layer_pads : LayerPads) (lines : SpelledIsWritten) (listed : ListedHolesAreDrilled) (wide_lines : ReadIsWritten) (wide_listed : WideHolesAreDrilled) where
+  made_by : (profile : Profile) (bytes : List ℕ) (image : LayerView) → HasLayerView profile bytes image
+      → (commands : List Command) × IsTextIn profile bytes commands × MakePads profile commands (all_pads image) × (is_copper_function (last_set function_set commands) ≡ image.is_copper)
+  made_by Strict bytes image h =
+      let layer = h.0 in (
+        without_places layer.commands,
+        texts Strict bytes layer.commands h.1.0.spells,
+        (layer.pads, layer_pads bytes layer h.1, ap all_pads h.2 ∙ append-nil (map plain layer.pads)),
+        ap (λ l. is_copper_function l.file_function) (sym h.1.1) ∙ sym (ap (λ v. v.is_copper) h.2),
+      )
+  made_by Wide bytes image h =
+      let layer = h.1.0 in
+      let is = h.2 ∙ ap wide_view h.1.2 in
+      (without_places layer.commands, texts Wide bytes layer.commands h.1.1.0.spells, ap all_pads is, sym (ap (λ v. v.is_copper) is))
+
+  says_pads : (s : FileView) (image : LayerView) → HasLayerView s.setting.profile s.bytes image → image.is_copper ≡ true → s.span ≡ None → SaysPads s (all_pads image)
   says_pads s image h copper none =
-      let layer = h.0 in
+      let made = made_by s.setting.profile s.bytes image h in
+      record { commands = made.0; written = made.1; made = made.2; copper = made.3 ∙ copper; spanless = none }
+
+  drilled_by : (profile : Profile) (bytes : List ℕ) (holes : List GridHole) → ReadsDrill profile bytes (Ok holes) → (commands : List DrillCommand) × IsDrillText profile bytes commands × AreHoles commands holes
+  drilled_by Strict bytes holes h = (h.0, ((lines bytes h.0).0 h.1.spells).1, subst (λ (hs : List GridHole). AreHoles h.0 hs) (sym h.2) (listed bytes h.0 h.1))
+  drilled_by Wide bytes holes h =
+      let written = wide_lines bytes h.0 h.1 in
+      (h.0, written.1, subst (λ (hs : List GridHole). AreHoles h.0 hs) (sym h.2) (wide_listed bytes h.0 written.1 written.2))
+
+  says_holes : (s : FileView) (plated : Bool) (through : Option LayerSpan) (holes : List GridHole) → HasDrillContent s.setting.profile (is_plated s.role) s.span s.bytes (content.Drill plated through holes)
+      → IsRun s.setting.layers s.span → SaysHoles s (drilled_in (content.Drill plated through holes))
+  says_holes s plated through holes h run =
+      let drilled = drilled_by s.setting.profile s.bytes holes h.0 in
       record {
-        commands = without_places layer.commands;
-        written = texts s.bytes layer.commands h.1.0.spells;
-        made = subst (λ (ps : List Pad). ArePads (without_places layer.commands) ps) (sym (ap (λ v. v.pads) h.2)) (layer_pads s.bytes layer h.1);
-        copper = ap (λ l. is_copper_function l.file_function) (sym h.1.1) ∙ (sym (ap (λ v. v.is_copper) h.2) ∙ copper);
-        spanless = none;
+        commands = drilled.0;
+        written = drilled.1;
+        holes = holes;
+        made = drilled.2;
+        run = run;
+        is = λ i. map (λ (hole : GridHole). let d : Drilled = record { hole = hole; plated = h.1 i; span = h.2 i } in d) holes;
       }
 
-  says_holes : (s : FileView) (plated : Bool) (through : Option LayerSpan) (holes : List GridHole) → HasDrillContent (is_plated s.role) s.span s.bytes (content.Drill plated through holes)
-      → IsRun s.layers s.span → SaysHoles s (drilled_in (content.Drill plated through holes))
-  says_holes s plated through holes h run = record {
-    commands = h.0.0;
-    written = ((lines s.bytes h.0.0).0 h.0.1.spells).1;
-    holes = holes;
-    made = subst (λ (hs : List GridHole). AreHoles h.0.0 hs) (sym h.0.2) (listed s.bytes h.0.0 h.0.1);
-    run = run;
-    is = λ i. map (λ (hole : GridHole). let d : Drilled = record { hole = hole; plated = h.1 i; span = h.2 i } in d) holes;
-  }
-
   -- what one more file says is among what all say
-  one_more_layer : (q : Role) (name : List ℕ) (span : Option LayerSpan) (bytes : List ℕ) (n : ℕ) (c : Content) (ss : List FileView) (rest : List (List Pad))
-      → HasContent (record { role = q; name = name; span = span; bytes = bytes; layers = n }) c → AllZip SaysPads (filter (λ s. is_copper s.role) ss) rest
-      → AllZip SaysPads (filter (λ s. is_copper s.role) (record { role = q; name = name; span = span; bytes = bytes; layers = n } ∷ ss)) (pads_of c ++ rest)
+  one_more_layer : (q : Role) (name : List ℕ) (span : Option LayerSpan) (bytes : List ℕ) (n : Setting) (c : Content) (ss : List FileView) (rest : List (List WidePad))
+      → HasContent (record { role = q; name = name; span = span; bytes = bytes; setting = n }) c → AllZip SaysPads (filter (λ s. is_copper s.role) ss) rest
+      → AllZip SaysPads (filter (λ s. is_copper s.role) (record { role = q; name = name; span = span; bytes = bytes; setting = n } ∷ ss)) (pads_of c ++ rest)
   one_more_layer role.Copper name span bytes n (content.Layer image) ss rest h all =
-      (says_pads (record { role = role.Copper; name = name; span = span; bytes = bytes; layers = n }) image h.1.0 h.1.1 (no_span span n h.0), all)
+      (says_pads (record { role = role.Copper; name = name; span = span; bytes = bytes; setting = n }) image h.1.0 h.1.1 (no_span span n.layers h.0), all)
   one_more_layer role.Copper name span bytes n (content.Drill plated through holes) ss rest h all = absurd h.1
   one_more_layer role.Plated name span bytes n (content.Layer image) ss rest h all = absurd h.1
   one_more_layer role.Plated name span bytes n (content.Drill plated through holes) ss rest h all = all
   one_more_layer role.Unplated name span bytes n (content.Layer image) ss rest h all = absurd h.1
   one_more_layer role.Unplated name span bytes n (content.Drill plated through holes) ss rest h all = all
 
-  one_more_drill : (q : Role) (name : List ℕ) (span : Option LayerSpan) (bytes : List ℕ) (n : ℕ) (c : Content) (ss : List FileView) (cs : List Content)
-      → HasContent (record { role = q; name = name; span = span; bytes = bytes; layers = n }) c → AllZip SaysHoles (filter (λ s. not (is_copper s.role)) ss) (holes_by_file cs)
-      → AllZip SaysHoles (filter (λ s. not (is_copper s.role)) (record { role = q; name = name; span = span; bytes = bytes; layers = n } ∷ ss)) (holes_by_file (c ∷ cs))
+  one_more_drill : (q : Role) (name : List ℕ) (span : Option LayerSpan) (bytes : List ℕ) (n : Setting) (c : Content) (ss : List FileView) (cs : List Content)
+      → HasContent (record { role = q; name = name; span = span; bytes = bytes; setting = n }) c → AllZip SaysHoles (filter (λ s. not (is_copper s.role)) ss) (holes_by_file cs)
+      → AllZip SaysHoles (filter (λ s. not (is_copper s.role)) (record { role = q; name = name; span = span; bytes = bytes; setting = n } ∷ ss)) (holes_by_file (c ∷ cs))
   one_more_drill role.Copper name span bytes n (content.Layer image) ss cs h all = all
   one_more_drill role.Copper name span bytes n (content.Drill plated through holes) ss cs h all = absurd h.1
   one_more_drill role.Plated name span bytes n (content.Layer image) ss cs h all = absurd h.1
   one_more_drill role.Plated name span bytes n (content.Drill plated through holes) ss cs h all =
-      (says_holes (record { role = role.Plated; name = name; span = span; bytes = bytes; layers = n }) plated through holes h.1 (good_run role.Plated span n h.0), all)
+      (says_holes (record { role = role.Plated; name = name; span = span; bytes = bytes; setting = n }) plated through holes h.1 (good_run role.Plated span n.layers h.0), all)
   one_more_drill role.Unplated name span bytes n (content.Layer image) ss cs h all = absurd h.1
   one_more_drill role.Unplated name span bytes n (content.Drill plated through holes) ss cs h all =
-      (says_holes (record { role = role.Unplated; name = name; span = span; bytes = bytes; layers = n }) plated through holes h.1 (good_run role.Unplated span n h.0), all)
+      (says_holes (record { role = role.Unplated; name = name; span = span; bytes = bytes; setting = n }) plated through holes h.1 (good_run role.Unplated span n.layers h.0), all)
 
   -- ---- all files
 
@@ -159,14 +183,14 @@ module _ (texts : SpelledTextsAreWritten) (layer_pads : LayerPads) (lines : Spel
   all_layers [] (c ∷ cs) h = absurd h
   all_layers (s ∷ ss) [] h = absurd h
   all_layers (s ∷ ss) (c ∷ cs) h =
-      subst (λ (ls : List (List Pad)). AllZip SaysPads (filter (λ (f : FileView). is_copper f.role) (s ∷ ss)) ls) (sym (flat_map-cons pads_of c cs))
-      (one_more_layer s.role s.name s.span s.bytes s.layers c ss (layers cs) h.0 (all_layers ss cs h.1))
+      subst (λ (ls : List (List WidePad)). AllZip SaysPads (filter (λ (f : FileView). is_copper f.role) (s ∷ ss)) ls) (sym (flat_map-cons pads_of c cs))
+      (one_more_layer s.role s.name s.span s.bytes s.setting c ss (layers cs) h.0 (all_layers ss cs h.1))
 
   all_drills : (ss : List FileView) (cs : List Content) → HaveContents ss cs → AllZip SaysHoles (filter (λ s. not (is_copper s.role)) ss) (holes_by_file cs)
   all_drills [] [] h = tt
   all_drills [] (c ∷ cs) h = absurd h
   all_drills (s ∷ ss) [] h = absurd h
-  all_drills (s ∷ ss) (c ∷ cs) h = one_more_drill s.role s.name s.span s.bytes s.layers c ss cs h.0 (all_drills ss cs h.1)
+  all_drills (s ∷ ss) (c ∷ cs) h = one_more_drill s.role s.name s.span s.bytes s.setting c ss cs h.0 (all_drills ss cs h.1)
 
   pub sound_as_read_is_sound : SoundAsReadIsSound
   sound_as_read_is_sound sources rules sound =
@@ -179,7 +203,6 @@ module _ (texts : SpelledTextsAreWritten) (layer_pads : LayerPads) (lines : Spel
         holes = all_drills sources cs sound.read;
         held = λ layer d inside among plated within.
             let through = is_through cs layer d (subst (λ (ds : List Drilled). Contains ds d) joined among) plated within in
-            let along = sound.straight layer d.hole inside through in
-            (along, sound.slots layer d.hole inside through along);
+            sound.held layer d.hole inside through;
         gaps = λ i j d before inside. (subst (λ (ds : List Drilled). AreAllApart rules.gap ds) (sym joined) sound.gaps i j d before inside).0;
       }

@@ -4,10 +4,12 @@ use Rattle.std.specs.List.{flat_map, enumerate_from, sum_by}
 use Rattle.grid_units.specs.Holes.{GridRules}
 use Rattle.gerber_text.specs.Writing.{without_places}
 use Rattle.layer_image.specs.Drawn.{drawn_of}
-use Rattle.layer_image.specs.Layers.{LayerImage, ReadsLayer}
+use Rattle.layer_image.specs.Layers.{LayerImage, ReadsLayerIn}
 use Rattle.layer_image.specs.declared.drawn.Drawn.{Drawn}
 use Rattle.layer_image.specs.declared.flash.Flash.{Flash}
+use Rattle.pad_shapes.specs.Pads.{pad_covers}
 use Rattle.pad_shapes.specs.declared.pad.Pad.{Pad}
+use Rattle.ring_rules.specs.Findings.{gap_findings, ring_findings}
 use Rattle.ring_rules.specs.declared.finding.Drilled.{Drilled}
 use Rattle.ring_rules.specs.declared.finding.Finding.{Finding}
 use Rattle.package_check.specs.declared.FileSum.{FileSum}
@@ -18,7 +20,7 @@ use Rattle.package_check.specs.declared.PackageFault.TheVariants as stop
 use Rattle.package_check.specs.declared.contents.Content.{Content}
 use Rattle.package_check.specs.Reports.{ReportView}
 use Rattle.package_check.specs.SoundnessAsRead.{drilled_in}
-use Rattle.package_check.specs.Package.{FileView, HaveContents, IsFirstRefused, findings, is_copper, layer_indexes, layers, sum_of}
+use Rattle.package_check.specs.Package.{FileView, HaveContents, IsFirstRefused, is_copper, layer_indexes, plain_layers, sum_of}
 
 -- the board of a package: the counts of each file, the pads and the index of each copper file, the holes of all drill files in order, and what is kept of flashes and of
 -- what is drawn
@@ -34,7 +36,7 @@ pub record BoardView : Type 0 where
 abbrev pub board_of : List Content → List (List Flash) → List (List Drawn) → BoardView
 board_of contents flashes drawn = record {
   files = map sum_of contents;
-  layers = layers contents;
+  layers = plain_layers contents;
   layer_indexes = layer_indexes contents;
   holes = flat_map drilled_in contents;
   flashes = flashes;
@@ -55,7 +57,7 @@ ReturnsBoard sources (Err (stop.File index fault)) = IsFirstRefused sources inde
 
 -- the flashes of a copper file are those of the layer that its text reads as; of a drill file nothing is said
 abbrev pub AreFlashesOf : FileView → List Flash → Type 0
-AreFlashesOf source flashes = is_copper source.role ≡ true → (image : LayerImage) → ReadsLayer source.bytes (Ok image) → flashes ≡ image.flashes
+AreFlashesOf source flashes = is_copper source.role ≡ true → (image : LayerImage) → ReadsLayerIn source.setting.profile source.bytes (Ok image) → flashes ≡ image.flashes
 
 -- one list for each file of a package, of which the relation says what it has of the file
 pub record AreFileLists {X : Type 0} (IsOf : FileView → List X → Type 0) (sources : List FileView) (lists : List (List X)) : Type 0 where
@@ -79,7 +81,7 @@ ReturnsFlashedBoard sources (Err (stop.File index fault)) = IsFirstRefused sourc
 
 -- a copper file draws what the commands of the layer draw that its text reads as; of a drill file nothing is said (docs/FORMATS.md, Pictures)
 abbrev pub AreDrawnOf : FileView → List Drawn → Type 0
-AreDrawnOf source drawn = is_copper source.role ≡ true → (image : LayerImage) → ReadsLayer source.bytes (Ok image) → drawn ≡ drawn_of (without_places image.commands)
+AreDrawnOf source drawn = is_copper source.role ≡ true → (image : LayerImage) → ReadsLayerIn source.setting.profile source.bytes (Ok image) → drawn ≡ drawn_of (without_places image.commands)
 
 -- the board of a package whose files are all read, with the flashes of each file and what it draws
 pub record IsDrawnBoard (sources : List FileView) (board : BoardView) : Type 0 where
@@ -94,7 +96,7 @@ ReturnsDrawnBoard sources (Err (stop.File index fault)) = IsFirstRefused sources
 
 -- how many holes a file drills, slots among them; a copper file drills none
 abbrev pub hole_count : FileSum → ℕ
-hole_count (sum.Layer pads other) = 0
+hole_count (sum.Layer pads other contours) = 0
 hole_count (sum.Drill plated span round slots) = round + slots
 
 -- the number of holes in the files before one, by its index
@@ -124,7 +126,7 @@ numbered board = numbered_from 0 board.files board.holes
 
 -- what the rules find on a board: first the rings that are lacking, then the gaps
 abbrev pub board_findings : GridRules → BoardView → List Finding
-board_findings rules board = findings rules board.layers board.holes
+board_findings rules board = ring_findings pad_covers rules.profile rules.ring board.layers board.holes ++ gap_findings rules.gap board.holes
 
 -- the report on a board under these rules
 abbrev pub reported : GridRules → BoardView → ReportView

@@ -6,6 +6,7 @@ use Rattle.ring_rules.specs.declared.layer_search.LayerSearch.{LayerSearch}
 use Rattle.ring_rules.specs.declared.ring_index.RingIndex.{RingIndex}
 use Rattle.package_check.specs.Boards.{hole_count}
 use Rattle.package_check.specs.HoleViews.{HolesView}
+use Rattle.package_check.specs.Package.{Setting}
 use Rattle.package_check.specs.declared.FileSum.{FileSum}
 use Rattle.package_check.specs.declared.FileSum.TheVariants as sum
 use Rattle.package_check.specs.declared.PackageFault.{PackageFault}
@@ -22,13 +23,17 @@ pub record CheckView : Type 0 where
   pub slots : List (Option Judged)
   pub stopped : Option PackageFault
 
+-- what a check reads its files in
+abbrev pub setting_of : CheckView → Setting
+setting_of check = record { layers = check.layers; profile = check.rules.profile }
+
 -- the holes of a check
 abbrev pub holes_of : CheckView → HolesView
 holes_of check = record { holes = check.holes; rules = check.rules; index = check.index; search = check.search }
 
 -- whether these are the counts of a drill file
 abbrev pub is_drill_sum : FileSum → Bool
-is_drill_sum (sum.Layer pads other) = false
+is_drill_sum (sum.Layer pads other contours) = false
 is_drill_sum (sum.Drill plated span round slots) = true
 
 -- whether a drill file has a slot

@@ -1,16 +1,21 @@
 -- What the bytes of a file say.
-use Rattle.std.specs.Prelude.{◌≡◌, ℕ, Bool, true, List, codes, Option, Some, None, Result, Ok, Err}
+use Rattle.std.specs.Prelude.{◌≡◌, ℕ, Bool, true, List, [], codes, Option, Some, None, Result, Ok, Err}
 use Rattle.std.specs.Str.{bytes_eq}
 use Rattle.grid_units.specs.Holes.{GridHole}
 use Rattle.grid_units.specs.declared.fault.Fault.{Fault}
+use Rattle.grid_units.specs.declared.profile.Profile.{Profile}
+use Rattle.grid_units.specs.declared.profile.Profile.TheVariants.{Strict, Wide}
 use Rattle.gerber_commands.specs.Negative.{first_field}
 use Rattle.gerber_text.specs.Writing.{without_places}
 use Rattle.drill_text.specs.Holes.{holes_of}
+use Rattle.drill_text.specs.Profiles.{ReadsAsIn}
 use Rattle.drill_text.specs.Texts.{ReadsAs}
 use Rattle.layer_image.specs.Drawn.{drawn_of}
 use Rattle.layer_image.specs.Layers as layers
 use Rattle.layer_image.specs.Layers.{LayerImage}
 use Rattle.layer_image.specs.declared.drawn.Drawn.{Drawn}
+use Rattle.layer_image.specs.declared.flash.Flash.{Flash}
+use Rattle.wide_layers.specs.WideLayers.{ReadsWideLayer, WideImage}
 use Rattle.package_check.specs.LayerViews.{LayerView}
 
 -- the first field of a file function is `Copper`, as in `Copper,L1,Top`; a layer without one is taken for copper (docs/FORMATS.md, File function)
@@ -18,27 +23,45 @@ abbrev pub is_copper_function : Option (List ℕ) → Bool
 is_copper_function None = true
 is_copper_function (Some text) = bytes_eq (first_field text) (codes "Copper")
 
--- what the check keeps of a layer
+-- what the check keeps of a layer in the strict profile
 abbrev pub layer_view : LayerImage → LayerView
 layer_view layer = record {
   pads = layer.pads;
+  flashed = [];
+  contours = [];
   other = layer.other;
   is_copper = is_copper_function layer.file_function;
 }
 
--- the bytes are the text of a layer, and this is what the check keeps of it
-abbrev pub HasLayerView : List ℕ → LayerView → Type 0
-HasLayerView bytes image = (layer : LayerImage) × layers.IsLayer bytes layer × (image ≡ layer_view layer)
+-- what the check keeps of a layer in the wide profile
+abbrev pub wide_view : WideImage → LayerView
+wide_view layer = record {
+  pads = layer.pads;
+  flashed = layer.flashed;
+  contours = layer.contours;
+  other = layer.other;
+  is_copper = is_copper_function layer.file_function;
+}
 
--- the bytes are the text of a layer, and this is what the check keeps of it; or they have this fault
-abbrev pub ReadsLayer : List ℕ → Result LayerView Fault → Type 0
-ReadsLayer bytes (Ok image) = HasLayerView bytes image
-ReadsLayer bytes (Err fault) = layers.ReadsLayer bytes (Err fault)
+-- in the profile the bytes are the text of a layer, and this is what the check keeps of it
+abbrev pub HasLayerView : Profile → List ℕ → LayerView → Type 0
+HasLayerView Strict bytes view = (layer : LayerImage) × layers.IsLayer bytes layer × (view ≡ layer_view layer)
+HasLayerView Wide bytes view = (layer : WideImage) × ReadsWideLayer bytes (Ok layer) × (view ≡ wide_view layer)
 
--- the bytes are the text of a layer, and this is what its commands draw (docs/FORMATS.md, Pictures)
-abbrev pub Draws : List ℕ → List Drawn → Type 0
-Draws bytes drawn = (layer : LayerImage) × layers.IsLayer bytes layer × (drawn ≡ drawn_of (without_places layer.commands))
+-- in the profile the bytes are the text of a layer, and this is what the check keeps of it; or they have this fault
+abbrev pub ReadsLayer : Profile → List ℕ → Result LayerView Fault → Type 0
+ReadsLayer profile bytes (Ok view) = HasLayerView profile bytes view
+ReadsLayer profile bytes (Err fault) = layers.ReadsLayerIn profile bytes (Err fault)
 
--- the bytes are a drill text that drills these holes, or they have this fault
-abbrev pub ReadsDrill : List ℕ → Result (List GridHole) Fault → Type 0
-ReadsDrill bytes answer = ReadsAs holes_of bytes answer
+-- in the profile the bytes are the text of a layer, and these are its flashes
+abbrev pub HasFlashes : Profile → List ℕ → List Flash → Type 0
+HasFlashes profile bytes flashes = (layer : LayerImage) × layers.IsLayerIn profile bytes layer × (flashes ≡ layer.flashes)
+
+-- in the profile the bytes are the text of a layer, and this is what its commands draw (docs/FORMATS.md, Pictures)
+abbrev pub Draws : Profile → List ℕ → List Drawn → Type 0
+Draws profile bytes drawn = (layer : LayerImage) × layers.IsLayerIn profile bytes layer × (drawn ≡ drawn_of (without_places layer.commands))
+
+-- in the profile the bytes are a drill text that drills these holes, or they have this fault
+abbrev pub ReadsDrill : Profile → List ℕ → Result (List GridHole) Fault → Type 0
+ReadsDrill Strict bytes answer = ReadsAs holes_of bytes answer
+ReadsDrill Wide bytes answer = ReadsAsIn Wide holes_of bytes answer

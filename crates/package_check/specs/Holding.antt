@@ -3,7 +3,6 @@ use Rattle.std.specs.Prelude.{◌≡◌, ◌≢◌, ◌<◌, ◌≤◌, ◌==◌
 use Rattle.grid_units.specs.declared.fault.Fail.{Fail}
 use Rattle.grid_units.specs.declared.fault.Fail.TheVariants as fails
 use Rattle.layer_image.specs.KeptFlashes.{keeps_commands, keeps_flashes}
-use Rattle.layer_image.specs.Layers.{ReadsFlashes}
 use Rattle.layer_image.specs.declared.drawn.Drawn.{Drawn}
 use Rattle.layer_image.specs.declared.flash.Flash.{Flash}
 use Rattle.layer_image.specs.declared.keep.Keep.{Keep}
@@ -14,8 +13,8 @@ use Rattle.package_check.specs.declared.contents.Content.{Content}
 use Rattle.package_check.specs.declared.package_reader.PackageReader.{PackageReader}
 use Rattle.package_check.specs.declared.readers.Shown.{Shown}
 use Rattle.package_check.specs.declared.slots.Kept.{Kept}
-use Rattle.package_check.specs.FileTexts.{Draws}
-use Rattle.package_check.specs.Package.{FileView, Reads, is_copper}
+use Rattle.package_check.specs.FileTexts.{Draws, HasFlashes}
+use Rattle.package_check.specs.Package.{FileView, Reads, Setting, is_copper}
 
 -- ---- slots
 
@@ -50,8 +49,8 @@ all_drawn shown = map (λ one. one.drawn.items) shown
 -- what is kept of a file: its content; of a copper file its flashes where they are kept, and what its commands draw where these are kept
 pub record IsKeptOf (keep : Keep) (source : FileView) (one : Kept) : Type 0 where
   pub content : Reads source (Ok one.content)
-  pub flashes : keeps_flashes keep ≡ true → is_copper source.role ≡ true → ReadsFlashes source.bytes (Ok one.shown.flashes.items)
-  pub drawn : keeps_commands keep ≡ true → is_copper source.role ≡ true → Draws source.bytes one.shown.drawn.items
+  pub flashes : keeps_flashes keep ≡ true → is_copper source.role ≡ true → HasFlashes source.setting.profile source.bytes one.shown.flashes.items
+  pub drawn : keeps_commands keep ≡ true → is_copper source.role ≡ true → Draws source.setting.profile source.bytes one.shown.drawn.items
 
 -- ---- where a reader stopped
 
@@ -91,9 +90,9 @@ ReadsInto Is index source before after (Err (fails.Refused fault)) = Reads sourc
 
 -- ---- readers
 
--- how many copper files the package has, as the reader was given it at the start
-abbrev pub copper_files : PackageReader → ℕ
-copper_files reader = reader.layers
+-- what the reader reads its files in, as it was given it at the start
+abbrev pub setting_of : PackageReader → Setting
+setting_of reader = record { layers = reader.layers; profile = reader.profile }
 
 -- the reader ran out of memory
 abbrev pub IsOutOfMemory : PackageReader → Type 0

@@ -15,3 +15,4 @@ pub mod Inner
 pub mod CheckViews
 pub mod Checking
 pub mod OpenFiles
+pub mod WiderProfile

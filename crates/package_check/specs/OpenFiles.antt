@@ -3,17 +3,21 @@ use Rattle.std.specs.Prelude.{◌≡◌, ◌++◌, ℕ, Bool, true, false, List,
 use Rattle.grid_units.specs.Spans.{LayerSpan}
 use Rattle.grid_units.specs.declared.fault.Fail.{Fail}
 use Rattle.grid_units.specs.declared.fault.Fail.TheVariants as fails
-use Rattle.drill_text.specs.Holding.{StandsAfter}
+use Rattle.drill_text.specs.Holding.{StandsIn}
 use Rattle.drill_text.specs.declared.kept.Keep.TheVariants as drill_keep
-use Rattle.layer_image.specs.Holding.{LayerStandsAfter}
+use Rattle.grid_units.specs.declared.profile.Profile.{Profile}
+use Rattle.grid_units.specs.declared.profile.Profile.TheVariants.{Strict, Wide}
+use Rattle.layer_image.specs.Holding.{LayerStandsIn}
 use Rattle.layer_image.specs.declared.keep.Keep.{Keep}
+use Rattle.layer_image.specs.declared.keep.Keep.TheVariants as keeps
+use Rattle.layer_image.specs.declared.reader.LayerReader.{LayerReader}
 use Rattle.manifest.specs.declared.Role.{Role}
 use Rattle.manifest.specs.declared.Role.TheVariants as role
 use Rattle.package_check.specs.CheckViews.{CheckView, holes_of}
 use Rattle.package_check.specs.HoleViews.{HolesView}
-use Rattle.package_check.specs.Holding.{is_wanted}
+use Rattle.package_check.specs.Holding.{is_wanted, setting_of}
 use Rattle.package_check.specs.Judging.{HasTriedPadsOf}
-use Rattle.package_check.specs.Package.{Reads, is_bad_span, unnamed_file}
+use Rattle.package_check.specs.Package.{Reads, Setting, is_bad_span, unnamed_file}
 use Rattle.package_check.specs.declared.open_copper.CopperReading.{CopperReading}
 use Rattle.package_check.specs.declared.open_copper.CopperReading.TheVariants as copper_reading
 use Rattle.package_check.specs.declared.open_copper.OpenCopper.{OpenCopper}
@@ -27,34 +31,44 @@ abbrev pub drill_role : Bool → Role
 drill_role plated = if plated then role.Plated else role.Unplated
 
 -- a file of this role and span has this fault, however its text so far goes on; or memory ran out
-abbrev pub HasFailed : Role → Option LayerSpan → ℕ → Fail → List ℕ → Type 0
-HasFailed of span layers fails.Memory text = ⊤
-HasFailed of span layers (fails.Refused fault) text = (more : List ℕ) → Reads (unnamed_file of span layers (text ++ more)) (Err fault)
+abbrev pub HasFailed : Role → Option LayerSpan → Setting → Fail → List ℕ → Type 0
+HasFailed of span setting fails.Memory text = ⊤
+HasFailed of span setting (fails.Refused fault) text = (more : List ℕ) → Reads (unnamed_file of span setting (text ++ more)) (Err fault)
 
 -- ---- files of a reader
 
+-- what a reader of a layer keeps of it: in the wide profile all, since clear polarity takes pads away
+abbrev pub keep_in : Profile → Keep → Keep
+keep_in Strict keep = keep
+keep_in Wide keep = keeps.All
+
 -- Of a file of this role and span, in a package of so many copper files, this text was read. It shows no fault, and the reader of its kind stands after
 -- it; or the file has failed. A file that is passed over has read no text.
-abbrev pub HasReadText : Keep → Role → Option LayerSpan → ℕ → Reading → List ℕ → Type 0
-HasReadText keep of span layers (reading.Layer reader) text = (of ≡ role.Copper) × (is_bad_span of span layers ≡ false) × LayerStandsAfter reader keep text
-HasReadText keep of span layers (reading.Drill plated reader) text = (of ≡ drill_role plated) × (is_bad_span of span layers ≡ false) × StandsAfter reader drill_keep.Holes text
-HasReadText keep of span layers (reading.Failed fail) text = HasFailed of span layers fail text
-HasReadText keep of span layers reading.Skipped text = ⊥
+abbrev pub HasReadText : Keep → Role → Option LayerSpan → Setting → Reading → List ℕ → Type 0
+HasReadText keep of span setting (reading.Layer reader) text = (of ≡ role.Copper) × (is_bad_span of span setting.layers ≡ false) × LayerStandsIn reader setting.profile (keep_in setting.profile keep) text
+HasReadText keep of span setting (reading.Drill plated reader) text = (of ≡ drill_role plated) × (is_bad_span of span setting.layers ≡ false) × StandsIn reader setting.profile drill_keep.Holes text
+HasReadText keep of span setting (reading.Failed fail) text = HasFailed of span setting fail text
+HasReadText keep of span setting reading.Skipped text = ⊥
 
 -- an open file is that of this index, role and span of a package; where the reader of the package wants it, it has read this text
 pub record HasOpened (reader : PackageReader) (index : ℕ) (of : Role) (span : Option LayerSpan) (file : OpenFile) (text : List ℕ) : Type 0 where
   pub same_index : file.index ≡ index
   pub same_role : file.role ≡ of
   pub same_span : file.span ≡ span
-  pub reads : is_wanted reader.stopped index ≡ true → HasReadText reader.keep of span reader.layers file.reading text
+  pub reads : is_wanted reader.stopped index ≡ true → HasReadText reader.keep of span (setting_of reader) file.reading text
 
 -- ---- copper files of a check
 
--- Of the copper file of this span, whose layer has this number, in a package of so many copper files, this text was read. It shows no fault, and its pads so
--- far were tried at the holes; or the file has failed. A file that is passed over has read no text.
+-- A reader of a layer has read this text. In the strict profile its pads so far were tried at the holes; in the wide one they are tried at the end.
+abbrev pub HasReadLayer : Profile → HolesView → ℕ → LayerReader → List ℕ → Type 0
+HasReadLayer Strict holes layer reader text = HasTriedPadsOf holes layer reader text
+HasReadLayer Wide holes layer reader text = (holes.search ≡ None) × LayerStandsIn reader Wide keeps.All text
+
+-- Of the copper file of this span, whose layer has this number, in a package of so many copper files, this text was read and shows no fault; or the file
+-- has failed. A file that is passed over has read no text.
 abbrev pub HasReadCopper : HolesView → ℕ → Option LayerSpan → ℕ → CopperReading → List ℕ → Type 0
-HasReadCopper holes layer span layers (copper_reading.Layer reader) text = (span ≡ None) × HasTriedPadsOf holes layer reader text
-HasReadCopper holes layer span layers (copper_reading.Failed fail) text = HasFailed role.Copper span layers fail text
+HasReadCopper holes layer span layers (copper_reading.Layer reader) text = (span ≡ None) × HasReadLayer holes.rules.profile holes layer reader text
+HasReadCopper holes layer span layers (copper_reading.Failed fail) text = HasFailed role.Copper span (record { layers = layers; profile = holes.rules.profile }) fail text
 HasReadCopper holes layer span layers copper_reading.Skipped text = ⊥
 
 -- An open copper file is that of this index and span, and its layer has this number. The check has taken no file since it was in the state `start`; where it

@@ -1,16 +1,19 @@
 -- The answer to a package: its report, or the first file that is refused.
-use Rattle.std.specs.Prelude.{◌≡◌, ◌⊎◌, ◌<◌, ◌++◌, ℕ, Bool, true, false, not, ◌||◌, ◌&&◌, nat_le, List, [], ◌∷◌, length, map, take, get_or, count_by, Result, Ok, Err, ⊤, Option, None, Some}
-use Rattle.std.specs.List.{All, flat_map, enumerate_from}
+use Rattle.std.specs.Prelude.{◌≡◌, ◌⊎◌, ◌<◌, ◌+◌, ◌++◌, ℕ, Bool, true, false, not, ◌||◌, ◌&&◌, nat_le, List, [], ◌∷◌, length, map, take, get_or, count_by, Result, Ok, Err, ⊤, Option, None, Some}
+use Rattle.std.specs.List.{All, AllByRecursion, flat_map, enumerate_from}
 use Rattle.grid_units.specs.Holes.{GridHole, GridRules}
+use Rattle.grid_units.specs.declared.profile.Profile.{Profile}
+use Rattle.grid_units.specs.declared.profile.Profile.TheVariants.{Strict}
 use Rattle.pad_shapes.specs.declared.pad.Pad.{Pad}
-use Rattle.pad_shapes.specs.Pads.{pad_covers}
+use Rattle.wide_pads.specs.WidePads.{wide_pad_covers}
+use Rattle.wide_pads.specs.declared.wide_pad.WidePad.{WidePad}
 use Rattle.grid_units.specs.Holes.{is_round}
 use Rattle.ring_rules.specs.Findings.{ring_findings, gap_findings}
 use Rattle.grid_units.specs.Spans.{LayerSpan}
 use Rattle.ring_rules.specs.WithoutFindings.{NamesPlaces}
 use Rattle.ring_rules.specs.declared.finding.Drilled.{Drilled}
 use Rattle.ring_rules.specs.declared.finding.Finding.{Finding}
-use Rattle.package_check.specs.LayerViews.{LayerView}
+use Rattle.package_check.specs.LayerViews.{LayerView, all_pads}
 use Rattle.package_check.specs.FileTexts.{HasLayerView, ReadsLayer, ReadsDrill}
 use Rattle.package_check.specs.Reports.{ReportView}
 use Rattle.grid_units.specs.declared.fault.Fault.{Fault}
@@ -26,13 +29,18 @@ use Rattle.manifest.specs.declared.Role.TheVariants as role
 use Rattle.package_check.specs.declared.contents.Content.{Content}
 use Rattle.package_check.specs.declared.contents.Content.TheVariants as content
 
--- a file: its role, its name, the span named for it, its bytes, and how many copper files its package has
+-- what a file is read in: a package with so many copper files, in a profile
+pub record Setting : Type 0 where
+  pub layers : ℕ
+  pub profile : Profile
+
+-- a file: its role, its name, the span named for it, its bytes, and what it is read in
 pub record FileView : Type 0 where
   pub role : Role
   pub name : List ℕ
   pub span : Option LayerSpan
   pub bytes : List ℕ
-  pub layers : ℕ
+  pub setting : Setting
 
 -- whether a role is that of a copper file
 abbrev pub is_copper : Role → Bool
@@ -40,21 +48,29 @@ is_copper role.Copper = true
 is_copper role.Plated = false
 is_copper role.Unplated = false
 
--- the source for a file of the code, in a package of so many copper files
-abbrev pub file_view : ℕ → File → FileView
-file_view layers file = record { role = file.role; name = file.name.now; span = file.span; bytes = file.bytes.now; layers = layers }
+-- the source for a file of the code
+abbrev pub file_view : Setting → File → FileView
+file_view setting file = record { role = file.role; name = file.name.now; span = file.span; bytes = file.bytes.now; setting = setting }
 
--- a file of this role, span and bytes, its name left empty, in a package of so many copper files
-abbrev pub unnamed_file : Role → Option LayerSpan → ℕ → List ℕ → FileView
-unnamed_file role span layers bytes = record { role = role; name = []; span = span; bytes = bytes; layers = layers }
+-- a file of this role, span and bytes, its name left empty
+abbrev pub unnamed_file : Role → Option LayerSpan → Setting → List ℕ → FileView
+unnamed_file role span setting bytes = record { role = role; name = []; span = span; bytes = bytes; setting = setting }
 
 -- how many of the files are copper
 abbrev pub layer_count : List File → ℕ
 layer_count files = count_by (λ file. is_copper file.role) files
 
--- the sources for the files of a package, each with the number of copper files among them
+-- the sources for the files of a package that is read in a profile, each with the number of copper files among them
+abbrev pub file_views_in : Profile → List File → List FileView
+file_views_in profile files = map (file_view (record { layers = layer_count files; profile = profile })) files
+
+-- the same in the strict profile
 abbrev pub file_views : List File → List FileView
-file_views files = map (file_view (layer_count files)) files
+file_views files = file_views_in Strict files
+
+-- each file is read in the strict profile
+abbrev pub AreStrict : List FileView → Type 0
+AreStrict sources = AllByRecursion (λ source. source.setting.profile ≡ Strict) sources
 
 -- whether a span is bad: on a copper file, or not `1 <= first <= last <=` the number of copper files (docs/FORMATS.md, The check)
 abbrev pub is_bad_span : Role → Option LayerSpan → ℕ → Bool
@@ -70,26 +86,26 @@ abbrev pub not_copper : Fault
 not_copper = record { place = 0; byte = 0; reason = reason.NotCopper }
 
 -- the bytes of a copper file are the text of a copper layer with this content
-abbrev pub HasCopperContent : List ℕ → Content → Type 0
-HasCopperContent bytes (content.Layer image) = HasLayerView bytes image × (image.is_copper ≡ true)
-HasCopperContent bytes (content.Drill plated span holes) = ⊥
+abbrev pub HasCopperContent : Profile → List ℕ → Content → Type 0
+HasCopperContent profile bytes (content.Layer image) = HasLayerView profile bytes image × (image.is_copper ≡ true)
+HasCopperContent profile bytes (content.Drill plated span holes) = ⊥
 
 -- the bytes of a drill file drill just these holes, and the content has its plating and its span
-abbrev pub HasDrillContent : Bool → Option LayerSpan → List ℕ → Content → Type 0
-HasDrillContent plated span bytes (content.Layer image) = ⊥
-HasDrillContent plated span bytes (content.Drill has through holes) = ReadsDrill bytes (Ok holes) × (has ≡ plated) × (through ≡ span)
+abbrev pub HasDrillContent : Profile → Bool → Option LayerSpan → List ℕ → Content → Type 0
+HasDrillContent profile plated span bytes (content.Layer image) = ⊥
+HasDrillContent profile plated span bytes (content.Drill has through holes) = ReadsDrill profile bytes (Ok holes) × (has ≡ plated) × (through ≡ span)
 
 -- the bytes of a file have this content, as they are read by its role
 abbrev pub BytesHaveContent : FileView → Content → Type 0
 BytesHaveContent source content = elim source.role [
-  | role.Copper ↦ HasCopperContent source.bytes content
-  | role.Plated ↦ HasDrillContent true source.span source.bytes content
-  | role.Unplated ↦ HasDrillContent false source.span source.bytes content
+  | role.Copper ↦ HasCopperContent source.setting.profile source.bytes content
+  | role.Plated ↦ HasDrillContent source.setting.profile true source.span source.bytes content
+  | role.Unplated ↦ HasDrillContent source.setting.profile false source.span source.bytes content
 ]
 
 -- a file has this content: its span is not bad, and its bytes have the content
 abbrev pub HasContent : FileView → Content → Type 0
-HasContent source content = (is_bad_span source.role source.span source.layers ≡ false) × BytesHaveContent source content
+HasContent source content = (is_bad_span source.role source.span source.setting.layers ≡ false) × BytesHaveContent source content
 
 -- the files have these contents, one by one
 abbrev pub HaveContents : List FileView → List Content → Type 0
@@ -99,21 +115,21 @@ HaveContents (source ∷ sources) [] = ⊥
 HaveContents (source ∷ sources) (content ∷ contents) = HasContent source content × HaveContents sources contents
 
 -- a copper file has this content or this fault: that of its text, or NotCopper where its layer is not copper
-abbrev pub ReadsCopper : List ℕ → Result Content Fault → Type 0
-ReadsCopper bytes (Ok content) = HasCopperContent bytes content
-ReadsCopper bytes (Err fault) = ReadsLayer bytes (Err fault) ⊎ ((image : LayerView) × ReadsLayer bytes (Ok image) × (image.is_copper ≡ false) × (fault ≡ not_copper))
+abbrev pub ReadsCopper : Profile → List ℕ → Result Content Fault → Type 0
+ReadsCopper profile bytes (Ok content) = HasCopperContent profile bytes content
+ReadsCopper profile bytes (Err fault) = ReadsLayer profile bytes (Err fault) ⊎ ((image : LayerView) × ReadsLayer profile bytes (Ok image) × (image.is_copper ≡ false) × (fault ≡ not_copper))
 
 -- a drill file has this content, or its text has this fault
-abbrev pub ReadsHoles : Bool → Option LayerSpan → List ℕ → Result Content Fault → Type 0
-ReadsHoles plated span bytes (Ok content) = HasDrillContent plated span bytes content
-ReadsHoles plated span bytes (Err fault) = ReadsDrill bytes (Err fault)
+abbrev pub ReadsHoles : Profile → Bool → Option LayerSpan → List ℕ → Result Content Fault → Type 0
+ReadsHoles profile plated span bytes (Ok content) = HasDrillContent profile plated span bytes content
+ReadsHoles profile plated span bytes (Err fault) = ReadsDrill profile bytes (Err fault)
 
 -- the bytes of a file have this content or this fault, as they are read by its role
 abbrev pub ReadsBytes : FileView → Result Content Fault → Type 0
 ReadsBytes source answer = elim source.role [
-  | role.Copper ↦ ReadsCopper source.bytes answer
-  | role.Plated ↦ ReadsHoles true source.span source.bytes answer
-  | role.Unplated ↦ ReadsHoles false source.span source.bytes answer
+  | role.Copper ↦ ReadsCopper source.setting.profile source.bytes answer
+  | role.Plated ↦ ReadsHoles source.setting.profile true source.span source.bytes answer
+  | role.Unplated ↦ ReadsHoles source.setting.profile false source.span source.bytes answer
 ]
 
 -- a file whose span is bad has the fault `bad_span`, whatever its bytes are; another has what its bytes have
@@ -123,21 +139,30 @@ ReadsUnlessBadSpan false source answer = ReadsBytes source answer
 
 -- a file has this content or this fault
 abbrev pub Reads : FileView → Result Content Fault → Type 0
-Reads source answer = ReadsUnlessBadSpan (is_bad_span source.role source.span source.layers) source answer
+Reads source answer = ReadsUnlessBadSpan (is_bad_span source.role source.span source.setting.layers) source answer
 
--- the counts of a file: pads and other flashes of a layer, round holes and slots of a drill file
+-- the counts of a file: flashed pads, other flashes and contours of a layer, round holes and slots of a drill file
 abbrev pub sum_of : Content → FileSum
-sum_of (content.Layer image) = sum.Layer (length image.pads) image.other
+sum_of (content.Layer image) = sum.Layer (length image.pads + length image.flashed) image.other (length image.contours)
 sum_of (content.Drill plated span holes) = sum.Drill plated span (count_by is_round holes) (count_by (λ hole. not (is_round hole)) holes)
 
 -- the pads of a copper file, as a list of one; none for a drill file
-abbrev pub pads_of : Content → List (List Pad)
-pads_of (content.Layer image) = image.pads ∷ []
+abbrev pub pads_of : Content → List (List WidePad)
+pads_of (content.Layer image) = all_pads image ∷ []
 pads_of (content.Drill plated span holes) = []
 
 -- the pads of each copper file, in the order of the files
-abbrev pub layers : List Content → List (List Pad)
+abbrev pub layers : List Content → List (List WidePad)
 layers contents = flat_map pads_of contents
+
+-- the pads of standard apertures of a copper file, as a list of one; none for a drill file
+abbrev pub plain_pads_of : Content → List (List Pad)
+plain_pads_of (content.Layer image) = image.pads ∷ []
+plain_pads_of (content.Drill plated span holes) = []
+
+-- the pads of standard apertures of each copper file: in the strict profile all pads
+abbrev pub plain_layers : List Content → List (List Pad)
+plain_layers contents = flat_map plain_pads_of contents
 
 -- the index of a copper file, as a list of one; none for a drill file
 abbrev pub index_of : ℕ × Content → List ℕ
@@ -167,8 +192,8 @@ abbrev pub drilled : List Content → List Drilled
 drilled contents = map (λ hole. hole.drilled) (numbered_holes contents)
 
 -- the findings of lacking rings, then those of lacking gaps
-abbrev pub findings : GridRules → List (List Pad) → List Drilled → List Finding
-findings rules pads holes = ring_findings pad_covers rules.ring pads holes ++ gap_findings rules.gap holes
+abbrev pub findings : GridRules → List (List WidePad) → List Drilled → List Finding
+findings rules pads holes = ring_findings wide_pad_covers rules.profile rules.ring pads holes ++ gap_findings rules.gap holes
 
 -- the report on files with these contents, under these rules
 abbrev pub report_on : GridRules → List Content → ReportView

@@ -1,24 +1,31 @@
 -- When a package is sound: what its files say as they are written, by the grammars of their formats, and what holds of that.
-use Rattle.std.specs.Prelude.{◌≡◌, ◌≤◌, ◌<◌, ℕ, Bool, true, false, not, List, [], map, length, get_or, Option, None, Some, ⊤}
+use Rattle.std.specs.Prelude.{◌≡◌, ◌++◌, ◌≤◌, ◌<◌, ℕ, Bool, true, false, not, List, [], map, length, get_or, Option, None, Some, ⊤}
 use Rattle.std.specs.List.{AllPairs, AllZip, Contains, filter, flat_map}
 use Rattle.grid_units.specs.Holes.{GridHole, GridRules, AreClear}
 use Rattle.grid_units.specs.Lists.{last_set}
 use Rattle.grid_units.specs.Spans.{LayerSpan, is_in_span}
+use Rattle.grid_units.specs.declared.profile.Profile.{Profile}
+use Rattle.grid_units.specs.declared.profile.Profile.TheVariants.{Strict, Wide}
 use Rattle.pad_shapes.specs.declared.pad.Pad.{Pad}
-use Rattle.pad_shapes.specs.Pads.{IsInPad}
 use Rattle.pad_shapes.specs.Shapes.{IsAxisAligned}
+use Rattle.wide_pads.specs.WidePads.{IsInWidePad}
+use Rattle.wide_pads.specs.declared.wide_pad.WidePad.{WidePad}
+use Rattle.wide_layers.specs.WideLayers.{pads_left}
+use Rattle.further_copper.specs.FurtherPads.{contours_of, flashed_pads_of}
 use Rattle.ring_rules.specs.declared.finding.Drilled.{Drilled}
-use Rattle.ring_rules.specs.WithoutFindings.{IsSlotHeld}
+use Rattle.ring_rules.specs.WithoutFindings.{IsHoleHeld}
 use Rattle.gerber_commands.specs.declared.command.Command.{Command}
 use Rattle.gerber_text.specs.Grammar as gerber
 use Rattle.layer_image.specs.FileFunction.{function_set}
 use Rattle.layer_image.specs.Pads.{ArePads}
 use Rattle.drill_lines.specs.declared.command.DrillCommand.{DrillCommand}
 use Rattle.drill_text.specs.Grammar as drill
+use Rattle.drill_text.specs.WideGrammar.{IsWideText}
 use Rattle.drill_text.specs.Drilling.{AreHoles}
 use Rattle.manifest.specs.declared.Role.{Role}
 use Rattle.manifest.specs.declared.Role.TheVariants as role
 use Rattle.package_check.specs.FileTexts.{is_copper_function}
+use Rattle.package_check.specs.LayerViews.{plain, rounded}
 use Rattle.package_check.specs.Package.{FileView, IsReport, is_copper}
 use Rattle.package_check.specs.Reports.{ReportView}
 
@@ -32,33 +39,49 @@ abbrev pub IsRun : ℕ → Option LayerSpan → Type 0
 IsRun layers None = ⊤
 IsRun layers (Some span) = (1 ≤ span.first) × (span.first ≤ span.last) × (span.last ≤ layers)
 
+-- Commands make just these pads. In the strict profile they are the flashes of standard apertures. In the wide one they are those that no clear polarity
+-- takes away, then the flashes of macros that have a shape, and then the closed convex contours of regions, each of which no clear polarity takes away.
+abbrev pub MakePads : Profile → List Command → List WidePad → Type 0
+MakePads Strict commands made = (pads : List Pad) × ArePads commands pads × (made ≡ map plain pads)
+MakePads Wide commands made = made ≡ map plain (pads_left commands) ++ map rounded (flashed_pads_of commands ++ contours_of commands)
+
 -- a copper file says these pads: its bytes are a Gerber text of commands that make just these, and the last file function among the commands, if any, is that of copper
-pub record SaysPads (file : FileView) (pads : List Pad) : Type 0 where
+pub record SaysPads (file : FileView) (pads : List WidePad) : Type 0 where
   pub commands : List Command
-  pub written : gerber.IsText file.bytes commands
-  pub made : ArePads commands pads
+  pub written : gerber.IsTextIn file.setting.profile file.bytes commands
+  pub made : MakePads file.setting.profile commands pads
   pub copper : is_copper_function (last_set function_set commands) ≡ true
   pub spanless : file.span ≡ None
+
+-- bytes are a drill text of these commands by the grammar of the profile; in the wide one slots may be routed by four lines, and a file may have no header and no hole
+abbrev pub IsDrillText : Profile → List ℕ → List DrillCommand → Type 0
+IsDrillText Strict bytes commands = drill.IsText bytes commands
+IsDrillText Wide bytes commands = IsWideText bytes commands
 
 -- a drill file says these holes: its bytes are a drill text of commands that drill just these, and each has the plating of the file's role and its span
 pub record SaysHoles (file : FileView) (drilled : List Drilled) : Type 0 where
   pub commands : List DrillCommand
-  pub written : drill.IsText file.bytes commands
+  pub written : IsDrillText file.setting.profile file.bytes commands
   pub holes : List GridHole
   pub made : AreHoles commands holes
-  pub run : IsRun file.layers file.span
+  pub run : IsRun file.setting.layers file.span
   pub is : drilled ≡ map (λ hole. record { hole = hole; plated = is_plated file.role; span = file.span }) holes
 
--- Each copper file says the pads of a layer, and each drill file holes. On each layer of its span each plated hole, round or a slot, lies along an axis, and one pad of
+-- a hole lies as the profile allows: in the strict one it is round or a slot along an axis, in the wide one a slot may lie at any angle
+abbrev pub LiesAsAllowed : Profile → GridHole → Type 0
+LiesAsAllowed Strict hole = IsAxisAligned hole.from hole.to
+LiesAsAllowed Wide hole = ⊤
+
+-- Each copper file says the pads of a layer, and each drill file holes. On each layer of its span each plated hole, round or a slot, lies as the profile allows, and one pad of
 -- the layer holds it, with the ring round each point between its ends. Two holes, of whatever files, are clear: their centres, or the lines between
 -- their ends, are both radii and the gap apart, so that no points of them are nearer than the gap (ring_rules, `clear_holes_are_apart`).
 pub record IsSound (sources : List FileView) (rules : GridRules) : Type 0 where
-  pub layers : List (List Pad)
+  pub layers : List (List WidePad)
   pub drills : List (List Drilled)
   pub pads : AllZip SaysPads (filter (λ file. is_copper file.role) sources) layers
   pub holes : AllZip SaysHoles (filter (λ file. not (is_copper file.role)) sources) drills
   pub held : (layer : ℕ) (d : Drilled) → layer < length layers → Contains (flat_map (λ one. one) drills) d → d.plated ≡ true → is_in_span layer d.span ≡ true
-      → IsAxisAligned d.hole.from d.hole.to × IsSlotHeld IsInPad rules.ring (get_or layers layer []) d.hole
+      → LiesAsAllowed rules.profile d.hole × IsHoleHeld IsInWidePad rules.ring (get_or layers layer []) d.hole
   pub gaps : AllPairs (λ a b. AreClear rules.gap a.hole b.hole) (flat_map (λ one. one) drills)
 
 -- each plated slot that a drill file says lies along an axis, whatever layers its span has
@@ -68,11 +91,11 @@ AreStraight sources =
 
 -- a copper file says at most one list of pads
 abbrev pub PadsAreSaidOnce : Type 0
-PadsAreSaidOnce = (file : FileView) (a b : List Pad) → SaysPads file a → SaysPads file b → a ≡ b
+PadsAreSaidOnce = (file : FileView) (a b : List WidePad) → SaysPads file a → SaysPads file b → a ≡ b
 
--- a drill file says at most one list of holes
+-- in the strict profile a drill file says at most one list of holes
 abbrev pub HolesAreSaidOnce : Type 0
-HolesAreSaidOnce = (file : FileView) (a b : List Drilled) → SaysHoles file a → SaysHoles file b → a ≡ b
+HolesAreSaidOnce = (file : FileView) (a b : List Drilled) → file.setting.profile ≡ Strict → SaysHoles file a → SaysHoles file b → a ≡ b
 
 -- a package whose report has no finding is sound
 abbrev pub PassingIsSound : Type 0

@@ -2,16 +2,15 @@
 use Rattle.std.specs.Prelude.{◌≡◌, ◌<◌, ℕ, List, [], true, map, length, get_or, Option}
 use Rattle.std.specs.List.{Contains, flat_map}
 use Rattle.grid_units.specs.Holes.{GridHole, GridRules}
-use Rattle.pad_shapes.specs.Pads.{IsInPad}
-use Rattle.ring_rules.specs.WithoutFindings.{IsHeld, IsSlotHeld, AreAllApart}
+use Rattle.wide_pads.specs.WidePads.{IsInWidePad}
+use Rattle.ring_rules.specs.WithoutFindings.{IsHoleHeld, AreAllApart}
 use Rattle.grid_units.specs.Spans.{LayerSpan, is_in_span}
-use Rattle.pad_shapes.specs.Shapes.{IsAxisAligned}
 use Rattle.ring_rules.specs.declared.finding.Drilled.{Drilled}
 use Rattle.package_check.specs.Reports.{ReportView}
 use Rattle.package_check.specs.declared.contents.Content.{Content}
 use Rattle.package_check.specs.declared.contents.Content.TheVariants as content
 use Rattle.package_check.specs.Package.{FileView, HaveContents, IsReport, layers}
-use Rattle.package_check.specs.Soundness.{IsSound}
+use Rattle.package_check.specs.Soundness.{IsSound, LiesAsAllowed}
 
 -- each file is legal by the rules of its format: it is read as some content
 abbrev pub AreLegal : List FileView → Type 0
@@ -30,16 +29,13 @@ pub record IsPlatedThrough (contents : List Content) (layer : ℕ) (hole : GridH
   pub drilled : Contains holes hole
   pub through : is_in_span layer span ≡ true
 
--- Every file is read. On each copper layer of its span, each plated round hole and each plated slot along an axis lies in one pad with its ring;
--- no plated slot through a copper layer is oblique; no points of two holes, of whatever files, are nearer than the gap.
+-- Every file is read. On each copper layer of its span, each plated hole, round or a slot, lies as the profile allows, and lies in one pad with its ring; no points of
+-- two holes, of whatever files, are nearer than the gap.
 pub record IsSoundAsRead (sources : List FileView) (rules : GridRules) : Type 0 where
   pub contents : List Content
   pub read : HaveContents sources contents
-  pub rings : (layer : ℕ) (hole : GridHole) → layer < length (layers contents) → IsPlatedThrough contents layer hole → hole.from ≡ hole.to
-      → IsHeld IsInPad rules.ring (get_or (layers contents) layer []) hole
-  pub slots : (layer : ℕ) (hole : GridHole) → layer < length (layers contents) → IsPlatedThrough contents layer hole → IsAxisAligned hole.from hole.to
-      → IsSlotHeld IsInPad rules.ring (get_or (layers contents) layer []) hole
-  pub straight : (layer : ℕ) (hole : GridHole) → layer < length (layers contents) → IsPlatedThrough contents layer hole → IsAxisAligned hole.from hole.to
+  pub held : (layer : ℕ) (hole : GridHole) → layer < length (layers contents) → IsPlatedThrough contents layer hole
+      → LiesAsAllowed rules.profile hole × IsHoleHeld IsInWidePad rules.ring (get_or (layers contents) layer []) hole
   pub gaps : AreAllApart rules.gap (flat_map drilled_in contents)
 
 -- a package whose report has no finding is sound by what is read of it

@@ -3,6 +3,8 @@ use Rattle.std.specs.Prelude.{ℕ, pos, ◌+◌, ◌*◌, ◌==◌, ◌++◌, Bo
 use Rattle.std.specs.List.{flat_map}
 use Rattle.grid_units.specs.Holes.{GridHole, GridRules, is_round}
 use Rattle.grid_units.specs.Spellings.{millimetres}
+use Rattle.grid_units.specs.declared.profile.Profile.{Profile}
+use Rattle.grid_units.specs.declared.profile.Profile.TheVariants.{Strict, Wide}
 use Rattle.ring_rules.specs.declared.finding.Finding.{Finding}
 use Rattle.ring_rules.specs.declared.finding.Finding.TheVariants.{Ring, Oblique, Gap}
 use Rattle.grid_units.specs.Spans.{LayerSpan}
@@ -13,13 +15,18 @@ use Rattle.package_check.specs.Reports.{ReportView}
 use Rattle.package_check.specs.Package.{FileView}
 use Rattle.grid_units.specs.Ascii as ascii
 
--- the first line, of two lengths: `rules ring=0.125000000 gap=0.250000000`
-abbrev pub rules_words : List ℕ → List ℕ → List ℕ
-rules_words ring gap = codes "rules ring=" ++ (ring ++ (codes " gap=" ++ (gap ++ ascii.line_feed ∷ [])))
+-- the profile as it stands at the end of the first line: ` profile=wide`, and nothing of the strict one
+abbrev pub profile_words : Profile → List ℕ
+profile_words Strict = []
+profile_words Wide = codes " profile=wide"
+
+-- the first line, of two lengths and a profile: `rules ring=0.125000000 gap=0.250000000`
+abbrev pub rules_words : List ℕ → List ℕ → List ℕ → List ℕ
+rules_words ring gap profile = codes "rules ring=" ++ (ring ++ (codes " gap=" ++ (gap ++ (profile ++ ascii.line_feed ∷ []))))
 
 -- the first line, of the rules in millimetres
 abbrev pub rules_line : GridRules → List ℕ
-rules_line rules = rules_words (millimetres (pos rules.ring)) (millimetres (pos rules.gap))
+rules_line rules = rules_words (millimetres (pos rules.ring)) (millimetres (pos rules.gap)) (profile_words rules.profile)
 
 -- the word for whether a drill file is plated: `yes` or `no`
 abbrev pub yes_or_no : Bool → List ℕ
@@ -39,17 +46,25 @@ span_words (Some span) = codes " span=" ++ (decimal span.first ++ (codes "-" ++ 
 abbrev pub name_words : List ℕ → List ℕ
 name_words name = codes " name=" ++ (name ++ ascii.line_feed ∷ [])
 
+-- the contours of a layer, as in ` contours=0`; nothing in the strict profile
+abbrev pub contour_words : Profile → ℕ → List ℕ
+contour_words Strict contours = []
+contour_words Wide contours = codes " contours=" ++ decimal contours
+
+-- the line of a layer up to its name: `file 1 layer pads=1 other=0`
+unfoldable pub layer_words : ℕ → ℕ → ℕ → List ℕ → List ℕ
+layer_words n pads other contours = codes "file " ++ (decimal n ++ (codes " layer pads=" ++ (decimal pads ++ (codes " other=" ++ (decimal other ++ contours)))))
+
 -- the line of a file, by its number from 1, its name and its counts: `file 1 layer pads=1 other=0 name=top`
-abbrev pub file_line : ℕ → List ℕ → FileSum → List ℕ
-file_line n name (sum.Layer pads other) =
-    codes "file " ++ (decimal n ++ (codes " layer pads=" ++ (decimal pads ++ (codes " other=" ++ (decimal other ++ (codes " name=" ++ (name ++ ascii.line_feed ∷ [])))))))
-file_line n name (sum.Drill plated span round slots) = (drill_words n (yes_or_no plated) round slots ++ span_words span) ++ name_words name
+abbrev pub file_line : Profile → ℕ → List ℕ → FileSum → List ℕ
+file_line profile n name (sum.Layer pads other contours) = layer_words n pads other (contour_words profile contours) ++ name_words name
+file_line profile n name (sum.Drill plated span round slots) = (drill_words n (yes_or_no plated) round slots ++ span_words span) ++ name_words name
 
 -- the lines of the files, numbered from n on
-unfoldable pub file_lines : ℕ → List (List ℕ) → List FileSum → List ℕ
-file_lines n [] sums = []
-file_lines n (name ∷ names) [] = []
-file_lines n (name ∷ names) (one ∷ sums) = file_line n name one ++ file_lines (n + 1) names sums
+unfoldable pub file_lines : Profile → ℕ → List (List ℕ) → List FileSum → List ℕ
+file_lines profile n [] sums = []
+file_lines profile n (name ∷ names) [] = []
+file_lines profile n (name ∷ names) (one ∷ sums) = file_line profile n name one ++ file_lines profile (n + 1) names sums
 
 -- the place of a lacking ring, by file numbers from 1 and the hole's number: `RING layer=1 drill=2 hole=1`
 unfoldable pub place_words : List ℕ → ℕ → ℕ → ℕ → List ℕ
@@ -100,7 +115,7 @@ last_line findings = if findings == 0 then codes "PASS\n" else codes "FINDINGS "
 -- the text of a report on files of these names: the rules, the files, the findings, and the last line
 abbrev pub text_of : List (List ℕ) → ReportView → List ℕ
 text_of names report =
-    ((rules_line report.rules ++ file_lines 1 names report.files) ++ flat_map (finding_line report.layers report.holes) report.findings) ++ last_line (length report.findings)
+    ((rules_line report.rules ++ file_lines report.rules.profile 1 names report.files) ++ flat_map (finding_line report.layers report.holes) report.findings) ++ last_line (length report.findings)
 
 -- the text of a report on these files
 abbrev pub report_text : List FileView → ReportView → List ℕ

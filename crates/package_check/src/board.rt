@@ -5,7 +5,7 @@ ghost use Rattle.std.specs.List.{flat_map};
 ghost use Rattle.grid_units.specs.Holes.{is_round};
 ghost use Rattle.package_check.specs.Boards.{CountsAddUp, board_findings, board_of, hole_count};
 ghost use Rattle.package_check.specs.Holding.{all_drawn, all_flashes};
-ghost use Rattle.package_check.specs.Package.{sum_of, layer_indexes, pads_of};
+ghost use Rattle.package_check.specs.Package.{sum_of, layer_indexes, plain_pads_of};
 ghost use Rattle.package_check.specs.SoundnessAsRead.{drilled_in};
 
 use crate::FileSum;
@@ -138,8 +138,9 @@ pub(crate) fn sum_of(content: &Content) -> FileSum
 {
     match content {
         Content::Layer(layer) => FileSum::Layer {
-            pads: layer.pads().len(),
+            pads: layer.pads().len() + layer.flashed().len(),
             other: layer.other(),
+            contours: layer.contours().len(),
         },
         Content::Drill {
             plated,
@@ -214,7 +215,7 @@ fn add_content(
     holes: &mut Vec<Drilled>,
     content: Content,
 ) -> Result<(), AllocError>
-    ensures layers { OnOk result (map (λ l. l.pads) layers.new.items ≡ map (λ l. l.pads) layers.old.items ++ pads_of content) }
+    ensures layers { OnOk result (map (λ l. l.pads) layers.new.items ≡ map (λ l. l.pads) layers.old.items ++ plain_pads_of content) }
     ensures holes { OnOk result (holes.new.items ≡ holes.old.items ++ drilled_in content) }
 {
     match content {
@@ -233,7 +234,7 @@ fn add_contents(
     holes: &mut Vec<Drilled>,
     contents: Vec<Content>,
 ) -> Result<(), AllocError>
-    ensures layers { OnOk result (map (λ l. l.pads) layers.new.items ≡ map (λ l. l.pads) layers.old.items ++ flat_map pads_of contents.items) }
+    ensures layers { OnOk result (map (λ l. l.pads) layers.new.items ≡ map (λ l. l.pads) layers.old.items ++ flat_map plain_pads_of contents.items) }
     ensures holes { OnOk result (holes.new.items ≡ holes.old.items ++ flat_map drilled_in contents.items) }
 {
     for content in contents {

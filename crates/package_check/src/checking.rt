@@ -7,9 +7,9 @@ ghost use Rattle.grid_units.specs.Spans.{LayerSpan};
 ghost use Rattle.grid_units.specs.declared.fault.Fault.{Fault as TheFault};
 ghost use Rattle.layer_image.specs.declared.keep.Keep.{Keep as TheKeep};
 ghost use Rattle.manifest.specs.declared.Role.TheVariants as role;
-ghost use Rattle.package_check.specs.CheckViews.{CheckView, holes_in_slot, holes_of, is_drill_in};
+ghost use Rattle.package_check.specs.CheckViews.{CheckView, holes_in_slot, holes_of, is_drill_in, setting_of};
 ghost use Rattle.package_check.specs.Checking.{HasJudged, HasJudgedAll, TakesCopper};
-ghost use Rattle.package_check.specs.Holding.{HasTaken, ReadsInto, copper_files, is_kind_at, kept_at};
+ghost use Rattle.package_check.specs.Holding.{HasTaken, ReadsInto, is_kind_at, kept_at, setting_of as reader_setting};
 ghost use Rattle.package_check.specs.Inner.Leftovers.{count_in, holes_in, layer_indexes_in, left_in, left_report, rings_in, sums_in};
 ghost use Rattle.package_check.specs.Judging.{Judges};
 ghost use Rattle.package_check.specs.OpenFiles.{HasOpenedCopper, HasReadCopper};
@@ -126,7 +126,7 @@ impl PackageReader {
     /// `Memory` where there is no memory.
     pub fn checking(self, rules: Rules) -> Result<PackageCheck, AllocError>
         ensures stands { IfOk result (λ check. (keep : TheKeep) (sources : List FileView) → HasTaken self keep sources (is_kind_at false sources) → HasJudged check sources rules (is_kind_at false sources)) }
-        ensures layers { IfOk result (λ check. check.layers ≡ copper_files self) }
+        ensures layers { IfOk result (λ check. check.layers ≡ (reader_setting self).layers) }
     {
         let PackageReader {
             alloc,
@@ -177,9 +177,9 @@ impl PackageCheck {
           name = name;
           span = span;
           bytes = concat (map (λ piece. piece.now) pieces.now);
-          layers = self.old.layers;
+          setting = setting_of self.old;
         })) }
-        ensures layers { self.new.layers ≡ self.old.layers }
+        ensures setting { setting_of self.new ≡ setting_of self.old }
         ensures failed { self.old.stopped ≡ Some stop.Memory → result ≡ Err alloc_error }
         ensures fails { OnErr result (self.new.stopped ≡ Some stop.Memory) }
     {
@@ -196,7 +196,7 @@ impl PackageCheck {
     {
         self.holes.forget_search();
         let reading = if is_wanted(self.stopped, index) {
-            CopperReading::begin(self.alloc, span)
+            CopperReading::begin(self.alloc, span, self.holes.rules().profile())
         } else {
             CopperReading::Skipped
         };
@@ -249,9 +249,9 @@ impl PackageCheck {
           name = name;
           span = span;
           bytes = text;
-          layers = start.layers;
+          setting = setting_of start;
         })) }
-        ensures layers { self.new.layers ≡ self.old.layers }
+        ensures setting { setting_of self.new ≡ setting_of self.old }
         ensures failed { self.old.stopped ≡ Some stop.Memory → result ≡ Err alloc_error }
         ensures fails { OnErr result (self.new.stopped ≡ Some stop.Memory) }
     {
@@ -266,7 +266,7 @@ impl PackageCheck {
 
     /// Puts what is left of a copper file that was read into its slot, unless a drill file was taken at its index.
     fn put_file(&mut self, file: OpenCopper) -> Result<(), Fail>
-        ensures read { (span : Option LayerSpan) (text : List ℕ) → HasReadCopper (holes_of self.old) file.layer span self.old.layers file.reading text → is_drill_in (kept_at self.old.slots file.index) ≡ false → ReadsInto (λ one. Judges self.old.rules self.old.holes file.layer (unnamed_file role.Copper span self.old.layers text) (Ok one)) file.index (unnamed_file role.Copper span self.old.layers text) self.old.slots self.new.slots result }
+        ensures read { (span : Option LayerSpan) (text : List ℕ) → HasReadCopper (holes_of self.old) file.layer span self.old.layers file.reading text → is_drill_in (kept_at self.old.slots file.index) ≡ false → ReadsInto (λ one. Judges self.old.rules self.old.holes file.layer (unnamed_file role.Copper span (setting_of self.old) text) (Ok one)) file.index (unnamed_file role.Copper span (setting_of self.old) text) self.old.slots self.new.slots result }
         ensures layers { self.new.layers ≡ self.old.layers }
         ensures holes { self.new.holes ≡ self.old.holes }
         ensures rules { self.new.rules ≡ self.old.rules }

@@ -2,19 +2,20 @@
 ghost use Rattle.std.specs.Prelude.{◌≡◌, ℕ, List, Ok, OnOk, true};
 ghost use Rattle.grid_units.specs.Results.{Answers};
 ghost use Rattle.grid_units.specs.declared.fault.Fail.TheVariants as fails;
-ghost use Rattle.drill_text.specs.Holding.{StandsAfter};
+ghost use Rattle.drill_text.specs.Holding.{StandsIn};
+ghost use Rattle.grid_units.specs.declared.profile.Profile.{Profile as TheProfile};
 ghost use Rattle.drill_text.specs.declared.kept.Keep.TheVariants as drill_keep;
-ghost use Rattle.layer_image.specs.Holding.{LayerStandsAfter};
+ghost use Rattle.layer_image.specs.Holding.{LayerStandsIn};
 ghost use Rattle.layer_image.specs.KeptFlashes.{keeps_commands, keeps_flashes};
-ghost use Rattle.layer_image.specs.Layers.{ReadsFlashes};
-ghost use Rattle.package_check.specs.FileTexts.{Draws, ReadsLayer};
+ghost use Rattle.package_check.specs.FileTexts.{Draws, HasFlashes, ReadsLayer};
 ghost use Rattle.package_check.specs.Holding.{is_kind};
+ghost use Rattle.package_check.specs.OpenFiles.{keep_in};
 ghost use Rattle.package_check.specs.Package.{ReadsCopper, ReadsHoles, bad_span, is_bad_span, is_copper, not_copper};
 
 use crate::Role;
 use crate::readers::{Drill, Layer, Shown, read_holes, read_layer_view};
 use drill_text::DrillReader;
-use grid_units::{Fail, Fault, Reason};
+use grid_units::{Fail, Fault, Profile, Reason};
 use layer_image::{Keep, LayerReader};
 use ring_rules::Span;
 use std::alloc::Global;
@@ -54,7 +55,7 @@ pub(crate) fn not_copper() -> Fail
 
 /// A layer as the content of a file, or NotCopper where it is not copper.
 fn require_copper(layer: Layer) -> Result<Content, Fail>
-    ensures { (bytes : List ℕ) → ReadsLayer bytes (Ok layer) → Answers (λ x. x) (ReadsCopper bytes) result }
+    ensures { (profile : TheProfile) (bytes : List ℕ) → ReadsLayer profile bytes (Ok layer) → Answers (λ x. x) (ReadsCopper profile bytes) result }
 {
     if layer.is_copper() {
         Ok(Content::Layer(layer))
@@ -63,18 +64,19 @@ fn require_copper(layer: Layer) -> Result<Content, Fail>
     }
 }
 
-/// The content of the copper file whose text the reader has read. What is kept of it to be shown is put into `shown`.
+/// The content of the copper file whose text the reader has read in this profile. What is kept of it to be shown is put into `shown`.
 pub(crate) fn read_copper(
     alloc: Global,
     keep: Keep,
+    profile: Profile,
     shown: &mut Shown,
     reader: LayerReader,
 ) -> Result<Content, Fail>
-    ensures copper { (text : List ℕ) → LayerStandsAfter reader keep text → Answers (λ x. x) (ReadsCopper text) result }
-    ensures flashes { (text : List ℕ) → LayerStandsAfter reader keep text → keeps_flashes keep ≡ true → OnOk result (ReadsFlashes text (Ok shown.new.flashes.items)) }
-    ensures drawn { (text : List ℕ) → LayerStandsAfter reader keep text → keeps_commands keep ≡ true → OnOk result (Draws text shown.new.drawn.items) }
+    ensures copper { (text : List ℕ) → LayerStandsIn reader profile (keep_in profile keep) text → Answers (λ x. x) (ReadsCopper profile text) result }
+    ensures flashes { (text : List ℕ) → LayerStandsIn reader profile (keep_in profile keep) text → keeps_flashes keep ≡ true → OnOk result (HasFlashes profile text shown.new.flashes.items) }
+    ensures drawn { (text : List ℕ) → LayerStandsIn reader profile (keep_in profile keep) text → keeps_commands keep ≡ true → OnOk result (Draws profile text shown.new.drawn.items) }
 {
-    let layer = read_layer_view(alloc, keep, shown, reader)?;
+    let layer = read_layer_view(alloc, keep, profile, shown, reader)?;
     require_copper(layer)
 }
 
@@ -84,7 +86,7 @@ pub(crate) fn read_drill_content(
     span: Option<Span>,
     reader: DrillReader,
 ) -> Result<Content, Fail>
-    ensures { (text : List ℕ) → StandsAfter reader drill_keep.Holes text → Answers (λ x. x) (ReadsHoles plated span text) result }
+    ensures { (profile : TheProfile) (text : List ℕ) → StandsIn reader profile drill_keep.Holes text → Answers (λ x. x) (ReadsHoles profile plated span text) result }
 {
     let drill = read_holes(reader)?;
     Ok(Content::Drill {

@@ -1,12 +1,17 @@
 //! The holes of a package, with an index to look them up.
 
-ghost use Rattle.std.specs.Prelude.{◌≡◌, ◌++◌, ℕ, List, IfErr, IfOk, IfSome, None, OnOk, false};
+ghost use Rattle.std.specs.Prelude.{◌≡◌, ◌+◌, ◌++◌, ◌∷◌, ℕ, List, [], IfErr, IfOk, IfSome, None, OnOk, false, length, map};
 ghost use Rattle.grid_units.specs.Results.{Answers, IfFault};
-ghost use Rattle.layer_image.specs.Holding.{ShowsLayerFault};
-ghost use Rattle.pad_shapes.specs.Pads.{pad_covers};
-ghost use Rattle.pad_shapes.specs.declared.pad.Pad.{Pad as ThePad};
+ghost use Rattle.grid_units.specs.declared.profile.Profile.TheVariants.{Strict, Wide};
+ghost use Rattle.layer_image.specs.Holding.{LayerStandsIn, ShowsLayerFault, ShowsLayerFaultIn};
+ghost use Rattle.layer_image.specs.declared.keep.Keep.TheVariants as keep;
+ghost use Rattle.wide_pads.specs.WidePads.{wide_pad_covers};
+ghost use Rattle.wide_pads.specs.declared.wide_pad.WidePad.{WidePad as ThePad};
 ghost use Rattle.package_check.specs.CheckViews.{is_drill_sum};
+ghost use Rattle.package_check.specs.declared.FileSum.TheVariants as sum;
 ghost use Rattle.package_check.specs.Judging.{HasTriedIn, HasTriedPadsOf, JudgesCopper};
+ghost use Rattle.package_check.specs.LayerViews.{plain, rounded};
+ghost use Rattle.package_check.specs.OpenFiles.{HasReadLayer};
 ghost use Rattle.ring_rules.specs.Findings.{gap_findings, layer_findings};
 ghost use Rattle.ring_rules.specs.Search.{HasTried, IsRingIndexOf, IsSearchOver};
 
@@ -15,12 +20,14 @@ use crate::contents::not_copper;
 use crate::judged::Judged;
 use crate::pad_size::{PadSize, are_unlike, likely_size, mean_size};
 use crate::readers::{PIECE, is_copper_function};
-use grid_units::{Fail, Rules};
+use further_copper::FurtherPad;
+use grid_units::{Fail, Profile, Rules};
 use layer_image::{LayerReader, shown_faults};
 use pad_shapes::Pad;
 use ring_rules::{Drilled, Finding, LayerSearch, RingIndex};
 use std::alloc::{AllocError, Global};
 use std::marker::Model;
+use wide_layers::{WideLayer, wide_layer};
 
 /// The holes of all drill files of a package, file by file, with an index of them, by which rings and gaps are judged.
 #[derive(Drop)]
@@ -46,6 +53,17 @@ impl Model for IndexedHoles {
     ghost view = { λ h. record { holes = h.holes.items; rules = h.index.rules; index = h.index; search = h.search } };
 
     ghost invariant = { λ h. IsRingIndexOf h.holes.items h.index × (h.rules ≡ h.index.rules) × IfSome h.search (IsSearchOver h.index) };
+}
+
+/// The counts of a layer that was read in the wide profile.
+fn wide_sum(wide: &WideLayer) -> FileSum
+    ensures { result ≡ sum.Layer (length wide.now.pads + length wide.now.flashed) wide.now.other (length wide.now.contours) }
+{
+    FileSum::Layer {
+        pads: wide.pads().len() + wide.flashed().len(),
+        other: wide.other(),
+        contours: wide.contours().len(),
+    }
 }
 
 impl IndexedHoles {
@@ -90,7 +108,7 @@ impl IndexedHoles {
     {
         match self.search.take() {
             Some(search) => {
-                let over = search.over::<Pad>(alloc, &self.index, &self.holes, index)?;
+                let over = search.over(alloc, &self.index, &self.holes, index)?;
                 Ok(Some(over))
             }
             None => Ok(None),
@@ -123,14 +141,14 @@ impl IndexedHoles {
     /// The search on a layer of this number, which is taken out; one that has tried no pad, where none has begun.
     fn take_search(&mut self, alloc: Global, layer: usize) -> Result<LayerSearch, AllocError>
         ensures over { IfOk result (IsSearchOver self.new.index) }
-        ensures tried { (pads : List ThePad) → HasTriedIn self.old.holes self.old.index layer pads self.old.search → IfOk result (λ search. HasTried pad_covers self.old.holes layer pads self.old.index search) }
+        ensures tried { (pads : List ThePad) → HasTriedIn self.old.holes self.old.index layer pads self.old.search → IfOk result (λ search. HasTried wide_pad_covers self.old.holes layer pads self.old.index search) }
         ensures index { self.new.index ≡ self.old.index }
         ensures holes { self.new.holes ≡ self.old.holes }
         ensures rules { self.new.rules ≡ self.old.rules }
     {
         match self.search.take() {
             Some(search) => Ok(search),
-            None => LayerSearch::new::<Pad>(alloc, &self.index, &self.holes, layer),
+            None => LayerSearch::new(alloc, &self.index, &self.holes, layer),
         }
     }
 
@@ -153,7 +171,7 @@ impl IndexedHoles {
 
     /// Tries the next pads of a layer of this number, by an index that suits them.
     fn try_pads(&mut self, alloc: Global, layer: usize, pads: &[Pad]) -> Result<(), AllocError>
-        ensures tried { (tried : List ThePad) → HasTriedIn self.old.holes self.old.index layer tried self.old.search → OnOk result (HasTriedIn self.new.holes self.new.index layer (tried ++ pads.now) self.new.search) }
+        ensures tried { (tried : List ThePad) → HasTriedIn self.old.holes self.old.index layer tried self.old.search → OnOk result (HasTriedIn self.new.holes self.new.index layer (tried ++ map plain pads.now) self.new.search) }
         ensures holes { self.new.holes ≡ self.old.holes }
         ensures rules { self.new.rules ≡ self.old.rules }
     {
@@ -188,7 +206,7 @@ impl IndexedHoles {
     }
 
     /// Feeds a piece of a layer of this number to the reader, [`PIECE`] bytes at a time, and tries and drops its pads.
-    pub(crate) fn feed(
+    fn feed_chunks(
         &mut self,
         alloc: Global,
         layer: usize,
@@ -207,27 +225,92 @@ impl IndexedHoles {
         Ok(())
     }
 
+    /// Feeds a piece of a layer of this number to the reader. In the strict profile its pads are tried and dropped.
+    pub(crate) fn feed(
+        &mut self,
+        alloc: Global,
+        layer: usize,
+        reader: &mut LayerReader,
+        piece: &[u8],
+    ) -> Result<(), Fail>
+        ensures ok { (text : List ℕ) → HasReadLayer self.old.rules.profile self.old layer reader.old text → OnOk result (HasReadLayer self.old.rules.profile self.new layer reader.new (text ++ piece.now)) }
+        ensures err { (text : List ℕ) → HasReadLayer self.old.rules.profile self.old layer reader.old text → IfErr result (IfFault (ShowsLayerFaultIn self.old.rules.profile (text ++ piece.now))) }
+        ensures holes { self.new.holes ≡ self.old.holes }
+        ensures rules { self.new.rules ≡ self.old.rules }
+    {
+        match self.rules.profile() {
+            Profile::Strict => self.feed_chunks(alloc, layer, reader, piece),
+            Profile::Wide => reader.feed(piece),
+        }
+    }
+
+    /// Tries a flash of a macro, or a contour, of a layer of this number.
+    fn try_further(
+        &mut self,
+        alloc: Global,
+        layer: usize,
+        pad: &FurtherPad,
+    ) -> Result<(), AllocError>
+        ensures tried { (tried : List ThePad) → HasTriedIn self.old.holes self.old.index layer tried self.old.search → OnOk result (HasTriedIn self.new.holes self.new.index layer (tried ++ rounded pad.now ∷ []) self.new.search) }
+        ensures holes { self.new.holes ≡ self.old.holes }
+        ensures rules { self.new.rules ≡ self.old.rules }
+    {
+        let shape = [pad.on_board(alloc)?];
+        let mut search = self.take_search(alloc, layer)?;
+        search.try_pads(&self.index, &shape);
+        self.search = Some(search);
+        Ok(())
+    }
+
+    /// Tries flashes of macros, or contours, of a layer of this number.
+    fn try_all_further(
+        &mut self,
+        alloc: Global,
+        layer: usize,
+        pads: &[FurtherPad],
+    ) -> Result<(), AllocError>
+        ensures tried { (tried : List ThePad) → HasTriedIn self.old.holes self.old.index layer tried self.old.search → OnOk result (HasTriedIn self.new.holes self.new.index layer (tried ++ map rounded pads.now) self.new.search) }
+        ensures holes { self.new.holes ≡ self.old.holes }
+        ensures rules { self.new.rules ≡ self.old.rules }
+    {
+        for pad in pads {
+            self.try_further(alloc, layer, pad)?;
+        }
+        Ok(())
+    }
+
+    /// Tries all pads of a layer of this number that was read in the wide profile.
+    fn try_wide(&mut self, alloc: Global, layer: usize, wide: &WideLayer) -> Result<(), AllocError>
+        ensures tried { self.old.search ≡ None → OnOk result (HasTriedIn self.new.holes self.new.index layer (map plain wide.now.pads ++ map rounded (wide.now.flashed ++ wide.now.contours)) self.new.search) }
+        ensures holes { self.new.holes ≡ self.old.holes }
+        ensures rules { self.new.rules ≡ self.old.rules }
+    {
+        self.try_pads(alloc, layer, wide.pads())?;
+        self.try_all_further(alloc, layer, wide.flashed())?;
+        self.try_all_further(alloc, layer, wide.contours())
+    }
+
     /// The findings of rings on a layer of this number, whose pads were all tried. The search ends.
     fn rings(&mut self, alloc: Global, layer: usize) -> Result<Vec<Finding>, AllocError>
-        ensures rings { (pads : List ThePad) → HasTriedIn self.old.holes self.old.index layer pads self.old.search → IfOk result (λ rings. rings.items ≡ layer_findings pad_covers self.old.rules.ring self.old.holes layer pads) }
+        ensures rings { (pads : List ThePad) → HasTriedIn self.old.holes self.old.index layer pads self.old.search → IfOk result (λ rings. rings.items ≡ layer_findings wide_pad_covers self.old.rules.profile self.old.rules.ring self.old.holes layer pads) }
         ensures holes { self.new.holes ≡ self.old.holes }
         ensures rules { self.new.rules ≡ self.old.rules }
     {
         let search = self.take_search(alloc, layer)?;
         let mut rings = Vec::new(alloc);
-        search.push_findings::<Pad>(alloc, &self.index, &self.holes, &mut rings)?;
+        search.push_findings(alloc, &self.index, &self.holes, &mut rings)?;
         Ok(rings)
     }
 
     /// What is left of a copper file whose text the reader has read: the rest of its pads are tried. Its layer has this number.
-    pub(crate) fn judge(
+    fn judge_strict(
         &mut self,
         alloc: Global,
         layer: usize,
         reader: LayerReader,
     ) -> Result<Judged, Fail>
         ensures layer { IfOk result (λ one. is_drill_sum one.sum ≡ false) }
-        ensures judged { (text : List ℕ) → HasTriedPadsOf self.old layer reader text → Answers (λ x. x) (JudgesCopper self.old.rules self.old.holes layer text) result }
+        ensures judged { self.old.rules.profile ≡ Strict → (text : List ℕ) → HasTriedPadsOf self.old layer reader text → Answers (λ x. x) (JudgesCopper self.old.rules self.old.holes layer text) result }
         ensures holes { self.new.holes ≡ self.old.holes }
         ensures rules { self.new.rules ≡ self.old.rules }
     {
@@ -240,8 +323,50 @@ impl IndexedHoles {
         let sum = FileSum::Layer {
             pads: rest.pad_count(),
             other: rest.other(),
+            contours: 0,
         };
         Ok(Judged { sum, rings })
+    }
+
+    /// The same in the wide profile, where no pad was tried yet.
+    fn judge_wide(
+        &mut self,
+        alloc: Global,
+        layer: usize,
+        reader: LayerReader,
+    ) -> Result<Judged, Fail>
+        ensures layer { IfOk result (λ one. is_drill_sum one.sum ≡ false) }
+        ensures judged { self.old.rules.profile ≡ Wide → (text : List ℕ) → self.old.search ≡ None → LayerStandsIn reader Wide keep.All text → Answers (λ x. x) (JudgesCopper self.old.rules self.old.holes layer text) result }
+        ensures holes { self.new.holes ≡ self.old.holes }
+        ensures rules { self.new.rules ≡ self.old.rules }
+    {
+        let whole = reader.finish()?;
+        let wide = wide_layer(alloc, &whole)?;
+        self.try_wide(alloc, layer, &wide)?;
+        let rings = self.rings(alloc, layer)?;
+        if !is_copper_function(wide.file_function()) {
+            return Err(not_copper());
+        }
+        let sum = wide_sum(&wide);
+        Ok(Judged { sum, rings })
+    }
+
+    /// What is left of a copper file whose text the reader has read. Its layer has this number.
+    pub(crate) fn judge(
+        &mut self,
+        alloc: Global,
+        layer: usize,
+        reader: LayerReader,
+    ) -> Result<Judged, Fail>
+        ensures layer { IfOk result (λ one. is_drill_sum one.sum ≡ false) }
+        ensures judged { (text : List ℕ) → HasReadLayer self.old.rules.profile self.old layer reader text → Answers (λ x. x) (JudgesCopper self.old.rules self.old.holes layer text) result }
+        ensures holes { self.new.holes ≡ self.old.holes }
+        ensures rules { self.new.rules ≡ self.old.rules }
+    {
+        match self.rules.profile() {
+            Profile::Strict => self.judge_strict(alloc, layer, reader),
+            Profile::Wide => self.judge_wide(alloc, layer, reader),
+        }
     }
 
     /// The findings of gaps between these holes.

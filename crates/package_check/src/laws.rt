@@ -4,15 +4,17 @@ ghost use Rattle.package_check.specs.Boards.{FileCountsAddUp};
 ghost use Rattle.package_check.specs.Package.{FindingsNameTheirPlaces};
 ghost use Rattle.package_check.specs.Soundness.{HolesAreSaidOnce, PadsAreSaidOnce, PassingIsSound};
 ghost use Rattle.package_check.specs.SoundnessAsRead.{PassingIsSoundAsRead, SoundAsReadIsSound};
+ghost use Rattle.package_check.specs.WiderProfile.{WideFindsNoMore};
 
-use pad_shapes::Pad;
-use ring_rules::laws::{findings_name_places, gaps_hold, rings_hold};
+use ring_rules::laws::{findings_name_places, gaps_hold, holes_hold, rings_hold};
+use wide_pads::WidePad;
 
 /// A package whose report has no finding is sound by what is read of it.
 pub fn passing_is_sound_as_read()
     ensures { PassingIsSoundAsRead }
 {
-    rings_hold::<Pad>();
+    holes_hold::<WidePad>();
+    rings_hold::<WidePad>();
     gaps_hold();
 }
 
@@ -20,10 +22,12 @@ pub fn passing_is_sound_as_read()
 pub fn sound_as_read_is_sound()
     ensures { SoundAsReadIsSound }
 {
-    gerber_text::written_texts();
+    gerber_text::wide_grammar();
     layer_image::flashed_pads();
     drill_text::text_grammar();
     drill_text::drilled_holes();
+    drill_text::laws::wide_grammar();
+    drill_text::laws::wide_holes();
 }
 
 /// A package whose report has no finding is sound.
@@ -34,12 +38,13 @@ pub fn passing_is_sound()
     sound_as_read_is_sound();
 }
 
-/// By the grammars of the formats a copper file says at most one list of pads, and a drill file at most one list of holes.
+/// By the grammars of the formats a copper file says at most one list of pads, and in the strict profile a drill file says at most one
+/// list of holes.
 pub fn files_say_once()
     ensures pads { PadsAreSaidOnce }
     ensures holes { HolesAreSaidOnce }
 {
-    gerber_text::exact_texts();
+    gerber_text::wide_grammar();
     layer_image::flashed_pads();
     drill_text::text_grammar();
     drill_text::drilled_holes();
@@ -49,7 +54,7 @@ pub fn files_say_once()
 pub fn findings_name_their_places()
     ensures { FindingsNameTheirPlaces }
 {
-    findings_name_places::<Pad>();
+    findings_name_places::<WidePad>();
 }
 
 /// Where a package is read, the counts of its files add up to the holes of its board.
@@ -66,8 +71,10 @@ pub fn same_answers()
 pub fn unique_reading()
     ensures { ReadingIsUnique }
 {
-    layer_image::unique_reading();
+    layer_image::readings_in_profiles();
+    wide_layers::unique_reading();
     drill_text::laws::unique_reading();
+    drill_text::laws::readings_in_profiles();
     drill_text::laws::drill_texts();
 }
 
@@ -75,8 +82,9 @@ pub fn unique_reading()
 pub fn reading_exists()
     ensures { ReadingExists }
 {
-    layer_image::layer_texts();
+    layer_image::readings_in_profiles();
     drill_text::laws::first_faults();
+    drill_text::laws::readings_in_profiles();
 }
 
 /// A package has at most one answer.
@@ -91,4 +99,15 @@ pub fn answer_exists()
     ensures { AnswerExists }
 {
     reading_exists();
+}
+
+/// A package that the strict profile reads, the wide one reads too: with the same holes, the same gaps lacking, and no ring that does not
+/// lack in the strict profile.
+pub fn wide_finds_no_more()
+    ensures { WideFindsNoMore }
+{
+    wide_layers::strict_layers();
+    drill_text::laws::drill_texts();
+    drill_text::laws::wide_reads_more();
+    ring_rules::laws::wide_finds_no_more::<WidePad, WidePad>();
 }

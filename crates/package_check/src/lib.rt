@@ -68,12 +68,13 @@ pub enum PackageFault {
     File { index: usize, fault: Fault },
 }
 
-/// The counts of a file: pads and other flashes of a layer, round holes and slots of a drill file.
+/// The counts of a file: flashed pads, other flashes and contours that count as pads of a layer, round holes and slots of a drill file.
 #[derive(Clone, Copy, Debug, PartialEq, Eq)]
 pub enum FileSum {
     Layer {
         pads: usize,
         other: usize,
+        contours: usize,
     },
     Drill {
         plated: bool,

@@ -2,14 +2,24 @@
 
 ghost use Rattle.std.specs.Prelude.{◌≡◌, Some, map, slice_get};
 ghost use Rattle.std.specs.Fmt.{DisplaysOnOk};
-ghost use Rattle.package_check.specs.Texts.{yes_or_no, file_line, file_lines, finding_line, gap_line, hole_line, last_line, lengths_of, line_if_found, rules_line, span_words};
+ghost use Rattle.package_check.specs.Texts.{contour_words, yes_or_no, file_line, file_lines, finding_line, gap_line, hole_line, last_line, lengths_of, line_if_found, profile_words, rules_line, span_words};
 
 use crate::{FileSum, Numbered, Report};
-use grid_units::{Hole, Rules, write_mm};
+use grid_units::{Hole, Profile, Rules, write_mm};
 use printing::Line;
 use ring_rules::{Finding, Span};
 use std::fmt;
 use std::fmt::{Display, Formatter};
+
+/// The profile at the end of the first line: ` profile=wide`; nothing of the strict one.
+fn profile_words(profile: Profile) -> &'static str
+    ensures { result.now ≡ profile_words profile }
+{
+    match profile {
+        Profile::Strict => "",
+        Profile::Wide => " profile=wide",
+    }
+}
 
 /// The first line, of the rules in millimetres: `rules ring=0.125000000 gap=0.250000000`.
 #[derive(Clone, Copy)]
@@ -20,7 +30,8 @@ impl Display for RulesLine {
 
     fn fmt<W: fmt::Write>(&self, f: &mut Formatter<W>) -> fmt::Result {
         let (ring, gap) = (write_mm(self.0.ring()), write_mm(self.0.gap()));
-        write!(f, "rules ring={ring} gap={gap}\n")
+        let profile = profile_words(self.0.profile());
+        write!(f, "rules ring={ring} gap={gap}{profile}\n")
     }
 }
 
@@ -45,25 +56,52 @@ impl Display for SpanWords {
     }
 }
 
+/// The contours of a layer: ` contours=0`; nothing in the strict profile.
+#[derive(Clone, Copy)]
+struct ContourWords {
+    profile: Profile,
+    contours: usize,
+}
+
+impl Display for ContourWords {
+    ghost output = { λ words. Some (contour_words words.profile words.contours) };
+
+    fn fmt<W: fmt::Write>(&self, f: &mut Formatter<W>) -> fmt::Result {
+        match self.profile {
+            Profile::Strict => Ok(()),
+            Profile::Wide => write!(f, " contours={}", self.contours),
+        }
+    }
+}
+
 /// The line of a file, by its number from 1.
 #[derive(Clone, Copy)]
 struct FileLine<'a> {
+    profile: Profile,
     number: usize,
     name: &'a str,
     sum: FileSum,
 }
 
 impl Display for FileLine<'_> {
-    ghost output = { λ line. Some (file_line line.number line.name.now line.sum) };
+    ghost output = { λ line. Some (file_line line.profile line.number line.name.now line.sum) };
 
-    #[tactic(auto, unfolding(crate::specs::Texts::drill_words))]
+    #[tactic(auto, unfolding(crate::specs::Texts::drill_words, crate::specs::Texts::layer_words))]
     fn fmt<W: fmt::Write>(&self, f: &mut Formatter<W>) -> fmt::Result {
         let (number, name) = (self.number, self.name);
         match self.sum {
-            FileSum::Layer { pads, other } => write!(
-                f,
-                "file {number} layer pads={pads} other={other} name={name}\n"
-            ),
+            FileSum::Layer {
+                pads,
+                other,
+                contours,
+            } => {
+                let contours = ContourWords {
+                    profile: self.profile,
+                    contours,
+                };
+                write!(f, "file {number} layer pads={pads} other={other}{contours}")?;
+                write!(f, " name={name}\n")
+            }
             FileSum::Drill {
                 plated,
                 span,
@@ -85,6 +123,8 @@ impl Display for FileLine<'_> {
 /// `file 1 layer pads=1 other=0 name=top`, `file 2 drill plated=yes round=1 slots=0 name=pth`.
 #[derive(Clone, Copy)]
 pub struct FileLines<'a> {
+    /// The profile in which the files were read.
+    pub profile: Profile,
     /// The names of the files.
     pub names: &'a [&'a str],
     /// The counts of the files.
@@ -92,7 +132,7 @@ pub struct FileLines<'a> {
 }
 
 impl Display for FileLines<'_> {
-    ghost output = { λ lines. Some (file_lines 1 (map (λ name. name.now) lines.names.now) lines.files.now) };
+    ghost output = { λ lines. Some (file_lines lines.profile 1 (map (λ name. name.now) lines.names.now) lines.files.now) };
 
     fn fmt<W: fmt::Write>(&self, f: &mut Formatter<W>) -> fmt::Result {
         for (index, name) in self.names.iter().enumerate() {
@@ -100,7 +140,13 @@ impl Display for FileLines<'_> {
                 return Ok(());
             }
             let (number, sum) = (index + 1, self.files[index]);
-            write!(f, "{}", FileLine { number, name, sum })?;
+            let line = FileLine {
+                profile: self.profile,
+                number,
+                name,
+                sum,
+            };
+            write!(f, "{line}")?;
         }
         Ok(())
     }

@@ -13,8 +13,9 @@ ghost use Rattle.package_check.specs.Package.{unnamed_file};
 use crate::contents::bad_span;
 use crate::indexed_holes::IndexedHoles;
 use crate::judged::Judged;
-use grid_units::Fail;
-use layer_image::{Keep, LayerReader, shown_faults};
+use crate::open_file::keep_in;
+use grid_units::{Fail, Profile};
+use layer_image::{Keep, LayerReader, readings_in_profiles};
 use ring_rules::Span;
 use std::alloc::Global;
 
@@ -30,13 +31,16 @@ pub(crate) enum CopperReading {
 }
 
 impl CopperReading {
-    /// A copper file of this span, of which nothing was read.
-    pub(crate) fn begin(alloc: Global, span: Option<Span>) -> CopperReading
-        ensures { (holes : HolesView) (layer layers : ℕ) → holes.search ≡ None → HasReadCopper holes layer span layers result [] }
+    /// A copper file of this span, of which nothing was read. It is read in this profile.
+    pub(crate) fn begin(alloc: Global, span: Option<Span>, profile: Profile) -> CopperReading
+        ensures { (holes : HolesView) (layer layers : ℕ) → holes.search ≡ None → holes.rules.profile ≡ profile → HasReadCopper holes layer span layers result [] }
     {
         match span {
             Some(_) => CopperReading::Failed(bad_span()),
-            None => CopperReading::Layer(LayerReader::keeping(alloc, Keep::Pads)),
+            None => {
+                let keep = keep_in(profile, Keep::Pads);
+                CopperReading::Layer(LayerReader::in_profile(alloc, keep, profile))
+            }
         }
     }
 
@@ -49,11 +53,11 @@ impl CopperReading {
         piece: &[u8],
     ) -> Result<(), Fail>
         ensures ok { (span : Option LayerSpan) (layers : ℕ) (text : List ℕ) → HasReadCopper holes.old layer span layers self.old text → OnOk result (HasReadCopper holes.new layer span layers self.new (text ++ piece.now)) }
-        ensures err { (span : Option LayerSpan) (layers : ℕ) (text : List ℕ) → HasReadCopper holes.old layer span layers self.old text → IfErr result (λ fail. HasFailed role.Copper span layers fail (text ++ piece.now)) }
+        ensures err { (span : Option LayerSpan) (layers : ℕ) (text : List ℕ) → HasReadCopper holes.old layer span layers self.old text → IfErr result (λ fail. HasFailed role.Copper span (record { layers = layers; profile = holes.old.rules.profile }) fail (text ++ piece.now)) }
         ensures holes { holes.new.holes ≡ holes.old.holes }
         ensures rules { holes.new.rules ≡ holes.old.rules }
     {
-        shown_faults();
+        readings_in_profiles();
         match self {
             CopperReading::Layer(reader) => holes.feed(alloc, layer, reader, piece),
             CopperReading::Failed(_) | CopperReading::Skipped => Ok(()),
@@ -68,7 +72,7 @@ impl CopperReading {
         layer: usize,
     ) -> Result<Judged, Fail>
         ensures layer { IfOk result (λ one. is_drill_sum one.sum ≡ false) }
-        ensures judged { (span : Option LayerSpan) (layers : ℕ) (text : List ℕ) → HasReadCopper holes.old layer span layers self text → Answers (λ x. x) (Judges holes.old.rules holes.old.holes layer (unnamed_file role.Copper span layers text)) result }
+        ensures judged { (span : Option LayerSpan) (layers : ℕ) (text : List ℕ) → HasReadCopper holes.old layer span layers self text → Answers (λ x. x) (Judges holes.old.rules holes.old.holes layer (unnamed_file role.Copper span (record { layers = layers; profile = holes.old.rules.profile }) text)) result }
         ensures holes { holes.new.holes ≡ holes.old.holes }
         ensures rules { holes.new.rules ≡ holes.old.rules }
     {

@@ -5,21 +5,20 @@ ghost use Rattle.std.specs.List.{concat};
 ghost use Rattle.grid_units.specs.Results.{Answers};
 ghost use Rattle.grid_units.specs.Spans.{LayerSpan};
 ghost use Rattle.layer_image.specs.KeptFlashes.{keeps_commands, keeps_flashes};
-ghost use Rattle.layer_image.specs.Layers.{ReadsFlashes};
 ghost use Rattle.layer_image.specs.declared.keep.Keep.{Keep as TheKeep};
 ghost use Rattle.manifest.specs.declared.Role.{Role as TheRole};
-ghost use Rattle.package_check.specs.FileTexts.{Draws};
-ghost use Rattle.package_check.specs.OpenFiles.{HasFailed, HasOpened, HasReadText, drill_role};
-ghost use Rattle.package_check.specs.Package.{Reads, is_bad_span, is_copper, unnamed_file};
+ghost use Rattle.manifest.specs.declared.Role.TheVariants as role;
+ghost use Rattle.package_check.specs.FileTexts.{Draws, HasFlashes};
+ghost use Rattle.package_check.specs.OpenFiles.{HasFailed, HasOpened, HasReadText, drill_role, keep_in};
+ghost use Rattle.package_check.specs.Package.{Reads, Setting, is_bad_span, is_copper, unnamed_file};
 ghost use Rattle.package_check.specs.declared.package_reader.PackageReader.{PackageReader as TheReader};
 
 use crate::Role;
 use crate::contents::{Content, bad_span, is_bad_span, read_copper, read_drill_content};
 use crate::readers::{Shown, feed_layer};
 use drill_text::DrillReader;
-use drill_text::laws::faults_stay;
-use grid_units::Fail;
-use layer_image::{Keep, LayerReader, shown_faults};
+use grid_units::{Fail, Profile};
+use layer_image::{Keep, LayerReader};
 use ring_rules::Span;
 use std::alloc::{AllocError, Global};
 
@@ -37,11 +36,29 @@ pub(crate) enum Reading {
 }
 
 /// A drill file of which nothing was read.
-fn begin_drill(alloc: Global, plated: bool) -> Reading
-    ensures { (keep : TheKeep) (of : TheRole) (span : Option LayerSpan) (layers : ℕ) → of ≡ drill_role plated → is_bad_span of span layers ≡ false → HasReadText keep of span layers result [] }
+fn begin_drill(alloc: Global, plated: bool, profile: Profile) -> Reading
+    ensures { (keep : TheKeep) (of : TheRole) (span : Option LayerSpan) (layers : ℕ) → of ≡ drill_role plated → is_bad_span of span layers ≡ false → HasReadText keep of span (record { layers = layers; profile = profile }) result [] }
 {
-    let reader = DrillReader::keeping(alloc, drill_text::Keep::Holes);
+    let reader = DrillReader::in_profile(alloc, drill_text::Keep::Holes, profile);
     Reading::Drill { plated, reader }
+}
+
+/// What a reader of a layer keeps of it: in the wide profile all, since clear polarity takes pads away.
+pub(crate) fn keep_in(profile: Profile, keep: Keep) -> Keep
+    ensures { result ≡ keep_in profile keep }
+{
+    match profile {
+        Profile::Strict => keep,
+        Profile::Wide => Keep::All,
+    }
+}
+
+/// A copper file of which nothing was read.
+fn begin_layer(alloc: Global, keep: Keep, profile: Profile) -> Reading
+    ensures { (span : Option LayerSpan) (layers : ℕ) → is_bad_span role.Copper span layers ≡ false → HasReadText keep role.Copper span (record { layers = layers; profile = profile }) result [] }
+{
+    let keep = keep_in(profile, keep);
+    Reading::Layer(LayerReader::in_profile(alloc, keep, profile))
 }
 
 impl Reading {
@@ -52,26 +69,27 @@ impl Reading {
         role: Role,
         span: &Option<Span>,
         layers: usize,
+        profile: Profile,
     ) -> Reading
-        ensures { HasReadText keep role span.now layers result [] }
+        ensures { HasReadText keep role span.now (record { layers = layers; profile = profile }) result [] }
     {
         if is_bad_span(role, *span, layers) {
             return Reading::Failed(bad_span());
         }
         match role {
-            Role::Copper => Reading::Layer(LayerReader::keeping(alloc, keep)),
-            Role::Plated => begin_drill(alloc, true),
-            Role::Unplated => begin_drill(alloc, false),
+            Role::Copper => begin_layer(alloc, keep, profile),
+            Role::Plated => begin_drill(alloc, true, profile),
+            Role::Unplated => begin_drill(alloc, false, profile),
         }
     }
 
     /// Reads the next piece.
     fn feed(&mut self, piece: &[u8]) -> Result<(), Fail>
-        ensures ok { (keep : TheKeep) (of : TheRole) (span : Option LayerSpan) (layers : ℕ) (text : List ℕ) → HasReadText keep of span layers self.old text → OnOk result (HasReadText keep of span layers self.new (text ++ piece.now)) }
-        ensures err { (keep : TheKeep) (of : TheRole) (span : Option LayerSpan) (layers : ℕ) (text : List ℕ) → HasReadText keep of span layers self.old text → IfErr result (λ fail. HasFailed of span layers fail (text ++ piece.now)) }
+        ensures ok { (keep : TheKeep) (of : TheRole) (span : Option LayerSpan) (setting : Setting) (text : List ℕ) → HasReadText keep of span setting self.old text → OnOk result (HasReadText keep of span setting self.new (text ++ piece.now)) }
+        ensures err { (keep : TheKeep) (of : TheRole) (span : Option LayerSpan) (setting : Setting) (text : List ℕ) → HasReadText keep of span setting self.old text → IfErr result (λ fail. HasFailed of span setting fail (text ++ piece.now)) }
     {
-        shown_faults();
-        faults_stay();
+        layer_image::readings_in_profiles();
+        drill_text::laws::readings_in_profiles();
         match self {
             Reading::Layer(reader) => feed_layer(reader, piece),
             Reading::Drill { reader, .. } => reader.feed(piece),
@@ -84,15 +102,16 @@ impl Reading {
         self,
         alloc: Global,
         keep: Keep,
+        profile: Profile,
         shown: &mut Shown,
         span: Option<Span>,
     ) -> Result<Content, Fail>
-        ensures content { (of : TheRole) (layers : ℕ) (text : List ℕ) → HasReadText keep of span layers self text → Answers (λ x. x) (Reads (unnamed_file of span layers text)) result }
-        ensures flashes { (of : TheRole) (layers : ℕ) (text : List ℕ) → HasReadText keep of span layers self text → keeps_flashes keep ≡ true → is_copper of ≡ true → OnOk result (ReadsFlashes text (Ok shown.new.flashes.items)) }
-        ensures drawn { (of : TheRole) (layers : ℕ) (text : List ℕ) → HasReadText keep of span layers self text → keeps_commands keep ≡ true → is_copper of ≡ true → OnOk result (Draws text shown.new.drawn.items) }
+        ensures content { (of : TheRole) (layers : ℕ) (text : List ℕ) → HasReadText keep of span (record { layers = layers; profile = profile }) self text → Answers (λ x. x) (Reads (unnamed_file of span (record { layers = layers; profile = profile }) text)) result }
+        ensures flashes { (of : TheRole) (layers : ℕ) (text : List ℕ) → HasReadText keep of span (record { layers = layers; profile = profile }) self text → keeps_flashes keep ≡ true → is_copper of ≡ true → OnOk result (HasFlashes profile text shown.new.flashes.items) }
+        ensures drawn { (of : TheRole) (layers : ℕ) (text : List ℕ) → HasReadText keep of span (record { layers = layers; profile = profile }) self text → keeps_commands keep ≡ true → is_copper of ≡ true → OnOk result (Draws profile text shown.new.drawn.items) }
     {
         match self {
-            Reading::Layer(reader) => read_copper(alloc, keep, shown, reader),
+            Reading::Layer(reader) => read_copper(alloc, keep, profile, shown, reader),
             Reading::Drill { plated, reader } => read_drill_content(plated, span, reader),
             Reading::Failed(fail) => Err(fail),
             Reading::Skipped => Err(Fail::Memory),

@@ -3,17 +3,19 @@ ghost use Rattle.std.specs.Prelude.{◌≡◌, ◌<◌, ℕ, [], true, Result, I
 ghost use Rattle.grid_units.specs.declared.fault.Fault.{Fault as TheFault};
 ghost use Rattle.layer_image.specs.KeptFlashes.{keeps_commands, keeps_flashes};
 ghost use Rattle.package_check.specs.Boards.{ReturnsBoard, ReturnsDrawnBoard, ReturnsFlashedBoard};
-ghost use Rattle.package_check.specs.Package.{ReturnsExactly, ReturnsReport, IsAnswer, NamesItsPlaces, layer_count, file_views};
+ghost use Rattle.grid_units.specs.declared.profile.Profile.{Profile as TheProfile};
+ghost use Rattle.grid_units.specs.declared.profile.Profile.TheVariants.{Strict};
+ghost use Rattle.package_check.specs.Package.{ReturnsExactly, ReturnsReport, IsAnswer, NamesItsPlaces, layer_count, file_views_in};
 ghost use Rattle.package_check.specs.Reports.{ReportView};
 ghost use Rattle.package_check.specs.Soundness.{AreStraight, IsSound};
 ghost use Rattle.package_check.specs.SoundnessAsRead.{AreLegal};
 ghost use Rattle.package_check.specs.Checking.{HasJudgedAll, JudgesThose};
-ghost use Rattle.package_check.specs.Holding.{HasTakenAll, TakesThose, copper_files, is_kind_at};
+ghost use Rattle.package_check.specs.Holding.{HasTakenAll, TakesThose, is_kind_at, setting_of};
 
 use crate::contents::{is_copper, is_kind};
 use crate::laws::{files_say_once, findings_name_their_places, passing_is_sound, unique_answer};
 use crate::{Board, File, Keep, PackageCheck, PackageFault, PackageReader, Report};
-use grid_units::Rules;
+use grid_units::{Profile, Rules};
 use std::alloc::{AllocError, Global};
 
 /// How many of some files are copper.
@@ -25,8 +27,8 @@ pub fn layer_count(files: &[File]) -> usize
 
 /// Takes those of the files that are copper, or those that are not, as `copper` says.
 fn take_kind(reader: &mut PackageReader, files: &[File], copper: bool) -> Result<(), AllocError>
-    ensures takes { copper_files reader.old ≡ layer_count files.now → OnOk result (TakesThose reader.old reader.new (file_views files.now) (is_kind_at copper (file_views files.now))) }
-    ensures layers { copper_files reader.new ≡ copper_files reader.old }
+    ensures takes { (profile : TheProfile) → setting_of reader.old ≡ record { layers = layer_count files.now; profile = profile } → OnOk result (TakesThose reader.old reader.new (file_views_in profile files.now) (is_kind_at copper (file_views_in profile files.now))) }
+    ensures setting { setting_of reader.new ≡ setting_of reader.old }
 {
     for (index, file) in files.iter().enumerate() {
         if is_kind(file.role, copper) {
@@ -37,10 +39,15 @@ fn take_kind(reader: &mut PackageReader, files: &[File], copper: bool) -> Result
 }
 
 /// A reader that has taken the files: the drill files first, then the copper files.
-fn reader_of(alloc: Global, files: &[File], keep: Keep) -> Result<PackageReader, AllocError>
-    ensures { IfOk result (λ reader. HasTakenAll reader keep (file_views files.now)) }
+fn reader_of(
+    alloc: Global,
+    profile: Profile,
+    files: &[File],
+    keep: Keep,
+) -> Result<PackageReader, AllocError>
+    ensures { IfOk result (λ reader. HasTakenAll reader keep (file_views_in profile files.now)) }
 {
-    let mut reader = PackageReader::keeping(alloc, layer_count(files), keep);
+    let mut reader = PackageReader::keeping(alloc, layer_count(files), profile, keep);
     take_kind(&mut reader, files, false)?;
     take_kind(&mut reader, files, true)?;
     Ok(reader)
@@ -48,7 +55,7 @@ fn reader_of(alloc: Global, files: &[File], keep: Keep) -> Result<PackageReader,
 
 /// Has the check take the copper files.
 fn take_copper(check: &mut PackageCheck, files: &[File]) -> Result<(), AllocError>
-    ensures { check.old.layers ≡ layer_count files.now → OnOk result (JudgesThose check.old check.new (file_views files.now) (is_kind_at true (file_views files.now))) }
+    ensures { check.old.layers ≡ layer_count files.now → OnOk result (JudgesThose check.old check.new (file_views_in check.old.rules.profile files.now) (is_kind_at true (file_views_in check.old.rules.profile files.now))) }
 {
     let mut layer = 0;
     for (index, file) in files.iter().enumerate() {
@@ -62,9 +69,9 @@ fn take_copper(check: &mut PackageCheck, files: &[File]) -> Result<(), AllocErro
 
 /// A check that has taken the files: the drill files first, then the copper files.
 fn check_of(alloc: Global, files: &[File], rules: Rules) -> Result<PackageCheck, AllocError>
-    ensures { IfOk result (λ check. HasJudgedAll check (file_views files.now) rules) }
+    ensures { IfOk result (λ check. HasJudgedAll check (file_views_in rules.profile files.now) rules) }
 {
-    let mut reader = PackageReader::new(alloc, layer_count(files));
+    let mut reader = PackageReader::new(alloc, layer_count(files), rules.profile());
     take_kind(&mut reader, files, false)?;
     let mut check = reader.checking(rules)?;
     take_copper(&mut check, files)?;
@@ -72,7 +79,7 @@ fn check_of(alloc: Global, files: &[File], rules: Rules) -> Result<PackageCheck,
 }
 
 fn report_of(alloc: Global, files: &[File], rules: Rules) -> Result<Report, PackageFault>
-    ensures { ReturnsReport (file_views files.now) rules result }
+    ensures { ReturnsReport (file_views_in rules.profile files.now) rules result }
 {
     match check_of(alloc, files, rules) {
         Ok(check) => check.finish(),
@@ -80,20 +87,20 @@ fn report_of(alloc: Global, files: &[File], rules: Rules) -> Result<Report, Pack
     }
 }
 
-/// The report on the files. Where it has no finding, each plated round hole, and each plated slot along an axis, lies with
-/// its ring in one flashed pad of each copper layer of its file's span; no plated slot through a copper layer is oblique;
-/// and no points of two holes are nearer than the gap.
+/// The report on the files in the profile of the rules. Where it has no finding, each plated hole, round or a slot, lies with
+/// its ring in one pad of each copper layer of its file's span, and no points of two holes are nearer than the gap. In the
+/// strict profile the pads are flashes of standard apertures, and no plated slot through a copper layer is oblique.
 ///
 /// # Errors
 ///
 /// The first file that is refused, by its index, with its fault; `Memory` where there is no memory.
 pub fn check_bytes(alloc: Global, files: &[File], rules: Rules) -> Result<Report, PackageFault>
-    ensures exact { ReturnsReport (file_views files.now) rules result }
-    ensures only { (answer : Result ReportView (ℕ × TheFault)) → IsAnswer (file_views files.now) rules answer → ReturnsExactly answer result }
+    ensures exact { ReturnsReport (file_views_in rules.profile files.now) rules result }
+    ensures only { (answer : Result ReportView (ℕ × TheFault)) → IsAnswer (file_views_in rules.profile files.now) rules answer → ReturnsExactly answer result }
     ensures places { IfOk result NamesItsPlaces }
-    ensures straight { IfOk result (λ report. report.findings ≡ [] → 0 < layer_count files.now → AreStraight (file_views files.now)) }
-    ensures legal { IfOk result (λ report. AreLegal (file_views files.now)) }
-    ensures sound { IfOk result (λ report. report.findings ≡ [] → IsSound (file_views files.now) rules) }
+    ensures straight { rules.profile ≡ Strict → IfOk result (λ report. report.findings ≡ [] → 0 < layer_count files.now → AreStraight (file_views_in rules.profile files.now)) }
+    ensures legal { IfOk result (λ report. AreLegal (file_views_in rules.profile files.now)) }
+    ensures sound { IfOk result (λ report. report.findings ≡ [] → IsSound (file_views_in rules.profile files.now) rules) }
 {
     unique_answer();
     files_say_once();
@@ -102,17 +109,22 @@ pub fn check_bytes(alloc: Global, files: &[File], rules: Rules) -> Result<Report
     report_of(alloc, files, rules)
 }
 
-/// The board of the files: what all of them say together, with the flashes of copper files and what these draw where `keep` keeps them.
+/// The board of the files in a profile: what all of them say together, with the flashes of copper files and what these draw where `keep` keeps them.
 ///
 /// # Errors
 ///
 /// As those of [`check_bytes`].
-pub fn read_package(alloc: Global, files: &[File], keep: Keep) -> Result<Board, PackageFault>
-    ensures exact { ReturnsBoard (file_views files.now) result }
-    ensures flashes { keeps_flashes keep ≡ true → ReturnsFlashedBoard (file_views files.now) result }
-    ensures drawn { keeps_commands keep ≡ true → ReturnsDrawnBoard (file_views files.now) result }
+pub fn read_package(
+    alloc: Global,
+    profile: Profile,
+    files: &[File],
+    keep: Keep,
+) -> Result<Board, PackageFault>
+    ensures exact { ReturnsBoard (file_views_in profile files.now) result }
+    ensures flashes { keeps_flashes keep ≡ true → ReturnsFlashedBoard (file_views_in profile files.now) result }
+    ensures drawn { keeps_commands keep ≡ true → ReturnsDrawnBoard (file_views_in profile files.now) result }
 {
-    match reader_of(alloc, files, keep) {
+    match reader_of(alloc, profile, files, keep) {
         Ok(reader) => reader.board(),
         Err(_) => Err(PackageFault::Memory),
     }

@@ -17,8 +17,8 @@ use crate::open_file::{OpenFile, Reading};
 use crate::readers::Shown;
 use crate::slots::{Kept, board_of_slots, put};
 use crate::{Board, PackageFault, Role};
-use grid_units::Fail;
-use layer_image::{Keep, unique_reading};
+use grid_units::{Fail, Profile};
+use layer_image::{Keep, readings_in_profiles};
 use ring_rules::Span;
 use std::alloc::{AllocError, Global};
 
@@ -29,32 +29,35 @@ pub struct PackageReader {
     pub(crate) alloc: Global,
     pub(crate) layers: usize,
     keep: Keep,
+    profile: Profile,
     pub(crate) slots: Vec<Option<Kept>>,
     /// The first file that is refused so far, or that memory ran out.
     pub(crate) stopped: Option<PackageFault>,
 }
 
 impl PackageReader {
-    ghost use Rattle.package_check.specs.Holding.{HasTaken, HasTakenAll, IsOutOfMemory, TakesFile, copper_files};
+    ghost use Rattle.package_check.specs.Holding.{HasTaken, HasTakenAll, IsOutOfMemory, TakesFile, setting_of};
 
-    /// A reader that has taken no file, of a package with so many copper files. It keeps no flashes, and nothing that is drawn.
-    pub fn new(alloc: Global, layers: usize) -> PackageReader
+    /// A reader that has taken no file, of a package with so many copper files, which it reads in this profile. It keeps no flashes, and
+    /// nothing that is drawn.
+    pub fn new(alloc: Global, layers: usize, profile: Profile) -> PackageReader
         ensures stands { (sources : List FileView) → HasTaken result keep.Pads sources (λ i. false) }
-        ensures layers { copper_files result ≡ layers }
+        ensures setting { setting_of result ≡ record { layers = layers; profile = profile } }
     {
-        PackageReader::keeping(alloc, layers, Keep::Pads)
+        PackageReader::keeping(alloc, layers, profile, Keep::Pads)
     }
 
-    /// A reader that has taken no file, of a package with so many copper files. It keeps the flashes of these where `keep` does. Where
+    /// A reader that has taken no file, of a package with so many copper files, which it reads in this profile. It keeps the flashes of these where `keep` does. Where
     /// `keep` keeps commands too, it keeps what these draw, and drops them as soon as their file is read.
-    pub fn keeping(alloc: Global, layers: usize, keep: Keep) -> PackageReader
+    pub fn keeping(alloc: Global, layers: usize, profile: Profile, keep: Keep) -> PackageReader
         ensures stands { (sources : List FileView) → HasTaken result keep sources (λ i. false) }
-        ensures layers { copper_files result ≡ layers }
+        ensures setting { setting_of result ≡ record { layers = layers; profile = profile } }
     {
         PackageReader {
             alloc,
             layers,
             keep,
+            profile,
             slots: Vec::new(alloc),
             stopped: None,
         }
@@ -78,9 +81,9 @@ impl PackageReader {
           name = name;
           span = span;
           bytes = concat (map (λ piece. piece.now) pieces.now);
-          layers = copper_files self.old;
+          setting = setting_of self.old;
         })) }
-        ensures layers { copper_files self.new ≡ copper_files self.old }
+        ensures setting { setting_of self.new ≡ setting_of self.old }
         ensures failed { IsOutOfMemory self.old → result ≡ Err alloc_error }
         ensures fails { OnErr result (IsOutOfMemory self.new) }
     {
@@ -105,12 +108,12 @@ impl PackageReader {
 
     /// The file at this index, of which nothing was read; it is skipped where it stands after one that is refused.
     fn start(&self, index: usize, role: Role, span: &Option<Span>) -> Reading
-        ensures { is_wanted self.now.stopped index ≡ true → HasReadText self.now.keep role span.now self.now.layers result [] }
+        ensures { is_wanted self.now.stopped index ≡ true → HasReadText self.now.keep role span.now (setting_of self.now) result [] }
     {
         if !is_wanted(self.stopped, index) {
             return Reading::Skipped;
         }
-        Reading::begin(self.alloc, self.keep, role, span, self.layers)
+        Reading::begin(self.alloc, self.keep, role, span, self.layers, self.profile)
     }
 
     /// Ends a file that was opened and has taken its whole text: with that the reader has taken it, as [`PackageReader::take`] says.
@@ -124,9 +127,9 @@ impl PackageReader {
           name = name;
           span = span;
           bytes = text;
-          layers = copper_files self.old;
+          setting = setting_of self.old;
         })) }
-        ensures layers { copper_files self.new ≡ copper_files self.old }
+        ensures setting { setting_of self.new ≡ setting_of self.old }
         ensures failed { IsOutOfMemory self.old → result ≡ Err alloc_error }
         ensures fails { OnErr result (IsOutOfMemory self.new) }
     {
@@ -141,8 +144,8 @@ impl PackageReader {
 
     /// Puts what is kept of a file into its slot.
     fn put_file(&mut self, file: OpenFile) -> Result<(), Fail>
-        ensures read { (text : List ℕ) → HasReadText self.old.keep file.role file.span self.old.layers file.reading text → ReadsAt self.old.keep file.index (unnamed_file file.role file.span self.old.layers text) self.old.slots.items self.new.slots.items result }
-        ensures layers { self.new.layers ≡ self.old.layers }
+        ensures read { (text : List ℕ) → HasReadText self.old.keep file.role file.span (setting_of self.old) file.reading text → ReadsAt self.old.keep file.index (unnamed_file file.role file.span (setting_of self.old) text) self.old.slots.items self.new.slots.items result }
+        ensures setting { setting_of self.new ≡ setting_of self.old }
         ensures keep { self.new.keep ≡ self.old.keep }
         ensures stopped { self.new.stopped ≡ self.old.stopped }
     {
@@ -153,7 +156,7 @@ impl PackageReader {
             ..
         } = file;
         let mut shown = Shown::nothing(self.alloc);
-        let content = reading.finish(self.alloc, self.keep, &mut shown, span)?;
+        let content = reading.finish(self.alloc, self.keep, self.profile, &mut shown, span)?;
         put(&mut self.slots, index, Kept { content, shown })?;
         Ok(())
     }
@@ -170,7 +173,7 @@ impl PackageReader {
         ensures drawn { (keep : TheKeep) (sources : List FileView) → HasTakenAll self keep sources → keeps_commands keep ≡ true → ReturnsDrawnBoard sources result }
         ensures failed { IsOutOfMemory self → result ≡ Err stop.Memory }
     {
-        unique_reading();
+        readings_in_profiles();
         match self.stopped {
             Some(fault) => Err(fault),
             None => match board_of_slots(self.alloc, self.slots) {

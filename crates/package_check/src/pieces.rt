@@ -2,13 +2,15 @@
 
 ghost use Rattle.std.specs.Prelude.{◌≡◌, ◌<◌, ℕ, [], false, true, Result, IfOk, OnOk};
 ghost use Rattle.grid_units.specs.declared.fault.Fault.{Fault as TheFault};
+ghost use Rattle.grid_units.specs.declared.profile.Profile.{Profile as TheProfile};
+ghost use Rattle.grid_units.specs.declared.profile.Profile.TheVariants.{Strict};
 ghost use Rattle.package_check.specs.Package.{ReturnsExactly, ReturnsReport, IsAnswer, NamesItsPlaces};
 ghost use Rattle.package_check.specs.Pieces.{pieced_layer_count, pieced_file_views};
 ghost use Rattle.package_check.specs.Reports.{ReportView};
 ghost use Rattle.package_check.specs.Soundness.{AreStraight, IsSound};
 ghost use Rattle.package_check.specs.SoundnessAsRead.{AreLegal};
 ghost use Rattle.package_check.specs.Checking.{HasJudgedAll, JudgesThose};
-ghost use Rattle.package_check.specs.Holding.{TakesThose, copper_files, is_kind_at};
+ghost use Rattle.package_check.specs.Holding.{TakesThose, is_kind_at, setting_of};
 
 use crate::contents::{is_copper, is_kind};
 use crate::laws::{files_say_once, findings_name_their_places, passing_is_sound, unique_answer};
@@ -24,8 +26,8 @@ fn layer_count(files: &[PiecedFile]) -> usize
 
 /// Takes the drill files.
 fn take_drills(reader: &mut PackageReader, files: &[PiecedFile]) -> Result<(), AllocError>
-    ensures takes { copper_files reader.old ≡ pieced_layer_count files.now → OnOk result (TakesThose reader.old reader.new (pieced_file_views files.now) (is_kind_at false (pieced_file_views files.now))) }
-    ensures layers { copper_files reader.new ≡ copper_files reader.old }
+    ensures takes { (profile : TheProfile) → setting_of reader.old ≡ record { layers = pieced_layer_count files.now; profile = profile } → OnOk result (TakesThose reader.old reader.new (pieced_file_views profile files.now) (is_kind_at false (pieced_file_views profile files.now))) }
+    ensures setting { setting_of reader.new ≡ setting_of reader.old }
 {
     for (index, file) in files.iter().enumerate() {
         if is_kind(file.role, false) {
@@ -37,7 +39,7 @@ fn take_drills(reader: &mut PackageReader, files: &[PiecedFile]) -> Result<(), A
 
 /// Has the check take the copper files.
 fn take_copper(check: &mut PackageCheck, files: &[PiecedFile]) -> Result<(), AllocError>
-    ensures { check.old.layers ≡ pieced_layer_count files.now → OnOk result (JudgesThose check.old check.new (pieced_file_views files.now) (is_kind_at true (pieced_file_views files.now))) }
+    ensures { check.old.layers ≡ pieced_layer_count files.now → OnOk result (JudgesThose check.old check.new (pieced_file_views check.old.rules.profile files.now) (is_kind_at true (pieced_file_views check.old.rules.profile files.now))) }
 {
     let mut layer = 0;
     for (index, file) in files.iter().enumerate() {
@@ -51,9 +53,9 @@ fn take_copper(check: &mut PackageCheck, files: &[PiecedFile]) -> Result<(), All
 
 /// A check that has taken the files: the drill files first, then the copper files.
 fn check_of(alloc: Global, files: &[PiecedFile], rules: Rules) -> Result<PackageCheck, AllocError>
-    ensures { IfOk result (λ check. HasJudgedAll check (pieced_file_views files.now) rules) }
+    ensures { IfOk result (λ check. HasJudgedAll check (pieced_file_views rules.profile files.now) rules) }
 {
-    let mut reader = PackageReader::new(alloc, layer_count(files));
+    let mut reader = PackageReader::new(alloc, layer_count(files), rules.profile());
     take_drills(&mut reader, files)?;
     let mut check = reader.checking(rules)?;
     take_copper(&mut check, files)?;
@@ -61,7 +63,7 @@ fn check_of(alloc: Global, files: &[PiecedFile], rules: Rules) -> Result<Package
 }
 
 fn report_of(alloc: Global, files: &[PiecedFile], rules: Rules) -> Result<Report, PackageFault>
-    ensures { ReturnsReport (pieced_file_views files.now) rules result }
+    ensures { ReturnsReport (pieced_file_views rules.profile files.now) rules result }
 {
     match check_of(alloc, files, rules) {
         Ok(check) => check.finish(),
@@ -79,12 +81,12 @@ pub fn check_pieces(
     files: &[PiecedFile],
     rules: Rules,
 ) -> Result<Report, PackageFault>
-    ensures exact { ReturnsReport (pieced_file_views files.now) rules result }
-    ensures only { (answer : Result ReportView (ℕ × TheFault)) → IsAnswer (pieced_file_views files.now) rules answer → ReturnsExactly answer result }
+    ensures exact { ReturnsReport (pieced_file_views rules.profile files.now) rules result }
+    ensures only { (answer : Result ReportView (ℕ × TheFault)) → IsAnswer (pieced_file_views rules.profile files.now) rules answer → ReturnsExactly answer result }
     ensures places { IfOk result NamesItsPlaces }
-    ensures straight { IfOk result (λ report. report.findings ≡ [] → 0 < pieced_layer_count files.now → AreStraight (pieced_file_views files.now)) }
-    ensures legal { IfOk result (λ report. AreLegal (pieced_file_views files.now)) }
-    ensures sound { IfOk result (λ report. report.findings ≡ [] → IsSound (pieced_file_views files.now) rules) }
+    ensures straight { rules.profile ≡ Strict → IfOk result (λ report. report.findings ≡ [] → 0 < pieced_layer_count files.now → AreStraight (pieced_file_views rules.profile files.now)) }
+    ensures legal { IfOk result (λ report. AreLegal (pieced_file_views rules.profile files.now)) }
+    ensures sound { IfOk result (λ report. report.findings ≡ [] → IsSound (pieced_file_views rules.profile files.now) rules) }
 {
     unique_answer();
     files_say_once();

@@ -1,26 +1,31 @@
 //! What the check keeps of a file as it reads it: pads of a layer, holes of a drill file.
 
 ghost use Rattle.std.specs.Prelude.{◌≡◌, ◌++◌, ◌∷◌, [], ◌==◌, not, ℕ, List, Ok, IfErr, IfOk, OnOk, true};
+ghost use Rattle.grid_units.specs.declared.profile.Profile.{Profile as TheProfile};
+ghost use Rattle.grid_units.specs.declared.profile.Profile.TheVariants.{Strict, Wide};
 ghost use Rattle.std.specs.List.{take_while};
 ghost use Rattle.std.specs.Option.{option_copied};
 ghost use Rattle.grid_units.specs.Results.{Answers, IfFault};
 ghost use Rattle.layer_image.specs.Flashes.{pads_of};
-ghost use Rattle.drill_text.specs.Holding.{StandsAfter};
+ghost use Rattle.drill_text.specs.Holding.{StandsIn};
 ghost use Rattle.drill_text.specs.declared.kept.Keep.TheVariants as drill_keep;
-ghost use Rattle.layer_image.specs.Holding.{LayerStandsAfter, ShowsLayerFault};
+ghost use Rattle.layer_image.specs.Holding.{LayerStandsAfter, LayerStandsIn, ShowsLayerFaultIn};
 ghost use Rattle.layer_image.specs.KeptFlashes.{keeps_commands, keeps_flashes};
-ghost use Rattle.layer_image.specs.Layers.{ReadsFlashes};
+ghost use Rattle.layer_image.specs.Layers.{ReadsLayerIn};
 ghost use Rattle.layer_image.specs.declared.keep.Keep.{Keep as TheKeep};
 ghost use Rattle.layer_image.specs.declared.keep.Keep.TheVariants as keep;
-ghost use Rattle.package_check.specs.FileTexts.{Draws, ReadsLayer, ReadsDrill, is_copper_function};
+ghost use Rattle.package_check.specs.FileTexts.{Draws, HasFlashes, ReadsLayer, ReadsDrill, is_copper_function};
+ghost use Rattle.package_check.specs.OpenFiles.{keep_in};
 
 use drill_text::DrillReader;
+use further_copper::FurtherPad;
 use grid_units::numbers::len_before;
-use grid_units::{Fail, Hole};
-use layer_image::{Drawn, Flash, Keep, LayerReader, What, shown_faults};
+use grid_units::{Fail, Hole, Profile};
+use layer_image::{Drawn, Flash, Keep, LayerReader, What, readings_in_profiles};
 use pad_shapes::Pad;
 use std::alloc::{AllocError, Global};
 use std::marker::Model;
+use wide_layers::wide_layer;
 
 /// How many bytes of a layer are read at once: its commands are held for so many bytes alone, and then dropped.
 pub(crate) const PIECE: usize = 65_536;
@@ -29,6 +34,8 @@ pub(crate) const PIECE: usize = 65_536;
 #[derive(Drop)]
 pub(crate) struct Layer {
     pads: Vec<Pad>,
+    flashed: Vec<FurtherPad>,
+    contours: Vec<FurtherPad>,
     other: usize,
     is_copper: bool,
 }
@@ -38,7 +45,7 @@ impl Model for Layer {
 
     ghost Value = { LayerView };
 
-    ghost view = { λ l. record { pads = l.pads.items; other = l.other; is_copper = l.is_copper } };
+    ghost view = { λ l. record { pads = l.pads.items; flashed = l.flashed.items; contours = l.contours.items; other = l.other; is_copper = l.is_copper } };
 }
 
 impl Layer {
@@ -46,6 +53,18 @@ impl Layer {
         ensures { result.now ≡ self.now.pads }
     {
         &self.pads
+    }
+
+    pub(crate) fn flashed(&self) -> &[FurtherPad]
+        ensures { result.now ≡ self.now.flashed }
+    {
+        &self.flashed
+    }
+
+    pub(crate) fn contours(&self) -> &[FurtherPad]
+        ensures { result.now ≡ self.now.contours }
+    {
+        &self.contours
     }
 
     pub(crate) fn other(&self) -> usize
@@ -135,10 +154,10 @@ fn first_field(text: &[u8]) -> &[u8]
 
 /// Feeds a piece of a layer to the reader, [`PIECE`] bytes at a time.
 pub(crate) fn feed_layer(reader: &mut LayerReader, piece: &[u8]) -> Result<(), Fail>
-    ensures ok { (keep : TheKeep) (text : List ℕ) → LayerStandsAfter reader.old keep text → OnOk result (LayerStandsAfter reader.new keep (text ++ piece.now)) }
-    ensures err { (keep : TheKeep) (text : List ℕ) → LayerStandsAfter reader.old keep text → IfErr result (IfFault (ShowsLayerFault (text ++ piece.now))) }
+    ensures ok { (profile : TheProfile) (keep : TheKeep) (text : List ℕ) → LayerStandsIn reader.old profile keep text → OnOk result (LayerStandsIn reader.new profile keep (text ++ piece.now)) }
+    ensures err { (profile : TheProfile) (keep : TheKeep) (text : List ℕ) → LayerStandsIn reader.old profile keep text → IfErr result (IfFault (ShowsLayerFaultIn profile (text ++ piece.now))) }
 {
-    shown_faults();
+    readings_in_profiles();
     for chunk in piece.chunks(PIECE) {
         reader.feed(chunk)?;
     }
@@ -146,14 +165,16 @@ pub(crate) fn feed_layer(reader: &mut LayerReader, piece: &[u8]) -> Result<(), F
 }
 
 /// What the check keeps of the copper file whose text the reader has read, or its fault.
-fn read_pads(reader: LayerReader) -> Result<Layer, Fail>
-    ensures { (text : List ℕ) → LayerStandsAfter reader keep.Pads text → Answers (λ x. x) (ReadsLayer text) result }
+fn read_pads(alloc: Global, reader: LayerReader) -> Result<Layer, Fail>
+    ensures { (text : List ℕ) → LayerStandsAfter reader keep.Pads text → Answers (λ x. x) (ReadsLayer Strict text) result }
 {
     let layer = reader.finish()?;
     let other = layer.other();
     let is_copper = is_copper_function(layer.file_function());
     Ok(Layer {
         pads: layer.into_pads(),
+        flashed: Vec::new(alloc),
+        contours: Vec::new(alloc),
         other,
         is_copper,
     })
@@ -186,9 +207,9 @@ fn pads_among(alloc: Global, flashes: &[Flash], count: usize) -> Result<Vec<Pad>
 /// What [`read_pads`] gives of a copper file, and its flashes; also what its commands draw, where these are kept. The commands are
 /// dropped then.
 fn read_shown(alloc: Global, shown: &mut Shown, reader: LayerReader) -> Result<Layer, Fail>
-    ensures image { (keep : TheKeep) (text : List ℕ) → LayerStandsAfter reader keep text → keeps_flashes keep ≡ true → Answers (λ x. x) (ReadsLayer text) result }
-    ensures flashes { (keep : TheKeep) (text : List ℕ) → LayerStandsAfter reader keep text → keeps_flashes keep ≡ true → OnOk result (ReadsFlashes text (Ok shown.new.flashes.items)) }
-    ensures drawn { (keep : TheKeep) (text : List ℕ) → LayerStandsAfter reader keep text → keeps_commands keep ≡ true → OnOk result (Draws text shown.new.drawn.items) }
+    ensures image { (keep : TheKeep) (text : List ℕ) → LayerStandsAfter reader keep text → keeps_flashes keep ≡ true → Answers (λ x. x) (ReadsLayer Strict text) result }
+    ensures flashes { (keep : TheKeep) (text : List ℕ) → LayerStandsAfter reader keep text → keeps_flashes keep ≡ true → OnOk result (HasFlashes Strict text shown.new.flashes.items) }
+    ensures drawn { (keep : TheKeep) (text : List ℕ) → LayerStandsAfter reader keep text → keeps_commands keep ≡ true → OnOk result (Draws Strict text shown.new.drawn.items) }
 {
     let layer = reader.finish()?;
     let other = layer.other();
@@ -200,32 +221,85 @@ fn read_shown(alloc: Global, shown: &mut Shown, reader: LayerReader) -> Result<L
     shown.flashes = layer.into_flashes();
     Ok(Layer {
         pads,
+        flashed: Vec::new(alloc),
+        contours: Vec::new(alloc),
         other,
         is_copper,
     })
 }
 
-/// What the check keeps of the copper file whose text the reader has read, or its fault. What is kept to be shown is put into `shown`.
-pub(crate) fn read_layer_view(
+/// What the check keeps of the copper file whose text the reader has read in the strict profile, or its fault. What is kept to be shown is
+/// put into `shown`.
+fn read_strict(
     alloc: Global,
     keep: Keep,
     shown: &mut Shown,
     reader: LayerReader,
 ) -> Result<Layer, Fail>
-    ensures image { (text : List ℕ) → LayerStandsAfter reader keep text → Answers (λ x. x) (ReadsLayer text) result }
-    ensures flashes { (text : List ℕ) → LayerStandsAfter reader keep text → keeps_flashes keep ≡ true → OnOk result (ReadsFlashes text (Ok shown.new.flashes.items)) }
-    ensures drawn { (text : List ℕ) → LayerStandsAfter reader keep text → keeps_commands keep ≡ true → OnOk result (Draws text shown.new.drawn.items) }
+    ensures image { (text : List ℕ) → LayerStandsAfter reader keep text → Answers (λ x. x) (ReadsLayer Strict text) result }
+    ensures flashes { (text : List ℕ) → LayerStandsAfter reader keep text → keeps_flashes keep ≡ true → OnOk result (HasFlashes Strict text shown.new.flashes.items) }
+    ensures drawn { (text : List ℕ) → LayerStandsAfter reader keep text → keeps_commands keep ≡ true → OnOk result (Draws Strict text shown.new.drawn.items) }
 {
     match keep {
-        Keep::Pads => read_pads(reader),
+        Keep::Pads => read_pads(alloc, reader),
         Keep::All => read_shown(alloc, shown, reader),
         Keep::Flashes => read_shown(alloc, shown, reader),
     }
 }
 
+/// What the check keeps of a layer that was read whole in the wide profile.
+fn wide_view(alloc: Global, layer: &layer_image::Layer) -> Result<Layer, AllocError>
+    ensures { (text : List ℕ) → ReadsLayerIn Wide text (Ok layer.now) → IfOk result (λ view. ReadsLayer Wide text (Ok view)) }
+{
+    let wide = wide_layer(alloc, layer)?;
+    let other = wide.other();
+    let is_copper = is_copper_function(wide.file_function());
+    let pads = wide.into_pads();
+    Ok(Layer {
+        pads: pads.pads,
+        flashed: pads.flashed,
+        contours: pads.contours,
+        other,
+        is_copper,
+    })
+}
+
+/// What the check keeps of the copper file whose text the reader has read in the wide profile, or its fault. Its flashes, and what its
+/// commands draw, are put into `shown`.
+fn read_wide(alloc: Global, shown: &mut Shown, reader: LayerReader) -> Result<Layer, Fail>
+    ensures image { (text : List ℕ) → LayerStandsIn reader Wide keep.All text → Answers (λ x. x) (ReadsLayer Wide text) result }
+    ensures flashes { (text : List ℕ) → LayerStandsIn reader Wide keep.All text → OnOk result (HasFlashes Wide text shown.new.flashes.items) }
+    ensures drawn { (text : List ℕ) → LayerStandsIn reader Wide keep.All text → OnOk result (Draws Wide text shown.new.drawn.items) }
+{
+    let layer = reader.finish()?;
+    let view = wide_view(alloc, &layer)?;
+    shown.drawn = layer.drawn(alloc)?;
+    shown.flashes = layer.into_flashes();
+    Ok(view)
+}
+
+/// What the check keeps of the copper file whose text the reader has read in this profile, or its fault. What is kept to be shown is put
+/// into `shown`.
+pub(crate) fn read_layer_view(
+    alloc: Global,
+    keep: Keep,
+    profile: Profile,
+    shown: &mut Shown,
+    reader: LayerReader,
+) -> Result<Layer, Fail>
+    ensures image { (text : List ℕ) → LayerStandsIn reader profile (keep_in profile keep) text → Answers (λ x. x) (ReadsLayer profile text) result }
+    ensures flashes { (text : List ℕ) → LayerStandsIn reader profile (keep_in profile keep) text → keeps_flashes keep ≡ true → OnOk result (HasFlashes profile text shown.new.flashes.items) }
+    ensures drawn { (text : List ℕ) → LayerStandsIn reader profile (keep_in profile keep) text → keeps_commands keep ≡ true → OnOk result (Draws profile text shown.new.drawn.items) }
+{
+    match profile {
+        Profile::Strict => read_strict(alloc, keep, shown, reader),
+        Profile::Wide => read_wide(alloc, shown, reader),
+    }
+}
+
 /// What the check keeps of the drill file whose text the reader has read, or its fault.
 pub(crate) fn read_holes(reader: DrillReader) -> Result<Drill, Fail>
-    ensures { (text : List ℕ) → StandsAfter reader drill_keep.Holes text → Answers (λ x. x) (ReadsDrill text) result }
+    ensures { (profile : TheProfile) (text : List ℕ) → StandsIn reader profile drill_keep.Holes text → Answers (λ x. x) (ReadsDrill profile text) result }
 {
     let drill = reader.finish()?;
     Ok(Drill {

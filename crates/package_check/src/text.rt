@@ -1,7 +1,8 @@
 //! The text of a report.
 
 ghost use Rattle.std.specs.Prelude.{◌≡◌, IfOk, Some, length, map};
-ghost use Rattle.package_check.specs.Package.{file_views};
+ghost use Rattle.grid_units.specs.declared.profile.Profile.{Profile as TheProfile};
+ghost use Rattle.package_check.specs.Package.{file_views_in};
 ghost use Rattle.package_check.specs.Texts.{report_text, text_of};
 
 use crate::lines::{LastLine, RulesLine};
@@ -27,7 +28,12 @@ impl Display for CheckText<'_> {
     fn fmt<W: fmt::Write>(&self, f: &mut Formatter<W>) -> fmt::Result {
         let (names, report) = (self.names, self.report);
         let (files, found) = (report.files(), report.findings());
-        let files = FileLines { names, files };
+        let profile = report.rules().profile();
+        let files = FileLines {
+            profile,
+            names,
+            files,
+        };
         let findings = Lines {
             page: report,
             lines: found,
@@ -67,7 +73,7 @@ fn bytes_of<'a>(
 /// An `AllocError` where there is no memory for it.
 pub fn write_report(alloc: Global, files: &[File], report: &Report) -> Result<Vec<u8>, AllocError>
     requires { length files.now ≡ length report.now.files }
-    ensures { IfOk result (λ text. text.items ≡ report_text (file_views files.now) report.now) }
+    ensures { (profile : TheProfile) → IfOk result (λ text. text.items ≡ report_text (file_views_in profile files.now) report.now) }
 {
     let names = names_of(alloc, files)?;
     bytes_of(alloc, names.as_slice(), report)

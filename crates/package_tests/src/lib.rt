@@ -3,3 +3,5 @@
 
 #[cfg(test)]
 mod package_check_calls;
+#[cfg(test)]
+mod profile_calls;

@@ -1,6 +1,6 @@
 //! Reports on small packages, and what their boards hold.
 
-use grid_units::{Fault, Reason, Rules};
+use grid_units::{Fault, Profile, Reason, Rules};
 use package_check::{
     Board, CheckText, File, FileLines, FileSum, Keep, PackageCheck, PackageFault, PackageReader,
     PiecedFile, Report, Role, Span, check_bytes, check_pieces, layer_count, read_package,
@@ -10,7 +10,7 @@ use std::alloc::{AllocError, Global};
 
 /// Why a row could not be tried.
 #[derive(Clone, Copy, Debug, PartialEq, Eq)]
-enum RowFail {
+pub(crate) enum RowFail {
     /// Memory ran out.
     Memory,
     /// The files, or the rules, are refused.
@@ -55,10 +55,16 @@ const SLOT: &[u8] = b"M48\nMETRIC\nT1C0.5\n%\nT1\nX0.0Y0.0G85X2.0Y0.0\nM30\n";
 
 const OBLIQUE: &[u8] = b"M48\nMETRIC\nT1C0.5\n%\nT1\nX0.0Y5.0G85X2.0Y6.0\nM30\n";
 
-const RULES: &str = "rules ring=0.125000000 gap=0.250000000\n";
+/// The first line of a report in a profile.
+fn first_line(profile: Profile) -> &'static str {
+    match profile {
+        Profile::Strict => "rules ring=0.125000000 gap=0.250000000\n",
+        Profile::Wide => "rules ring=0.125000000 gap=0.250000000 profile=wide\n",
+    }
+}
 
 /// A file: its role, its name, the first and the last layer of its span, and its bytes.
-type FileRow<'a> = (Role, &'a str, Option<(u32, u32)>, &'a [u8]);
+pub(crate) type FileRow<'a> = (Role, &'a str, Option<(u32, u32)>, &'a [u8]);
 
 const TOP: FileRow = (Role::Copper, "top", None, LAYER);
 
@@ -115,9 +121,15 @@ fn names_of<'a>(alloc: Global, rows: &[FileRow<'a>]) -> Result<Vec<&'a str>, All
     Ok(names)
 }
 
-/// A ring of 0.125 mm and a gap of 0.25 mm.
+/// A ring of 0.125 mm and a gap of 0.25 mm, in a profile.
+fn rules_in(profile: Profile) -> Result<Rules, RowFail> {
+    let rules = Rules::new(125_000_000, 250_000_000)?;
+    Ok(rules.in_profile(profile))
+}
+
+/// The same ring and gap in the strict profile.
 fn rules() -> Result<Rules, RowFail> {
-    Ok(Rules::new(125_000_000, 250_000_000)?)
+    rules_in(Profile::Strict)
 }
 
 /// The text of a report on files of these names.
@@ -129,22 +141,24 @@ fn text_of<'a>(
     format!(in alloc; "{}", CheckText { names, report })
 }
 
-/// Whether a report has this text after its first line, and these bytes.
+/// Whether a report has the first line of the profile and then this text, and these bytes.
 fn is_printed(
     alloc: Global,
+    profile: Profile,
     names: &[&str],
     report: &Report,
     lines: &str,
     bytes: &[u8],
 ) -> Result<bool, RowFail> {
     let printed = text_of(alloc, names, report)?;
-    let is_text = printed.as_str().strip_prefix(RULES) == Some(lines);
+    let is_text = printed.as_str().strip_prefix(first_line(profile)) == Some(lines);
     Ok(is_text && printed.as_bytes() == bytes)
 }
 
-/// Whether a report on these files has this text after its first line, written as bytes and printed by their names.
+/// Whether a report on these files has the first line of the profile and then this text, written as bytes and printed by their names.
 fn is_written(
     alloc: Global,
+    profile: Profile,
     files: &[File],
     names: &[&str],
     report: &Report,
@@ -154,29 +168,35 @@ fn is_written(
         return Ok(false);
     }
     let written = write_report(alloc, files, report)?;
-    is_printed(alloc, names, report, lines, &written)
+    is_printed(alloc, profile, names, report, lines, &written)
 }
 
 fn is_report_on(
     alloc: Global,
+    profile: Profile,
     files: &[File],
     names: &[&str],
     lines: &str,
 ) -> Result<bool, RowFail> {
-    let report = check_bytes(alloc, files, rules()?)?;
-    let in_bytes = checked_in_bytes(alloc, files)??;
+    let report = check_bytes(alloc, files, rules_in(profile)?)?;
+    let in_bytes = checked_in_bytes(alloc, profile, files)??;
     Ok(
-        is_written(alloc, files, names, &report, lines)?
-            && is_written(alloc, files, names, &in_bytes, lines)?,
+        is_written(alloc, profile, files, names, &report, lines)?
+            && is_written(alloc, profile, files, names, &in_bytes, lines)?,
     )
 }
 
-/// Whether the report on the files, which are also taken byte by byte, has this text after its first line, written as bytes and printed by
-/// the names of the files.
-fn is_reported(alloc: Global, rows: &[FileRow], lines: &str) -> Result<bool, RowFail> {
+/// Whether the report in a profile on the files, which are also taken byte by byte, has this text after its first line, written as bytes
+/// and printed by the names of the files.
+pub(crate) fn is_reported(
+    alloc: Global,
+    profile: Profile,
+    rows: &[FileRow],
+    lines: &str,
+) -> Result<bool, RowFail> {
     let files = files_of(alloc, rows)?;
     let names = names_of(alloc, rows)?;
-    is_report_on(alloc, &files, &names, lines)
+    is_report_on(alloc, profile, &files, &names, lines)
 }
 
 /// Files, and the report on them after its first line.
@@ -251,7 +271,8 @@ const REPORTS: [(&[FileRow], &str); 12] = [
 #[test]
 fn reports_are_printed(rt: HostRuntime) {
     for &(rows, lines) in &REPORTS {
-        assert!(rt; is_reported(rt.alloc(), rows, lines) == Ok(true), "{lines}");
+        let reported = is_reported(rt.alloc(), Profile::Strict, rows, lines);
+        assert!(rt; reported == Ok(true), "{lines}");
     }
 }
 
@@ -376,14 +397,15 @@ fn check_all_in_bytes(check: &mut PackageCheck, files: &[File]) -> Result<(), Al
     Ok(())
 }
 
-/// The report on a package whose files are taken byte by byte, or its refusal.
+/// The report in a profile on a package whose files are taken byte by byte, or its refusal.
 fn checked_in_bytes(
     alloc: Global,
+    profile: Profile,
     files: &[File],
 ) -> Result<Result<Report, PackageFault>, RowFail> {
-    let mut reader = PackageReader::new(alloc, layer_count(files));
+    let mut reader = PackageReader::new(alloc, layer_count(files), profile);
     take_all_in_bytes(&mut reader, files, false)?;
-    let mut check = reader.checking(rules()?)?;
+    let mut check = reader.checking(rules_in(profile)?)?;
     check_all_in_bytes(&mut check, files)?;
     Ok(check.finish())
 }
@@ -393,7 +415,7 @@ fn board_in_bytes(
     alloc: Global,
     files: &[File],
 ) -> Result<Result<Board, PackageFault>, AllocError> {
-    let mut reader = PackageReader::new(alloc, layer_count(files));
+    let mut reader = PackageReader::new(alloc, layer_count(files), Profile::Strict);
     take_all_in_bytes(&mut reader, files, true)?;
     Ok(reader.board())
 }
@@ -403,11 +425,11 @@ fn is_refused(alloc: Global, rows: &[FileRow], fault: PackageFault) -> Result<bo
     let files = files_of(alloc, rows)?;
     let fault = Some(fault);
     let report = check_bytes(alloc, &files, rules()?).err();
-    let board = read_package(alloc, &files, Keep::Pads).err();
+    let board = read_package(alloc, Profile::Strict, &files, Keep::Pads).err();
     Ok(
         report == fault
             && board == fault
-            && checked_in_bytes(alloc, &files)?.err() == fault
+            && checked_in_bytes(alloc, Profile::Strict, &files)?.err() == fault
             && board_in_bytes(alloc, &files)?.err() == fault,
     )
 }
@@ -469,7 +491,7 @@ fn hole_of(board: &Board, place: usize) -> Option<Hole> {
 /// The board of these files.
 fn board_of_four(alloc: Global) -> Result<Board, RowFail> {
     let files = files_of(alloc, &FOUR)?;
-    Ok(read_package(alloc, &files, Keep::Pads)?)
+    Ok(read_package(alloc, Profile::Strict, &files, Keep::Pads)?)
 }
 
 /// The number of pads on each layer of a board.
@@ -501,6 +523,7 @@ fn has_layers(
 
 fn has_lines(alloc: Global, board: &Board, wanted: &str) -> Result<bool, AllocError> {
     let lines = FileLines {
+        profile: Profile::Strict,
         names: &["npth", "top", "pth", "bot"],
         files: board.files(),
     };
@@ -562,7 +585,7 @@ fn has_findings_of(alloc: Global, board: &Board, report: &Report) -> Result<bool
 
 /// Whether the board of some files has such findings of their report.
 fn reports_its_findings(alloc: Global, files: &[File]) -> Result<bool, RowFail> {
-    let board = read_package(alloc, files, Keep::Pads)?;
+    let board = read_package(alloc, Profile::Strict, files, Keep::Pads)?;
     let report = check_bytes(alloc, files, rules()?)?;
     has_findings_of(alloc, &board, &report)
 }
@@ -585,11 +608,15 @@ fn take_three(reader: &mut PackageReader) -> Result<(), AllocError> {
     reader.take(0, Role::Copper, None, &[start, end])
 }
 
-const LAYER_OF_TWO: FileSum = FileSum::Layer { pads: 2, other: 0 };
+const LAYER_OF_TWO: FileSum = FileSum::Layer {
+    pads: 2,
+    other: 0,
+    contours: 0,
+};
 
 /// The board of these files, with the flashes of copper.
 fn board_of_three(alloc: Global) -> Result<Board, RowFail> {
-    let mut reader = PackageReader::keeping(alloc, 2, Keep::Flashes);
+    let mut reader = PackageReader::keeping(alloc, 2, Profile::Strict, Keep::Flashes);
     take_three(&mut reader)?;
     Ok(reader.board()?)
 }
@@ -637,7 +664,7 @@ fn take_refused(reader: &mut PackageReader) -> Result<(), AllocError> {
 
 /// Whether such a package is refused for the layer with a span.
 fn is_first_kept(alloc: Global) -> Result<bool, RowFail> {
-    let mut reader = PackageReader::keeping(alloc, 2, Keep::Flashes);
+    let mut reader = PackageReader::keeping(alloc, 2, Profile::Strict, Keep::Flashes);
     take_refused(&mut reader)?;
     let (index, fault) = (0, FAULT);
     Ok(reader.board().err() == Some(PackageFault::File { index, fault }))

@@ -1,5 +1,5 @@
 -- Products of differences of coordinates, and the comparison of an area with a depth and an edge by their squares.
-use Rattle.std.proofs.Common.{◌≡◌, ℕ, ℤ, ◌+◌, ◌*◌, ◌≤◌, ◌<◌, pos, ◌+ℤ◌, ◌-ℤ◌, ◌*ℤ◌, ◌≤ℤ◌, unsigned_abs, FitsSigned, Ordering, Less, Equal, Greater, ap, ◌∙◌, arith, to_z, of_z, mul-le-mul, mul-le-mul_left, lit<}
+use Rattle.std.proofs.Common.{◌≡◌, ℕ, ℤ, ◌+◌, ◌*◌, ◌/◌, ◌≤◌, ◌<◌, pos, ◌+ℤ◌, ◌-ℤ◌, ◌*ℤ◌, ◌≤ℤ◌, unsigned_abs, FitsSigned, Ordering, Less, Equal, Greater, ap, ◌∙◌, arith, to_z, of_z, mul-le-mul, mul-le-mul_left, lit<}
 use Rattle.std.proofs.lemmas.Int.{ints, fits_signed_mul, unsigned_abs-mul, to_z-of_z}
 use Rattle.std.proofs.lemmas.Nat.{mul-le}
 use Rattle.std.specs.Ordering.{MatchOrdering}
@@ -109,3 +109,9 @@ zone_low l k z reach radius e h p q near = omega (arith, ints)
 pub zone_high : (l k z : ℤ) (reach radius : ℕ) → l ≡ k → unsigned_abs l ≤ 10000000000000 → reach ≤ 20000000000000 → radius ≤ 5000000000000 → z ≤ℤ ((k +ℤ pos radius) -ℤ pos reach)
     → z ≤ℤ to_z w64 (of_z w64 (to_z w64 (of_z w64 l) -ℤ to_z w64 (of_z w64 (to_z w64 reach -ℤ to_z w64 radius))))
 zone_high l k z reach radius e h p q near = omega (arith, ints)
+
+-- a reach above half of the width is covered nowhere
+pub beyond_half : (l g k m x : ℤ) (width radius reach : ℕ) → l ≡ k → g ≡ m → unsigned_abs l ≤ 10000000000000 → unsigned_abs g ≤ 10000000000000
+    → width ≡ unsigned_abs (to_z w64 (of_z w64 (to_z w64 (of_z w64 g) -ℤ to_z w64 (of_z w64 l)))) → radius + width / 2 < reach
+    → ((k -ℤ pos radius) +ℤ pos reach) ≤ℤ x → x ≤ℤ ((m +ℤ pos radius) -ℤ pos reach) → ⊥
+beyond_half l g k m x width radius reach e f p q is more low high = omega (arith, ints)

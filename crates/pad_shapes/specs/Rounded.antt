@@ -132,11 +132,11 @@ rounded_left r = least_corner (λ v. v.x) r -ℤ pos r.radius
 abbrev pub rounded_right : GridRounded → ℤ
 rounded_right r = greatest_corner (λ v. v.x) r +ℤ pos r.radius
 
--- the greatest reach that a shape covers round a centre, of the reaches in a call
+-- the greatest reach that a shape covers round a centre, which is one that a call may have
 pub record IsGreatestReach (r : GridRounded) (c : GridPoint) (reach : ℕ) : Type 0 where
   pub covered : rounded_covers r c reach ≡ true
-  pub in_range : reach ≤ max_reach
-  pub greatest : (n : ℕ) → n ≤ max_reach → rounded_covers r c n ≡ true → n ≤ reach
+  pub in_range : reach < max_reach
+  pub greatest : (n : ℕ) → rounded_covers r c n ≡ true → n ≤ reach
 
 -- the corners enclose an area, and none of them lies to the right of an edge: they go round it counterclockwise, and it is convex
 abbrev pub is_convex : GridRounded → Bool

@@ -1,6 +1,7 @@
 //! Rounded polygons: convex polygons, and all that lies within a radius of them.
 
-ghost use Rattle.std.specs.Prelude.{◌≡◌, pos, ◌<◌, ◌≤◌, ◌↔◌, false, IsSome, IfSome, MatchOption, unsigned_abs};
+ghost use Rattle.std.specs.Prelude.{◌≡◌, ℕ, pos, ◌<◌, ◌≤◌, ◌↔◌, false, IsSome, IfSome, MatchOption, unsigned_abs};
+ghost use Rattle.grid_units.specs.Points.{GridPoint};
 ghost use Rattle.pad_shapes.specs.Shapes.{IsPadRadius, max_reach};
 ghost use Rattle.pad_shapes.specs.Zones.{BoundsCentres};
 ghost use Rattle.pad_shapes.specs.Rounded.{IsRounded, IsInRounded, IsGreatestReach, rounded_covers, rounded_left, rounded_right};
@@ -113,7 +114,17 @@ impl Rounded {
         reach <= self.radius && is_near_rim(self.first, &self.others, self.radius - reach, hole)
     }
 
-    /// The greatest reach in pm with which the shape covers a centre, at most 20,000,000,000,000 pm, or `None` where it
+    /// Half the width of the shape in pm, at most 15,000,000,000,000 pm. It covers nothing with a greater reach.
+    fn half_width(&self) -> u64
+        ensures in_range { result ≤ 15000000000000 }
+        ensures bound { (c : GridPoint) (reach : ℕ) → result < reach → rounded_covers self.now c reach ≡ false }
+    {
+        let others = &self.others;
+        let width = greatest_x(self.first, others) - least_x(self.first, others);
+        self.radius + width.unsigned_abs() / 2
+    }
+
+    /// The greatest reach in pm with which the shape covers a centre, at most 15,000,000,000,000 pm, or `None` where it
     /// does not cover the centre itself. It is found by halving: what is covered with one reach is covered with each lesser.
     pub fn greatest_reach(&self, hole: Point) -> Option<u64>
         ensures { MatchOption result (rounded_covers self.now hole 0 ≡ false) (IsGreatestReach self.now hole) }
@@ -121,11 +132,8 @@ impl Rounded {
         if !self.covers_reach(hole, 0) {
             return None;
         }
-        if self.covers_reach(hole, MAX_REACH) {
-            return Some(MAX_REACH);
-        }
         let mut covered = 0;
-        let mut missed = MAX_REACH;
+        let mut missed = self.half_width() + 1;
         while 1 < missed - covered {
             let middle = covered + (missed - covered) / 2;
             if self.covers_reach(hole, middle) {

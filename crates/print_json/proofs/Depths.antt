@@ -70,7 +70,7 @@ span_within span = there_within 1 (λ layers. array_of (whole layers.first ∷ w
 
 file_within : (n : ℕ) (name : List ℕ) (sum : FileSum) → depth (file_value n name sum) ≤ 2
 unfolding layer_value drill_value
-file_within n name (sums.Layer pads other) = omega arith
+file_within n name (sums.Layer pads other contours) = omega arith
 file_within n name (sums.Drill plated span round slots) = let layers = span_within span in omega (arith, layers)
 
 scale_within : (line : UnitMistake) → depth (scale_value line) ≤ 1

@@ -121,7 +121,7 @@ drill_value n name plated span round slots =
 
 -- a file of either kind, by its number
 abbrev pub file_value : ℕ → List ℕ → FileSum → Json
-file_value n name (sums.Layer pads other) = layer_value n name pads other
+file_value n name (sums.Layer pads other contours) = layer_value n name pads other
 file_value n name (sums.Drill plated span round slots) = drill_value n name plated span round slots
 
 -- a drill file whose coordinates seem to be off by a factor: `{"drill":2,"bare":3,"factor":"25.4","then":0}`

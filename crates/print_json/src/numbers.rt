@@ -89,7 +89,7 @@ pub(crate) fn file_numbers(file: &FileJson)
 {
     whole_number(file.number);
     match file.sum {
-        FileSum::Layer { pads, other } => {
+        FileSum::Layer { pads, other, .. } => {
             whole_number(pads as u128);
             whole_number(other as u128);
         }

@@ -138,7 +138,7 @@ impl Display for FileJson<'_> {
     fn fmt<W: fmt::Write>(&self, f: &mut Formatter<W>) -> fmt::Result {
         let (number, name) = (self.number, Escaped(self.name));
         match self.sum {
-            FileSum::Layer { pads, other } => write!(
+            FileSum::Layer { pads, other, .. } => write!(
                 f,
                 r#"{{"number":{number},"role":"copper","name":"{name}","pads":{pads},"other":{other}}}"#
             ),

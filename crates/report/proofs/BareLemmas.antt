@@ -86,8 +86,7 @@ module _ (pads : List Pad) (h : GridHole) (round : is_round h ≡ true) where
       either_way (list_any (λ (pad : Pad). pad_covers pad h.from 0) pads) (list_any_at (λ (pad : Pad). pad_covers pad h.from 0) pads k p inside (covered (get_or pads k p) reach e)) nothing)
 
   uncovered : IsBare pad_covers pads h → is_uncovered pads h.from ≡ true
-  uncovered (inl oblique) = absurd (straight h round oblique)
-  uncovered (inr none) = not_false (list_any (λ (pad : Pad). pad_covers pad h.from 0) pads) (list_any_none (λ (pad : Pad). pad_covers pad h.from 0) pads (λ k d inside.
+  uncovered none = not_false (list_any (λ (pad : Pad). pad_covers pad h.from 0) pads) (list_any_none (λ (pad : Pad). pad_covers pad h.from 0) pads (λ k d inside.
       refused (pad_covers (get_or pads k d) h.from 0) (λ e. either_way (covers_both_ends pad_covers (get_or pads k d) h.from h.to 0) (ends (get_or pads k d) e) (none d k 0 inside))))
 
   -- the best pad of a round hole decides whether it is bare
@@ -95,10 +94,10 @@ module _ (pads : List Pad) (h : GridHole) (round : is_round h ≡ true) where
   told None k = uncovered k
   told (Some best) k =
       let d : Pad = Disc (record { centre = h.from; radius = 0 }) in
-      ap not (list_any_at (λ (pad : Pad). pad_covers pad h.from 0) pads best.pad d k.1.inside (covered (get_or pads best.pad d) best.depth (k.1.covered d)))
+      ap not (list_any_at (λ (pad : Pad). pad_covers pad h.from 0) pads best.pad d k.inside (covered (get_or pads best.pad d) best.depth (k.covered d)))
 
 pub bare_is_uncovered : BareIsUncovered
-bare_is_uncovered pads h round = (λ bare. uncovered pads h round bare, λ none. inr (shallow pads h round none))
+bare_is_uncovered pads h round = (λ bare. uncovered pads h round bare, λ none. shallow pads h round none)
 
 -- so does the best pad of the hole at a place
 by_best : (pads : List Pad) (h : GridHole) (b : Option BestPad) → IsBestPad pad_covers pads h b → (is_round h && is_uncovered pads h.from) ≡ (is_round h && has_no_best_pad b)
@@ -125,7 +124,7 @@ module _ (pads : List Pad) (holes : List Drilled) (bests : List (Option BestPad)
 -- whether a round hole is bare
 given_bare : (pads : List Pad) (h : GridHole) (b : Bool) → is_round h ≡ true → (b ≡ true) ↔ IsBare pad_covers pads h → is_uncovered pads h.from ≡ b
 given_bare pads h true round is = uncovered pads h round (is.0 refl)
-given_bare pads h false round is = refused pads h round (is_uncovered pads h.from) (λ e. either_way false (is.1 (inr (shallow pads h round e))) refl)
+given_bare pads h false round is = refused pads h round (is_uncovered pads h.from) (λ e. either_way false (is.1 (shallow pads h round e)) refl)
 
 by_bare : (pads : List Pad) (h : GridHole) (b : Bool) → (b ≡ true) ↔ IsBare pad_covers pads h → (is_round h && is_uncovered pads h.from) ≡ (is_round h && b)
 by_bare pads h b is = by (is_round h) refl

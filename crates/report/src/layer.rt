@@ -72,7 +72,7 @@ fn pad_places(alloc: Global, flashes: &[Flash]) -> Result<Vec<usize>, AllocError
 fn ring_of(best: BestPad, hole: &Hole) -> i64
     ensures value { result ≡ pos best.depth -ℤ pos hole.now.radius }
     ensures least { neg_ℤ (pos 5000000000000) ≤ℤ result }
-    ensures most { result ≤ℤ pos 5000000000000 }
+    ensures most { result ≤ℤ pos 20000000000000 }
 {
     best.depth as i64 - hole.radius()
 }
@@ -80,7 +80,7 @@ fn ring_of(best: BestPad, hole: &Hole) -> i64
 /// What a ring lacks of the required one, in pm.
 fn lack_of(rules: Rules, ring: i64) -> i64
     requires least { neg_ℤ (pos 5000000000000) ≤ℤ ring }
-    requires most { ring ≤ℤ pos 5000000000000 }
+    requires most { ring ≤ℤ pos 20000000000000 }
     ensures { result ≡ pos rules.ring -ℤ ring }
 {
     rules.ring() - ring

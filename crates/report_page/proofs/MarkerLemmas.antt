@@ -20,9 +20,10 @@ use Rattle.pad_shapes.specs.Pads.{pad_covers}
 use Rattle.ring_rules.specs.Findings.{gap_findings, ring_findings}
 use Rattle.ring_rules.specs.WithoutFindings.{GapsNamePlaces, NamesPlaces, RingsNamePlaces}
 use Rattle.layer_image.specs.declared.drawn.Drawn.{Drawn}
-use Rattle.package_check.specs.Boards.{BoardView, board_findings, numbered, reported}
-use Rattle.package_check.specs.Package.{FindingsNameTheirPlaces}
-use Rattle.package_check.proofs.BoardsLemmas.{reported_on}
+use Rattle.package_check.specs.Boards.{BoardView, IsBoard, board_findings}
+use Rattle.package_check.specs.Package.{FileView, index_of, plain_pads_of}
+use Rattle.package_check.specs.declared.contents.Content.{Content}
+use Rattle.package_check.specs.declared.contents.Content.TheVariants as content
 use Rattle.board_report.specs.BoardReport.{is_gap}
 use Rattle.picture.specs.Elements.{finding_start, finding_text, finding_words, group_end, lack, naming}
 use Rattle.picture.specs.Outlines.{shown_outline}
@@ -201,16 +202,29 @@ marked_at names board edge rules drawing layers holes i (f ∷ fs) is page some 
     read_again : (xs : List Finding) (k : ℕ) (d : Finding) → k < length xs → get_or xs k (get_or xs k d) ≡ get_or xs k d
     read_again xs k d k_lt = get_or_default xs k (get_or xs k d) d k_lt
 
-pub each_row_has_its_marker : RingsNamePlaces pad_covers → GapsNamePlaces → FindingsNameTheirPlaces → EachRowHasItsMarker
-each_row_has_its_marker rings gaps named sources names board outline report accepted text is_board some is_report page k d lt =
+-- each copper file is one layer, and has one index
+indexed_from : (n : ℕ) (contents : List Content) → length (flat_map plain_pads_of contents) ≡ length (flat_map index_of (enumerate_from n contents))
+indexed_from n [] = refl
+indexed_from n (content.Layer image ∷ cs) =
+    ap length (flat_map-cons plain_pads_of (content.Layer image) cs)
+    ∙ (ap suc (indexed_from (n + 1) cs) ∙ sym (ap length (flat_map-cons index_of (n, content.Layer image) (enumerate_from (n + 1) cs))))
+indexed_from n (content.Drill plated span holes ∷ cs) =
+    ap length (flat_map-cons plain_pads_of (content.Drill plated span holes) cs)
+    ∙ (indexed_from (n + 1) cs ∙ sym (ap length (flat_map-cons index_of (n, content.Drill plated span holes) (enumerate_from (n + 1) cs))))
+
+as_many_layers : (sources : List FileView) (board : BoardView) → IsBoard sources board → length board.layers ≡ length board.layer_indexes
+as_many_layers sources board b = ap (λ (x : BoardView). length x.layers) b.is ∙ (indexed_from 0 b.contents ∙ sym (ap (λ (x : BoardView). length x.layer_indexes) b.is))
+
+pub each_row_has_its_marker : RingsNamePlaces pad_covers → GapsNamePlaces → EachRowHasItsMarker
+each_row_has_its_marker rings gaps sources names board outline report accepted text is_board some is_report page k d lt =
     let rules = report.rules in
     let findings = board_findings rules board in
     let numbers = numbers_each_once report in
     let count : length findings ≡ length report.rings.items + length report.gaps.items = parted _ _ findings report.rings.items report.gaps.items is_report.rings is_report.gaps in
-    let first = named sources rules (reported rules board) (reported_on sources rules board (reported rules board) is_board refl) in
-    let second = All-append (NamesPlaces (length board.layers) (length board.holes)) (ring_findings pad_covers rules.ring board.layers board.holes) (gap_findings rules.gap board.holes)
-    (rings rules.ring board.layers board.holes) (gaps rules.gap (length board.layers) board.holes) in
+    let second = All-append (NamesPlaces (length board.layers) (length board.holes)) (ring_findings pad_covers rules.profile rules.ring board.layers board.holes) (gap_findings rules.gap board.holes)
+    (rings rules.profile rules.ring board.layers board.holes) (gaps rules.gap (length board.layers) board.holes) in
+    let first = subst (λ (n : ℕ). All (NamesPlaces n (length board.holes)) findings) (as_many_layers sources board is_board) second in
     let drawing = page.drawn.drawing in
     let is_svg : svg_text drawing ≡ page.svg = sym (front_rest (declaration ++ page.svg) declaration (svg_text drawing) page.drawn.is) ∙ front_rest (declaration ++ page.svg) declaration page.svg refl in
-    let here = marked_at names board (shown_outline outline) rules drawing (length board.layers) (length (numbered board)) k findings refl page.drawn.shows some (omega (arith, lt, count, numbers.all)) first second in
+    let here = marked_at names board (shown_outline outline) rules drawing (length board.layers) (length board.holes) k findings refl page.drawn.shows some (omega (arith, lt, count, numbers.all)) first second in
     subst (λ (n : ℕ). HasSubslice page.svg (marker_start n)) (sym (numbers.at k d lt)) (subst (λ (svg : List ℕ). HasSubslice svg (marker_start (k + 1))) is_svg here)

@@ -5,7 +5,6 @@ ghost use Rattle.report.specs.declared.BoardReport.{BoardReport};
 ghost use Rattle.report_page.specs.Markers.{EachRowHasItsMarker};
 ghost use Rattle.report_page.specs.Pages.{NumbersEachOnce};
 
-use package_check::laws::findings_name_their_places;
 use pad_shapes::Pad;
 use ring_rules::laws::findings_name_places;
 
@@ -19,5 +18,4 @@ pub fn each_row_has_its_marker()
     ensures { EachRowHasItsMarker }
 {
     findings_name_places::<Pad>();
-    findings_name_their_places();
 }

@@ -2,7 +2,7 @@
 
 use crate::rows::{CauseRow, Form, GapRow, HoleRow, ReportRow, RingRow, after, report_of};
 use board_report::measure_board;
-use grid_units::{Fault, Reason, Span};
+use grid_units::{Fault, Profile, Reason, Span};
 use layer_image::Why;
 use package_check::{Board, File, FileSum, Keep, Role, read_package};
 use print_json::*;
@@ -152,7 +152,7 @@ fn is_measured(alloc: Global, layer: &[u8], holes: &[u8], text: &str) -> bool {
         file(Role::Copper, "top", layer),
         file(Role::Plated, "pth", holes),
     ];
-    match read_package(alloc, &files, Keep::Pads) {
+    match read_package(alloc, Profile::Strict, &files, Keep::Pads) {
         Ok(board) => is_measure(alloc, &board, text),
         Err(_) => false,
     }
@@ -220,6 +220,7 @@ fn json_of<'a>(
     let files = &[FileSum::Layer {
         pads: 242,
         other: 3,
+        contours: 0,
     }];
     let json = ReportJson {
         names: &["top_layer"],

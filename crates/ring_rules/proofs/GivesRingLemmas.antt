@@ -4,7 +4,9 @@ use Rattle.std.specs.Prelude.{◌&&◌, ◌||◌, not}
 use Rattle.std.specs.List.{list_any}
 use Rattle.grid_units.specs.Points.{GridPoint}
 use Rattle.grid_units.specs.Holes.{GridHole}
-use Rattle.ring_rules.specs.Findings.{covers_hole, is_oblique, lacks_ring}
+use Rattle.grid_units.specs.declared.profile.Profile.{Profile}
+use Rattle.wide_pads.specs.Holding.{covers_hole}
+use Rattle.ring_rules.specs.Findings.{is_refused_slot, lacks_ring}
 use Rattle.ring_rules.specs.Inner.Marks.{gives_ring}
 
 middle_of : (a b c : Bool) → (a && (b && c)) ≡ true → b ≡ true
@@ -25,17 +27,17 @@ any_guarded : {X : Type 0} (b : Bool) (test : X → Bool) (xs : List X) → not 
 any_guarded true test xs = ap not (none_passes_false xs)
 any_guarded false test xs = refl
 
-module _ {S : Type 0} (covers : S → GridPoint → ℕ → Bool) (ring : ℕ) (h : GridHole) where
+module _ {S : Type 0} (covers : S → GridPoint → ℕ → Bool) (profile : Profile) (ring : ℕ) (h : GridHole) where
   -- a pad that gives a hole its ring covers the hole's first end
-  pub given_from : (pad : S) → gives_ring covers ring h pad ≡ true → covers pad h.from (h.radius + ring) ≡ true
+  pub given_from : (pad : S) → gives_ring covers profile ring h pad ≡ true → covers pad h.from (h.radius + ring) ≡ true
   unfolding gives_ring
-  given_from pad e = middle_of (not (is_oblique h)) (covers pad h.from (h.radius + ring)) (covers pad h.to (h.radius + ring)) e
+  given_from pad e = middle_of (not (is_refused_slot profile h)) (covers pad h.from (h.radius + ring)) (covers pad h.to (h.radius + ring)) e
 
-  pub gives_none : (pad : S) → covers pad h.from (h.radius + ring) ≡ false → gives_ring covers ring h pad ≡ false
+  pub gives_none : (pad : S) → covers pad h.from (h.radius + ring) ≡ false → gives_ring covers profile ring h pad ≡ false
   unfolding gives_ring
-  gives_none pad e = none_without (not (is_oblique h)) (covers pad h.from (h.radius + ring)) (covers pad h.to (h.radius + ring)) e
+  gives_none pad e = none_without (not (is_refused_slot profile h)) (covers pad h.from (h.radius + ring)) (covers pad h.to (h.radius + ring)) e
 
   -- a hole lacks its ring where none of the pads gives it
-  pub given_by_none : (pads : List S) → not (list_any (gives_ring covers ring h) pads) ≡ lacks_ring covers ring pads h
+  pub given_by_none : (pads : List S) → not (list_any (gives_ring covers profile ring h) pads) ≡ lacks_ring covers profile ring pads h
   unfolding gives_ring
-  given_by_none pads = any_guarded (is_oblique h) (covers_hole covers ring h) pads
+  given_by_none pads = any_guarded (is_refused_slot profile h) (covers_hole covers ring h) pads

@@ -8,6 +8,7 @@ use Rattle.std.proofs.lemmas.List.{get_or_default, get_or-map, length-map, same_
 use Rattle.std.proofs.lemmas.List.Folds.{list_any-append}
 use Rattle.grid_units.specs.Points.{GridPoint}
 use Rattle.grid_units.specs.Holes.{GridHole}
+use Rattle.grid_units.specs.declared.profile.Profile.{Profile}
 use Rattle.grid_units.specs.Spans.{is_in_span}
 use Rattle.ring_rules.specs.Findings.{is_ring_finding}
 use Rattle.ring_rules.specs.Places.{default_hole}
@@ -30,23 +31,23 @@ and_nor true true b = refl
 and_nor true false b = refl
 and_nor false a b = refl
 
-module _ {S : Type 0} (covers : S → GridPoint → ℕ → Bool) (ring layer : ℕ) where
+module _ {S : Type 0} (covers : S → GridPoint → ℕ → Bool) (profile : Profile) (ring layer : ℕ) where
   -- without pads each hole that needs a ring lacks it
-  lacks_without : (d : Drilled) → (d.plated && is_in_span layer d.span) ≡ is_ring_finding covers ring layer [] d
-  lacks_without d = sym (and_true (d.plated && is_in_span layer d.span)) ∙ ap (λ (b : Bool). (d.plated && is_in_span layer d.span) && b) (given_by_none covers ring d.hole [])
+  lacks_without : (d : Drilled) → (d.plated && is_in_span layer d.span) ≡ is_ring_finding covers profile ring layer [] d
+  lacks_without d = sym (and_true (d.plated && is_in_span layer d.span)) ∙ ap (λ (b : Bool). (d.plated && is_in_span layer d.span) && b) (given_by_none covers profile ring d.hole [])
 
   -- a hole lacks its ring among more pads if it lacked it, and none of the others gives it
-  lacks_among_more : (d : Drilled) (pads more : List S) → (is_ring_finding covers ring layer pads d && not (list_any (gives_ring covers ring d.hole) more)) ≡ is_ring_finding covers ring layer (pads ++ more) d
+  lacks_among_more : (d : Drilled) (pads more : List S) → (is_ring_finding covers profile ring layer pads d && not (list_any (gives_ring covers profile ring d.hole) more)) ≡ is_ring_finding covers profile ring layer (pads ++ more) d
   lacks_among_more d pads more =
-      ap (λ (b : Bool). ((d.plated && is_in_span layer d.span) && b) && not (list_any (gives_ring covers ring d.hole) more)) (sym (given_by_none covers ring d.hole pads))
-      ∙ (and_nor (d.plated && is_in_span layer d.span) (list_any (gives_ring covers ring d.hole) pads) (list_any (gives_ring covers ring d.hole) more)
-      ∙ (ap (λ (b : Bool). (d.plated && is_in_span layer d.span) && not b) (sym (list_any-append (gives_ring covers ring d.hole) pads more))
-      ∙ ap (λ (b : Bool). (d.plated && is_in_span layer d.span) && b) (given_by_none covers ring d.hole (pads ++ more))))
+      ap (λ (b : Bool). ((d.plated && is_in_span layer d.span) && b) && not (list_any (gives_ring covers profile ring d.hole) more)) (sym (given_by_none covers profile ring d.hole pads))
+      ∙ (and_nor (d.plated && is_in_span layer d.span) (list_any (gives_ring covers profile ring d.hole) pads) (list_any (gives_ring covers profile ring d.hole) more)
+      ∙ (ap (λ (b : Bool). (d.plated && is_in_span layer d.span) && not b) (sym (list_any-append (gives_ring covers profile ring d.hole) pads more))
+      ∙ ap (λ (b : Bool). (d.plated && is_in_span layer d.span) && b) (given_by_none covers profile ring d.hole (pads ++ more))))
 
   module _ (holes : List Drilled) (spots : List Spot) (listed : AreSpotsOf holes spots) where
     -- the marks before any pad
     pub marked_first : (first own : List Bool) → first ≡ map (λ d. d.plated && is_in_span layer d.span) holes → ((i : ℕ) → i < length spots → is_marked own i ≡ is_marked first (spot_at spots i).place)
-        → (i : ℕ) → i < length spots → is_marked own i ≡ is_ring_finding covers ring layer [] (drilled_at holes (spot_at spots i).place)
+        → (i : ℕ) → i < length spots → is_marked own i ≡ is_ring_finding covers profile ring layer [] (drilled_at holes (spot_at spots i).place)
     marked_first first own is needs i h =
         needs i h
         ∙ (ap (λ (ms : List Bool). get_or ms (spot_at spots i).place false) is
@@ -54,13 +55,13 @@ module _ {S : Type 0} (covers : S → GridPoint → ℕ → Bool) (ring layer : 
         ∙ lacks_without (drilled_at holes (spot_at spots i).place)))
 
     -- the marks after more pads
-    pub marked_more : (before after : List Bool) (pads more : List S) → ((i : ℕ) → i < length spots → is_marked before i ≡ is_ring_finding covers ring layer pads (drilled_at holes (spot_at spots i).place))
-        → ((i : ℕ) → i < length spots → is_marked after i ≡ (is_marked before i && not (list_any (gives_ring covers ring (spot_at spots i).hole) more)))
-        → (i : ℕ) → i < length spots → is_marked after i ≡ is_ring_finding covers ring layer (pads ++ more) (drilled_at holes (spot_at spots i).place)
+    pub marked_more : (before after : List Bool) (pads more : List S) → ((i : ℕ) → i < length spots → is_marked before i ≡ is_ring_finding covers profile ring layer pads (drilled_at holes (spot_at spots i).place))
+        → ((i : ℕ) → i < length spots → is_marked after i ≡ (is_marked before i && not (list_any (gives_ring covers profile ring (spot_at spots i).hole) more)))
+        → (i : ℕ) → i < length spots → is_marked after i ≡ is_ring_finding covers profile ring layer (pads ++ more) (drilled_at holes (spot_at spots i).place)
     marked_more before after pads more was now i h =
         now i h
-        ∙ (ap (λ (m : Bool). m && not (list_any (gives_ring covers ring (spot_at spots i).hole) more)) (was i h)
-        ∙ (ap (λ (g : GridHole). is_ring_finding covers ring layer pads (drilled_at holes (spot_at spots i).place) && not (list_any (gives_ring covers ring g) more)) (listed.each i h).same
+        ∙ (ap (λ (m : Bool). m && not (list_any (gives_ring covers profile ring (spot_at spots i).hole) more)) (was i h)
+        ∙ (ap (λ (g : GridHole). is_ring_finding covers profile ring layer pads (drilled_at holes (spot_at spots i).place) && not (list_any (gives_ring covers profile ring g) more)) (listed.each i h).same
         ∙ lacks_among_more (drilled_at holes (spot_at spots i).place) pads more))
 
 -- each hole has a spot

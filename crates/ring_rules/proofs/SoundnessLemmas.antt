@@ -7,11 +7,14 @@ use Rattle.std.proofs.lemmas.Bool.Decides.{nat_tests, Decides-int_eq}
 use Rattle.std.proofs.lemmas.List.FromFn.{get_or-enumerate_from, length-enumerate_from}
 use Rattle.grid_units.specs.Points.{GridPoint}
 use Rattle.grid_units.specs.Holes.{GridHole, AreClear}
+use Rattle.grid_units.specs.declared.profile.Profile.{Profile}
+use Rattle.grid_units.specs.declared.profile.Profile.TheVariants.{Strict}
 use Rattle.pad_shapes.specs.Shapes.{IsAxisAligned, ContainsCovered, ContainsCoveredSlots}
+use Rattle.wide_pads.specs.Holding.{covers_hole, HoldsCoveredHoles}
 use Rattle.ring_rules.specs.Cores.{are_clear}
-use Rattle.ring_rules.specs.Findings.{is_oblique, covers_hole, lacks_ring, is_ring_finding, ring_findings, layer_findings, hole_findings}
+use Rattle.ring_rules.specs.Findings.{is_oblique, is_refused_slot, lacks_ring, is_ring_finding, ring_findings, layer_findings, hole_findings}
 use Rattle.grid_units.specs.Spans.{is_in_span}
-use Rattle.ring_rules.specs.WithoutFindings.{RingsHoldWithoutFindings, SlotsHoldWithoutFindings, StraightWithoutFindings, ApartWithoutFindings}
+use Rattle.ring_rules.specs.WithoutFindings.{RingsHoldWithoutFindings, SlotsHoldWithoutFindings, HolesHoldWithoutFindings, StraightWithoutFindings, ApartWithoutFindings}
 use Rattle.ring_rules.specs.declared.finding.Drilled.{Drilled}
 use Rattle.ring_rules.proofs.CoreLemmas.{clear_from_test, clear_holes_are_apart}
 use Rattle.grid_units.proofs.ListLemmas.{map_is_nil, none_at, filter_nil_at, list_any_element}
@@ -70,27 +73,27 @@ both_so true true s t = refl
 both_so true false s t = absurd cc
 both_so false b s t = absurd cc
 
--- a plated hole that goes through the layer and is not lacking is not oblique, and is covered
-module _ {S : Type 0} (covers : S → GridPoint → ℕ → Bool) (ring : ℕ) (layers : List (List S)) (holes : List Drilled) where
-  not_lacking : (l : ℕ) (d : Drilled) → ring_findings covers ring layers holes ≡ [] → l < length layers → Contains holes d → d.plated ≡ true → is_in_span l d.span ≡ true
-      → (is_oblique d.hole ≡ false) × (not (list_any (covers_hole covers ring d.hole) (get_or layers l [])) ≡ false)
+-- a plated hole that goes through the layer and is not lacking is not refused as a slot, and is covered
+module _ {S : Type 0} (covers : S → GridPoint → ℕ → Bool) (profile : Profile) (ring : ℕ) (layers : List (List S)) (holes : List Drilled) where
+  not_lacking : (l : ℕ) (d : Drilled) → ring_findings covers profile ring layers holes ≡ [] → l < length layers → Contains holes d → d.plated ≡ true → is_in_span l d.span ≡ true
+      → (is_refused_slot profile d.hole ≡ false) × (not (list_any (covers_hole covers ring d.hole) (get_or layers l [])) ≡ false)
   not_lacking l d none in_layers in_holes plated through =
-      let at_layer : layer_findings covers ring holes l (get_or layers l []) ≡ [] =
-      none_placed (λ layer. layer_findings covers ring holes layer.0 layer.1) layers none l [] in_layers in
-      let tests : filter (λ hole. is_ring_finding covers ring l (get_or layers l []) hole.1) (enumerate_from 0 holes) ≡ [] = map_is_nil _ _ at_layer in
-      let fails : is_ring_finding covers ring l (get_or layers l []) (get_or holes in_holes.0 d) ≡ false =
-      fails_placed (λ hole. is_ring_finding covers ring l (get_or layers l []) hole.1) holes tests in_holes.0 d in_holes.1 in
-      let here : is_ring_finding covers ring l (get_or layers l []) d ≡ false = ap (is_ring_finding covers ring l (get_or layers l [])) (sym in_holes.2) ∙ fails in
-      or_is_false (is_oblique d.hole) (not (list_any (covers_hole covers ring d.hole) (get_or layers l [])))
-      (and_false_right (d.plated && is_in_span l d.span) (lacks_ring covers ring (get_or layers l []) d.hole) (both_so d.plated (is_in_span l d.span) plated through) here)
+      let at_layer : layer_findings covers profile ring holes l (get_or layers l []) ≡ [] =
+      none_placed (λ layer. layer_findings covers profile ring holes layer.0 layer.1) layers none l [] in_layers in
+      let tests : filter (λ hole. is_ring_finding covers profile ring l (get_or layers l []) hole.1) (enumerate_from 0 holes) ≡ [] = map_is_nil _ _ at_layer in
+      let fails : is_ring_finding covers profile ring l (get_or layers l []) (get_or holes in_holes.0 d) ≡ false =
+      fails_placed (λ hole. is_ring_finding covers profile ring l (get_or layers l []) hole.1) holes tests in_holes.0 d in_holes.1 in
+      let here : is_ring_finding covers profile ring l (get_or layers l []) d ≡ false = ap (is_ring_finding covers profile ring l (get_or layers l [])) (sym in_holes.2) ∙ fails in
+      or_is_false (is_refused_slot profile d.hole) (not (list_any (covers_hole covers ring d.hole) (get_or layers l [])))
+      (and_false_right (d.plated && is_in_span l d.span) (lacks_ring covers profile ring (get_or layers l []) d.hole) (both_so d.plated (is_in_span l d.span) plated through) here)
 
 pub straight : {S : Type 0} (covers : S → GridPoint → ℕ → Bool) → StraightWithoutFindings covers
 straight covers ring layers holes none l d in_layers in_holes plated through =
-    not_oblique_along d.hole (not_lacking covers ring layers holes l d none in_layers in_holes plated through).0
+    not_oblique_along d.hole (not_lacking covers Strict ring layers holes l d none in_layers in_holes plated through).0
 
 pub slots_held : {S : Type 0} (points : S → GridPoint → Type 0) (covers : S → GridPoint → ℕ → Bool) → ContainsCoveredSlots points covers → SlotsHoldWithoutFindings points covers
-slots_held points covers holds ring layers holes none l d in_layers in_holes plated through along =
-    let t = not_lacking covers ring layers holes l d none in_layers in_holes plated through in
+slots_held points covers holds profile ring layers holes none l d in_layers in_holes plated through along =
+    let t = not_lacking covers profile ring layers holes l d none in_layers in_holes plated through in
     let found = list_any_element (covers_hole covers ring d.hole) (get_or layers l []) (not_false _ t.1) in
     record { pad = found.0; flashed = found.1; holds = λ c p inside near. holds found.0 d.hole.from d.hole.to (d.hole.radius + ring) along found.2 c p inside near }
 
@@ -99,10 +102,16 @@ first_so true b e = refl
 first_so false b e = absurd cc
 
 pub held : {S : Type 0} (points : S → GridPoint → Type 0) (covers : S → GridPoint → ℕ → Bool) → ContainsCovered points covers → RingsHoldWithoutFindings points covers
-held points covers holds ring layers holes none l d in_layers in_holes plated through round =
-    let t = not_lacking covers ring layers holes l d none in_layers in_holes plated through in
+held points covers holds profile ring layers holes none l d in_layers in_holes plated through round =
+    let t = not_lacking covers profile ring layers holes l d none in_layers in_holes plated through in
     let found = list_any_element (covers_hole covers ring d.hole) (get_or layers l []) (not_false _ t.1) in
     record { pad = found.0; flashed = found.1; holds = holds found.0 d.hole.from (d.hole.radius + ring) (first_so (covers found.0 d.hole.from (d.hole.radius + ring)) (covers found.0 d.hole.to (d.hole.radius + ring)) found.2) }
+
+pub holes_held : {S : Type 0} (points : S → GridPoint → Type 0) (covers : S → GridPoint → ℕ → Bool) → HoldsCoveredHoles points covers → HolesHoldWithoutFindings points covers
+holes_held points covers holds profile ring layers holes none l d in_layers in_holes plated through =
+    let t = not_lacking covers profile ring layers holes l d none in_layers in_holes plated through in
+    let found = list_any_element (covers_hole covers ring d.hole) (get_or layers l []) (not_false _ t.1) in
+    record { pad = found.0; flashed = found.1; holds = holds found.0 ring d.hole found.2 }
 
 pub apart : ApartWithoutFindings
 apart gap holes none i j d first inside =

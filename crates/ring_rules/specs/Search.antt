@@ -1,5 +1,5 @@
 -- The holes of a board that lack their ring on a layer, while the pads of the layer are tried in any number of parts.
-use Rattle.std.specs.Prelude.{◌≡◌, ℕ, ◌<◌, ◌≤◌, Bool, List, length, get_or}
+use Rattle.std.specs.Prelude.{◌≡◌, ℕ, ◌<◌, ◌≤◌, Bool, List, length, map, get_or}
 use Rattle.grid_units.specs.Points.{GridPoint}
 use Rattle.ring_rules.specs.Findings.{is_ring_finding}
 use Rattle.ring_rules.specs.Places.{default_hole}
@@ -38,9 +38,18 @@ abbrev pub AreMarkedBy : (Drilled → Bool) → List Drilled → RingIndex → L
 AreMarkedBy test holes index marks =
     (i : ℕ) → i < length index.cells.spots → is_marked marks i ≡ test (drilled_at holes (spot_at index.cells.spots i).place)
 
--- A search over the index of some holes stands for just these pads of a layer: it marks the holes that are a finding among them.
-pub record HasTried {S : Type 0} (covers : S → GridPoint → ℕ → Bool) (holes : List Drilled) (layer : ℕ) (pads : List S) (index : RingIndex) (search : LayerSearch) : Type 0 where
+-- what a pad covers: the centres, each with the reach round it
+abbrev pub Covering : Type 0
+Covering = GridPoint → ℕ → Bool
+
+-- A search over the index of some holes stands for just these pads of a layer, each given by what it covers: it marks the holes that are a
+-- finding among them.
+pub record HasTriedCoverings (holes : List Drilled) (layer : ℕ) (coverings : List Covering) (index : RingIndex) (search : LayerSearch) : Type 0 where
   pub listed : IsRingIndexOf holes index
   pub over : IsSearchOver index search
   pub same_layer : search.layer ≡ layer
-  pub marks : AreMarkedBy (is_ring_finding covers index.rules.ring layer pads) holes index search.marks.items
+  pub marks : AreMarkedBy (is_ring_finding (λ covering. covering) index.rules.profile index.rules.ring layer coverings) holes index search.marks.items
+
+-- a search stands for just these pads of a layer, which may be of any type
+abbrev pub HasTried : {S : Type 0} → (S → GridPoint → ℕ → Bool) → List Drilled → ℕ → List S → RingIndex → LayerSearch → Type 0
+HasTried covers holes layer pads index search = HasTriedCoverings holes layer (map covers pads) index search

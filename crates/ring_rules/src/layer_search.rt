@@ -4,7 +4,7 @@ ghost use Rattle.std.specs.Prelude.{◌≡◌, ◌++◌, ℕ, Bool, List, [], �
 ghost use Rattle.grid_units.specs.Spans.{is_in_span};
 ghost use Rattle.ring_rules.specs.Findings.{layer_findings};
 ghost use Rattle.ring_rules.specs.Spots.{spot_at};
-ghost use Rattle.ring_rules.specs.Search.{IsRingIndexOf, IsSearchOver, AreMarkedBy, HasTried};
+ghost use Rattle.ring_rules.specs.Search.{IsRingIndexOf, IsSearchOver, AreMarkedBy, Covering, HasTriedCoverings};
 ghost use Rattle.ring_rules.specs.Inner.Marks.{is_marked};
 ghost use Rattle.ring_rules.specs.declared.finding.Drilled.{Drilled};
 
@@ -83,14 +83,14 @@ impl LayerSearch {
     /// # Errors
     ///
     /// Where there is no memory.
-    pub fn new<S: PadShape>(
+    pub fn new(
         alloc: Global,
         index: &RingIndex,
         holes: &[Drilled],
         layer: usize,
     ) -> Result<LayerSearch, AllocError>
         requires { IsRingIndexOf holes.now index.now }
-        ensures { IfOk result (λ search. HasTried S.covers holes.now layer [] index.now search) }
+        ensures { IfOk result (HasTriedCoverings holes.now layer [] index.now) }
     {
         let needing = first_marks(alloc, layer, holes)?;
         LayerSearch::from_marks(alloc, index, holes, layer, &needing)
@@ -124,7 +124,7 @@ impl LayerSearch {
     /// # Errors
     ///
     /// Where there is no memory.
-    pub fn over<S: PadShape>(
+    pub fn over(
         &self,
         alloc: Global,
         index: &RingIndex,
@@ -136,29 +136,30 @@ impl LayerSearch {
         requires rules { other.now.rules ≡ index.now.rules }
         requires over { IsSearchOver index.now self.now }
         ensures over { IfOk result (IsSearchOver other.now) }
-        ensures tried { (layer : ℕ) (pads : List S) → HasTried S.covers holes.now layer pads index.now self.now → IfOk result (λ search. HasTried S.covers holes.now layer pads other.now search) }
+        ensures tried { (layer : ℕ) (tried : List Covering) → HasTriedCoverings holes.now layer tried index.now self.now → IfOk result (HasTriedCoverings holes.now layer tried other.now) }
     {
         let lacking = lacking(alloc, index, holes, &self.marks)?;
         LayerSearch::from_marks(alloc, other, holes, self.layer, &lacking)
     }
 
-    /// Tries the next pads of the layer. The index is the one that the search was made over.
+    /// Tries the next pads of the layer. They may be of another type than those before them: what counts of a pad is what it
+    /// covers. The index is the one that the search was made over.
     pub fn try_pads<S: PadShape>(&mut self, index: &RingIndex, more: &[S])
         requires { IsSearchOver index.now self.old }
         ensures over { IsSearchOver index.now self.new }
-        ensures tried { (holes : List Drilled) (layer : ℕ) (pads : List S) → HasTried S.covers holes layer pads index.now self.old → HasTried S.covers holes layer (pads ++ more.now) index.now self.new }
+        ensures tried { (holes : List Drilled) (layer : ℕ) (tried : List Covering) → HasTriedCoverings holes layer tried index.now self.old → HasTriedCoverings holes layer (tried ++ map S.covers more.now) index.now self.new }
     {
         try_pads(index, more, &mut self.open_nodes, &mut self.marks);
     }
 
     /// Appends the findings of rings of the layer, by hole: each plated hole that goes through it and that no single pad
-    /// so far covers with the ring round it, and each plated oblique slot. The index is the one that the search was made
-    /// over, and one of these holes.
+    /// so far covers with the ring round it, and in the strict profile each plated oblique slot. The index is the one that the
+    /// search was made over, and one of these holes.
     ///
     /// # Errors
     ///
     /// Where there is no memory.
-    pub fn push_findings<S: PadShape>(
+    pub fn push_findings(
         &self,
         alloc: Global,
         index: &RingIndex,
@@ -167,9 +168,9 @@ impl LayerSearch {
     ) -> Result<(), AllocError>
         requires index { IsRingIndexOf holes.now index.now }
         requires over { IsSearchOver index.now self.now }
-        ensures { OnOk result ((layer : ℕ) (pads : List S) → HasTried S.covers holes.now layer pads index.now self.now → findings.new.items ≡ findings.old.items ++ layer_findings S.covers index.now.rules.ring holes.now layer pads) }
+        ensures { OnOk result ((layer : ℕ) (tried : List Covering) → HasTriedCoverings holes.now layer tried index.now self.now → findings.new.items ≡ findings.old.items ++ layer_findings (λ covering. covering) index.now.rules.profile index.now.rules.ring holes.now layer tried) }
     {
         let lacking = lacking(alloc, index, holes, &self.marks)?;
-        layer_findings(findings, self.layer, holes, &lacking)
+        layer_findings(findings, index.rules.profile(), self.layer, holes, &lacking)
     }
 }

@@ -30,7 +30,7 @@ mod tree_search;
 mod uneven_axes;
 
 pub use cores::{clear_of, core_distance_x, core_distance_y};
-pub use finding::{Drilled, Finding, is_oblique};
+pub use finding::{Drilled, Finding, is_oblique, is_refused_slot};
 pub use gaps::gap_findings;
 pub use grid_units::Span;
 pub use index::HoleIndex;

@@ -1,12 +1,11 @@
 //! Marks of the holes that no pad has covered so far. They stand in the order of the spots.
 
 ghost use Rattle.std.specs.Prelude.{◌≡◌, ◌+◌, ◌<◌, ◌≤◌, ◌&&◌, false, not, length};
-ghost use Rattle.pad_shapes.specs.Shapes.{IsAxisAligned};
-ghost use Rattle.ring_rules.specs.Findings.{covers_hole};
 ghost use Rattle.ring_rules.specs.Inner.Marks.{gives_ring, gives_ring_at, RemovesMarks, NoMarkPassesFrom, HasNoMarkFrom};
 ghost use Rattle.ring_rules.specs.Inner.Regions.{AreInOrder};
+ghost use Rattle.wide_pads.specs.Holding.{covers_hole};
 
-use crate::finding::is_oblique;
+use crate::finding::is_refused_slot;
 use crate::ordered::between;
 use crate::spot_list::SpotList;
 use crate::spots::{FEW_SPOTS, Run};
@@ -16,25 +15,23 @@ use pad_shapes::PadShape;
 /// Whether a pad covers a hole with the ring round it, at both ends. The pad is not asked where the first end is not
 /// between its least and greatest x.
 fn covers_hole<S: PadShape>(pad: &S, hole: &Hole, rules: Rules) -> bool
-    requires { IsAxisAligned hole.now.from hole.now.to }
     ensures { result ≡ covers_hole S.covers rules.ring hole.now pad.now }
 {
-    let from = hole.from();
-    let reach = hole.radius() + rules.ring();
-    pad.left() <= from.x() && from.x() <= pad.right() && pad.covers_slot(from, hole.to(), reach)
+    let x = hole.from().x();
+    pad.left() <= x && x <= pad.right() && wide_pads::covers_hole(pad, hole, rules)
 }
 
-/// Whether a pad gives a hole its ring. No pad does so for an oblique slot.
+/// Whether a pad gives a hole its ring. No pad does so for a slot that the profile refuses.
 fn gives_ring<S: PadShape>(pad: &S, hole: &Hole, rules: Rules) -> bool
-    ensures { result ≡ gives_ring S.covers rules.ring hole.now pad.now }
+    ensures { result ≡ gives_ring S.covers rules.profile rules.ring hole.now pad.now }
 {
-    !is_oblique(hole) && covers_hole(pad, hole, rules)
+    !is_refused_slot(rules.profile(), hole) && covers_hole(pad, hole, rules)
 }
 
 /// Whether a spot keeps its mark after a pad was tried.
 fn keeps_mark<S: PadShape>(spots: &SpotList, rules: Rules, pad: &S, i: usize, mark: bool) -> bool
     requires { i < length spots.now }
-    ensures { result ≡ (mark && not (gives_ring_at S.covers rules.ring spots.now pad.now i)) }
+    ensures { result ≡ (mark && not (gives_ring_at S.covers rules.profile rules.ring spots.now pad.now i)) }
 {
     mark && !gives_ring(pad, &spots.at(i).hole, rules)
 }
@@ -49,8 +46,8 @@ pub(crate) fn try_run<S: PadShape>(
 ) -> bool
     requires within { run.end ≤ length spots.now }
     requires size { length marks.old ≡ length spots.now }
-    ensures removes { RemovesMarks (gives_ring_at S.covers rules.ring spots.now pad.now) marks.old marks.new }
-    ensures tried { NoMarkPassesFrom (gives_ring_at S.covers rules.ring spots.now pad.now) run.start run.end marks.new }
+    ensures removes { RemovesMarks (gives_ring_at S.covers rules.profile rules.ring spots.now pad.now) marks.old marks.new }
+    ensures tried { NoMarkPassesFrom (gives_ring_at S.covers rules.profile rules.ring spots.now pad.now) run.start run.end marks.new }
     ensures none { result ≡ false → HasNoMarkFrom run.start run.end marks.new }
 {
     let mut is_left = false;
@@ -75,8 +72,8 @@ fn try_ordered<S: PadShape>(
     requires within { run.end ≤ length spots.now }
     requires order { AreInOrder run.start run.end spots.now }
     requires size { length marks.old ≡ length spots.now }
-    ensures removes { RemovesMarks (gives_ring_at S.covers rules.ring spots.now pad.now) marks.old marks.new }
-    ensures tried { NoMarkPassesFrom (gives_ring_at S.covers rules.ring spots.now pad.now) run.start run.end marks.new }
+    ensures removes { RemovesMarks (gives_ring_at S.covers rules.profile rules.ring spots.now pad.now) marks.old marks.new }
+    ensures tried { NoMarkPassesFrom (gives_ring_at S.covers rules.profile rules.ring spots.now pad.now) run.start run.end marks.new }
     ensures none { result ≡ false → HasNoMarkFrom run.start run.end marks.new }
 {
     let part = between(spots, run, pad.left(), pad.right());
@@ -95,8 +92,8 @@ pub(crate) fn try_cell<S: PadShape>(
     requires within { run.end ≤ length spots.now }
     requires order { run.start + 16 < run.end → AreInOrder run.start run.end spots.now }
     requires size { length marks.old ≡ length spots.now }
-    ensures removes { RemovesMarks (gives_ring_at S.covers rules.ring spots.now pad.now) marks.old marks.new }
-    ensures tried { NoMarkPassesFrom (gives_ring_at S.covers rules.ring spots.now pad.now) run.start run.end marks.new }
+    ensures removes { RemovesMarks (gives_ring_at S.covers rules.profile rules.ring spots.now pad.now) marks.old marks.new }
+    ensures tried { NoMarkPassesFrom (gives_ring_at S.covers rules.profile rules.ring spots.now pad.now) run.start run.end marks.new }
     ensures none { result ≡ false → HasNoMarkFrom run.start run.end marks.new }
 {
     if run.end.saturating_sub(run.start) <= FEW_SPOTS {

@@ -69,9 +69,9 @@ fn try_range<S: PadShape>(
     requires size { length marks.old ≡ length index.now.cells.spots }
     requires open_nodes { length open_nodes.now ≡ length index.now.nodes.items }
     requires closed { AreClosedUnmarked index.now.cells.x index.now.cells.y index.now.cells.spots index.now.nodes.items open_nodes.now marks.old }
-    ensures removes { RemovesMarks (gives_ring_at S.covers index.now.rules.ring index.now.cells.spots pad.now) marks.old marks.new }
+    ensures removes { RemovesMarks (gives_ring_at S.covers index.now.rules.profile index.now.rules.ring index.now.cells.spots pad.now) marks.old marks.new }
     ensures closed { AreClosedUnmarked index.now.cells.x index.now.cells.y index.now.cells.spots index.now.nodes.items open_nodes.now marks.new }
-    ensures tried { (i : ℕ) → i < length index.now.cells.spots → is_marked marks.new i ≡ true → gives_ring_at S.covers index.now.rules.ring index.now.cells.spots pad.now i ≡ false }
+    ensures tried { (i : ℕ) → i < length index.now.cells.spots → is_marked marks.new i ≡ true → gives_ring_at S.covers index.now.rules.profile index.now.rules.ring index.now.cells.spots pad.now i ≡ false }
 {
     let search = RingSearch {
         cells: &index.cells,
@@ -87,9 +87,9 @@ fn try_all<S: PadShape>(index: &RingIndex, pad: &S, open_nodes: &mut [bool], mar
     requires size { length marks.old ≡ length index.now.cells.spots }
     requires open_nodes { length open_nodes.old ≡ length index.now.nodes.items }
     requires closed { AreClosedUnmarked index.now.cells.x index.now.cells.y index.now.cells.spots index.now.nodes.items open_nodes.old marks.old }
-    ensures removes { RemovesMarks (gives_ring_at S.covers index.now.rules.ring index.now.cells.spots pad.now) marks.old marks.new }
+    ensures removes { RemovesMarks (gives_ring_at S.covers index.now.rules.profile index.now.rules.ring index.now.cells.spots pad.now) marks.old marks.new }
     ensures closed { AreClosedUnmarked index.now.cells.x index.now.cells.y index.now.cells.spots index.now.nodes.items open_nodes.new marks.new }
-    ensures tried { (i : ℕ) → i < length index.now.cells.spots → is_marked marks.new i ≡ true → gives_ring_at S.covers index.now.rules.ring index.now.cells.spots pad.now i ≡ false }
+    ensures tried { (i : ℕ) → i < length index.now.cells.spots → is_marked marks.new i ≡ true → gives_ring_at S.covers index.now.rules.profile index.now.rules.ring index.now.cells.spots pad.now i ≡ false }
 {
     let search = RingSearch {
         cells: &index.cells,
@@ -113,9 +113,9 @@ fn try_pad<S: PadShape>(index: &RingIndex, pad: &S, open_nodes: &mut [bool], mar
     requires size { length marks.old ≡ length index.now.cells.spots }
     requires open_nodes { length open_nodes.old ≡ length index.now.nodes.items }
     requires closed { AreClosedUnmarked index.now.cells.x index.now.cells.y index.now.cells.spots index.now.nodes.items open_nodes.old marks.old }
-    ensures removes { RemovesMarks (gives_ring_at S.covers index.now.rules.ring index.now.cells.spots pad.now) marks.old marks.new }
+    ensures removes { RemovesMarks (gives_ring_at S.covers index.now.rules.profile index.now.rules.ring index.now.cells.spots pad.now) marks.old marks.new }
     ensures closed { AreClosedUnmarked index.now.cells.x index.now.cells.y index.now.cells.spots index.now.nodes.items open_nodes.new marks.new }
-    ensures tried { (i : ℕ) → i < length index.now.cells.spots → is_marked marks.new i ≡ true → gives_ring_at S.covers index.now.rules.ring index.now.cells.spots pad.now i ≡ false }
+    ensures tried { (i : ℕ) → i < length index.now.cells.spots → is_marked marks.new i ≡ true → gives_ring_at S.covers index.now.rules.profile index.now.rules.ring index.now.cells.spots pad.now i ≡ false }
 {
     let range = range_of(&index.cells.x, &index.cells.y, pad, index.least);
     if is_small(range) {
@@ -137,7 +137,7 @@ pub(crate) fn try_pads<S: PadShape>(
     requires open_nodes { length open_nodes.old ≡ length index.now.nodes.items }
     requires closed { AreClosedUnmarked index.now.cells.x index.now.cells.y index.now.cells.spots index.now.nodes.items open_nodes.old marks.old }
     ensures closed { AreClosedUnmarked index.now.cells.x index.now.cells.y index.now.cells.spots index.now.nodes.items open_nodes.new marks.new }
-    ensures marked { (i : ℕ) → i < length index.now.cells.spots → is_marked marks.new i ≡ (is_marked marks.old i && not (list_any (gives_ring S.covers index.now.rules.ring (spot_at index.now.cells.spots i).hole) pads.now)) }
+    ensures marked { (i : ℕ) → i < length index.now.cells.spots → is_marked marks.new i ≡ (is_marked marks.old i && not (list_any (gives_ring S.covers index.now.rules.profile index.now.rules.ring (spot_at index.now.cells.spots i).hole) pads.now)) }
 {
     for pad in pads {
         try_pad(index, pad, open_nodes, marks);

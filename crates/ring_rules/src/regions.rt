@@ -76,8 +76,8 @@ impl RingSearch<'_> {
         requires size { length marks.old ≡ length self.now.cells.now.spots }
         requires row { row ≤ self.now.cells.now.y.last }
         requires column { column ≤ self.now.cells.now.x.last }
-        ensures removes { RemovesMarks (gives_ring_at S.covers self.now.rules.ring self.now.cells.now.spots pad.now) marks.old marks.new }
-        ensures tried { NoMarkPassesIn (gives_ring_at S.covers self.now.rules.ring self.now.cells.now.spots pad.now) self.now.cells.now.x self.now.cells.now.y self.now.cells.now.spots row (row + 1) column (column + 1) marks.new }
+        ensures removes { RemovesMarks (gives_ring_at S.covers self.now.rules.profile self.now.rules.ring self.now.cells.now.spots pad.now) marks.old marks.new }
+        ensures tried { NoMarkPassesIn (gives_ring_at S.covers self.now.rules.profile self.now.rules.ring self.now.cells.now.spots pad.now) self.now.cells.now.x self.now.cells.now.y self.now.cells.now.spots row (row + 1) column (column + 1) marks.new }
         ensures none { result ≡ false → HasNoMarkIn self.now.cells.now.x self.now.cells.now.y self.now.cells.now.spots row (row + 1) column (column + 1) marks.new }
     {
         let run = self.cells.run(row, column, column + 1);
@@ -109,8 +109,8 @@ impl RingSearch<'_> {
         requires size { length marks.old ≡ length self.now.cells.now.spots }
         requires row { row ≤ self.now.cells.now.y.last }
         requires right { right ≤ self.now.cells.now.x.last + 1 }
-        ensures removes { RemovesMarks (gives_ring_at S.covers self.now.rules.ring self.now.cells.now.spots pad.now) marks.old marks.new }
-        ensures tried { NoMarkPassesIn (gives_ring_at S.covers self.now.rules.ring self.now.cells.now.spots pad.now) self.now.cells.now.x self.now.cells.now.y self.now.cells.now.spots row (row + 1) left right marks.new }
+        ensures removes { RemovesMarks (gives_ring_at S.covers self.now.rules.profile self.now.rules.ring self.now.cells.now.spots pad.now) marks.old marks.new }
+        ensures tried { NoMarkPassesIn (gives_ring_at S.covers self.now.rules.profile self.now.rules.ring self.now.cells.now.spots pad.now) self.now.cells.now.x self.now.cells.now.y self.now.cells.now.spots row (row + 1) left right marks.new }
         ensures none { result ≡ false → HasNoMarkIn self.now.cells.now.x self.now.cells.now.y self.now.cells.now.spots row (row + 1) left right marks.new }
     {
         let mut is_left = false;
@@ -135,8 +135,8 @@ impl RingSearch<'_> {
         requires row { row ≤ self.now.cells.now.y.last }
         requires left { left ≤ self.now.cells.now.x.last + 1 }
         requires right { right ≤ self.now.cells.now.x.last + 1 }
-        ensures removes { RemovesMarks (gives_ring_at S.covers self.now.rules.ring self.now.cells.now.spots pad.now) marks.old marks.new }
-        ensures tried { NoMarkPassesIn (gives_ring_at S.covers self.now.rules.ring self.now.cells.now.spots pad.now) self.now.cells.now.x self.now.cells.now.y self.now.cells.now.spots row (row + 1) left right marks.new }
+        ensures removes { RemovesMarks (gives_ring_at S.covers self.now.rules.profile self.now.rules.ring self.now.cells.now.spots pad.now) marks.old marks.new }
+        ensures tried { NoMarkPassesIn (gives_ring_at S.covers self.now.rules.profile self.now.rules.ring self.now.cells.now.spots pad.now) self.now.cells.now.x self.now.cells.now.y self.now.cells.now.spots row (row + 1) left right marks.new }
         ensures none { result ≡ false → HasNoMarkIn self.now.cells.now.x self.now.cells.now.y self.now.cells.now.spots row (row + 1) left right marks.new }
     {
         let run = self.cells.run(row, left, right);
@@ -153,8 +153,8 @@ impl RingSearch<'_> {
         requires bottom { region.bottom ≤ self.now.cells.now.y.last + 1 }
         requires left { region.left ≤ self.now.cells.now.x.last + 1 }
         requires right { region.right ≤ self.now.cells.now.x.last + 1 }
-        ensures removes { RemovesMarks (gives_ring_at S.covers self.now.rules.ring self.now.cells.now.spots pad.now) marks.old marks.new }
-        ensures tried { NoMarkPassesIn (gives_ring_at S.covers self.now.rules.ring self.now.cells.now.spots pad.now) self.now.cells.now.x self.now.cells.now.y self.now.cells.now.spots region.top region.bottom region.left region.right marks.new }
+        ensures removes { RemovesMarks (gives_ring_at S.covers self.now.rules.profile self.now.rules.ring self.now.cells.now.spots pad.now) marks.old marks.new }
+        ensures tried { NoMarkPassesIn (gives_ring_at S.covers self.now.rules.profile self.now.rules.ring self.now.cells.now.spots pad.now) self.now.cells.now.x self.now.cells.now.y self.now.cells.now.spots region.top region.bottom region.left region.right marks.new }
         ensures none { result ≡ false → HasNoMarkIn self.now.cells.now.x self.now.cells.now.y self.now.cells.now.spots region.top region.bottom region.left region.right marks.new }
     {
         let mut is_left = false;

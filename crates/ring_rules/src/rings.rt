@@ -7,41 +7,42 @@ ghost use Rattle.ring_rules.specs.Search.{IsRingIndexOf};
 ghost use Rattle.ring_rules.specs.declared.finding.Drilled.{Drilled};
 
 use crate::cell_size::sample_index;
-use crate::finding::{Drilled, Finding, is_oblique};
+use crate::finding::{Drilled, Finding, is_refused_slot};
 use crate::layer_search::LayerSearch;
 use crate::ring_index::RingIndex;
-use grid_units::Rules;
+use grid_units::{Profile, Rules};
 use pad_shapes::{PadShape, Zone};
 use std::alloc::{AllocError, Global};
 
-/// The finding at a hole that lacks its ring: `Oblique` for an oblique slot, else `Ring`.
-fn finding_of(layer: usize, hole: usize, drilled: &Drilled) -> Finding
-    ensures { result ≡ finding_of layer (hole, drilled.now) }
+/// The finding at a hole that lacks its ring: `Oblique` for a slot that the profile refuses, else `Ring`.
+fn finding_of(profile: Profile, layer: usize, hole: usize, drilled: &Drilled) -> Finding
+    ensures { result ≡ finding_of profile layer (hole, drilled.now) }
 {
-    if is_oblique(&drilled.hole) {
+    if is_refused_slot(profile, &drilled.hole) {
         Finding::Oblique { layer, hole }
     } else {
         Finding::Ring { layer, hole }
     }
 }
 
-/// Appends the findings of one layer, given of each hole whether it lacks its ring there.
+/// Appends the findings of one layer in a profile, given of each hole whether it lacks its ring there.
 ///
 /// # Errors
 ///
 /// Where there is no memory.
 pub fn layer_findings(
     findings: &mut Vec<Finding>,
+    profile: Profile,
     layer: usize,
     holes: &[Drilled],
     lacking: &[bool],
 ) -> Result<(), AllocError>
     requires { length lacking.now ≡ length holes.now }
-    ensures { OnOk result ((test : Drilled → Bool) → lacking.now ≡ map test holes.now → findings.new.items ≡ findings.old.items ++ map (finding_of layer) (filter (λ hole. test hole.1) (enumerate_from 0 holes.now))) }
+    ensures { OnOk result ((test : Drilled → Bool) → lacking.now ≡ map test holes.now → findings.new.items ≡ findings.old.items ++ map (finding_of profile layer) (filter (λ hole. test hole.1) (enumerate_from 0 holes.now))) }
 {
     for (hole, drilled) in holes.iter().enumerate() {
         if lacking[hole] {
-            findings.push(finding_of(layer, hole, drilled))?;
+            findings.push(finding_of(profile, layer, hole, drilled))?;
         }
     }
     Ok(())
@@ -82,15 +83,15 @@ fn push_layer<S: PadShape>(
     findings: &mut Vec<Finding>,
 ) -> Result<(), AllocError>
     requires { IsRingIndexOf holes.now index.now }
-    ensures { OnOk result (findings.new.items ≡ findings.old.items ++ layer_findings S.covers index.now.rules.ring holes.now layer pads.now) }
+    ensures { OnOk result (findings.new.items ≡ findings.old.items ++ layer_findings S.covers index.now.rules.profile index.now.rules.ring holes.now layer pads.now) }
 {
-    let mut search = LayerSearch::new::<S>(alloc, index, holes, layer)?;
+    let mut search = LayerSearch::new(alloc, index, holes, layer)?;
     search.try_pads(index, pads);
-    search.push_findings::<S>(alloc, index, holes, findings)
+    search.push_findings(alloc, index, holes, findings)
 }
 
-/// Lists, layer by layer and hole by hole, each plated hole that goes through the layer and has no ring there. It is
-/// an oblique slot, or no single pad of the layer covers it with the ring round it.
+/// Lists, layer by layer and hole by hole, each plated hole that goes through the layer and has no ring there. No
+/// single pad of the layer covers it with the ring round it; or it is an oblique slot, and the profile of the rules is strict.
 ///
 /// # Errors
 ///
@@ -101,7 +102,7 @@ pub fn ring_findings<S: PadShape>(
     holes: &[Drilled],
     rules: Rules,
 ) -> Result<Vec<Finding>, AllocError>
-    ensures { IfOk result (λ findings. findings.items ≡ ring_findings S.covers rules.ring (map (λ pads. pads.now) layers.now) holes.now) }
+    ensures { IfOk result (λ findings. findings.items ≡ ring_findings S.covers rules.profile rules.ring (map (λ pads. pads.now) layers.now) holes.now) }
 {
     let (width, height) = mean_zone_size(layers);
     let index = RingIndex::new(alloc, holes, rules, width, height)?;

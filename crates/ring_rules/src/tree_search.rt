@@ -39,7 +39,7 @@ impl RingSearch<'_> {
         requires tree { IsTreeOfGrid self.now.cells.now.x self.now.cells.now.y nodes.now }
         requires open_nodes { length open_nodes.now ≡ length nodes.now }
         requires inside { i < length nodes.now }
-        ensures { result ≡ true → (marks : List Bool) → AreClosedUnmarked self.now.cells.now.x self.now.cells.now.y self.now.cells.now.spots nodes.now open_nodes.now marks → NoMarkPassesIn (gives_ring_at S.covers self.now.rules.ring self.now.cells.now.spots pad.now) self.now.cells.now.x self.now.cells.now.y self.now.cells.now.spots (node_at nodes.now i).region.top (node_at nodes.now i).region.bottom (node_at nodes.now i).region.left (node_at nodes.now i).region.right marks }
+        ensures { result ≡ true → (marks : List Bool) → AreClosedUnmarked self.now.cells.now.x self.now.cells.now.y self.now.cells.now.spots nodes.now open_nodes.now marks → NoMarkPassesIn (gives_ring_at S.covers self.now.rules.profile self.now.rules.ring self.now.cells.now.spots pad.now) self.now.cells.now.x self.now.cells.now.y self.now.cells.now.spots (node_at nodes.now i).region.top (node_at nodes.now i).region.bottom (node_at nodes.now i).region.left (node_at nodes.now i).region.right marks }
     {
         if !open_nodes[i] {
             return true;
@@ -64,9 +64,9 @@ impl RingSearch<'_> {
         requires open_nodes { length open_nodes.old ≡ length nodes.now }
         requires inside { i < length nodes.now }
         requires closed { AreClosedUnmarked self.now.cells.now.x self.now.cells.now.y self.now.cells.now.spots nodes.now open_nodes.old marks.old }
-        ensures removes { RemovesMarks (gives_ring_at S.covers self.now.rules.ring self.now.cells.now.spots pad.now) marks.old marks.new }
+        ensures removes { RemovesMarks (gives_ring_at S.covers self.now.rules.profile self.now.rules.ring self.now.cells.now.spots pad.now) marks.old marks.new }
         ensures closed { AreClosedUnmarked self.now.cells.now.x self.now.cells.now.y self.now.cells.now.spots nodes.now open_nodes.new marks.new }
-        ensures tried { NoMarkPassesIn (gives_ring_at S.covers self.now.rules.ring self.now.cells.now.spots pad.now) self.now.cells.now.x self.now.cells.now.y self.now.cells.now.spots (node_at nodes.now i).region.top (node_at nodes.now i).region.bottom (node_at nodes.now i).region.left (node_at nodes.now i).region.right marks.new }
+        ensures tried { NoMarkPassesIn (gives_ring_at S.covers self.now.rules.profile self.now.rules.ring self.now.cells.now.spots pad.now) self.now.cells.now.x self.now.cells.now.y self.now.cells.now.spots (node_at nodes.now i).region.top (node_at nodes.now i).region.bottom (node_at nodes.now i).region.left (node_at nodes.now i).region.right marks.new }
     {
         let region = region_at(nodes, i);
         let is_left = self.try_rows(pad, region, marks);
@@ -90,9 +90,9 @@ impl RingSearch<'_> {
         requires closed { AreClosedUnmarked self.now.cells.now.x self.now.cells.now.y self.now.cells.now.spots nodes.now open_nodes.old marks.old }
         ensures more { i < result }
         ensures within { result ≤ length nodes.now }
-        ensures removes { RemovesMarks (gives_ring_at S.covers self.now.rules.ring self.now.cells.now.spots pad.now) marks.old marks.new }
+        ensures removes { RemovesMarks (gives_ring_at S.covers self.now.rules.profile self.now.rules.ring self.now.cells.now.spots pad.now) marks.old marks.new }
         ensures closed { AreClosedUnmarked self.now.cells.now.x self.now.cells.now.y self.now.cells.now.spots nodes.now open_nodes.new marks.new }
-        ensures tried { NoMarkPassesInLeaves (gives_ring_at S.covers self.now.rules.ring self.now.cells.now.spots pad.now) self.now.cells.now.x self.now.cells.now.y self.now.cells.now.spots nodes.now i result marks.new }
+        ensures tried { NoMarkPassesInLeaves (gives_ring_at S.covers self.now.rules.profile self.now.rules.ring self.now.cells.now.spots pad.now) self.now.cells.now.x self.now.cells.now.y self.now.cells.now.spots nodes.now i result marks.new }
     {
         let end = end_at(nodes, i);
         if self.passes_over(pad, nodes, i, open_nodes) {
@@ -120,9 +120,9 @@ impl RingSearch<'_> {
         requires size { length marks.old ≡ length self.now.cells.now.spots }
         requires open_nodes { length open_nodes.old ≡ length nodes.now }
         requires closed { AreClosedUnmarked self.now.cells.now.x self.now.cells.now.y self.now.cells.now.spots nodes.now open_nodes.old marks.old }
-        ensures removes { RemovesMarks (gives_ring_at S.covers self.now.rules.ring self.now.cells.now.spots pad.now) marks.old marks.new }
+        ensures removes { RemovesMarks (gives_ring_at S.covers self.now.rules.profile self.now.rules.ring self.now.cells.now.spots pad.now) marks.old marks.new }
         ensures closed { AreClosedUnmarked self.now.cells.now.x self.now.cells.now.y self.now.cells.now.spots nodes.now open_nodes.new marks.new }
-        ensures tried { NoMarkPassesInLeaves (gives_ring_at S.covers self.now.rules.ring self.now.cells.now.spots pad.now) self.now.cells.now.x self.now.cells.now.y self.now.cells.now.spots nodes.now 0 (length nodes.now) marks.new }
+        ensures tried { NoMarkPassesInLeaves (gives_ring_at S.covers self.now.rules.profile self.now.rules.ring self.now.cells.now.spots pad.now) self.now.cells.now.x self.now.cells.now.y self.now.cells.now.spots nodes.now 0 (length nodes.now) marks.new }
     {
         let mut i = 0;
         while i < nodes.len() {

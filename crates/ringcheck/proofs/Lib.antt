@@ -1,5 +1,6 @@
 pub mod LoadSteps
 pub mod LoadedFiles
+pub mod NamedProfiles
 pub mod Outcomes
 pub mod OutlinedReports
 pub mod ParseCountLemmas

@@ -1,7 +1,8 @@
 -- The files of a package, loaded one by one.
 use Rattle.std.proofs.Common.{◌≡◌, ℕ, suc, List, [], ◌∷◌, length, map, arith, refl, ap}
 use Rattle.manifest.specs.declared.Entry.{Entry}
-use Rattle.package_check.specs.Package.{FileView}
+use Rattle.std.specs.List.{AllByRecursion}
+use Rattle.package_check.specs.Package.{FileView, Setting}
 use Rattle.ringcheck.specs.CheckStatus.{HasFiles, file_views_among}
 
 pub same_length : (has : List ℕ → List ℕ → Type 0) (entries : List Entry) (files : List (List ℕ)) → HasFiles has entries files → length entries ≡ length files
@@ -18,7 +19,13 @@ has_files_along has before to (e ∷ es) [] h = absurd h
 has_files_along has before to (e ∷ es) (b ∷ bs) h = (to e.file b h.0, has_files_along has before to es bs h.1)
 
 -- the names of the files are those of the entries
-pub names_among : (n : ℕ) (es : List Entry) (fs : List (List ℕ)) → length es ≡ length fs → map (λ (s : FileView). s.name) (file_views_among n es fs) ≡ map (λ (e : Entry). e.name) es
+pub names_among : (n : Setting) (es : List Entry) (fs : List (List ℕ)) → length es ≡ length fs → map (λ (s : FileView). s.name) (file_views_among n es fs) ≡ map (λ (e : Entry). e.name) es
 names_among n [] fs same = refl
 names_among n (e ∷ es) [] same = absurd (omega (arith, same))
 names_among n (e ∷ es) (f ∷ fs) same = ap (λ (t : List (List ℕ)). e.name ∷ t) (names_among n es fs (omega (arith, same)))
+
+-- the files are read in the setting in which they were loaded
+pub read_in : (n : Setting) (es : List Entry) (fs : List (List ℕ)) → AllByRecursion (λ (s : FileView). s.setting.profile ≡ n.profile) (file_views_among n es fs)
+read_in n [] fs = tt
+read_in n (e ∷ es) [] = tt
+read_in n (e ∷ es) (f ∷ fs) = (refl, read_in n es fs)

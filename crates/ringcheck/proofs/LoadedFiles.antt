@@ -9,19 +9,20 @@ use Rattle.std.proofs.lemmas.Option.{none-some, same_Some, slice_get_within}
 use Rattle.layer_image.specs.declared.keep.Keep.{Keep}
 use Rattle.manifest.specs.declared.Entry.{Entry}
 use Rattle.grid_units.specs.Holes.{GridRules}
-use Rattle.package_check.specs.CheckViews.{CheckView}
+use Rattle.grid_units.specs.declared.profile.Profile.{Profile}
+use Rattle.package_check.specs.CheckViews.{CheckView, setting_of}
 use Rattle.package_check.specs.Checking.{HasJudged, HasJudgedAll, drill_files, layer_number}
 use Rattle.package_check.specs.Holding as taking
-use Rattle.package_check.specs.Holding.{HasTaken, HasTakenAll, copper_files, is_kind}
-use Rattle.package_check.specs.Package.{FileView, is_copper}
+use Rattle.package_check.specs.Holding.{HasTaken, HasTakenAll, is_kind, setting_of as reader_setting}
+use Rattle.package_check.specs.Package.{FileView, Setting, is_copper}
 use Rattle.package_check.specs.declared.package_reader.PackageReader.{PackageReader}
 use Rattle.package_check.proofs.CheckSteps.{judged_alike, judged_all}
 use Rattle.package_check.proofs.TakeSteps.{all_below, none_below, none_more, one_more, or_none, or_together, taken_alike}
 use Rattle.ringcheck_files.specs.LoaderRelation.{file_limit, within}
 use Rattle.ringcheck_files.specs.Outcomes.{HasRisen}
-use Rattle.ringcheck.specs.CheckStatus.{HasFiles, RefusedFile, file_views_among, long_file, sources}
+use Rattle.ringcheck.specs.CheckStatus.{HasFiles, RefusedFile, file_views_among, long_file, setting_in, sources}
 use Rattle.ringcheck.specs.Inner.Halting.{Halts, OfFiles, refusal}
-use Rattle.ringcheck.specs.Inner.Loading.{AreFirstOf, EndsAt, HasLoaded, LoadsCopper, LoadsCopperTo, LoadsFile, LoadsKind, OfCheckedCopper, RefusesLong, copper_entries, is_kind_at, is_kind_of, source}
+use Rattle.ringcheck.specs.Inner.Loading.{AreFirstOf, EndsAt, HasLoaded, LoadsCopper, LoadsCopperTo, LoadsFile, LoadsKind, OfCheckedCopper, RefusesLong, is_kind_at, is_kind_of, source}
 use Rattle.ringcheck.specs.Refusals.{Refusal, of_archive}
 use Rattle.ringcheck.proofs.Outcomes.{risen_since}
 use Rattle.ringcheck.specs.declared.refusals.Halt.{Halt}
@@ -30,20 +31,20 @@ use Rattle.ringcheck.specs.declared.refusals.Halt.TheVariants as halt
 -- ---- the files of entries
 
 -- there is a file for each entry
-pub views_length : (n : ℕ) (es : List Entry) (fs : List (List ℕ)) → length fs ≡ length es → length (file_views_among n es fs) ≡ length es
+pub views_length : (n : Setting) (es : List Entry) (fs : List (List ℕ)) → length fs ≡ length es → length (file_views_among n es fs) ≡ length es
 views_length n [] fs same = refl
 views_length n (e ∷ es) [] same = absurd (omega (arith, same))
 views_length n (e ∷ es) (f ∷ fs) same = ap suc (views_length n es fs (omega (arith, same)))
 
 -- the file at an index is that of its entry
-pub view_at : (n : ℕ) (es : List Entry) (fs : List (List ℕ)) (i : ℕ) (e : Entry) → length fs ≡ length es → slice_get es i ≡ Some e → slice_get (file_views_among n es fs) i ≡ Some (source n e (get_or fs i []))
+pub view_at : (n : Setting) (es : List Entry) (fs : List (List ℕ)) (i : ℕ) (e : Entry) → length fs ≡ length es → slice_get es i ≡ Some e → slice_get (file_views_among n es fs) i ≡ Some (source n e (get_or fs i []))
 view_at n [] fs i e same at = absurd (none-some e at)
 view_at n (x ∷ es) [] i e same at = absurd (omega (arith, same))
 view_at n (x ∷ es) (f ∷ fs) zero e same at = ap (λ (o : Entry). Some (source n o f)) (same_Some x e at)
 view_at n (x ∷ es) (f ∷ fs) (suc i) e same at = view_at n es fs i e (omega (arith, same)) at
 
 -- other bytes of one file leave the others as they are
-pub views_other : (n : ℕ) (es : List Entry) (fs : List (List ℕ)) (k : ℕ) (bytes : List ℕ) (i : ℕ) → i ≢ k → slice_get (file_views_among n es (set fs k bytes)) i ≡ slice_get (file_views_among n es fs) i
+pub views_other : (n : Setting) (es : List Entry) (fs : List (List ℕ)) (k : ℕ) (bytes : List ℕ) (i : ℕ) → i ≢ k → slice_get (file_views_among n es (set fs k bytes)) i ≡ slice_get (file_views_among n es fs) i
 views_other n [] fs k bytes i other = refl
 views_other n (e ∷ es) [] k bytes i other = refl
 views_other n (e ∷ es) (f ∷ fs) zero bytes zero other = absurd (other refl)
@@ -52,7 +53,7 @@ views_other n (e ∷ es) (f ∷ fs) (suc k) bytes zero other = refl
 views_other n (e ∷ es) (f ∷ fs) (suc k) bytes (suc i) other = views_other n es fs k bytes i (λ same. other (ap suc same))
 
 -- the number of a layer by its entries
-pub views_number : (n : ℕ) (es : List Entry) (fs : List (List ℕ)) → length fs ≡ length es → (i : ℕ) → layer_number (file_views_among n es fs) i ≡ count_by (λ (e : Entry). is_copper e.role) (take i es)
+pub views_number : (n : Setting) (es : List Entry) (fs : List (List ℕ)) → length fs ≡ length es → (i : ℕ) → layer_number (file_views_among n es fs) i ≡ count_by (λ (e : Entry). is_copper e.role) (take i es)
 views_number n es fs same zero = refl
 views_number n [] fs same (suc i) = refl
 views_number n (e ∷ es) [] same (suc i) = absurd (omega (arith, same))
@@ -61,7 +62,7 @@ views_number n (e ∷ es) (f ∷ fs) same (suc i) =
     ∙ (ap (λ (m : ℕ). cond (is_copper e.role) 1 0 + m) (views_number n es fs (omega (arith, same)) i) ∙ sym (sum_by-cons (λ (x : Entry). cond (is_copper x.role) 1 0) e (take i es)))
 
 -- other bytes of a copper file leave the drill files as they are
-pub views_drills : (n : ℕ) (es : List Entry) (fs : List (List ℕ)) (k : ℕ) (bytes : List ℕ) (e : Entry) → slice_get es k ≡ Some e → is_copper e.role ≡ true → drill_files (file_views_among n es (set fs k bytes)) ≡ drill_files (file_views_among n es fs)
+pub views_drills : (n : Setting) (es : List Entry) (fs : List (List ℕ)) (k : ℕ) (bytes : List ℕ) (e : Entry) → slice_get es k ≡ Some e → is_copper e.role ≡ true → drill_files (file_views_among n es (set fs k bytes)) ≡ drill_files (file_views_among n es fs)
 views_drills n [] fs k bytes e at copper = refl
 views_drills n (x ∷ es) [] k bytes e at copper = refl
 views_drills n (x ∷ es) (f ∷ fs) zero bytes e at copper =
@@ -73,14 +74,14 @@ views_drills n (x ∷ es) (f ∷ fs) (suc k) bytes e at copper =
 
 -- ---- files that were loaded
 
-module _ (has : List ℕ → List ℕ → Type 0) (all : List Entry) where
+module _ (has : List ℕ → List ℕ → Type 0) (profile : Profile) (all : List Entry) where
   -- none of them yet
-  pub none_loaded : (Taken : List FileView → (ℕ → Bool) → Type 0) → ((sources : List FileView) → Taken sources (λ i. false)) → HasLoaded has all Taken (λ i. false)
+  pub none_loaded : (Taken : List FileView → (ℕ → Bool) → Type 0) → ((sources : List FileView) → Taken sources (λ i. false)) → HasLoaded has profile all Taken (λ i. false)
   none_loaded Taken stands = record {
     files = map (λ (e : Entry). []) all;
     size = same all;
     loaded = λ i entry none at. absurd cc;
-    taken = stands (sources all (map (λ (e : Entry). []) all));
+    taken = stands (sources profile all (map (λ (e : Entry). []) all));
   }
     where
       same : (es : List Entry) → length (map (λ (e : Entry). let none : List ℕ = [] in none) es) ≡ length es
@@ -88,16 +89,16 @@ module _ (has : List ℕ → List ℕ → Type 0) (all : List Entry) where
       same (e ∷ es) = ap suc (same es)
 
   -- the same files, by another test
-  pub loaded_same : (Taken : List FileView → (ℕ → Bool) → Type 0) (p q : ℕ → Bool) → ((i : ℕ) → p i ≡ q i) → HasLoaded has all Taken p → HasLoaded has all Taken q
-  loaded_same Taken p q same h = subst (λ (t : ℕ → Bool). HasLoaded has all Taken t) (λ j. λ i. same i j) h
+  pub loaded_same : (Taken : List FileView → (ℕ → Bool) → Type 0) (p q : ℕ → Bool) → ((i : ℕ) → p i ≡ q i) → HasLoaded has profile all Taken p → HasLoaded has profile all Taken q
+  loaded_same Taken p q same h = subst (λ (t : ℕ → Bool). HasLoaded has profile all Taken t) (λ j. λ i. same i j) h
 
   -- and one more
   loaded_more : (Before After : List FileView → (ℕ → Bool) → Type 0) (done : ℕ → Bool) (k : ℕ) (entry : Entry) (bytes : List ℕ) → slice_get all k ≡ Some entry → done k ≡ false → within file_limit has entry.file bytes
-      → ((files : List (List ℕ)) → length files ≡ length all → Before (sources all files) done → Before (sources all (set files k bytes)) done)
-      → ((files : List (List ℕ)) → length files ≡ length all → slice_get (sources all files) k ≡ Some (source (copper_entries all) entry bytes) → Before (sources all files) done → After (sources all files) (λ i. done i || eqb i k))
-      → HasLoaded has all Before done → HasLoaded has all After (λ i. done i || eqb i k)
+      → ((files : List (List ℕ)) → length files ≡ length all → Before (sources profile all files) done → Before (sources profile all (set files k bytes)) done)
+      → ((files : List (List ℕ)) → length files ≡ length all → slice_get (sources profile all files) k ≡ Some (source (setting_in profile all) entry bytes) → Before (sources profile all files) done → After (sources profile all files) (λ i. done i || eqb i k))
+      → HasLoaded has profile all Before done → HasLoaded has profile all After (λ i. done i || eqb i k)
   loaded_more Before After done k entry bytes at new held alike takes h =
-      let n = copper_entries all in
+      let n = setting_in profile all in
       let files : List (List ℕ) = set h.files k bytes in
       let inside : k < length all = slice_get_within all k entry at in
       let size : length files ≡ length all = length-set h.files k bytes ∙ h.size in
@@ -118,7 +119,7 @@ module _ (has : List ℕ → List ℕ → Type 0) (all : List Entry) where
       }
 
   -- a loader that has as much
-  pub loaded_along : (later : List ℕ → List ℕ → Type 0) → ((n b : List ℕ) → has n b → later n b) → (Taken : List FileView → (ℕ → Bool) → Type 0) (done : ℕ → Bool) → HasLoaded has all Taken done → HasLoaded later all Taken done
+  pub loaded_along : (later : List ℕ → List ℕ → Type 0) → ((n b : List ℕ) → has n b → later n b) → (Taken : List FileView → (ℕ → Bool) → Type 0) (done : ℕ → Bool) → HasLoaded has profile all Taken done → HasLoaded later profile all Taken done
   loaded_along later to Taken done h = record {
     files = h.files;
     size = h.size;
@@ -127,16 +128,16 @@ module _ (has : List ℕ → List ℕ → Type 0) (all : List Entry) where
   }
 
   -- none of a kind yet
-  pub none_yet : (copper : Bool) (Taken : List FileView → (ℕ → Bool) → Type 0) (done : ℕ → Bool) → HasLoaded has all Taken done → HasLoaded has all Taken (λ i. done i || (ltb i 0 && is_kind_at copper all i))
+  pub none_yet : (copper : Bool) (Taken : List FileView → (ℕ → Bool) → Type 0) (done : ℕ → Bool) → HasLoaded has profile all Taken done → HasLoaded has profile all Taken (λ i. done i || (ltb i 0 && is_kind_at copper all i))
   none_yet copper Taken done h =
       loaded_same Taken done (λ i. done i || (ltb i 0 && is_kind_at copper all i)) (λ i. sym (or_none (done i)) ∙ ap (λ (t : Bool). done i || t) (none_below (is_kind_at copper all) i)) h
 
   -- the next file, which is of the kind that is loaded
   kind_loaded : (copper : Bool) (Before After : List FileView → (ℕ → Bool) → Type 0) (done : ℕ → Bool) (k : ℕ) (entry : Entry) (bytes : List ℕ) → slice_get all k ≡ Some entry → is_kind copper entry.role ≡ true → done k ≡ false
       → within file_limit has entry.file bytes
-      → ((files : List (List ℕ)) (p : ℕ → Bool) → p k ≡ false → length files ≡ length all → Before (sources all files) p → Before (sources all (set files k bytes)) p)
-      → ((files : List (List ℕ)) (p : ℕ → Bool) → length files ≡ length all → slice_get (sources all files) k ≡ Some (source (copper_entries all) entry bytes) → Before (sources all files) p → After (sources all files) (λ i. p i || eqb i k))
-      → HasLoaded has all Before (λ i. done i || (ltb i k && is_kind_at copper all i)) → HasLoaded has all After (λ i. done i || (ltb i (k + 1) && is_kind_at copper all i))
+      → ((files : List (List ℕ)) (p : ℕ → Bool) → p k ≡ false → length files ≡ length all → Before (sources profile all files) p → Before (sources profile all (set files k bytes)) p)
+      → ((files : List (List ℕ)) (p : ℕ → Bool) → length files ≡ length all → slice_get (sources profile all files) k ≡ Some (source (setting_in profile all) entry bytes) → Before (sources profile all files) p → After (sources profile all files) (λ i. p i || eqb i k))
+      → HasLoaded has profile all Before (λ i. done i || (ltb i k && is_kind_at copper all i)) → HasLoaded has profile all After (λ i. done i || (ltb i (k + 1) && is_kind_at copper all i))
   kind_loaded copper Before After done k entry bytes at kind new held alike takes h =
       let before = λ (i : ℕ). done i || (ltb i k && is_kind_at copper all i) in
       let not_yet : before k ≡ false = or_from (done k) (ltb k k && is_kind_at copper all k) new (and_left (ltb k k) (is_kind_at copper all k) (le-ltb k k (omega arith))) in
@@ -146,37 +147,37 @@ module _ (has : List ℕ → List ℕ → Type 0) (all : List Entry) where
 
   -- or is not of the kind
   pub kind_passed : (copper : Bool) (Taken : List FileView → (ℕ → Bool) → Type 0) (done : ℕ → Bool) (k : ℕ) (entry : Entry) → slice_get all k ≡ Some entry → is_kind copper entry.role ≡ false
-      → HasLoaded has all Taken (λ i. done i || (ltb i k && is_kind_at copper all i)) → HasLoaded has all Taken (λ i. done i || (ltb i (k + 1) && is_kind_at copper all i))
+      → HasLoaded has profile all Taken (λ i. done i || (ltb i k && is_kind_at copper all i)) → HasLoaded has profile all Taken (λ i. done i || (ltb i (k + 1) && is_kind_at copper all i))
   kind_passed copper Taken done k entry at kind h =
       loaded_same Taken (λ i. done i || (ltb i k && is_kind_at copper all i)) (λ i. done i || (ltb i (k + 1) && is_kind_at copper all i))
       (λ i. ap (λ (t : Bool). done i || t) (none_more (is_kind_at copper all) k (ap (is_kind_of copper) at ∙ kind) i)) h
 
   -- a reader has taken the next file
-  pub reader_loaded : (keep : Keep) (copper : Bool) (before after : PackageReader) (done : ℕ → Bool) (k : ℕ) (entry : Entry) → slice_get all k ≡ Some entry → is_kind copper entry.role ≡ true → copper_files before ≡ copper_entries all
-      → done k ≡ false → LoadsFile has before after k entry → HasLoaded has all (HasTaken before keep) (λ i. done i || (ltb i k && is_kind_at copper all i))
-      → HasLoaded has all (HasTaken after keep) (λ i. done i || (ltb i (k + 1) && is_kind_at copper all i))
+  pub reader_loaded : (keep : Keep) (copper : Bool) (before after : PackageReader) (done : ℕ → Bool) (k : ℕ) (entry : Entry) → slice_get all k ≡ Some entry → is_kind copper entry.role ≡ true → reader_setting before ≡ setting_in profile all
+      → done k ≡ false → LoadsFile has before after k entry → HasLoaded has profile all (HasTaken before keep) (λ i. done i || (ltb i k && is_kind_at copper all i))
+      → HasLoaded has profile all (HasTaken after keep) (λ i. done i || (ltb i (k + 1) && is_kind_at copper all i))
   reader_loaded keep copper before after done k entry at kind layers new (bytes, held, takes) h =
-      let n = copper_entries all in
+      let n = setting_in profile all in
       kind_loaded copper (HasTaken before keep) (HasTaken after keep) done k entry bytes at kind new held
       (λ files p none size was.
-      taken_alike before keep (sources all files) (sources all (set files k bytes)) p (views_length n all files size ∙ sym (views_length n all (set files k bytes) (length-set files k bytes ∙ size)))
+      taken_alike before keep (sources profile all files) (sources profile all (set files k bytes)) p (views_length n all files size ∙ sym (views_length n all (set files k bytes) (length-set files k bytes ∙ size)))
       (λ i d. views_other n all files k bytes i (λ same. both_ways (p k) none (subst (λ (j : ℕ). p j ≡ true) same d))) was)
-      (λ files p size there was. takes (sources all files) (there ∙ ap (λ (m : ℕ). Some (source m entry bytes)) (sym layers)) keep p was) h
+      (λ files p size there was. takes (sources profile all files) (there ∙ ap (λ (m : Setting). Some (source m entry bytes)) (sym layers)) keep p was) h
 
   -- a check has taken the next file, which is copper
-  pub copper_loaded : (rules : GridRules) (before after : CheckView) (done : ℕ → Bool) (k layer : ℕ) (entry : Entry) → slice_get all k ≡ Some entry → is_copper entry.role ≡ true → before.layers ≡ copper_entries all
+  pub copper_loaded : (rules : GridRules) (before after : CheckView) (done : ℕ → Bool) (k layer : ℕ) (entry : Entry) → slice_get all k ≡ Some entry → is_copper entry.role ≡ true → setting_of before ≡ setting_in profile all
       → done k ≡ false → layer ≡ count_by (λ (e : Entry). is_copper e.role) (take k all) → LoadsCopper has before after k layer entry
-      → HasLoaded has all (λ files. HasJudged before files rules) (λ i. done i || (ltb i k && is_kind_at true all i))
-      → HasLoaded has all (λ files. HasJudged after files rules) (λ i. done i || (ltb i (k + 1) && is_kind_at true all i))
+      → HasLoaded has profile all (λ files. HasJudged before files rules) (λ i. done i || (ltb i k && is_kind_at true all i))
+      → HasLoaded has profile all (λ files. HasJudged after files rules) (λ i. done i || (ltb i (k + 1) && is_kind_at true all i))
   copper_loaded rules before after done k layer entry at copper layers new number (bytes, held, takes) h =
-      let n = copper_entries all in
+      let n = setting_in profile all in
       kind_loaded true (λ files. HasJudged before files rules) (λ files. HasJudged after files rules) done k entry bytes at copper new held
       (λ files p none size was.
-      judged_alike before rules (sources all files) (sources all (set files k bytes)) p (views_length n all files size ∙ sym (views_length n all (set files k bytes) (length-set files k bytes ∙ size)))
+      judged_alike before rules (sources profile all files) (sources profile all (set files k bytes)) p (views_length n all files size ∙ sym (views_length n all (set files k bytes) (length-set files k bytes ∙ size)))
       (λ i d. views_other n all files k bytes i (λ same. both_ways (p k) none (subst (λ (j : ℕ). p j ≡ true) same d)))
       (λ i. views_number n all (set files k bytes) (length-set files k bytes ∙ size) i ∙ sym (views_number n all files size i)) (views_drills n all files k bytes entry at copper) was)
       (λ files p size there was.
-      takes (sources all files) (there ∙ ap (λ (m : ℕ). Some (source m entry bytes)) (sym layers)) (number ∙ sym (views_number n all files size k)) rules p was) h
+      takes (sources profile all files) (there ∙ ap (λ (m : Setting). Some (source m entry bytes)) (sym layers)) (number ∙ sym (views_number n all files size k)) rules p was) h
 
 -- ---- kinds
 
@@ -213,19 +214,19 @@ no_entry_past copper (e ∷ es) zero le = absurd (omega (arith, le))
 no_entry_past copper (e ∷ es) (suc i) le = no_entry_past copper es i (omega (arith, le))
 
 -- a file is of the kind of its entry
-views_kind : (copper : Bool) (n : ℕ) (es : List Entry) (fs : List (List ℕ)) → length fs ≡ length es → (i : ℕ) → taking.is_kind_at copper (file_views_among n es fs) i ≡ is_kind_at copper es i
+views_kind : (copper : Bool) (n : Setting) (es : List Entry) (fs : List (List ℕ)) → length fs ≡ length es → (i : ℕ) → taking.is_kind_at copper (file_views_among n es fs) i ≡ is_kind_at copper es i
 views_kind copper n [] fs same i = refl
 views_kind copper n (e ∷ es) [] same i = absurd (omega (arith, same))
 views_kind copper n (e ∷ es) (f ∷ fs) same zero = refl
 views_kind copper n (e ∷ es) (f ∷ fs) same (suc i) = views_kind copper n es fs (omega (arith, same)) i
 
 -- a check goes on from a reader that has taken all drill files
-pub checking_loaded : (has : List ℕ → List ℕ → Type 0) (all : List Entry) (keep : Keep) (rules : GridRules) (reader : PackageReader) (check : CheckView) (drills : ℕ) → drills ≡ length all
+pub checking_loaded : (has : List ℕ → List ℕ → Type 0) (profile : Profile) (all : List Entry) (keep : Keep) (rules : GridRules) (reader : PackageReader) (check : CheckView) (drills : ℕ) → drills ≡ length all
     → ((files : List FileView) → HasTaken reader keep files (taking.is_kind_at false files) → HasJudged check files rules (taking.is_kind_at false files))
-    → HasLoaded has all (HasTaken reader keep) (λ i. false || (ltb i drills && is_kind_at false all i)) → HasLoaded has all (λ files. HasJudged check files rules) (λ i. false || (ltb i drills && is_kind_at false all i))
-checking_loaded has all keep rules reader check drills ends stands h =
-    let files = sources all h.files in
-    let same = λ (i : ℕ). views_kind false (copper_entries all) all h.files h.size i ∙ sym (all_below (is_kind_at false all) drills (λ i past. no_entry_past false all i (omega (arith, past, ends))) i) in
+    → HasLoaded has profile all (HasTaken reader keep) (λ i. false || (ltb i drills && is_kind_at false all i)) → HasLoaded has profile all (λ files. HasJudged check files rules) (λ i. false || (ltb i drills && is_kind_at false all i))
+checking_loaded has profile all keep rules reader check drills ends stands h =
+    let files = sources profile all h.files in
+    let same = λ (i : ℕ). views_kind false (setting_in profile all) all h.files h.size i ∙ sym (all_below (is_kind_at false all) drills (λ i past. no_entry_past false all i (omega (arith, past, ends))) i) in
     let tests : taking.is_kind_at false files ≡ (λ i. ltb i drills && is_kind_at false all i) = λ j. λ i. same i j in
     record {
       files = h.files;
@@ -269,24 +270,24 @@ halts_since later has to index entry old middle new le =
     halts_weaker (RefusesLong later index entry) (RefusesLong has index entry) (HasRisen middle new) (HasRisen old new)
     (λ why long. record { bytes = long.bytes; loaded = to entry.file long.bytes long.loaded; long = long.long; is = long.is }) (risen_since old middle new le)
 
-module _ (has : List ℕ → List ℕ → Type 0) (all : List Entry) (Taken : List FileView → (ℕ → Bool) → Type 0) (drills copper : ℕ) (le : copper ≤ drills) (h : HasLoaded has all Taken (done_to all drills copper)) where
+module _ (has : List ℕ → List ℕ → Type 0) (profile : Profile) (all : List Entry) (Taken : List FileView → (ℕ → Bool) → Type 0) (drills copper : ℕ) (le : copper ≤ drills) (h : HasLoaded has profile all Taken (done_to all drills copper)) where
   files_before : HasFiles (within file_limit has) (take copper all) (take copper h.files)
   files_before = has_first (within file_limit has) copper all h.files h.size (λ i e lt at. h.loaded i e (done_below all drills copper i le lt (slice_get_within all i e at)) at)
 
   -- a file above the limit, before which all were loaded
   pub long_refused : (later : List ℕ → List ℕ → Type 0) → ((n b : List ℕ) → later n b → has n b) → (entry : Entry) (why : Refusal) → slice_get all copper ≡ Some entry → RefusesLong later copper entry why
-      → RefusedFile has all why
+      → RefusedFile has profile all why
   long_refused later to entry why at long =
       long_file copper entry (record { files = take copper h.files; before = files_before; at = at; bytes = long.bytes; loaded = to entry.file long.bytes long.loaded; long = long.long }) long.is
 
   -- all files
   pub all_loaded : (All : List FileView → Type 0) → ((files : List FileView) (p : ℕ → Bool) → ((i : ℕ) → i < length files → p i ≡ true) → Taken files p → All files) → length all ≤ copper
-      → (files : List (List ℕ)) × HasFiles (within file_limit has) all files × All (sources all files)
+      → (files : List (List ℕ)) × HasFiles (within file_limit has) all files × All (sources profile all files)
   all_loaded All to past =
-      let n = copper_entries all in (
+      let n = setting_in profile all in (
         h.files,
         has_all,
-        to (sources all h.files) (done_to all drills copper) (λ i lt. let inside : i < length all = omega (arith, lt, views_length n all h.files h.size) in done_below all drills copper i le (omega (arith, inside, past)) inside) h.taken,
+        to (sources profile all h.files) (done_to all drills copper) (λ i lt. let inside : i < length all = omega (arith, lt, views_length n all h.files h.size) in done_below all drills copper i le (omega (arith, inside, past)) inside) h.taken,
       )
     where
       has_all : HasFiles (within file_limit has) all h.files
@@ -296,17 +297,17 @@ module _ (has : List ℕ → List ℕ → Type 0) (all : List Entry) (Taken : Li
 -- ---- two passes
 
 -- the drill files were loaded, and then the copper files
-pub both_passes : (has later : List ℕ → List ℕ → Type 0) → ((n b : List ℕ) → later n b ↔ has n b) → (all first : List Entry) (keep : Keep) (start middle last : PackageReader) (drills copper : ℕ) → AreFirstOf first all
-    → copper_files start ≡ copper_entries all → copper_files middle ≡ copper_files start → ((sources : List FileView) → HasTaken start keep sources (λ i. false))
-    → LoadsKind has all start middle false drills → LoadsKind later first middle last true copper → HasLoaded has all (HasTaken last keep) (done_to all drills copper)
-both_passes has later same all first keep start middle last drills copper among layers stays stands one two =
+pub both_passes : (has later : List ℕ → List ℕ → Type 0) → ((n b : List ℕ) → later n b ↔ has n b) → (profile : Profile) (all first : List Entry) (keep : Keep) (start middle last : PackageReader) (drills copper : ℕ) → AreFirstOf first all
+    → reader_setting start ≡ setting_in profile all → reader_setting middle ≡ reader_setting start → ((sources : List FileView) → HasTaken start keep sources (λ i. false))
+    → LoadsKind has all start middle false drills → LoadsKind later first middle last true copper → HasLoaded has profile all (HasTaken last keep) (done_to all drills copper)
+both_passes has later same profile all first keep start middle last drills copper among layers stays stands one two =
     let done = λ (i : ℕ). false || (ltb i drills && is_kind_at false all i) in
-    let drilled : HasLoaded has all (HasTaken middle keep) done = one all keep (λ i. false) (λ i e at. at) layers (λ i kind. refl) (none_loaded has all (HasTaken start keep) stands) in
-    loaded_along later all has (λ n b. (same n b).0) (HasTaken last keep) (done_to all drills copper)
-    (two all keep done among (stays ∙ layers) (λ i kind. and_right (ltb i drills) (is_kind_at false all i) (one_entry_kind all i kind)) (loaded_along has all later (λ n b. (same n b).1) (HasTaken middle keep) done drilled))
+    let drilled : HasLoaded has profile all (HasTaken middle keep) done = one profile all keep (λ i. false) (λ i e at. at) layers (λ i kind. refl) (none_loaded has profile all (HasTaken start keep) stands) in
+    loaded_along later profile all has (λ n b. (same n b).0) (HasTaken last keep) (done_to all drills copper)
+    (two profile all keep done among (stays ∙ layers) (λ i kind. and_right (ltb i drills) (is_kind_at false all i) (one_entry_kind all i kind)) (loaded_along has profile all later (λ n b. (same n b).1) (HasTaken middle keep) done drilled))
 
-module _ (has later : List ℕ → List ℕ → Type 0) (to : (n b : List ℕ) → later n b → has n b) (all : List Entry) (Taken : List FileView → (ℕ → Bool) → Type 0) (drills copper old middle new : ℕ)
-    (rises : old ≤ middle) (rises_on : middle ≤ new) (inside : drills ≤ length all) (within_first : copper ≤ length (take drills all)) (h : HasLoaded has all Taken (done_to all drills copper)) where
+module _ (has later : List ℕ → List ℕ → Type 0) (to : (n b : List ℕ) → later n b → has n b) (profile : Profile) (all : List Entry) (Taken : List FileView → (ℕ → Bool) → Type 0) (drills copper old middle new : ℕ)
+    (rises : old ≤ middle) (rises_on : middle ≤ new) (inside : drills ≤ length all) (within_first : copper ≤ length (take drills all)) (h : HasLoaded has profile all Taken (done_to all drills copper)) where
   size : length (take drills all) ≡ drills
   size = length-take-le drills all inside
 
@@ -314,24 +315,24 @@ module _ (has later : List ℕ → List ℕ → Type 0) (to : (n b : List ℕ) �
   below = omega (arith, size, within_first)
 
   pub passes_halt : (first second : Option Halt) (stop : Halt) → EndsAt has all (HasRisen old middle) drills first → EndsAt later (take drills all) (HasRisen middle new) copper second → option_or second first ≡ Some stop
-      → Halts (RefusedFile has all) (HasRisen old new) stop
+      → Halts (RefusedFile has profile all) (HasRisen old new) stop
   passes_halt first (Some s) stop before (entry, at, halts) is =
-      subst (Halts (RefusedFile has all) (HasRisen old new)) (same_Some s stop is)
-      (halts_weaker (RefusesLong later copper entry) (RefusedFile has all) (HasRisen middle new) (HasRisen old new)
-      (λ why long. long_refused has all Taken drills copper below h later to entry why (first_of drills all copper entry at) long) (risen_since old middle new rises) s halts)
+      subst (Halts (RefusedFile has profile all) (HasRisen old new)) (same_Some s stop is)
+      (halts_weaker (RefusesLong later copper entry) (RefusedFile has profile all) (HasRisen middle new) (HasRisen old new)
+      (λ why long. long_refused has profile all Taken drills copper below h later to entry why (first_of drills all copper entry at) long) (risen_since old middle new rises) s halts)
   passes_halt (Some s) None stop (entry, at, halts) ends is =
       let same : drills ≡ copper = sym (ends ∙ size) in
-      subst (Halts (RefusedFile has all) (HasRisen old new)) (same_Some s stop is)
-      (halts_weaker (RefusesLong has drills entry) (RefusedFile has all) (HasRisen old middle) (HasRisen old new)
-      (λ why long. long_refused has all Taken drills copper below h has (λ n b held. held) entry why (subst (λ (k : ℕ). slice_get all k ≡ Some entry) same at)
+      subst (Halts (RefusedFile has profile all) (HasRisen old new)) (same_Some s stop is)
+      (halts_weaker (RefusesLong has drills entry) (RefusedFile has profile all) (HasRisen old middle) (HasRisen old new)
+      (λ why long. long_refused has profile all Taken drills copper below h has (λ n b held. held) entry why (subst (λ (k : ℕ). slice_get all k ≡ Some entry) same at)
       (subst (λ (k : ℕ). RefusesLong has k entry why) same long)) (risen_by old middle new rises rises_on) s halts)
   passes_halt None None stop before ends is = absurd (none-some stop is)
 
   pub passes_all : (All : List FileView → Type 0) → ((files : List FileView) (p : ℕ → Bool) → ((i : ℕ) → i < length files → p i ≡ true) → Taken files p → All files) → (first second : Option Halt) → EndsAt has all (HasRisen old middle) drills first → EndsAt later (take drills all) (HasRisen middle new) copper second → option_or second first ≡ None
-      → (files : List (List ℕ)) × HasFiles (within file_limit has) all files × All (sources all files)
+      → (files : List (List ℕ)) × HasFiles (within file_limit has) all files × All (sources profile all files)
   passes_all All to first (Some s) before ends is = absurd cc
   passes_all All to (Some s) None before ends is = absurd cc
-  passes_all All to None None before ends is = all_loaded has all Taken drills copper below h All to (omega (arith, before, ends, size))
+  passes_all All to None None before ends is = all_loaded has profile all Taken drills copper below h All to (omega (arith, before, ends, size))
 
 -- the first of two halts, where there is the second
 pub or_default : (o : Option Halt) (h : Halt) → option_or o (Some h) ≡ Some (unwrap_or o h)
@@ -340,29 +341,32 @@ or_default (Some x) h = refl
 
 -- all drill files were loaded, and then the copper files, which a check has taken
 pub check_passes : (has later : List ℕ → List ℕ → Type 0) → ((n b : List ℕ) → later n b ↔ has n b) → (all : List Entry) (keep : Keep) (rules : GridRules) (start middle : PackageReader) (check last : CheckView) (drills copper : ℕ)
-    → drills ≡ length all → copper_files start ≡ copper_entries all → copper_files middle ≡ copper_files start → check.layers ≡ copper_files middle → ((sources : List FileView) → HasTaken start keep sources (λ i. false))
+    → drills ≡ length all → reader_setting start ≡ setting_in rules.profile all → reader_setting middle ≡ reader_setting start → check.layers ≡ (reader_setting middle).layers → ((sources : List FileView) → HasTaken start keep sources (λ i. false))
     → LoadsKind has all start middle false drills → ((files : List FileView) → HasTaken middle keep files (taking.is_kind_at false files) → HasJudged check files rules (taking.is_kind_at false files))
-    → LoadsCopperTo later all check last copper → HasLoaded has all (λ files. HasJudged last files rules) (done_to all drills copper)
+    → LoadsCopperTo later all check last copper → HasLoaded has rules.profile all (λ files. HasJudged last files rules) (done_to all drills copper)
 check_passes has later same all keep rules start middle check last drills copper ends layers stays counted stands one goes two =
     let done = λ (i : ℕ). false || (ltb i drills && is_kind_at false all i) in
-    let drilled : HasLoaded has all (HasTaken middle keep) done = one all keep (λ i. false) (λ i e at. at) layers (λ i kind. refl) (none_loaded has all (HasTaken start keep) stands) in
-    let checked : HasLoaded has all (λ files. HasJudged check files rules) done = checking_loaded has all keep rules middle check drills ends goes drilled in
-    loaded_along later all has (λ n b. (same n b).0) (λ files. HasJudged last files rules) (done_to all drills copper)
-    (two rules done (counted ∙ (stays ∙ layers)) (λ i kind. and_right (ltb i drills) (is_kind_at false all i) (one_entry_kind all i kind))
-    (loaded_along has all later (λ n b. (same n b).1) (λ files. HasJudged check files rules) done checked))
+    let drilled : HasLoaded has rules.profile all (HasTaken middle keep) done = one rules.profile all keep (λ i. false) (λ i e at. at) layers (λ i kind. refl) (none_loaded has rules.profile all (HasTaken start keep) stands) in
+    let checked : HasLoaded has rules.profile all (λ files. HasJudged check files rules) done = checking_loaded has rules.profile all keep rules middle check drills ends goes drilled in
+    let count : check.layers ≡ (setting_in rules.profile all).layers = counted ∙ ap (λ (s : Setting). s.layers) (stays ∙ layers) in
+    let profile : check.rules.profile ≡ rules.profile = ap (λ (r : GridRules). r.profile) checked.taken.same_rules in
+    let read_in : setting_of check ≡ setting_in rules.profile all = λ j. let s : Setting = record { layers = count j; profile = profile j } in s in
+    loaded_along later rules.profile all has (λ n b. (same n b).0) (λ files. HasJudged last files rules) (done_to all drills copper)
+    (two rules.profile rules done read_in (λ i kind. and_right (ltb i drills) (is_kind_at false all i) (one_entry_kind all i kind))
+    (loaded_along has rules.profile all later (λ n b. (same n b).1) (λ files. HasJudged check files rules) done checked))
 
 -- what came of the copper files is what came of all, where all drill files were loaded before
 pub all_checked : (has later : List ℕ → List ℕ → Type 0) → ((n b : List ℕ) → later n b ↔ has n b) → (all : List Entry) (keep : Keep) (rules : GridRules) (start middle : PackageReader) (check : CheckView) (drills old between new : ℕ) → drills ≡ length all
-    → copper_files start ≡ copper_entries all → copper_files middle ≡ copper_files start → check.layers ≡ copper_files middle → ((sources : List FileView) → HasTaken start keep sources (λ i. false))
+    → reader_setting start ≡ setting_in rules.profile all → reader_setting middle ≡ reader_setting start → check.layers ≡ (reader_setting middle).layers → ((sources : List FileView) → HasTaken start keep sources (λ i. false))
     → LoadsKind has all start middle false drills → ((files : List FileView) → HasTaken middle keep files (taking.is_kind_at false files) → HasJudged check files rules (taking.is_kind_at false files))
-    → old ≤ between → (r : Result CheckView Halt) → OfCheckedCopper later all check (HasRisen between new) r → OfFiles has all (HasRisen old new) (λ it files. HasJudgedAll it files rules) r
+    → old ≤ between → (r : Result CheckView Halt) → OfCheckedCopper later all check (HasRisen between new) r → OfFiles has rules.profile all (HasRisen old new) (λ it files. HasJudgedAll it files rules) r
 all_checked has later same all keep rules start middle check drills old between new ends layers stays counted stands one goes rises (Ok last) two =
     let Taken = λ (files : List FileView) (done : ℕ → Bool). HasJudged last files rules done in
     let loaded = check_passes has later same all keep rules start middle check last drills (length all) ends layers stays counted stands one goes two in
-    all_loaded has all Taken drills (length all) (omega (arith, ends)) loaded (λ files. HasJudgedAll last files rules) (λ files p. judged_all last files rules p) (omega arith)
+    all_loaded has rules.profile all Taken drills (length all) (omega (arith, ends)) loaded (λ files. HasJudgedAll last files rules) (λ files p. judged_all last files rules p) (omega arith)
 all_checked has later same all keep rules start middle check drills old between new ends layers stays counted stands one goes rises (Err stop) (copper, (entry, at, halts), last, two) =
     let Taken = λ (files : List FileView) (done : ℕ → Bool). HasJudged last files rules done in
     let loaded = check_passes has later same all keep rules start middle check last drills copper ends layers stays counted stands one goes two in
     let inside = slice_get_within all copper entry at in
-    halts_weaker (RefusesLong later copper entry) (RefusedFile has all) (HasRisen between new) (HasRisen old new)
-    (λ why long. long_refused has all Taken drills copper (omega (arith, ends, inside)) loaded later (λ n b. (same n b).0) entry why at long) (risen_since old between new rises) stop halts
+    halts_weaker (RefusesLong later copper entry) (RefusedFile has rules.profile all) (HasRisen between new) (HasRisen old new)
+    (λ why long. long_refused has rules.profile all Taken drills copper (omega (arith, ends, inside)) loaded later (λ n b. (same n b).0) entry why at long) (risen_since old between new rises) stop halts

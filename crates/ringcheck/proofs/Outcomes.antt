@@ -2,15 +2,16 @@
 use Rattle.std.proofs.Common.{◌≡◌, ◌∙◌, ◌<◌, ◌≤◌, ◌∷◌, [], inl, inr, ℕ, zero, suc, Bool, true, false, List, Option, Some, Result, Ok, Err, IfOk, length, map, take, arith, refl, subst, sym}
 use Rattle.std.specs.Prelude.{◌==◌, ◌&&◌, slice_get}
 use Rattle.std.specs.Borrow.{Bor}
-use Rattle.std.specs.List.{count_by}
+use Rattle.std.specs.List.{AllByRecursion}
 use Rattle.std.proofs.lemmas.Bool.{eqb-true, false≢true}
 use Rattle.std.proofs.lemmas.List.{nil_from_length}
 use Rattle.std.proofs.lemmas.Option.{none-some, same_Some}
 use Rattle.std.proofs.lemmas.Result.{IfOk-weaker}
 use Rattle.grid_units.specs.Holes.{GridRules}
+use Rattle.grid_units.specs.declared.profile.Profile.{Profile}
 use Rattle.manifest.specs.declared.Entry.{Entry}
 use Rattle.manifest.specs.Manifest.{manifest}
-use Rattle.package_check.specs.Package.{FileView, is_copper}
+use Rattle.package_check.specs.Package.{FileView}
 use Rattle.package_check.specs.SoundnessAsRead.{AreLegal}
 use Rattle.ringcheck_files.specs.declared.Status.{Status}
 use Rattle.ringcheck_files.specs.declared.Status.TheVariants as status
@@ -22,8 +23,8 @@ use Rattle.ringcheck.specs.declared.refusals.Halt.TheVariants as halt
 use Rattle.ringcheck.specs.declared.refusals.RefusalStyle.{RefusalStyle}
 use Rattle.ringcheck.specs.Inner.Halting.{AfterHalt, Halts, OfFiles, OfTaken, refusal, refusal_of}
 use Rattle.ringcheck.specs.Refusals.{Refusal, PrintsRefusal, of_archive}
-use Rattle.ringcheck.specs.CheckStatus.{HasFiles, HasTable, HoldsForPackage, RefusedFile, IsPackageRefusal, SaysPackage, Checks, IsCheckStatus, IsLegalStatus, bad_file, long_file, refused_file, refused_manifest, sources, status_of}
-use Rattle.ringcheck.proofs.LoadSteps.{has_files_along, names_among, same_length}
+use Rattle.ringcheck.specs.CheckStatus.{HasFiles, HasTable, HoldsForPackage, RefusedFile, IsPackageRefusal, SaysPackage, Checks, IsCheckStatus, IsLegalStatus, bad_file, long_file, refused_file, refused_manifest, setting_in, sources, status_of}
+use Rattle.ringcheck.proofs.LoadSteps.{has_files_along, names_among, read_in, same_length}
 
 -- ---- findings
 
@@ -49,31 +50,32 @@ source_at (s ∷ ss) zero lt = (s, refl, refl)
 source_at (s ∷ ss) (suc i) lt = source_at ss i (omega (arith, lt))
 
 -- the names of files that were loaded are those of their entries
-pub named : (has : List ℕ → List ℕ → Type 0) (entries : List Entry) (files : List (List ℕ)) (names : List (Bor (List ℕ))) → HasFiles has entries files
-    → map (λ (n : Bor (List ℕ)). n.now) names ≡ map (λ (e : Entry). e.name) entries → map (λ (n : Bor (List ℕ)). n.now) names ≡ map (λ (s : FileView). s.name) (sources entries files)
-named has entries files names held same = same ∙ sym (names_among (count_by (λ (e : Entry). is_copper e.role) entries) entries files (same_length has entries files held))
+pub named : (has : List ℕ → List ℕ → Type 0) (profile : Profile) (entries : List Entry) (files : List (List ℕ)) (names : List (Bor (List ℕ))) → HasFiles has entries files
+    → map (λ (n : Bor (List ℕ)). n.now) names ≡ map (λ (e : Entry). e.name) entries → map (λ (n : Bor (List ℕ)). n.now) names ≡ map (λ (s : FileView). s.name) (sources profile entries files)
+named has profile entries files names held same = same ∙ sym (names_among (setting_in profile entries) entries files (same_length has entries files held))
 
 -- ---- what came of files
 
-module _ (has : List ℕ → List ℕ → Type 0) (entries : List Entry) (Risen : Type 0) (Holds : Bool → List FileView → Type 0) (files : List (List ℕ)) (held : HasFiles (within file_limit has) entries files) where
-  of_taken : (done : Result Bool Halt) → OfTaken Holds (sources entries files) done → OfFiles has entries Risen Holds done
+module _ (has : List ℕ → List ℕ → Type 0) (profile : Profile) (entries : List Entry) (Risen : Type 0) (Holds : Bool → List FileView → Type 0) (files : List (List ℕ)) (held : HasFiles (within file_limit has) entries files) where
+  of_taken : (done : Result Bool Halt) → OfTaken Holds (sources profile entries files) done → OfFiles has profile entries Risen Holds done
   of_taken (Ok passes) h = (files, held, h)
   of_taken (Err (halt.Refused what why)) h = bad_file files held h
   of_taken (Err (halt.Archive what why name)) h = bad_file files held h
   of_taken (Err (halt.Unread what)) h = absurd h
 
   -- files were loaded, and a reader has taken them
-  pub taken : (r : Result (Result Bool Halt) Failure) → IfOk r (OfTaken Holds (sources entries files)) → IfOk r (OfFiles has entries Risen Holds)
-  taken r h = IfOk-weaker r (OfTaken Holds (sources entries files)) (OfFiles has entries Risen Holds) of_taken h
+  pub taken : (r : Result (Result Bool Halt) Failure) → IfOk r (OfTaken Holds (sources profile entries files)) → IfOk r (OfFiles has profile entries Risen Holds)
+  taken r h = IfOk-weaker r (OfTaken Holds (sources profile entries files)) (OfFiles has profile entries Risen Holds) of_taken h
 
 -- files were loaded, and something was done with the reader that has taken them
-module _ (has : List ℕ → List ℕ → Type 0) (entries : List Entry) (Risen : Type 0) (Holds : Bool → List FileView → Type 0) where
+module _ (has : List ℕ → List ℕ → Type 0) (profile : Profile) (entries : List Entry) (Risen : Type 0) (Holds : Bool → List FileView → Type 0) where
   pub done_with : {R : Type 0} (stands : R → List FileView → Type 0) (reader : R) (names : List (Bor (List ℕ))) → map (λ (n : Bor (List ℕ)). n.now) names ≡ map (λ (e : Entry). e.name) entries
-      → OfFiles has entries Risen stands (Ok reader) → (r : Result (Result Bool Halt) Failure)
-      → ((all : List FileView) → map (λ (n : Bor (List ℕ)). n.now) names ≡ map (λ (s : FileView). s.name) all → stands reader all → IfOk r (OfTaken Holds all))
-      → IfOk r (OfFiles has entries Risen Holds)
+      → OfFiles has profile entries Risen stands (Ok reader) → (r : Result (Result Bool Halt) Failure)
+      → ((all : List FileView) → map (λ (n : Bor (List ℕ)). n.now) names ≡ map (λ (s : FileView). s.name) all → AllByRecursion (λ (s : FileView). s.setting.profile ≡ profile) all → stands reader all → IfOk r (OfTaken Holds all))
+      → IfOk r (OfFiles has profile entries Risen Holds)
   done_with stands reader names same (files, held, stood) r answered =
-      taken has entries Risen Holds files held r (answered (sources entries files) (named (within file_limit has) entries files names held same) stood)
+      taken has profile entries Risen Holds files held r
+      (answered (sources profile entries files) (named (within file_limit has) profile entries files names held same) (read_in (setting_in profile entries) entries files) stood)
 
 -- a halt with this refusal
 pub halts_of : (Is : Refusal → Type 0) (Risen : Type 0) (h : Halt) (why : Refusal) → refusal_of h ≡ Some why → Is why → Halts Is Risen h
@@ -103,25 +105,25 @@ module _ (later has : List ℕ → List ℕ → Type 0) (to : (n b : List ℕ) �
   pub files_along : (entries : List Entry) (files : List (List ℕ)) → HasFiles (within file_limit later) entries files → HasFiles (within file_limit has) entries files
   files_along entries files h = has_files_along (within file_limit later) (within file_limit has) (λ n b w. (to n b w.0, w.1)) entries files h
 
-  pub file_along : (entries : List Entry) (why : Refusal) → RefusedFile later entries why → RefusedFile has entries why
-  file_along entries why (long_file index entry h is) =
+  pub file_along : (profile : Profile) (entries : List Entry) (why : Refusal) → RefusedFile later profile entries why → RefusedFile has profile entries why
+  file_along profile entries why (long_file index entry h is) =
       long_file index entry
       (record { files = h.files; before = files_along (take index entries) h.files h.before; at = h.at; bytes = h.bytes; loaded = to entry.file h.bytes h.loaded; long = h.long }) is
-  file_along entries why (bad_file files held refused) = bad_file files (files_along entries files held) refused
+  file_along profile entries why (bad_file files held refused) = bad_file files (files_along entries files held) refused
 
-  module _ (name : List ℕ) where
+  module _ (profile : Profile) (name : List ℕ) where
     listed_along : (entries : List Entry) → HasTable manifest later name entries → HasTable manifest has name entries
     listed_along entries h = (h.0, to name h.0 h.1, h.2, h.3)
 
-    package_along : (Holds : List FileView → Type 0) → HoldsForPackage later name Holds → HoldsForPackage has name Holds
+    package_along : (Holds : List FileView → Type 0) → HoldsForPackage later profile name Holds → HoldsForPackage has profile name Holds
     package_along Holds h = record { entries = h.entries; listed = listed_along h.entries h.listed; files = h.files; loaded = files_along h.entries h.files h.loaded; holds = h.holds }
 
-    refused_along : (why : Refusal) → IsPackageRefusal later name why → IsPackageRefusal has name why
+    refused_along : (why : Refusal) → IsPackageRefusal later profile name why → IsPackageRefusal has profile name why
     refused_along why (refused_manifest h) = refused_manifest (h.0, to name h.0 h.1, h.2)
-    refused_along why (refused_file entries listed file) = refused_file entries (listed_along entries listed) (file_along entries why file)
+    refused_along why (refused_file entries listed file) = refused_file entries (listed_along entries listed) (file_along profile entries why file)
 
-    pub says_along : (Holds : Bool → List FileView → Type 0) (refusal_style : RefusalStyle) (before after : Option (List ℕ)) (s : Status) → SaysPackage later name Holds refusal_style before after s
-        → SaysPackage has name Holds refusal_style before after s
+    pub says_along : (Holds : Bool → List FileView → Type 0) (refusal_style : RefusalStyle) (before after : Option (List ℕ)) (s : Status) → SaysPackage later profile name Holds refusal_style before after s
+        → SaysPackage has profile name Holds refusal_style before after s
     says_along Holds refusal_style before after status.Pass h = package_along (Holds true) h
     says_along Holds refusal_style before after status.Findings h = package_along (Holds false) h
     says_along Holds refusal_style before after status.Refused h = record { why = h.why; refused = refused_along h.why h.refused; printed = h.printed }
@@ -129,20 +131,20 @@ module _ (later has : List ℕ → List ℕ → Type 0) (to : (n b : List ℕ) �
     says_along Holds refusal_style before after status.Device h = tt
 
 -- a command passes on a package, or has findings
-pub worked : (has : List ℕ → List ℕ → Type 0) (name : List ℕ) (Holds : Bool → List FileView → Type 0) (refusal_style : RefusalStyle) (before after : Option (List ℕ)) (entries : List Entry) (files : List (List ℕ))
-    → HasTable manifest has name entries → HasFiles (within file_limit has) entries files → (passes : Bool) → Holds passes (sources entries files)
-    → SaysPackage has name Holds refusal_style before after (status_of passes)
-worked has name Holds refusal_style before after entries files listed loaded true h = record { entries = entries; listed = listed; files = files; loaded = loaded; holds = h }
-worked has name Holds refusal_style before after entries files listed loaded false h = record { entries = entries; listed = listed; files = files; loaded = loaded; holds = h }
+pub worked : (has : List ℕ → List ℕ → Type 0) (profile : Profile) (name : List ℕ) (Holds : Bool → List FileView → Type 0) (refusal_style : RefusalStyle) (before after : Option (List ℕ)) (entries : List Entry) (files : List (List ℕ))
+    → HasTable manifest has name entries → HasFiles (within file_limit has) entries files → (passes : Bool) → Holds passes (sources profile entries files)
+    → SaysPackage has profile name Holds refusal_style before after (status_of passes)
+worked has profile name Holds refusal_style before after entries files listed loaded true h = record { entries = entries; listed = listed; files = files; loaded = loaded; holds = h }
+worked has profile name Holds refusal_style before after entries files listed loaded false h = record { entries = entries; listed = listed; files = files; loaded = loaded; holds = h }
 
 -- what holds of all files of which something else holds, holds of a package
-package_weaker : (has : List ℕ → List ℕ → Type 0) (name : List ℕ) (P Q : List FileView → Type 0) → ((all : List FileView) → P all → Q all) → HoldsForPackage has name P → HoldsForPackage has name Q
-package_weaker has name P Q weaker h = record { entries = h.entries; listed = h.listed; files = h.files; loaded = h.loaded; holds = weaker (sources h.entries h.files) h.holds }
+package_weaker : (has : List ℕ → List ℕ → Type 0) (profile : Profile) (name : List ℕ) (P Q : List FileView → Type 0) → ((all : List FileView) → P all → Q all) → HoldsForPackage has profile name P → HoldsForPackage has profile name Q
+package_weaker has profile name P Q weaker h = record { entries = h.entries; listed = h.listed; files = h.files; loaded = h.loaded; holds = weaker (sources profile h.entries h.files) h.holds }
 
 -- of a package that was checked each file is of the profile
-pub checked_is_legal : (has : List ℕ → List ℕ → Type 0) (name : List ℕ) (rules : GridRules) (before after : Option (List ℕ)) (s : Status) → IsCheckStatus has name rules before after s → IsLegalStatus has name s
-checked_is_legal has name rules before after status.Pass h = package_weaker has name (Checks rules before after true) AreLegal (λ all c. (c.is.contents, c.is.read)) h
-checked_is_legal has name rules before after status.Findings h = package_weaker has name (Checks rules before after false) AreLegal (λ all c. (c.is.contents, c.is.read)) h
+pub checked_is_legal : (has : List ℕ → List ℕ → Type 0) (name : List ℕ) (rules : GridRules) (before after : Option (List ℕ)) (s : Status) → IsCheckStatus has name rules before after s → IsLegalStatus has rules.profile name s
+checked_is_legal has name rules before after status.Pass h = package_weaker has rules.profile name (Checks rules before after true) AreLegal (λ all c. (c.is.contents, c.is.read)) h
+checked_is_legal has name rules before after status.Findings h = package_weaker has rules.profile name (Checks rules before after false) AreLegal (λ all c. (c.is.contents, c.is.read)) h
 checked_is_legal has name rules before after status.Refused h = tt
 checked_is_legal has name rules before after status.Usage h = tt
 checked_is_legal has name rules before after status.Device h = tt

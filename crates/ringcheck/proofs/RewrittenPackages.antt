@@ -3,12 +3,17 @@ use Rattle.std.proofs.Common.{◌≡◌, ◌↔◌, ℕ, Bool, true, false, List
 use Rattle.grid_units.specs.Holes.{GridHole}
 use Rattle.grid_units.specs.Spans.{LayerSpan}
 use Rattle.grid_units.specs.declared.fault.Fault.{Fault}
+use Rattle.grid_units.specs.declared.profile.Profile.{Profile}
+use Rattle.grid_units.specs.declared.profile.Profile.TheVariants.{Strict, Wide}
+use Rattle.gerber_text.specs.Writing.{without_places}
 use Rattle.drill_lines.specs.declared.command.DrillCommand.{DrillCommand}
 use Rattle.drill_text.specs.Holes.{holes_of}
+use Rattle.drill_text.specs.Profiles.{ReadsIn}
 use Rattle.drill_text.specs.Reading as drills
 use Rattle.drill_text.specs.Texts.{IsDrillText}
 use Rattle.layer_image.specs.Layers as layers
 use Rattle.layer_image.specs.Layers.{LayerImage, EqualCommands}
+use Rattle.wide_layers.specs.WideLayers.{wide_image_of}
 use Rattle.manifest.specs.declared.Role.{Role}
 use Rattle.manifest.specs.declared.Role.TheVariants as role
 use Rattle.single_files.specs.declared.kind.Kind.TheVariants as kind
@@ -16,22 +21,29 @@ use Rattle.single_files.specs.Rewriting.{HaveSameCommands, KeepsCommands}
 use Rattle.package_check.specs.declared.contents.Content.{Content}
 use Rattle.package_check.specs.declared.contents.Content.TheVariants as content
 use Rattle.package_check.specs.LayerViews.{LayerView}
-use Rattle.package_check.specs.FileTexts.{ReadsLayer, ReadsDrill, layer_view}
-use Rattle.package_check.specs.Package.{FileView, ReadsBytes, ReadsUnlessBadSpan, ReadsCopper, ReadsHoles, is_bad_span}
+use Rattle.package_check.specs.FileTexts.{HasLayerView, ReadsDrill, layer_view}
+use Rattle.package_check.specs.Package.{FileView, ReadsBytes, ReadsUnlessBadSpan, ReadsCopper, ReadsHoles, Setting, is_bad_span}
 use Rattle.package_check.specs.AlikePackages.{ReadAlike, AllReadAlike, SameAnswers}
 use Rattle.ringcheck.specs.RewrittenPackages.{kind_of, with_bytes, IsRewritten, AreRewritten, RewritingKeepsAnswers}
 
-module _ (layer_once : layers.ReadingIsUnique) (equal : EqualCommands)
+module _ (layer_once : layers.ReadingIsUniqueIn) (layer_wide : layers.WideReadsMore) (equal : EqualCommands)
     (drill_once : (text : List ℕ) (a b : Result (List DrillCommand) Fault) → drills.Reads text a → drills.Reads text b → a ≡ b)
+    (drill_once_in : (profile : Profile) (text : List ℕ) (a b : Result (List DrillCommand) Fault) → ReadsIn profile text a → ReadsIn profile text b → a ≡ b)
+    (drill_wide : (text : List ℕ) (commands : List DrillCommand) → drills.Reads text (Ok commands) → ReadsIn Wide text (Ok commands))
     (texts : (text : List ℕ) (commands : List DrillCommand) → (drills.Reads text (Ok commands)) ↔ (IsDrillText text commands)) (keeps : KeepsCommands) where
   other_kind : (s t : List ℕ) → HaveSameCommands kind.Layer s t → HaveSameCommands kind.Layer t s
   other_kind s t h = (h.1, h.0, h.3, h.2, sym h.4)
 
-  same_layer : (s : List ℕ) (a b : LayerImage) → layers.ReadsLayer s (Ok a) → layers.ReadsLayer s (Ok b) → a ≡ b
-  same_layer s a b h k = let e : (let x : Result LayerImage Fault = Ok a in let y : Result LayerImage Fault = Ok b in x ≡ y) = layer_once s (Ok a) (Ok b) h k in cc
+  -- a layer of the strict profile is the same in each
+  in_any : (profile : Profile) (s : List ℕ) (a : LayerImage) → layers.ReadsLayer s (Ok a) → layers.ReadsLayerIn profile s (Ok a)
+  in_any Strict s a h = h
+  in_any Wide s a h = layer_wide s a h
 
-  no_fault : (s : List ℕ) (a : LayerImage) (f : Fault) → layers.ReadsLayer s (Ok a) → layers.ReadsLayer s (Err f) → ⊥
-  no_fault s a f h k = let e : (let x : Result LayerImage Fault = Ok a in let y : Result LayerImage Fault = Err f in x ≡ y) = layer_once s (Ok a) (Err f) h k in cc
+  same_layer : (profile : Profile) (s : List ℕ) (a b : LayerImage) → layers.ReadsLayerIn profile s (Ok a) → layers.ReadsLayer s (Ok b) → a ≡ b
+  same_layer profile s a b h k = let e : (let x : Result LayerImage Fault = Ok a in let y : Result LayerImage Fault = Ok b in x ≡ y) = layer_once profile s (Ok a) (Ok b) h (in_any profile s b k) in cc
+
+  no_fault : (profile : Profile) (s : List ℕ) (a : LayerImage) (f : Fault) → layers.ReadsLayer s (Ok a) → layers.ReadsLayerIn profile s (Err f) → ⊥
+  no_fault profile s a f h k = let e : (let x : Result LayerImage Fault = Ok a in let y : Result LayerImage Fault = Err f in x ≡ y) = layer_once profile s (Ok a) (Err f) (in_any profile s a h) k in cc
 
   -- layers of equal commands show the check the same
   same_seen : (s t : List ℕ) (h : HaveSameCommands kind.Layer s t) → layer_view h.0 ≡ layer_view h.1
@@ -39,14 +51,17 @@ module _ (layer_once : layers.ReadingIsUnique) (equal : EqualCommands)
       let e = equal s t h.0 h.1 h.2 h.3 h.4 in
       λ i. layer_view (record { commands = h.1.commands; flashes = e.0 i; pads = e.1 i; pad_count = h.1.pad_count; other = e.3 i; file_function = e.2 i })
 
-  layer_same : (s t : List ℕ) → HaveSameCommands kind.Layer s t → (image : LayerView) → ReadsLayer s (Ok image) → ReadsLayer t (Ok image)
-  layer_same s t h image k = (h.1, h.3, k.2 ∙ (ap layer_view (same_layer s k.0 h.0 k.1 h.2) ∙ same_seen s t h))
+  layer_same : (profile : Profile) (s t : List ℕ) → HaveSameCommands kind.Layer s t → (view : LayerView) → HasLayerView profile s view → HasLayerView profile t view
+  layer_same Strict s t h view k = (h.1, h.3, k.2 ∙ (ap layer_view (same_layer Strict s k.0 h.0 k.1 h.2) ∙ same_seen s t h))
+  layer_same Wide s t h view k =
+      let same = same_layer Wide s k.1.0 h.0 k.1.1 h.2 in
+      (k.0, (h.1, in_any Wide t h.1 h.3, k.1.2 ∙ (ap (λ (l : LayerImage). wide_image_of (without_places l.commands)) same ∙ ap wide_image_of h.4)), k.2)
 
-  copper_same : (s t : List ℕ) → HaveSameCommands kind.Layer s t → (answer : Result Content Fault) → ReadsCopper s answer → ReadsCopper t answer
-  copper_same s t h (Ok (content.Layer image)) k = (layer_same s t h image k.0, k.1)
-  copper_same s t h (Ok (content.Drill plated span holes)) k = absurd k
-  copper_same s t h (Err f) (inl k) = absurd (no_fault s h.0 f h.2 k)
-  copper_same s t h (Err f) (inr k) = inr (k.0, layer_same s t h k.0 k.1, k.2, k.3)
+  copper_same : (profile : Profile) (s t : List ℕ) → HaveSameCommands kind.Layer s t → (answer : Result Content Fault) → ReadsCopper profile s answer → ReadsCopper profile t answer
+  copper_same profile s t h (Ok (content.Layer image)) k = (layer_same profile s t h image k.0, k.1)
+  copper_same profile s t h (Ok (content.Drill plated span holes)) k = absurd k
+  copper_same profile s t h (Err f) (inl k) = absurd (no_fault profile s h.0 f h.2 k)
+  copper_same profile s t h (Err f) (inr k) = inr (k.0, layer_same profile s t h k.0 k.1, k.2, k.3)
 
   other_drill : (s t : List ℕ) → HaveSameCommands kind.Drill s t → HaveSameCommands kind.Drill t s
   other_drill s t h = (h.0, h.2, h.1)
@@ -54,26 +69,35 @@ module _ (layer_once : layers.ReadingIsUnique) (equal : EqualCommands)
   same_commands : (s : List ℕ) (a b : List DrillCommand) → IsDrillText s a → IsDrillText s b → a ≡ b
   same_commands s a b h k = let e : (let x : Result (List DrillCommand) Fault = Ok a in let y : Result (List DrillCommand) Fault = Ok b in x ≡ y) = drill_once s (Ok a) (Ok b) ((texts s a).1 h) ((texts s b).1 k) in cc
 
-  no_drill_fault : (s : List ℕ) (a : List DrillCommand) (f : Fault) → IsDrillText s a → drills.Reads s (Err f) → ⊥
-  no_drill_fault s a f h k = let e : (let x : Result (List DrillCommand) Fault = Ok a in let y : Result (List DrillCommand) Fault = Err f in x ≡ y) = drill_once s (Ok a) (Err f) ((texts s a).1 h) k in cc
+  -- a drill text of the strict profile is the same in the wide one
+  in_wide : (s : List ℕ) (a : List DrillCommand) → IsDrillText s a → ReadsIn Wide s (Ok a)
+  in_wide s a h = drill_wide s a ((texts s a).1 h)
 
-  drill_same : (s t : List ℕ) → HaveSameCommands kind.Drill s t → (holes : List GridHole) → ReadsDrill s (Ok holes) → ReadsDrill t (Ok holes)
-  drill_same s t h holes k = (h.0, h.2, k.2 ∙ ap holes_of (same_commands s k.0 h.0 k.1 h.1))
+  same_wide : (s : List ℕ) (a b : List DrillCommand) → ReadsIn Wide s (Ok a) → IsDrillText s b → a ≡ b
+  same_wide s a b h k = let e : (let x : Result (List DrillCommand) Fault = Ok a in let y : Result (List DrillCommand) Fault = Ok b in x ≡ y) = drill_once_in Wide s (Ok a) (Ok b) h (in_wide s b k) in cc
 
-  holes_same : (plated : Bool) (span : Option LayerSpan) (s t : List ℕ) → HaveSameCommands kind.Drill s t → (answer : Result Content Fault) → ReadsHoles plated span s answer → ReadsHoles plated span t answer
-  holes_same plated span s t h (Ok (content.Layer image)) k = absurd k
-  holes_same plated span s t h (Ok (content.Drill has through holes)) k = (drill_same s t h holes k.0, k.1, k.2)
-  holes_same plated span s t h (Err f) k = absurd (no_drill_fault s h.0 f h.1 k)
+  no_drill_fault : (profile : Profile) (s : List ℕ) (a : List DrillCommand) (f : Fault) → IsDrillText s a → ReadsDrill profile s (Err f) → ⊥
+  no_drill_fault Strict s a f h k = let e : (let x : Result (List DrillCommand) Fault = Ok a in let y : Result (List DrillCommand) Fault = Err f in x ≡ y) = drill_once s (Ok a) (Err f) ((texts s a).1 h) k in cc
+  no_drill_fault Wide s a f h k = let e : (let x : Result (List DrillCommand) Fault = Ok a in let y : Result (List DrillCommand) Fault = Err f in x ≡ y) = drill_once_in Wide s (Ok a) (Err f) (in_wide s a h) k in cc
 
-  same_bytes : (r : Role) (name : List ℕ) (span : Option LayerSpan) (n : ℕ) (s t : List ℕ) → HaveSameCommands (kind_of r) s t → (answer : Result Content Fault)
-      → ReadsBytes (record { role = r; name = name; span = span; bytes = s; layers = n }) answer ↔ ReadsBytes (record { role = r; name = name; span = span; bytes = t; layers = n }) answer
-  same_bytes role.Copper name span n s t h answer = (copper_same s t h answer, copper_same t s (other_kind s t h) answer)
-  same_bytes role.Plated name span n s t h answer = (holes_same true span s t h answer, holes_same true span t s (other_drill s t h) answer)
-  same_bytes role.Unplated name span n s t h answer = (holes_same false span s t h answer, holes_same false span t s (other_drill s t h) answer)
+  drill_same : (profile : Profile) (s t : List ℕ) → HaveSameCommands kind.Drill s t → (holes : List GridHole) → ReadsDrill profile s (Ok holes) → ReadsDrill profile t (Ok holes)
+  drill_same Strict s t h holes k = (h.0, h.2, k.2 ∙ ap holes_of (same_commands s k.0 h.0 k.1 h.1))
+  drill_same Wide s t h holes k = (h.0, in_wide t h.0 h.2, k.2 ∙ ap holes_of (same_wide s k.0 h.0 k.1 h.1))
+
+  holes_same : (profile : Profile) (plated : Bool) (span : Option LayerSpan) (s t : List ℕ) → HaveSameCommands kind.Drill s t → (answer : Result Content Fault) → ReadsHoles profile plated span s answer → ReadsHoles profile plated span t answer
+  holes_same profile plated span s t h (Ok (content.Layer image)) k = absurd k
+  holes_same profile plated span s t h (Ok (content.Drill has through holes)) k = (drill_same profile s t h holes k.0, k.1, k.2)
+  holes_same profile plated span s t h (Err f) k = absurd (no_drill_fault profile s h.0 f h.1 k)
+
+  same_bytes : (r : Role) (name : List ℕ) (span : Option LayerSpan) (n : Setting) (s t : List ℕ) → HaveSameCommands (kind_of r) s t → (answer : Result Content Fault)
+      → ReadsBytes (record { role = r; name = name; span = span; bytes = s; setting = n }) answer ↔ ReadsBytes (record { role = r; name = name; span = span; bytes = t; setting = n }) answer
+  same_bytes role.Copper name span n s t h answer = (copper_same n.profile s t h answer, copper_same n.profile t s (other_kind s t h) answer)
+  same_bytes role.Plated name span n s t h answer = (holes_same n.profile true span s t h answer, holes_same n.profile true span t s (other_drill s t h) answer)
+  same_bytes role.Unplated name span n s t h answer = (holes_same n.profile false span s t h answer, holes_same n.profile false span t s (other_drill s t h) answer)
 
   -- a span that is refused is refused on both sides
   same_text : (x : FileView) (text : List ℕ) → HaveSameCommands (kind_of x.role) x.bytes text → ReadAlike x (with_bytes x text)
-  same_text x text h answer = by (is_bad_span x.role x.span x.layers) (same_bytes x.role x.name x.span x.layers x.bytes text h answer)
+  same_text x text h answer = by (is_bad_span x.role x.span x.setting.layers) (same_bytes x.role x.name x.span x.setting x.bytes text h answer)
     where
       by : (t : Bool) → (ReadsBytes x answer ↔ ReadsBytes (with_bytes x text) answer)
           → ReadsUnlessBadSpan t x answer ↔ ReadsUnlessBadSpan t (with_bytes x text) answer

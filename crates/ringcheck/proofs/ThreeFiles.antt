@@ -3,8 +3,11 @@ use Rattle.std.proofs.Common.{◌≡◌, ℕ, zero, suc, List, [], ◌∷◌, in
 use Rattle.std.specs.List.{Contains}
 use Rattle.grid_units.specs.Holes.{GridRules}
 use Rattle.grid_units.specs.declared.fault.Reason.{Reason}
+use Rattle.grid_units.specs.declared.profile.Profile.{Profile}
+use Rattle.grid_units.specs.declared.profile.Profile.TheVariants.{Strict}
 use Rattle.manifest.specs.declared.Entry.{Entry}
 use Rattle.manifest.specs.Manifest.{manifest}
+use Rattle.board_report.specs.BoardReport.{in_strict}
 use Rattle.board_report.specs.Measures.{PackagePasses}
 use Rattle.report.specs.declared.Measure.{Measure}
 use Rattle.package_check.specs.Package.{FileView}
@@ -45,9 +48,9 @@ explained_never_passes why below before after s (inl u) p = let e = u.0 in cc
 explained_never_passes why below before after s (inr d) p = cc
 
 -- a package whose manifest is the first file
-held : (m l d : List ℕ) (Holds : List FileView → Type 0) → HoldsForPackage (has_three_files m l d) (codes "m.csv") Holds
-    → (entries : List Entry) × (manifest m ≡ Ok entries) × (files : List (List ℕ)) × HasFiles (has_three_files m l d) entries files × Holds (sources entries files)
-held m l d Holds h =
+held : (m l d : List ℕ) (profile : Profile) (Holds : List FileView → Type 0) → HoldsForPackage (has_three_files m l d) profile (codes "m.csv") Holds
+    → (entries : List Entry) × (manifest m ≡ Ok entries) × (files : List (List ℕ)) × HasFiles (has_three_files m l d) entries files × Holds (sources profile entries files)
+held m l d profile Holds h =
     let listed = h.listed in (
       h.entries,
       subst (λ (t : List ℕ). manifest t ≡ Ok h.entries) (first_held m l d listed.0 listed.1) listed.3,
@@ -58,9 +61,9 @@ held m l d Holds h =
 
 -- the files that the manifest names are sound
 pub sound_of_three : (m l d : List ℕ) (r : Result GridRules Reason) (before after : Option (List ℕ)) (s : Status) → IsParsedCheckStatus (has_three_files m l d) (codes "m.csv") r before after s → s ≡ status.Pass
-    → (rules : GridRules) × (r ≡ Ok rules) × (entries : List Entry) × (manifest m ≡ Ok entries) × (files : List (List ℕ)) × HasFiles (has_three_files m l d) entries files × IsSound (sources entries files) rules
+    → (rules : GridRules) × (r ≡ Ok rules) × (entries : List Entry) × (manifest m ≡ Ok entries) × (files : List (List ℕ)) × HasFiles (has_three_files m l d) entries files × IsSound (sources rules.profile entries files) rules
 sound_of_three m l d (Err why) before after s says is = absurd (usage_never_passes why before after s says is)
-sound_of_three m l d (Ok rules) before after status.Pass says is = let (entries, listed, files, loaded, holds) = held m l d _ says in (rules, refl, entries, listed, files, loaded, holds.sound refl)
+sound_of_three m l d (Ok rules) before after status.Pass says is = let (entries, listed, files, loaded, holds) = held m l d rules.profile _ says in (rules, refl, entries, listed, files, loaded, holds.sound refl)
 sound_of_three m l d (Ok rules) before after status.Findings says is = cc
 sound_of_three m l d (Ok rules) before after status.Refused says is = cc
 sound_of_three m l d (Ok rules) before after status.Usage says is = cc
@@ -69,9 +72,9 @@ sound_of_three m l d (Ok rules) before after status.Device says is = cc
 -- the files that the manifest names pass under just the rules that are met
 pub met_of_three : (below : List ℕ) (m l d : List ℕ) (r : Result MeasureFormat Reason) (before after : Option (List ℕ)) (s : Status) → IsParsedMeasureStatus (has_three_files m l d) (codes "m.csv") r below before after s → s ≡ status.Pass
     → (entries : List Entry) × (manifest m ≡ Ok entries) × (files : List (List ℕ)) × HasFiles (has_three_files m l d) entries files
-    × (measure : Measure) × PackagePasses (sources entries files) measure.meets.ring measure.meets.gap
+    × (measure : Measure) × PackagePasses (sources Strict entries files) measure.meets.ring measure.meets.gap
 met_of_three below m l d (Err why) before after s says is = absurd (explained_never_passes why below before after s says is)
-met_of_three below m l d (Ok form) before after status.Pass says is = let (entries, listed, files, loaded, holds) = held m l d _ says in (entries, listed, files, loaded, holds.measure, holds.met)
+met_of_three below m l d (Ok form) before after status.Pass says is = let (entries, listed, files, loaded, holds) = held m l d Strict _ says in (entries, listed, files, loaded, holds.measure, holds.met)
 met_of_three below m l d (Ok form) before after status.Findings says is = cc
 met_of_three below m l d (Ok form) before after status.Refused says is = cc
 met_of_three below m l d (Ok form) before after status.Usage says is = cc
@@ -79,9 +82,9 @@ met_of_three below m l d (Ok form) before after status.Device says is = cc
 
 -- the files that the manifest names are sound, where a report has no finding
 pub report_of_three : (below : List ℕ) (m l d : List ℕ) (r : Result (GridRules × Option ℕ × ReportFormat) Reason) (before after : Option (List ℕ)) (s : Status) → IsParsedReportStatus (has_three_files m l d) (codes "m.csv") r below None None before after s → s ≡ status.Pass
-    → (unparsed : GridRules × Option ℕ × ReportFormat) × (r ≡ Ok unparsed) × (entries : List Entry) × (manifest m ≡ Ok entries) × (files : List (List ℕ)) × HasFiles (has_three_files m l d) entries files × IsSound (sources entries files) unparsed.0
+    → (unparsed : GridRules × Option ℕ × ReportFormat) × (r ≡ Ok unparsed) × (entries : List Entry) × (manifest m ≡ Ok entries) × (files : List (List ℕ)) × HasFiles (has_three_files m l d) entries files × IsSound (sources Strict entries files) (in_strict unparsed.0)
 report_of_three below m l d (Err why) before after s says is = absurd (explained_never_passes why below before after s says is)
-report_of_three below m l d (Ok (rules, limit, form)) before after status.Pass says is = let (entries, listed, files, loaded, holds) = held m l d _ says in ((rules, limit, form), refl, entries, listed, files, loaded, holds.sound (sym holds.judged.0))
+report_of_three below m l d (Ok (rules, limit, form)) before after status.Pass says is = let (entries, listed, files, loaded, holds) = held m l d Strict _ says in ((rules, limit, form), refl, entries, listed, files, loaded, holds.sound (sym holds.judged.0))
 report_of_three below m l d (Ok (rules, limit, form)) before after status.Findings says is = cc
 report_of_three below m l d (Ok (rules, limit, form)) before after status.Refused says is = cc
 report_of_three below m l d (Ok (rules, limit, form)) before after status.Usage says is = cc

@@ -1,8 +1,9 @@
 -- What a loader has under names, and what a status says of a command on a package.
-use Rattle.std.specs.Prelude.{◌≡◌, ◌<◌, ◌≤◌, ◌⊎◌, ◌==◌, ℕ, Bool, true, false, List, [], ◌∷◌, length, take, slice_get, Result, Ok, Err, ⊤, Option, Some, if◌then◌else◌}
+use Rattle.std.specs.Prelude.{◌≡◌, ◌<◌, ◌≤◌, ◌⊎◌, ◌==◌, ℕ, Bool, true, false, List, [], ◌∷◌, length, take, slice_get, Result, Ok, Err, ⊤, Option, None, Some, if◌then◌else◌}
 use Rattle.std.specs.List.{count_by}
 use Rattle.std.specs.Io.KnownBytes.{Appends}
 use Rattle.grid_units.specs.Holes.{GridRules}
+use Rattle.grid_units.specs.declared.profile.Profile.{Profile}
 use Rattle.grid_units.specs.declared.fault.Fault.{Fault}
 use Rattle.grid_units.specs.declared.fault.Reason.{Reason}
 use Rattle.manifest.specs.declared.Entry.{Entry}
@@ -16,21 +17,25 @@ use Rattle.proposals.specs.Contents.{is_archive}
 use Rattle.ringcheck_files.specs.LoaderRelation.{Relation, file_limit, too_long, within}
 use Rattle.ringcheck_files.specs.Words.{IsUsageStatus}
 use Rattle.package_check.specs.Reports.{ReportView}
-use Rattle.package_check.specs.Package.{FileView, IsFirstRefused, IsReport, is_copper}
+use Rattle.package_check.specs.Package.{FileView, IsFirstRefused, IsReport, Setting, is_copper}
 use Rattle.package_check.specs.Soundness.{IsSound}
 use Rattle.package_check.specs.SoundnessAsRead.{AreLegal}
 use Rattle.package_check.specs.Texts.{report_text}
 
--- the sources that entries and the bytes of their files make, in a package of so many copper files
-abbrev pub file_views_among : ℕ → List Entry → List (List ℕ) → List FileView
-file_views_among layers [] bytes = []
-file_views_among layers (entry ∷ entries) [] = []
-file_views_among layers (entry ∷ entries) (bytes ∷ rest) =
-    record { role = entry.role; name = entry.name; span = entry.span; bytes = bytes; layers = layers } ∷ file_views_among layers entries rest
+-- the sources that entries and the bytes of their files make, read in this
+abbrev pub file_views_among : Setting → List Entry → List (List ℕ) → List FileView
+file_views_among setting [] bytes = []
+file_views_among setting (entry ∷ entries) [] = []
+file_views_among setting (entry ∷ entries) (bytes ∷ rest) =
+    record { role = entry.role; name = entry.name; span = entry.span; bytes = bytes; setting = setting } ∷ file_views_among setting entries rest
 
--- the sources that the entries of a manifest and the bytes of their files make
-abbrev pub sources : List Entry → List (List ℕ) → List FileView
-sources entries files = file_views_among (count_by (λ entry. is_copper entry.role) entries) entries files
+-- what the files of these entries are read in: in this profile, and with as many copper files as the entries name
+abbrev pub setting_in : Profile → List Entry → Setting
+setting_in profile entries = record { layers = count_by (λ entry. is_copper entry.role) entries; profile = profile }
+
+-- the sources that the entries of a manifest and the bytes of their files make, where they are read in this profile
+abbrev pub sources : Profile → List Entry → List (List ℕ) → List FileView
+sources profile entries files = file_views_among (setting_in profile entries) entries files
 
 -- the loader has these bytes for the files of these entries, one by one
 abbrev pub HasFiles : Relation → List Entry → List (List ℕ) → Type 0
@@ -60,13 +65,14 @@ RefusesText parse plain name text why =
 abbrev pub RefusedTable : {A : Type 0} → (List ℕ → Result (List A) Fault) → (Fault → Refusal) → Relation → List ℕ → Refusal → Type 0
 RefusedTable parse plain has name why = (text : List ℕ) × has name text × RefusesText parse plain name text why
 
--- a package that the loader has under this name: its manifest, and files of which none is above its limit; `Holds` is true of the files
-pub record HoldsForPackage (has : Relation) (name : List ℕ) (Holds : List FileView → Type 0) : Type 0 where
+-- a package that the loader has under this name: its manifest, and files of which none is above its limit; `Holds` is true of the files as they are read in
+-- this profile
+pub record HoldsForPackage (has : Relation) (profile : Profile) (name : List ℕ) (Holds : List FileView → Type 0) : Type 0 where
   pub entries : List Entry
   pub listed : HasTable manifest has name entries
   pub files : List (List ℕ)
   pub loaded : HasFiles (within file_limit has) entries files
-  pub holds : Holds (sources entries files)
+  pub holds : Holds (sources profile entries files)
 
 -- the loader has bytes above the limit for the entry at this index, and bytes within the limit for each entry before it
 pub record LongFile (has : Relation) (entries : List Entry) (index : ℕ) (entry : Entry) : Type 0 where
@@ -86,30 +92,30 @@ pub record RefusedAmong (all : List FileView) (why : Refusal) : Type 0 where
   pub at : slice_get all index ≡ Some source
   pub is : why ≡ of_file index source.name fault
 
--- the file of one of these entries is refused: the loader has bytes above the limit for it, or it is the first file that a check refuses
-pub data RefusedFile (has : Relation) (entries : List Entry) (why : Refusal) : Type 0 where
-  long_file : (index : ℕ) (entry : Entry) → LongFile has entries index entry → why ≡ of_file index entry.name too_long → RefusedFile has entries why
-  bad_file : (files : List (List ℕ)) → HasFiles (within file_limit has) entries files → RefusedAmong (sources entries files) why → RefusedFile has entries why
+-- the file of one of these entries is refused: the loader has bytes above the limit for it, or it is the first file that a check refuses in this profile
+pub data RefusedFile (has : Relation) (profile : Profile) (entries : List Entry) (why : Refusal) : Type 0 where
+  long_file : (index : ℕ) (entry : Entry) → LongFile has entries index entry → why ≡ of_file index entry.name too_long → RefusedFile has profile entries why
+  bad_file : (files : List (List ℕ)) → HasFiles (within file_limit has) entries files → RefusedAmong (sources profile entries files) why → RefusedFile has profile entries why
 
--- bytes that the loader has are refused: the manifest under this name, or a file that it names
-pub data IsPackageRefusal (has : Relation) (name : List ℕ) (why : Refusal) : Type 0 where
-  refused_manifest : RefusedTable manifest of_manifest has name why → IsPackageRefusal has name why
-  refused_file : (entries : List Entry) → HasTable manifest has name entries → RefusedFile has entries why → IsPackageRefusal has name why
+-- bytes that the loader has are refused: the manifest under this name, or, in this profile, a file that it names
+pub data IsPackageRefusal (has : Relation) (profile : Profile) (name : List ℕ) (why : Refusal) : Type 0 where
+  refused_manifest : RefusedTable manifest of_manifest has name why → IsPackageRefusal has profile name why
+  refused_file : (entries : List Entry) → HasTable manifest has name entries → RefusedFile has profile entries why → IsPackageRefusal has profile name why
 
 -- such bytes are refused, and the writer got just the text of the refusal
-pub record PrintsPackageRefusal (has : Relation) (name : List ℕ) (refusal_style : RefusalStyle) (before after : Option (List ℕ)) : Type 0 where
+pub record PrintsPackageRefusal (has : Relation) (profile : Profile) (name : List ℕ) (refusal_style : RefusalStyle) (before after : Option (List ℕ)) : Type 0 where
   pub why : Refusal
-  pub refused : IsPackageRefusal has name why
+  pub refused : IsPackageRefusal has profile name why
   pub printed : PrintsRefusal refusal_style why before after
 
--- what a status says of a command on a package: where it passes, or has findings, `Holds` says so of the package's files; a refusal,
--- which is the same under any rules, was printed in this style
-abbrev pub SaysPackage : Relation → List ℕ → (Bool → List FileView → Type 0) → RefusalStyle → Option (List ℕ) → Option (List ℕ) → Status → Type 0
-SaysPackage has name Holds refusal_style before after status.Pass = HoldsForPackage has name (Holds true)
-SaysPackage has name Holds refusal_style before after status.Findings = HoldsForPackage has name (Holds false)
-SaysPackage has name Holds refusal_style before after status.Refused = PrintsPackageRefusal has name refusal_style before after
-SaysPackage has name Holds refusal_style before after status.Usage = ⊥
-SaysPackage has name Holds refusal_style before after status.Device = ⊤
+-- what a status says of a command on a package that is read in this profile: where it passes, or has findings, `Holds` says so of the
+-- package's files; a refusal, which is the same under any rules, was printed in this style
+abbrev pub SaysPackage : Relation → Profile → List ℕ → (Bool → List FileView → Type 0) → RefusalStyle → Option (List ℕ) → Option (List ℕ) → Status → Type 0
+SaysPackage has profile name Holds refusal_style before after status.Pass = HoldsForPackage has profile name (Holds true)
+SaysPackage has profile name Holds refusal_style before after status.Findings = HoldsForPackage has profile name (Holds false)
+SaysPackage has profile name Holds refusal_style before after status.Refused = PrintsPackageRefusal has profile name refusal_style before after
+SaysPackage has profile name Holds refusal_style before after status.Usage = ⊥
+SaysPackage has profile name Holds refusal_style before after status.Device = ⊤
 
 -- the status of a command on a package that passes, or that has findings
 abbrev pub status_of : Bool → Status
@@ -123,19 +129,24 @@ pub record Checks (rules : GridRules) (before after : Option (List ℕ)) (passes
   pub passed : passes ≡ (length report.findings == 0)
   pub sound : passes ≡ true → IsSound all rules
 
--- what a status says of a check of a package under these rules
+-- what a status says of a check of a package under these rules, in their profile
 abbrev pub IsCheckStatus : Relation → List ℕ → GridRules → Option (List ℕ) → Option (List ℕ) → Status → Type 0
-IsCheckStatus has name rules before after s = SaysPackage has name (Checks rules before after) style.Line before after s
+IsCheckStatus has name rules before after s = SaysPackage has rules.profile name (Checks rules before after) style.Line before after s
 
--- what a status says of a check under the rules that two words name, or where these are refused
+-- what a status says of a check under the rules that words name, or where these are refused
 abbrev pub IsParsedCheckStatus : Relation → List ℕ → Result GridRules Reason → Option (List ℕ) → Option (List ℕ) → Status → Type 0
 IsParsedCheckStatus has name (Ok rules) before after s = IsCheckStatus has name rules before after s
 IsParsedCheckStatus has name (Err why) before after s = IsUsageStatus why before after s
 
--- what a status says of the files alone: where the check passes or has findings, each file of the package is of the profile
-abbrev pub IsLegalStatus : Relation → List ℕ → Status → Type 0
-IsLegalStatus has name status.Pass = HoldsForPackage has name AreLegal
-IsLegalStatus has name status.Findings = HoldsForPackage has name AreLegal
-IsLegalStatus has name status.Refused = ⊤
-IsLegalStatus has name status.Usage = ⊤
-IsLegalStatus has name status.Device = ⊤
+-- what a status says of the files alone: where the check passes or has findings, each file of the package is of this profile
+abbrev pub IsLegalStatus : Relation → Profile → List ℕ → Status → Type 0
+IsLegalStatus has profile name status.Pass = HoldsForPackage has profile name AreLegal
+IsLegalStatus has profile name status.Findings = HoldsForPackage has profile name AreLegal
+IsLegalStatus has profile name status.Refused = ⊤
+IsLegalStatus has profile name status.Usage = ⊤
+IsLegalStatus has profile name status.Device = ⊤
+
+-- what it says of them in the profile that a word names; a word that names none is refused, and no file is read
+abbrev pub IsParsedLegalStatus : Relation → List ℕ → Option Profile → Status → Type 0
+IsParsedLegalStatus has name (Some profile) s = IsLegalStatus has profile name s
+IsParsedLegalStatus has name None s = (s ≡ status.Usage) ⊎ (s ≡ status.Device)

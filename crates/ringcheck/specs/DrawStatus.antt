@@ -2,6 +2,7 @@
 use Rattle.std.specs.Prelude.{◌≡◌, ◌⊎◌, ℕ, Bool, true, List, [], map, Option, None, Some, Result, Ok, Err}
 use Rattle.std.specs.Io.KnownBytes.{Appends}
 use Rattle.grid_units.specs.Holes.{GridRules}
+use Rattle.grid_units.specs.declared.profile.Profile.TheVariants.{Strict}
 use Rattle.grid_units.specs.declared.fault.Reason.{Reason}
 use Rattle.drawing.specs.Drawings.{IsDrawn}
 use Rattle.layer_image.specs.declared.drawn.Drawn.{Drawn}
@@ -27,9 +28,9 @@ pub record PrintsPicture (rules : Option GridRules) (outline : List Drawn) (befo
   pub sound : (required : GridRules) → rules ≡ Some required → board_findings required board ≡ [] → IsSound all required
   pub passed : passes ≡ true
 
--- what a status says of the picture of a package with an outline of these parts; it is never Findings
+-- what a status says of the picture of a package, read in the strict profile, with an outline of these parts; it is never Findings
 abbrev pub IsDrawStatus : Relation → List ℕ → Option GridRules → List Drawn → Option (List ℕ) → Option (List ℕ) → Status → Type 0
-IsDrawStatus has name rules outline before after s = SaysPackage has name (PrintsPicture rules outline before after) style.Line before after s
+IsDrawStatus has name rules outline before after s = SaysPackage has Strict name (PrintsPicture rules outline before after) style.Line before after s
 
 -- what a status says of a picture for which the file of an outline may be named: without one the picture has no outline; with one that
 -- file is refused, or the status is Device, or the file has an outline and the picture is made with it

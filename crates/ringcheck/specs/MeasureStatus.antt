@@ -2,6 +2,7 @@
 use Rattle.std.specs.Prelude.{◌≡◌, ◌++◌, ℕ, Bool, true, List, map, Option, Result, Ok, Err}
 use Rattle.std.specs.Io.KnownBytes.{Appends}
 use Rattle.grid_units.specs.declared.fault.Reason.{Reason}
+use Rattle.grid_units.specs.declared.profile.Profile.TheVariants.{Strict}
 use Rattle.print_text.specs.MeasureLines.{measure_text}
 use Rattle.board_report.specs.Measures.{IsMeasure, PackagePasses}
 use Rattle.report.specs.declared.Measure.{Measure}
@@ -25,7 +26,7 @@ lines_of measure = measure_text measure.rings.items measure.scales.items measure
 
 -- the text of the measure of a board: the lines of its files, which have these names, and those of the measure
 abbrev pub board_text : List (List ℕ) → BoardView → Measure → List ℕ
-board_text names board measure = file_lines 1 names board.files ++ lines_of measure
+board_text names board measure = file_lines Strict 1 names board.files ++ lines_of measure
 
 -- what is printed of a measure: its text, or its JSON
 abbrev pub measure_page : MeasureFormat → List (List ℕ) → BoardView → Measure → List ℕ
@@ -47,9 +48,9 @@ abbrev pub measure_style : MeasureFormat → RefusalStyle
 measure_style format.Text = style.Page
 measure_style format.Json = style.Json
 
--- what a status says of the measure of a package, of which a refusal is printed as in place of a report; it is never Findings
+-- what a status says of the measure of a package, read in the strict profile, of which a refusal is printed as in place of a report; it is never Findings
 abbrev pub IsMeasureStatus : Relation → List ℕ → MeasureFormat → Option (List ℕ) → Option (List ℕ) → Status → Type 0
-IsMeasureStatus has name form before after s = SaysPackage has name (PrintsMeasure form before after) (measure_style form) before after s
+IsMeasureStatus has name form before after s = SaysPackage has Strict name (PrintsMeasure form before after) (measure_style form) before after s
 
 -- what a status says of a measure in the format that a word names, or where the word is refused and `below` stands below its line
 abbrev pub IsParsedMeasureStatus : Relation → List ℕ → Result MeasureFormat Reason → List ℕ → Option (List ℕ) → Option (List ℕ) → Status → Type 0

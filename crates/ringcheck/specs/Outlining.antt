@@ -4,14 +4,15 @@ use Rattle.std.specs.Io.KnownBytes.{Appends}
 use Rattle.grid_units.specs.Ascii as ascii
 use Rattle.grid_units.specs.Reasons.{reason_name}
 use Rattle.grid_units.specs.declared.fault.Fault.{Fault}
+use Rattle.grid_units.specs.declared.profile.Profile.TheVariants.{Strict}
 use Rattle.layer_image.specs.Layers.{ReadsLayer}
 use Rattle.layer_image.specs.declared.drawn.Drawn.{Drawn}
 use Rattle.package_check.specs.FileTexts.{Draws}
 use Rattle.ringcheck_files.specs.LoaderRelation.{Relation, file_limit, too_long, within}
 
--- a text is that of a layer, which draws these parts; or it has this fault
+-- in the strict profile a text is that of a layer, which draws these parts; or it has this fault
 abbrev pub ReadsOutline : List ℕ → Result (List Drawn) Fault → Type 0
-ReadsOutline text (Ok outline) = Draws text outline
+ReadsOutline text (Ok outline) = Draws Strict text outline
 ReadsOutline text (Err why) = ReadsLayer text (Err why)
 
 -- the loader has under this name a layer's text that draws these parts, not above the limit of files

@@ -1,9 +1,11 @@
--- The rules, the limit of findings and the format that words of the command line name (docs/FORMATS.md, The program).
+-- The rules, the profile, the limit of findings and the format that words of the command line name (docs/FORMATS.md, The program).
 use Rattle.std.specs.Prelude.{ℕ, ℤ, pos, Bool, ◌&&◌, not, is_some, List, Option, Some, None, Result, Ok, Err, length, codes, nat_le, unsigned_abs, int_le, if◌then◌else◌}
 use Rattle.std.specs.Str.{bytes_eq}
 use Rattle.grid_units.specs.declared.fault.Reason.{Reason}
 use Rattle.grid_units.specs.declared.fault.Reason.TheVariants.{BadNumber, BadRole, BadRule}
 use Rattle.grid_units.specs.declared.lengths.Unit.TheVariants.{Millimetre}
+use Rattle.grid_units.specs.declared.profile.Profile.{Profile}
+use Rattle.grid_units.specs.declared.profile.Profile.TheVariants.{Strict, Wide}
 use Rattle.grid_units.specs.Points.{max_coordinate}
 use Rattle.grid_units.specs.Holes.{GridRules}
 use Rattle.grid_units.specs.Numbers.{parse_decimal, is_digits, picometres, value, within_limit}
@@ -21,13 +23,31 @@ parse_length word = parse_decimal word >>= λ v. within_limit (picometres Millim
 abbrev pub are_rules : ℤ → ℤ → Bool
 are_rules ring gap = (int_le (pos 0) ring && int_le ring (pos max_coordinate)) && (int_le (pos 1) gap && int_le gap (pos max_coordinate))
 
--- the rules of a ring and a gap in pm, or BadRule
+-- the rules of a ring and a gap in pm, in the strict profile, or BadRule
 unfoldable pub rules_of : ℤ → ℤ → Result GridRules Reason
-rules_of ring gap = if are_rules ring gap then Ok (record { ring = unsigned_abs ring; gap = unsigned_abs gap }) else Err BadRule
+rules_of ring gap = if are_rules ring gap then Ok (record { ring = unsigned_abs ring; gap = unsigned_abs gap; profile = Strict }) else Err BadRule
 
 -- the rules that two words name in millimetres, or the first refusal: the ring's, the gap's, then that of both
 unfoldable pub parse_rules : List ℕ → List ℕ → Result GridRules Reason
 parse_rules ring gap = parse_length ring >>= λ r. (parse_length gap >>= λ g. rules_of r g)
+
+-- the profile that a word names: `strict`, also without a word, or `wide`; another word names none
+unfoldable pub profile_of : Option (List ℕ) → Option Profile
+profile_of None = Some Strict
+profile_of (Some word) = if bytes_eq word (codes "strict") then Some Strict else if bytes_eq word (codes "wide") then Some Wide else None
+
+-- these rules in a profile
+abbrev pub in_profile : Profile → GridRules → GridRules
+in_profile profile rules = record { ring = rules.ring; gap = rules.gap; profile = profile }
+
+-- the rules that two words name, in this profile; where there is no profile BadRole, whatever the two words are
+unfoldable pub rules_in : Option Profile → List ℕ → List ℕ → Result GridRules Reason
+rules_in None ring gap = Err BadRole
+rules_in (Some profile) ring gap = parse_rules ring gap >>= λ rules. Ok (in_profile profile rules)
+
+-- the rules of a check, of the word for its profile, if there is one, and those for the ring and the gap
+abbrev pub parse_check : Option (List ℕ) → List ℕ → List ℕ → Result GridRules Reason
+parse_check profile ring gap = rules_in (profile_of profile) ring gap
 
 -- the number of findings that a word of one to nine digits names, such as `20`; another word is BadNumber
 unfoldable pub parse_count : List ℕ → Result ℕ Reason

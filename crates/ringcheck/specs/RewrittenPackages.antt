@@ -18,9 +18,9 @@ kind_of role.Unplated = kind.Drill
 
 -- a file with these bytes in place of its own
 abbrev pub with_bytes : FileView → List ℕ → FileView
-with_bytes source bytes = record { role = source.role; name = source.name; span = source.span; bytes = bytes; layers = source.layers }
+with_bytes source bytes = record { role = source.role; name = source.name; span = source.span; bytes = bytes; setting = source.setting }
 
--- a file is left as it was, or its text is rewritten
+-- a file is left as it was, or its text is rewritten; a text that is rewritten is one of the strict profile
 abbrev pub IsRewritten : FileView → FileView → Type 0
 IsRewritten x y = (y ≡ x) ⊎ ((text : List ℕ) × Rewrites (kind_of x.role) x.bytes (Ok text) × (y ≡ with_bytes x text))
 
@@ -31,6 +31,6 @@ AreRewritten [] (y ∷ ys) = ⊥
 AreRewritten (x ∷ xs) [] = ⊥
 AreRewritten (x ∷ xs) (y ∷ ys) = IsRewritten x y × AreRewritten xs ys
 
--- a package in which any files are rewritten has the same answer
+-- a package in which any files are rewritten has the same answer, in whatever profiles its files are read
 abbrev pub RewritingKeepsAnswers : Type 0
 RewritingKeepsAnswers = (xs ys : List FileView) (rules : GridRules) (answer : Result ReportView (ℕ × Fault)) → AreRewritten xs ys → IsAnswer xs rules answer ↔ IsAnswer ys rules answer

@@ -3,9 +3,10 @@
 ghost use Rattle.std.specs.Prelude.{◌≡◌, ◌++◌, ◌≤◌, ◌↔◌, ℕ, List, length, true, IfOk, Result};
 ghost use Rattle.grid_units.specs.Results.{Answers};
 ghost use Rattle.grid_units.specs.declared.fault.Fault.{Fault as TheFault};
+ghost use Rattle.grid_units.specs.declared.profile.Profile.TheVariants.{Strict};
 ghost use Rattle.manifest.specs.Manifest.{manifest};
 ghost use Rattle.package_check.specs.Checking.{HasJudgedAll};
-ghost use Rattle.package_check.specs.Holding.{HasTakenAll, copper_files, is_kind};
+ghost use Rattle.package_check.specs.Holding.{HasTakenAll, is_kind, setting_of};
 ghost use Rattle.package_check.specs.Package.{is_copper};
 ghost use Rattle.ringcheck_files.specs.Outcomes.{HasRisen};
 ghost use Rattle.ringcheck.specs.Inner.Halting.{OfFiles, OfTable};
@@ -14,7 +15,7 @@ ghost use Rattle.waivers.specs.Reading.{waivers};
 
 use crate::refusals::{Halt, Subject, refused_table};
 use crate::{Entry, LoadFault, Loader, PackageReader, Role, read_manifest};
-use grid_units::{Fail, Rules};
+use grid_units::{Fail, Profile, Rules};
 use package_check::{Keep, OpenCopper, OpenFile, PackageCheck};
 use ringcheck_files::{ABOVE_LIMIT, FILE_LIMIT, Failure, Sink};
 use std::alloc::{AllocError, Global};
@@ -145,7 +146,7 @@ fn take_file<'a, L: Loader>(
 ) -> Result<Option<Halt<'a>>, Failure>
     ensures keeps { (n b : List ℕ) → L.has loader.new n b ↔ L.has loader.old n b }
     ensures counts { L.failed loader.old ≤ L.failed loader.new }
-    ensures layers { copper_files reader.new ≡ copper_files reader.old }
+    ensures setting { setting_of reader.new ≡ setting_of reader.old }
     ensures taken { IfOk result (OfTakenFile (L.has loader.old) reader.old reader.new index entry.now (HasRisen (L.failed loader.old) (L.failed loader.new))) }
 {
     let file = reader.begin(index, entry.role, entry.span);
@@ -179,7 +180,7 @@ fn take_kind<'a, L: Loader>(
 ) -> Result<Pass<'a>, Failure>
     ensures keeps { (n b : List ℕ) → L.has loader.new n b ↔ L.has loader.old n b }
     ensures counts { L.failed loader.old ≤ L.failed loader.new }
-    ensures layers { copper_files reader.new ≡ copper_files reader.old }
+    ensures setting { setting_of reader.new ≡ setting_of reader.old }
     ensures within { IfOk result (λ pass. pass.end ≤ length entries.now) }
     ensures ends { IfOk result (λ pass. EndsAt (L.has loader.old) entries.now (HasRisen (L.failed loader.old) (L.failed loader.new)) pass.end pass.halt) }
     ensures loaded { IfOk result (λ pass. LoadsKind (L.has loader.old) entries.now reader.old reader.new copper pass.end) }
@@ -200,17 +201,18 @@ fn take_kind<'a, L: Loader>(
     })
 }
 
-/// A reader that has taken the files of the entries, the drill files before the copper files, and keeps this of them. After a file that
-/// cannot be loaded only those before it are loaded, so the first that cannot be, in the order of the entries, is the answer.
+/// A reader that has taken the files of the entries in the strict profile, the drill files before the copper files, and keeps this of
+/// them. After a file that cannot be loaded only those before it are loaded, so the first that cannot be, in the order of the entries, is
+/// the answer.
 pub(crate) fn take_files<'a, L: Loader>(
     alloc: Global,
     keep: Keep,
     loader: &mut L,
     entries: &'a [Entry],
 ) -> Result<Result<PackageReader, Halt<'a>>, Failure>
-    ensures { IfOk result (OfFiles (L.has loader.old) entries.now (HasRisen (L.failed loader.old) (L.failed loader.new)) (λ reader. HasTakenAll reader keep)) }
+    ensures { IfOk result (OfFiles (L.has loader.old) Strict entries.now (HasRisen (L.failed loader.old) (L.failed loader.new)) (λ reader. HasTakenAll reader keep)) }
 {
-    let mut reader = PackageReader::keeping(alloc, layer_count(entries), keep);
+    let mut reader = PackageReader::keeping(alloc, layer_count(entries), Profile::Strict, keep);
     let drills = take_kind(alloc, loader, entries, false, &mut reader)?;
     let copper = take_kind(alloc, loader, &entries[..drills.end], true, &mut reader)?;
     match copper.halt.or(drills.halt) {
@@ -286,17 +288,17 @@ fn check_copper<'a, L: Loader>(
     Ok(Ok(check))
 }
 
-/// A check that has taken the files of the entries, the drill files before the copper files. As in [`take_files`], the first file that
-/// cannot be loaded is the answer.
+/// A check that has taken the files of the entries in the profile of its rules, the drill files before the copper files. As in
+/// [`take_files`], the first file that cannot be loaded is the answer.
 pub(crate) fn check_files<'a, L: Loader>(
     alloc: Global,
     rules: Rules,
     loader: &mut L,
     entries: &'a [Entry],
 ) -> Result<Result<PackageCheck, Halt<'a>>, Failure>
-    ensures { IfOk result (OfFiles (L.has loader.old) entries.now (HasRisen (L.failed loader.old) (L.failed loader.new)) (λ check all. HasJudgedAll check all rules)) }
+    ensures { IfOk result (OfFiles (L.has loader.old) rules.profile entries.now (HasRisen (L.failed loader.old) (L.failed loader.new)) (λ check all. HasJudgedAll check all rules)) }
 {
-    let mut reader = PackageReader::new(alloc, layer_count(entries));
+    let mut reader = PackageReader::new(alloc, layer_count(entries), rules.profile());
     let drills = take_kind(alloc, loader, entries, false, &mut reader)?;
     if let Some(halt) = drills.halt {
         let before = take_kind(alloc, loader, &entries[..drills.end], true, &mut reader)?;

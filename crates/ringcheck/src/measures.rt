@@ -4,7 +4,7 @@ ghost use Rattle.std.specs.Prelude.{◌≡◌, List, IfErr, IfOk, OnOk, map};
 ghost use Rattle.std.specs.Io.KnownBytes.{Appends};
 ghost use Rattle.layer_image.specs.declared.keep.Keep.TheVariants as keep;
 ghost use Rattle.package_check.specs.Holding.{HasTakenAll};
-ghost use Rattle.package_check.specs.Package.{FileView};
+ghost use Rattle.package_check.specs.Package.{AreStrict, FileView};
 ghost use Rattle.ringcheck.specs.Inner.Halting.{OfTaken};
 ghost use Rattle.ringcheck.specs.MeasureStatus.{PrintsMeasure, measure_page};
 
@@ -13,6 +13,7 @@ use crate::refusals::{Halt, refused};
 use crate::{PackageFault, PackageReader};
 use board_report::laws::measured_passes;
 use board_report::measure_board;
+use grid_units::Profile;
 use package_check::{Board, FileLines};
 use print_json::MeasureJson;
 use print_text::MeasureText;
@@ -32,6 +33,7 @@ fn print<W: Write>(
     ensures { OnOk result (Appends (W.contents out.old) (W.contents out.new) (measure_page format (map (λ name. name.now) names.now) board.now measure.now)) }
 {
     let files = FileLines {
+        profile: Profile::Strict,
         names,
         files: board.files(),
     };
@@ -61,7 +63,7 @@ pub(crate) fn measure<'a, W: Write>(
     format: MeasureFormat,
     out: &mut W,
 ) -> Result<Result<bool, Halt<'a>>, Failure>
-    ensures answers { (all : List FileView) → map (λ name. name.now) names.now ≡ map (λ source. source.name) all → HasTakenAll reader keep.Pads all
+    ensures answers { (all : List FileView) → map (λ name. name.now) names.now ≡ map (λ source. source.name) all → AreStrict all → HasTakenAll reader keep.Pads all
         → IfOk result (OfTaken (PrintsMeasure format (W.contents out.old) (W.contents out.new)) all) }
     ensures silent { IfOk result (λ done. IfErr done (λ halt. W.contents out.new ≡ W.contents out.old)) }
 {

@@ -6,11 +6,11 @@ ghost use Rattle.manifest.specs.declared.Entry.{Entry as TheEntry};
 ghost use Rattle.ringcheck_files.specs.Outcomes.{HasCause, HasRisen};
 ghost use Rattle.ringcheck.specs.DrawStatus.{IsDrawStatus, IsOutlinedDrawStatus, IsParsedDrawStatus};
 ghost use Rattle.ringcheck.specs.Inner.Halting.{IsUnreadAt, OfFiles};
-ghost use Rattle.ringcheck.specs.Inner.Jobs.{Holds, SaysJob, given};
+ghost use Rattle.ringcheck.specs.Inner.Jobs.{Holds, SaysJob, given, job_profile};
 ghost use Rattle.ringcheck.specs.MeasureStatus.{IsParsedMeasureStatus};
 ghost use Rattle.ringcheck.specs.ParsedWords as named;
 ghost use Rattle.ringcheck.specs.ReportStatus.{IsOutlinedReportStatus, IsParsedReportStatus};
-ghost use Rattle.ringcheck.specs.CheckStatus.{IsLegalStatus, IsParsedCheckStatus, status_of};
+ghost use Rattle.ringcheck.specs.CheckStatus.{IsParsedCheckStatus, IsParsedLegalStatus, status_of};
 ghost use Rattle.ringcheck.specs.Sentences.{below_measure, below_report};
 ghost use Rattle.ringcheck_files.specs.Words.{usage_line};
 
@@ -18,7 +18,7 @@ use crate::jobs::{Job, Order, PictureOrder, kept_for, report_style};
 use crate::load_package::{check_files, load_table, take_files};
 use crate::outlines::{load_outline, print_no_outline};
 use crate::parsed_words::{
-    ReportFormat, ReportWords, parse_draw, parse_format, parse_report, parse_rules,
+    ReportFormat, ReportWords, parse_check, parse_draw, parse_format, parse_report,
 };
 use crate::refusals::{Halt, Subject, print_halt};
 use crate::sentences::{NoMeasureFormat, NoReport, is_for_people};
@@ -49,7 +49,7 @@ fn answer<'a, L: Loader, W: Write>(
     loader: &mut L,
     out: &mut W,
 ) -> Result<Result<bool, Halt<'a>>, Failure>
-    ensures answers { IfOk result (OfFiles (L.has loader.old) entries.now (HasRisen (L.failed loader.old) (L.failed loader.new)) (Holds job.now (W.contents out.old) (W.contents out.new))) }
+    ensures answers { IfOk result (OfFiles (L.has loader.old) (job_profile job.now) entries.now (HasRisen (L.failed loader.old) (L.failed loader.new)) (Holds job.now (W.contents out.old) (W.contents out.new))) }
     ensures silent { IfOk result (λ done. IfErr done (λ halt. W.contents out.new ≡ W.contents out.old)) }
 {
     let names = names_of(alloc, entries)?;
@@ -169,20 +169,21 @@ fn refuse_report<W: Write>(
     Ok(())
 }
 
-/// Checks the package of a manifest under the rules that two words name.
+/// Checks the package of a manifest under the rules that two words name, in the profile that a word names.
 pub(crate) fn check<L: Loader, W: Write>(
     alloc: Global,
+    profile: Option<&str>,
     ring: &str,
     gap: &str,
     name: &str,
     loader: &mut L,
     out: &mut W,
 ) -> Result<Status, Failure>
-    ensures says { IfOk result (IsParsedCheckStatus (L.has loader.old) name.now (named.parse_rules ring.now gap.now) (W.contents out.old) (W.contents out.new)) }
-    ensures legal { IfOk result (IsLegalStatus (L.has loader.old) name.now) }
+    ensures says { IfOk result (IsParsedCheckStatus (L.has loader.old) name.now (named.parse_check (option_map (λ w. w.now) profile.entry) ring.now gap.now) (W.contents out.old) (W.contents out.new)) }
+    ensures legal { IfOk result (IsParsedLegalStatus (L.has loader.old) name.now (named.profile_of (option_map (λ w. w.now) profile.entry))) }
     ensures cause { IfOk result (HasCause (L.failed loader.old) (L.failed loader.new)) }
 {
-    match parse_rules(ring, gap) {
+    match parse_check(profile, ring, gap) {
         Ok(rules) => run_job(alloc, &Job::Check(rules), name, loader, out),
         Err(reason) => {
             refuse_word(out, reason)?;

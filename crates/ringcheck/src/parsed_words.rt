@@ -1,10 +1,10 @@
-//! The rules, the limit of findings and the format that words of the command line name.
+//! The rules, the profile, the limit of findings and the format that words of the command line name.
 
 ghost use Rattle.std.specs.Prelude.{◌≡◌, option_map};
 ghost use Rattle.ringcheck.specs.ParsedWords as words;
 
 use grid_units::numbers::{capped_value, is_digits};
-use grid_units::{Dec, Reason, Rules, Unit};
+use grid_units::{Dec, Profile, Reason, Rules, Unit};
 
 /// The length in pm that a word names in millimetres, such as `0.125`.
 #[tactic(auto, unfolding(crate::specs::ParsedWords::parse_length))]
@@ -21,7 +21,7 @@ fn rules_of(ring: i64, gap: i64) -> Result<Rules, Reason>
     Rules::new(ring, gap)
 }
 
-/// The rules of a ring and a gap in millimetres. The ring is read first.
+/// The rules of a ring and a gap in millimetres, in the strict profile. The ring is read first.
 #[tactic(auto, unfolding(crate::specs::ParsedWords::parse_rules))]
 pub(crate) fn parse_rules(ring: &str, gap: &str) -> Result<Rules, Reason>
     ensures { result ≡ words.parse_rules ring.now gap.now }
@@ -29,6 +29,29 @@ pub(crate) fn parse_rules(ring: &str, gap: &str) -> Result<Rules, Reason>
     let ring = parse_length(ring)?;
     let gap = parse_length(gap)?;
     rules_of(ring, gap)
+}
+
+/// The profile that a word names, `strict` or `wide`; the strict one where there is no word, and none for any other.
+#[tactic(auto, unfolding(crate::specs::ParsedWords::profile_of))]
+fn profile_of(word: Option<&str>) -> Option<Profile>
+    ensures { result ≡ words.profile_of (option_map (λ w. w.now) word.entry) }
+{
+    match word {
+        None | Some("strict") => Some(Profile::Strict),
+        Some("wide") => Some(Profile::Wide),
+        Some(_) => None,
+    }
+}
+
+/// The rules of a check, with a ring and a gap in millimetres. The profile is read first, and then the ring.
+#[tactic(auto, unfolding(crate::specs::ParsedWords::rules_in))]
+pub(crate) fn parse_check(profile: Option<&str>, ring: &str, gap: &str) -> Result<Rules, Reason>
+    ensures { result ≡ words.parse_check (option_map (λ w. w.now) profile.entry) ring.now gap.now }
+{
+    match profile_of(profile) {
+        Some(profile) => Ok(parse_rules(ring, gap)?.in_profile(profile)),
+        None => Err(Reason::BadRole),
+    }
 }
 
 /// How a measure is printed.

@@ -11,7 +11,7 @@ ghost use Rattle.ringcheck.specs.MeasureStatus.{IsParsedMeasureStatus};
 ghost use Rattle.ringcheck.specs.ParsedWords as named;
 ghost use Rattle.ringcheck_files.specs.FileStatus.{IsParsedFileStatus, parse_kind};
 ghost use Rattle.ringcheck.specs.ReportStatus.{IsParsedReportStatus};
-ghost use Rattle.ringcheck.specs.CheckStatus.{IsLegalStatus, IsParsedCheckStatus};
+ghost use Rattle.ringcheck.specs.CheckStatus.{IsParsedCheckStatus, IsParsedLegalStatus};
 ghost use Rattle.ringcheck.specs.Sentences.{below_measure, below_report};
 
 use crate::Loader;
@@ -23,6 +23,27 @@ use std::alloc::Global;
 use std::fmt;
 use std::fmt::{Display, Formatter};
 use std::io::Write;
+
+/// The words of the options of a report.
+fn report_words<'a>(
+    ring: &'a str,
+    gap: &'a str,
+    limit: Option<&'a str>,
+    waive: Option<&'a str>,
+    outline: Option<&'a str>,
+    format: Option<&'a str>,
+) -> ReportWords<'a>
+    ensures { result ≡ record { ring = ring.entry; gap = gap.entry; limit = limit.entry; waive = waive.entry; outline = outline.entry; format = format.entry } }
+{
+    ReportWords {
+        ring,
+        gap,
+        limit,
+        waive,
+        outline,
+        format,
+    }
+}
 
 /// Does what a request asks for.
 fn carry_out<L: Loader, W: Write>(
@@ -39,8 +60,9 @@ fn carry_out<L: Loader, W: Write>(
         Request::Check {
             ring,
             gap,
+            profile,
             manifest,
-        } => check(alloc, ring, gap, manifest, loader, out),
+        } => check(alloc, *profile, ring, gap, manifest, loader, out),
         Request::Report {
             ring,
             gap,
@@ -50,14 +72,7 @@ fn carry_out<L: Loader, W: Write>(
             format,
             manifest,
         } => {
-            let unparsed = ReportWords {
-                ring,
-                gap,
-                limit: *limit,
-                waive: *waive,
-                outline: *outline,
-                format: *format,
-            };
+            let unparsed = report_words(ring, gap, *limit, *waive, *outline, *format);
             report(alloc, &unparsed, manifest, loader, out)
         }
         Request::Measure { format, manifest } => measure(alloc, *format, manifest, loader, out),
@@ -123,10 +138,10 @@ pub fn run<L: Loader, W: Write>(
     loader: &mut L,
     out: &mut W,
 ) -> Status
-    ensures check { (r g m : List ℕ) → map (λ w. w.now) words.now ≡ check_words r g m → is_plain_word r ≡ true → is_plain_word g ≡ true
-        → is_plain_word m ≡ true → IsParsedCheckStatus (L.has loader.old) m (named.parse_rules r g) (W.contents out.old) (W.contents out.new) result }
-    ensures legal { (r g m : List ℕ) → map (λ w. w.now) words.now ≡ check_words r g m → is_plain_word r ≡ true → is_plain_word g ≡ true
-        → is_plain_word m ≡ true → IsLegalStatus (L.has loader.old) m result }
+    ensures check { (r g : List ℕ) (profile : Option (List ℕ)) (m : List ℕ) → map (λ w. w.now) words.now ≡ check_words r g profile m → is_plain_word r ≡ true → is_plain_word g ≡ true
+        → is_plain_if_some profile ≡ true → is_plain_word m ≡ true → IsParsedCheckStatus (L.has loader.old) m (named.parse_check profile r g) (W.contents out.old) (W.contents out.new) result }
+    ensures legal { (r g : List ℕ) (profile : Option (List ℕ)) (m : List ℕ) → map (λ w. w.now) words.now ≡ check_words r g profile m → is_plain_word r ≡ true → is_plain_word g ≡ true
+        → is_plain_if_some profile ≡ true → is_plain_word m ≡ true → IsParsedLegalStatus (L.has loader.old) m (named.profile_of profile) result }
     ensures report { (r g : List ℕ) (limit waive outline format : Option (List ℕ)) (m : List ℕ) → map (λ w. w.now) words.now ≡ report_words r g limit waive outline format m → is_plain_word r ≡ true → is_plain_word g ≡ true
         → is_plain_if_some limit ≡ true → is_plain_if_some waive ≡ true → is_plain_if_some outline ≡ true → is_plain_if_some format ≡ true → is_plain_word m ≡ true
         → IsParsedReportStatus (L.has loader.old) m (named.parse_report r g limit waive outline format) (below_report r g limit (is_some outline) format) waive outline (W.contents out.old) (W.contents out.new) result }

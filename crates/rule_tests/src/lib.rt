@@ -6,6 +6,8 @@ mod margins_calls;
 #[cfg(test)]
 mod pad_shapes_calls;
 #[cfg(test)]
+mod profiles_calls;
+#[cfg(test)]
 mod ring_rules_calls;
 #[cfg(test)]
 mod rows;

@@ -6,10 +6,10 @@ ghost use Rattle.pad_shapes.specs.Inner.ShapeLaws.{disc_contains_covered, disc_c
 ghost use Rattle.margins.specs.Inner.DepthLaws.{disc_covers_less};
 
 use crate::rows::{
-    HOLE, HoleRow, PadRow, Shape, add_holes, add_pads, add_round, disc, pad, point, rect, round,
-    slot,
+    HOLE, HoleRow, PadRow, Shape, add_holes, add_pads, add_round, disc, drilled, pad, point, rect,
+    round, slot,
 };
-use grid_units::Point;
+use grid_units::{Point, Profile};
 use margins::*;
 use pad_shapes::{Disc, Pad, PadShape, Zone};
 use ring_rules::Drilled;
@@ -267,13 +267,18 @@ fn best_in(alloc: Global, rows: &[PadRow], row: HoleRow) -> Option<Option<(usize
     }
 }
 
-/// Of two pads in which a hole lies equally deep the first is the best. A hole without a pad is bare, and so is an oblique slot.
+/// Of two pads in which a hole lies equally deep the first is the best. A hole without a pad is bare. An oblique slot lies as deep as its
+/// less deep end.
 #[test]
 fn best_pads_of_holes(rt: HostRuntime) {
     let rows: &[(&[PadRow], HoleRow, Option<(usize, u64)>); 3] = &[
         (&[RIGHT, LEFT], HOLE, Some((0, 200_000_000))),
         (&[], HOLE, None),
-        (&[WIDE], ((0, 0), (1_000, 1_000), 100_000_000), None),
+        (
+            &[WIDE],
+            ((0, 0), (1_000, 1_000), 100_000_000),
+            Some((0, 324_999_000)),
+        ),
     ];
     for &(pads, hole, best) in rows {
         assert!(rt; best_in(rt.alloc(), pads, hole) == Some(best));
@@ -337,7 +342,7 @@ fn bare_and_covered_holes(rt: HostRuntime) {
         ((0, 0), (1_000_000_000, 0), 200_000_000),
         ((0, 0), (1_000, 1_000), 200_000_000),
     ];
-    assert!(rt; are_bare(rt.alloc(), pads, holes, &[false, true, true, true]));
+    assert!(rt; are_bare(rt.alloc(), pads, holes, &[false, true, true, false]));
 }
 
 /// The places of the two nearest of some holes, and the gap between them.
@@ -412,18 +417,29 @@ fn nearest_of_many(rt: HostRuntime) -> Result<(), Fail> {
 type BoardMeets = (Met, Met, Met, Met);
 
 /// What a board of one layer meets. None where the rings that are met are others when they are asked for alone.
-fn met_by(alloc: Global, pads: &[PadRow], holes: &[HoleRow], plated: bool) -> Option<BoardMeets> {
+fn met_by(
+    alloc: Global,
+    pads: &[PadRow],
+    holes: &[HoleRow],
+    plated: bool,
+    profile: Profile,
+) -> Option<BoardMeets> {
     let (mut layer, mut drills) = (Vec::new(alloc), Vec::new(alloc));
     if add_pads(&mut layer, pads).is_none() || add_holes(&mut drills, holes, plated).is_none() {
         return None;
     }
-    met_on(alloc, &[layer.as_slice()], &drills)
+    met_on(alloc, &[layer.as_slice()], &drills, profile)
 }
 
-fn met_on(alloc: Global, layers: &[&[Pad]], holes: &[Drilled]) -> Option<BoardMeets> {
-    let ring = ring_met(alloc, layers, holes).ok()?;
-    let both = rings_met(alloc, layers, holes).ok()?;
-    let held = ring_in_pads_met(alloc, layers, holes).ok()?;
+fn met_on(
+    alloc: Global,
+    layers: &[&[Pad]],
+    holes: &[Drilled],
+    profile: Profile,
+) -> Option<BoardMeets> {
+    let ring = ring_met(alloc, layers, holes, profile).ok()?;
+    let both = rings_met(alloc, layers, holes, profile).ok()?;
+    let held = ring_in_pads_met(alloc, layers, holes, profile).ok()?;
     let gap = gap_met(alloc, holes).ok()?;
     (both.ring == ring).then_some((ring, both.in_pads, held, gap))
 }
@@ -496,7 +512,7 @@ const MET: [(&[PadRow], &[HoleRow], bool, BoardMeets); 7] = [
 #[test]
 fn rules_that_boards_meet(rt: HostRuntime) {
     for &(pads, holes, plated, met) in &MET {
-        assert!(rt; met_by(rt.alloc(), pads, holes, plated) == Some(met));
+        assert!(rt; met_by(rt.alloc(), pads, holes, plated, Profile::Strict) == Some(met));
     }
 }
 
@@ -507,10 +523,26 @@ fn rows_of_rings(rt: HostRuntime) -> Result<(), Fail> {
     let beside = round(1_000_000_000, 1_000_000_000, 200_000_000)?;
     let holes = [round(0, 0, 200_000_000)?, beside, beside];
     let bests = best_pads(rt.alloc(), &pads, &holes)?;
-    let all = ring_row(&bests, &holes, &[0, 1, 2]);
-    let first = ring_row(&bests, &holes, &[0]);
+    let all = ring_row(Profile::Strict, &bests, &holes, &[0, 1, 2]);
+    let first = ring_row(Profile::Strict, &bests, &holes, &[0]);
     assert!(rt; all == row_of(3, 0, Some((385_786_437, 1))));
     assert!(rt; first == row_of(1, 0, Some((1_800_000_000, 0))));
+    Ok(())
+}
+
+/// An oblique slot has no ring in the strict profile, and that of its less deep end in the wide one.
+#[test]
+fn rings_of_an_oblique_slot(rt: HostRuntime) -> Result<(), Fail> {
+    let pads = [disc(0, 0, 2_000_000_000)?];
+    let holes = [drilled((0, 0), (1_000_000_000, 1_000_000_000), 200_000_000)?];
+    let bests = best_pads(rt.alloc(), &pads, &holes)?;
+    let rows = [
+        (Profile::Strict, row_of(1, 1, None)),
+        (Profile::Wide, row_of(1, 0, Some((385_786_437, 0)))),
+    ];
+    for (profile, row) in rows {
+        assert!(rt; ring_row(profile, &bests, &holes, &[0]) == row);
+    }
     Ok(())
 }
 
@@ -537,7 +569,7 @@ fn row_of_bare_holes(rt: HostRuntime) -> Result<(), Fail> {
         round(3_000_000_000, 1_000_000_000, 200_000_000)?,
     ];
     let bests = best_pads(rt.alloc(), &pads, &holes)?;
-    assert!(rt; ring_row(&bests, &holes, &[0, 1, 2]) == row_of(3, 3, None));
+    assert!(rt; ring_row(Profile::Strict, &bests, &holes, &[0, 1, 2]) == row_of(3, 3, None));
     Ok(())
 }
 

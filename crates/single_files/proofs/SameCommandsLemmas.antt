@@ -4,6 +4,7 @@ use Rattle.std.proofs.lemmas.Bool.{ltb-false}
 use Rattle.grid_units.specs.declared.fault.Reason.TheVariants.{TooLong}
 use Rattle.grid_units.specs.Results.{fault}
 use Rattle.grid_units.specs.Limits.{text_limit}
+use Rattle.grid_units.specs.declared.profile.Profile.TheVariants.{Strict}
 use Rattle.gerber_text.specs.Writing.{canonical_text, lines, without_places}
 use Rattle.gerber_text.proofs.TextIsSayable.{text_sayable}
 use Rattle.gerber_text.proofs.RoundTrip.{reads_as}
@@ -34,7 +35,7 @@ layer_back bytes text a h e =
     let cs = without_places a.commands in
     let short = short_text (lines cs) text e in
     let back = reads_as cs text (sym short.0) (subst (λ (t : List ℕ). length t ≤ text_limit) short.0 short.1) (text_sayable bytes a.commands h.0.spells) in
-    let again : IsLayerText text back.entries = record { spells = reads_spells text back.entries back.reads; legal = subst (IsLegal broken_rule) (sym back.same) h.0.legal } in
+    let again : IsLayerText text back.entries = record { spells = reads_spells Strict text back.entries back.reads; legal = subst (IsLegal broken_rule) (sym back.same) h.0.legal } in
     (image_of back.entries, (again, refl), sym back.same)
 
 drill_back : (bytes text : List ℕ) (cs : List DrillCommand) → IsDrillText bytes cs → drills.written cs ≡ Ok text → IsDrillText text cs

@@ -10,6 +10,7 @@ use Rattle.drill_text.specs.Outcome.{DrillFile, file_of}
 use Rattle.drill_text.specs.Texts.{ReadsAs}
 use Rattle.drill_text.specs.Writing.{vec_bytes}
 use Rattle.drill_text.specs.declared.kept.Keep.TheVariants as drill_keep
+use Rattle.grid_units.specs.declared.profile.Profile.TheVariants.{Strict}
 use Rattle.gerber_text.specs.Reading.{Entries, Reads, entries_after}
 use Rattle.gerber_text.specs.Holding.{FailsWith}
 use Rattle.gerber_text.specs.Writing.{canonical_text, without_places}
@@ -29,14 +30,14 @@ stops text cs (fails.Refused f) h = (cs, h)
 
 -- a text that spells commands has no fault
 no_fault : (text : List ℕ) (cs : Entries) (f : Fault) → Reads text (Ok cs) → Reads text (Err f) → ⊥
-no_fault text cs f h k = let e : (let x : Result Entries Fault = Ok cs in let y : Result Entries Fault = Err f in x ≡ y) = one_read text (Ok cs) (Err f) h k in cc
+no_fault text cs f h k = let e : (let x : Result Entries Fault = Ok cs in let y : Result Entries Fault = Err f in x ≡ y) = one_read Strict text (Ok cs) (Err f) h k in cc
 
 -- reading gives the commands of a layer's text
 pub layer_read : (text : List ℕ) (image : LayerImage) → ReadsLayer text (Ok image) → Reads text (Ok image.commands)
-layer_read text image h = spells_reads text image.commands h.0.spells
+layer_read text image h = spells_reads Strict text image.commands h.0.spells
 
 pub same_commands : (text : List ℕ) (cs ds : Entries) → Reads text (Ok cs) → Reads text (Ok ds) → cs ≡ ds
-same_commands text cs ds h k = let e : (let x : Result Entries Fault = Ok cs in let y : Result Entries Fault = Ok ds in x ≡ y) = one_read text (Ok cs) (Ok ds) h k in cc
+same_commands text cs ds h k = let e : (let x : Result Entries Fault = Ok cs in let y : Result Entries Fault = Ok ds in x ≡ y) = one_read Strict text (Ok cs) (Ok ds) h k in cc
 
 pub legal_ends : {T V : Type 0} (view : T → V) (P : Result V Fault → Type 0) (text : List ℕ) (gone : Entries) (image : LayerImage) (e : Fail) → ReadsLayer text (Ok image)
     → AnswersAlways (entries_after gone) (λ answer. Reads text answer) (Err e) → Answers view P (Err e)
@@ -47,8 +48,8 @@ pub legal_goes_on : {T V : Type 0} (view : T → V) (P : Result V Fault → Type
     → IfFault (ShowsReadFault text) e → Answers view P (Err e)
 legal_goes_on view P text more whole image fails.Memory is h k = tt
 legal_goes_on view P text more whole image (fails.Refused f) is h k =
-    let on = fails_longer text more k.0 (fails.Refused f) k.1 in
-    absurd (no_fault whole image.commands f (layer_read whole image h) (subst (λ (t : List ℕ). Reads t (Err f)) is (shows_reads (text ++ more) f on.reported)))
+    let on = fails_longer Strict text more k.0 (fails.Refused f) k.1 in
+    absurd (no_fault whole image.commands f (layer_read whole image h) (subst (λ (t : List ℕ). Reads t (Err f)) is (shows_reads Strict (text ++ more) f on.reported)))
 
 pub from_always : {T V : Type 0} (view : T → V) (P : Result V Fault → Type 0) (r : Result T Fail) → AnswersAlways view P r → Answers view P r
 from_always view P (Ok x) h = h

@@ -24,10 +24,10 @@ returns-in-Some c =
     subst (λ o. IsRequestOf o c.in-Some.request) (parsed.1 ∙ ap₂ subcommand_of c.in-Ok.ensures e ∙ (λ i. (is i).1)) c.in-Some.ensures.request in
     record {
       exact = request_is_parsed _ _ _ c.in-Some.request c.in-Ok.ensures faultless parsed.1 c.in-Some.ensures.request;
-      check = λ r g m e p q s.
-          let all = check_options r g m in
-          c.in-Some.ensures.check r g m (rows_of all) (parsed.1 ∙ ap₂ subcommand_of c.in-Ok.ensures e ∙ (λ i. (check_answer r g m p q s i).1))
-          (first_is (codes "ring") all, first_is (codes "gap") all, first_is (codes "manifest") all);
+      check = λ r g f m e p q t s.
+          let all = check_options r g f m in
+          c.in-Some.ensures.check r g f m (rows_of all) (parsed.1 ∙ ap₂ subcommand_of c.in-Ok.ensures e ∙ (λ i. (check_answer r g f m p q t s i).1))
+          (first_is (codes "ring") all, first_is (codes "gap") all, first_is (codes "profile") all, first_is (codes "manifest") all);
       measure = λ o m e t s. is_measure o m c.in-Some.request (asks _ _ e (measure_answer o m t s));
       report = λ r g n v l o m e p q t w x u s. is_report r g n v l o m c.in-Some.request (asks _ _ e (report_answer r g n v l o m p q t w x u s));
       draw = λ o l m e p t s. is_draw o l m c.in-Some.request (asks _ _ e (draw_answer o l m p t s));
@@ -51,7 +51,7 @@ returns c =
     refused _ _ _ c.refusal_for.result c.in-Ok.ensures fault c.refusal_for.ensures.kind c.refusal_for.ensures.memory in
     record {
       exact = exact;
-      check = λ r g m e p q s. rw (memory _ _ e (check_answer r g m p q s)) tt;
+      check = λ r g f m e p q t s. rw (memory _ _ e (check_answer r g f m p q t s)) tt;
       measure = λ o m e t s. rw (memory _ _ e (measure_answer o m t s)) tt;
       report = λ r g n v l o m e p q t w x u s. rw (memory _ _ e (report_answer r g n v l o m p q t w x u s)) tt;
       draw = λ o l m e p t s. rw (memory _ _ e (draw_answer o l m p t s)) tt;

@@ -3,8 +3,7 @@ use Rattle.std.specs.Prelude.{◌≡◌, ℕ, ◌+◌, ◌<◌, ◌≤◌, ◌�
 use Rattle.std.specs.List.{All, Contains}
 use Rattle.grid_units.specs.Points.{GridPoint}
 use Rattle.grid_units.specs.Holes.{GridHole}
-use Rattle.pad_shapes.specs.Shapes.{max_half_side, covers_both_ends}
-use Rattle.ring_rules.specs.Findings.{is_oblique}
+use Rattle.pad_shapes.specs.Shapes.{max_reach, covers_both_ends}
 use Rattle.ring_rules.specs.Places.{hole_at}
 use Rattle.ring_rules.specs.declared.finding.Drilled.{Drilled}
 use Rattle.margins.specs.Hulls.{IsDeepIn, IsHullOf}
@@ -23,14 +22,14 @@ abbrev pub required : Option BestPad → ℕ → ℕ
 required None place = 0
 required (Some best) place = best.depth + one_unless_before place best.pad
 
--- the shape at a place is no better for a hole than its best so far; nothing is said of an oblique slot
+-- the shape at a place is no better for a hole than its best so far
 abbrev pub IsNoBetter : {S : Type 0} → (S → GridPoint → ℕ → Bool) → List S → ℕ → GridHole → Option BestPad → Type 0
-IsNoBetter {S} covers pads place h best = (s : S) (reach : ℕ) → is_oblique h ≡ false → covers_both_ends covers (get_or pads place s) h.from h.to reach ≡ true → reach < required best place
+IsNoBetter {S} covers pads place h best = (s : S) (reach : ℕ) → covers_both_ends covers (get_or pads place s) h.from h.to reach ≡ true → reach < required best place
 
--- a shape of the list, and a depth of the hole in it, at most five metres
+-- a shape of the list, and a depth of the hole in it, less than twenty metres
 pub record IsDepthInPad {S : Type 0} (covers : S → GridPoint → ℕ → Bool) (pads : List S) (h : GridHole) (best : BestPad) : Type 0 where
   pub inside : best.pad < length pads
-  pub in_range : best.depth ≤ max_half_side
+  pub in_range : best.depth < max_reach
   pub covered : (s : S) → covers_both_ends covers (get_or pads best.pad s) h.from h.to best.depth ≡ true
 
 -- the best so far, if there is one, is such a shape
@@ -38,9 +37,8 @@ abbrev pub IsHeld : {S : Type 0} → (S → GridPoint → ℕ → Bool) → List
 IsHeld covers pads h None = Unit {0}
 IsHeld covers pads h (Some best) = IsDepthInPad covers pads h best
 
--- the best of a hole is still one of the shapes, and no shape that was no better before is better now; an oblique slot keeps what it has
+-- the best of a hole is still one of the shapes, and no shape that was no better before is better now
 pub record Improves {S : Type 0} (covers : S → GridPoint → ℕ → Bool) (pads : List S) (h : GridHole) (before after : Option BestPad) : Type 0 where
-  pub oblique : is_oblique h ≡ true → after ≡ before
   pub more : (place : ℕ) → required before place ≤ required after place
   pub held : IsHeld covers pads h before → IsHeld covers pads h after
 

@@ -7,6 +7,10 @@ use Rattle.grid_units.proofs.TriangleInequalities.{square-le}
 use Rattle.pad_shapes.specs.Shapes.{end_radius, square_axis_distance, disc_covers, rect_covers, obround_covers}
 use Rattle.pad_shapes.specs.Pads.{pad_covers}
 use Rattle.pad_shapes.specs.declared.pad.Pad.TheVariants.{Disc, Rect, Obround}
+use Rattle.pad_shapes.specs.Rounded.{rounded_covers}
+use Rattle.pad_shapes.specs.Inner.RoundedLaws.{covers_less}
+use Rattle.wide_pads.specs.WidePads.{wide_pad_covers}
+use Rattle.wide_pads.specs.declared.wide_pad.WidePad.TheVariants.{Plain, Rounded}
 use Rattle.margins.specs.Depths.{CoversLess}
 
 -- two tests that both passed
@@ -38,3 +42,10 @@ pub pad_covers_less : CoversLess pad_covers
 pad_covers_less (Disc d) = disc_covers_less d
 pad_covers_less (Rect r) = rect_covers_less r
 pad_covers_less (Obround o) = obround_covers_less o
+
+pub rounded_covers_less : CoversLess rounded_covers
+rounded_covers_less r c less reach h e = covers_less r c reach less h e
+
+pub wide_pad_covers_less : CoversLess wide_pad_covers
+wide_pad_covers_less (Plain pad) = pad_covers_less pad
+wide_pad_covers_less (Rounded rounded) = rounded_covers_less rounded

@@ -1,5 +1,6 @@
 -- Which holes lack their ring, by their best pads.
 use Rattle.std.specs.Prelude.{ℕ, ℤ, pos, Bool, true, ◌&&◌, int_lt, Option, Some, None}
+use Rattle.grid_units.specs.declared.profile.Profile.{Profile}
 use Rattle.ring_rules.specs.declared.finding.Drilled.{Drilled}
 use Rattle.margins.specs.Meets.{needs_ring}
 use Rattle.margins.specs.Rows.{ring_from_best}
@@ -11,5 +12,5 @@ is_short rule None = true
 is_short rule (Some ring) = int_lt ring (pos rule)
 
 -- a hole needs a ring on a layer, and its best pad there gives it none or less than the rule
-abbrev pub falls_short : ℕ → ℕ → Drilled → Option BestPad → Bool
-falls_short rule layer d best = needs_ring layer d && is_short rule (ring_from_best best d.hole)
+abbrev pub falls_short : Profile → ℕ → ℕ → Drilled → Option BestPad → Bool
+falls_short profile rule layer d best = needs_ring layer d && is_short rule (ring_from_best profile best d.hole)

@@ -1,14 +1,16 @@
 //! What passes, and what is measured, is sound as it stands.
 
-ghost use Rattle.std.specs.Prelude.{IsTrue, List, None, Ok, Option, [], codes, ℕ, ◌∷◌, ◌≡◌};
+ghost use Rattle.std.specs.Prelude.{IsTrue, List, None, Ok, Option, Some, [], codes, ℕ, ◌∷◌, ◌≡◌};
 ghost use Rattle.std.specs.List.{Contains};
 ghost use Rattle.grid_units.specs.Holes.{GridRules};
+ghost use Rattle.grid_units.specs.declared.profile.Profile.TheVariants.{Strict};
 ghost use Rattle.manifest.specs.Manifest.{manifest};
 ghost use Rattle.manifest.specs.declared.Entry.{Entry as TheEntry};
+ghost use Rattle.board_report.specs.BoardReport.{in_strict};
 ghost use Rattle.board_report.specs.Measures.{PackagePasses};
 ghost use Rattle.report.specs.declared.Measure.{Measure};
 ghost use Rattle.package_check.specs.Soundness.{IsSound};
-ghost use Rattle.ringcheck.specs.ParsedWords.{parse_report, parse_rules};
+ghost use Rattle.ringcheck.specs.ParsedWords.{parse_check, parse_report};
 ghost use Rattle.ringcheck.specs.CheckStatus.{HasFiles, sources};
 ghost use Rattle.ringcheck.specs.declared.parsed_words.ReportFormat.{ReportFormat as TheFormat};
 
@@ -16,9 +18,9 @@ use super::*;
 
 /// Whether a package of three files at hand passes. Then the files that its manifest names, as they stand, are sound.
 fn is_passed<'x>(alloc: Global, records: &'x str, layer: &'x str, drill: &'x str) -> bool
-    ensures { IsTrue result → (rules : GridRules) × (parse_rules (codes "0.125") (codes "0.25") ≡ Ok rules) × (entries : List TheEntry) × (manifest records.now ≡ Ok entries)
+    ensures { IsTrue result → (rules : GridRules) × (parse_check None (codes "0.125") (codes "0.25") ≡ Ok rules) × (entries : List TheEntry) × (manifest records.now ≡ Ok entries)
         × (files : List (List ℕ)) × HasFiles (λ n b. Contains {X = List ℕ × List ℕ} ((codes "m.csv", records.now) ∷ (codes "top.gbr", layer.now) ∷ (codes "pth.drl", drill.now) ∷ []) (n, b)) entries files
-        × IsSound (sources entries files) rules }
+        × IsSound (sources rules.profile entries files) rules }
 {
     let files = [("m.csv", records), ("top.gbr", layer), ("pth.drl", drill)];
     let mut out: Vec<u8> = Vec::new(alloc);
@@ -31,12 +33,47 @@ fn what_passes_is_sound_as_it_lies_there(rt: HostRuntime) {
     assert!(rt; !is_passed(rt.alloc(), MANIFEST, MOVED, DRILL));
 }
 
+const WIDE_WORDS: [&str; 8] = [
+    "check",
+    "--ring",
+    "0.125",
+    "--gap",
+    "0.25",
+    "--profile",
+    "wide",
+    "m.csv",
+];
+
+/// The layer with the disc flashed by a macro.
+const MACRO_LAYER: &str =
+    "%FSLAX46Y46*%\n%MOMM*%\n%AMDisc*1,1,$1,0,0*%\n%ADD10Disc,0.65*%\nD10*\nX0Y0D03*\nM02*\n";
+
+/// Whether a package of three files at hand passes in the wide profile. Then the files that its manifest names, as they stand, are sound
+/// as the wide profile reads them.
+fn is_passed_wide<'x>(alloc: Global, records: &'x str, layer: &'x str, drill: &'x str) -> bool
+    ensures { IsTrue result → (rules : GridRules) × (parse_check (Some (codes "wide")) (codes "0.125") (codes "0.25") ≡ Ok rules) × (entries : List TheEntry) × (manifest records.now ≡ Ok entries)
+        × (files : List (List ℕ)) × HasFiles (λ n b. Contains {X = List ℕ × List ℕ} ((codes "m.csv", records.now) ∷ (codes "top.gbr", layer.now) ∷ (codes "pth.drl", drill.now) ∷ []) (n, b)) entries files
+        × IsSound (sources rules.profile entries files) rules }
+{
+    let files = [("m.csv", records), ("top.gbr", layer), ("pth.drl", drill)];
+    let mut out: Vec<u8> = Vec::new(alloc);
+    run(alloc, &WIDE_WORDS, &mut Shelf::new(&files), &mut out) == Status::Pass
+}
+
+#[test]
+fn what_passes_in_the_wide_profile_is_sound_in_it(rt: HostRuntime) {
+    assert!(rt; is_passed_wide(rt.alloc(), MANIFEST, LAYER, DRILL));
+    assert!(rt; is_passed_wide(rt.alloc(), MANIFEST, MACRO_LAYER, DRILL));
+    assert!(rt; !is_passed_wide(rt.alloc(), MANIFEST, MOVED, DRILL));
+    assert!(rt; !is_passed(rt.alloc(), MANIFEST, MACRO_LAYER, DRILL));
+}
+
 /// Whether a package of three files at hand is measured. Then the files that its manifest names, as they stand, pass under
 /// exactly the rules of a measure.
 fn is_measured<'x>(alloc: Global, records: &'x str, layer: &'x str, drill: &'x str) -> bool
     ensures { IsTrue result → (entries : List TheEntry) × (manifest records.now ≡ Ok entries) × (files : List (List ℕ))
         × HasFiles (λ n b. Contains {X = List ℕ × List ℕ} ((codes "m.csv", records.now) ∷ (codes "top.gbr", layer.now) ∷ (codes "pth.drl", drill.now) ∷ []) (n, b)) entries files
-        × (measure : Measure) × PackagePasses (sources entries files) measure.meets.ring measure.meets.gap }
+        × (measure : Measure) × PackagePasses (sources Strict entries files) measure.meets.ring measure.meets.gap }
 {
     let files = [("m.csv", records), ("top.gbr", layer), ("pth.drl", drill)];
     let mut out: Vec<u8> = Vec::new(alloc);
@@ -55,7 +92,7 @@ fn what_is_measured_passes_under_just_its_rules(rt: HostRuntime) {
 fn is_told_sound<'x>(alloc: Global, records: &'x str, layer: &'x str, drill: &'x str) -> bool
     ensures { IsTrue result → (asked : GridRules × Option ℕ × TheFormat) × (parse_report (codes "0.125") (codes "0.25") None None None None ≡ Ok asked) × (entries : List TheEntry) × (manifest records.now ≡ Ok entries) × (files : List (List ℕ))
         × HasFiles (λ n b. Contains {X = List ℕ × List ℕ} ((codes "m.csv", records.now) ∷ (codes "top.gbr", layer.now) ∷ (codes "pth.drl", drill.now) ∷ []) (n, b)) entries files
-        × IsSound (sources entries files) asked.0 }
+        × IsSound (sources Strict entries files) (in_strict asked.0) }
 {
     let files = [("m.csv", records), ("top.gbr", layer), ("pth.drl", drill)];
     let mut out: Vec<u8> = Vec::new(alloc);

@@ -104,6 +104,32 @@ fn a_kind_is_read_before_its_file(rt: HostRuntime) {
     }
 }
 
+const NO_PROFILES: [&str; 6] = ["", "Strict", "WIDE", "loose", "wide ", "strict,wide"];
+
+/// Whether a check refuses the word of a profile, and loads no file.
+fn refuses_profile(alloc: Global, word: &str) -> bool {
+    let mut shelf = Shelf::new(&[("m.csv", MANIFEST)]);
+    let words = [
+        "check",
+        "--profile",
+        word,
+        "--ring",
+        "x",
+        "--gap",
+        "0",
+        "m.csv",
+    ];
+    let text = "usage reason=BadRole\n";
+    prints(alloc, &mut shelf, &words, Status::Usage, text) && shelf.calls == 0
+}
+
+#[test]
+fn a_profile_is_read_before_the_rules(rt: HostRuntime) {
+    for &word in &NO_PROFILES {
+        assert!(rt; refuses_profile(rt.alloc(), word), "{word}");
+    }
+}
+
 /// Whether a run asks once for its file, which is not there, and says so.
 fn lacks_file(alloc: Global, words: &[&str]) -> bool {
     let mut shelf = Shelf::new(&[]);

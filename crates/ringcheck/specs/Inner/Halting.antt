@@ -2,6 +2,7 @@
 use Rattle.std.specs.Prelude.{◌≡◌, ℕ, Bool, List, Option, Some, None, Result, Ok, Err}
 use Rattle.std.specs.Global.{Vec}
 use Rattle.grid_units.specs.declared.fault.Fault.{Fault}
+use Rattle.grid_units.specs.declared.profile.Profile.{Profile}
 use Rattle.manifest.specs.declared.Entry.{Entry}
 use Rattle.package_check.specs.Package.{FileView}
 use Rattle.ringcheck_files.specs.LoaderRelation.{Relation, file_limit, within}
@@ -58,10 +59,10 @@ abbrev pub OfTable : {A : Type 0} → (List ℕ → Result (List A) Fault) → R
 OfTable parse has name what Risen (Ok rows) = HasTable parse has name rows.items
 OfTable parse has name what Risen (Err halt) = Halts (RefusesTable parse has name what) Risen halt
 
--- what came of the files of these entries: they are loaded and `Holds` is true of them, or one of them is refused or cannot be read
-abbrev pub OfFiles : {A : Type 0} → Relation → List Entry → Type 0 → (A → List FileView → Type 0) → Result A Halt → Type 0
-OfFiles has entries Risen Holds (Ok it) = (files : List (List ℕ)) × HasFiles (within file_limit has) entries files × Holds it (sources entries files)
-OfFiles has entries Risen Holds (Err halt) = Halts (RefusedFile has entries) Risen halt
+-- what came of the files of these entries in this profile: they are loaded and `Holds` is true of them, or one of them is refused or cannot be read
+abbrev pub OfFiles : {A : Type 0} → Relation → Profile → List Entry → Type 0 → (A → List FileView → Type 0) → Result A Halt → Type 0
+OfFiles has profile entries Risen Holds (Ok it) = (files : List (List ℕ)) × HasFiles (within file_limit has) entries files × Holds it (sources profile entries files)
+OfFiles has profile entries Risen Holds (Err halt) = Halts (RefusedFile has profile entries) Risen halt
 
 -- what came of files that a reader has taken: `Holds` is true of them, or one of them is refused
 abbrev pub OfTaken : (Bool → List FileView → Type 0) → List FileView → Result Bool Halt → Type 0

@@ -1,6 +1,8 @@
 -- What is said of each job on a package.
 use Rattle.std.specs.Prelude.{ℕ, Bool, List, Option, option_map}
 use Rattle.std.specs.Global.{Vec}
+use Rattle.grid_units.specs.declared.profile.Profile.{Profile}
+use Rattle.grid_units.specs.declared.profile.Profile.TheVariants.{Strict}
 use Rattle.package_check.specs.Package.{FileView}
 use Rattle.ringcheck_files.specs.LoaderRelation.{Relation}
 use Rattle.ringcheck_files.specs.declared.Status.{Status}
@@ -25,6 +27,13 @@ job_style (job.Measure form) = measure_style form
 job_style (job.Report options) = report_style options.format
 job_style (job.Draw order) = style.Line
 
+-- the profile in which a job reads the files: that of the rules of a check, and else the strict one
+abbrev pub job_profile : Job → Profile
+job_profile (job.Check rules) = rules.profile
+job_profile (job.Measure form) = Strict
+job_profile (job.Report options) = Strict
+job_profile (job.Draw order) = Strict
+
 -- what is said of files where a job on them passes, or does not
 abbrev pub Holds : Job → Option (List ℕ) → Option (List ℕ) → Bool → List FileView → Type 0
 Holds (job.Check rules) before after = Checks rules before after
@@ -34,4 +43,4 @@ Holds (job.Draw order) before after = PrintsPicture order.rules order.outline.it
 
 -- what a status says of a job on the package under a name
 abbrev pub SaysJob : Job → Relation → List ℕ → Option (List ℕ) → Option (List ℕ) → Status → Type 0
-SaysJob job has name before after s = SaysPackage has name (Holds job before after) (job_style job) before after s
+SaysJob job has name before after s = SaysPackage has (job_profile job) name (Holds job before after) (job_style job) before after s

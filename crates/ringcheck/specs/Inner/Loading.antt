@@ -3,18 +3,19 @@ use Rattle.std.specs.Prelude.{◌≡◌, ◌<◌, ◌++◌, ◌||◌, ◌&&◌, 
 use Rattle.std.specs.List.{count_by}
 use Rattle.grid_units.specs.Holes.{GridRules}
 use Rattle.grid_units.specs.Spans.{LayerSpan}
+use Rattle.grid_units.specs.declared.profile.Profile.{Profile}
 use Rattle.layer_image.specs.declared.keep.Keep.{Keep}
 use Rattle.manifest.specs.declared.Entry.{Entry}
 use Rattle.manifest.specs.declared.Role.{Role}
-use Rattle.package_check.specs.CheckViews.{CheckView}
+use Rattle.package_check.specs.CheckViews.{CheckView, setting_of}
 use Rattle.package_check.specs.Checking.{HasJudged, TakesCopper}
-use Rattle.package_check.specs.Holding.{HasTaken, TakesFile, copper_files, is_kind}
+use Rattle.package_check.specs.Holding.{HasTaken, TakesFile, is_kind, setting_of as reader_setting}
 use Rattle.package_check.specs.OpenFiles.{HasOpened, HasOpenedCopper}
-use Rattle.package_check.specs.Package.{FileView, is_copper}
+use Rattle.package_check.specs.Package.{FileView, Setting, is_copper}
 use Rattle.package_check.specs.declared.open_file.OpenFile.{OpenFile}
 use Rattle.package_check.specs.declared.package_reader.PackageReader.{PackageReader}
 use Rattle.ringcheck_files.specs.LoaderRelation.{Relation, file_limit, too_long, within}
-use Rattle.ringcheck.specs.CheckStatus.{sources}
+use Rattle.ringcheck.specs.CheckStatus.{setting_in, sources}
 use Rattle.ringcheck.specs.Inner.Halting.{Halts}
 use Rattle.ringcheck.specs.Refusals.{Refusal, of_file}
 use Rattle.ringcheck.specs.declared.load_package.CheckSink.{CheckSink}
@@ -24,9 +25,9 @@ use Rattle.ringcheck.specs.declared.refusals.Halt.{Halt}
 abbrev pub copper_entries : List Entry → ℕ
 copper_entries entries = count_by (λ entry. is_copper entry.role) entries
 
--- the file of an entry with these bytes, in a package of so many copper files
-abbrev pub source : ℕ → Entry → List ℕ → FileView
-source layers entry bytes = record { role = entry.role; name = entry.name; span = entry.span; bytes = bytes; layers = layers }
+-- the file of an entry with these bytes, read in this
+abbrev pub source : Setting → Entry → List ℕ → FileView
+source setting entry bytes = record { role = entry.role; name = entry.name; span = entry.span; bytes = bytes; setting = setting }
 
 -- whether an entry is there, and is of this kind
 abbrev pub is_kind_of : Bool → Option Entry → Bool
@@ -64,7 +65,7 @@ CopperGoesOn start now bytes =
 
 -- the file of an entry was loaded, and a reader has taken it
 abbrev pub LoadsFile : Relation → PackageReader → PackageReader → ℕ → Entry → Type 0
-LoadsFile has before after index entry = (bytes : List ℕ) × within file_limit has entry.file bytes × TakesFile before after index (source (copper_files before) entry bytes)
+LoadsFile has before after index entry = (bytes : List ℕ) × within file_limit has entry.file bytes × TakesFile before after index (source (reader_setting before) entry bytes)
 
 -- what came of handing the file of an entry to a reader: that it has taken it, or why the file cannot be loaded
 abbrev pub OfTakenFile : Relation → PackageReader → PackageReader → ℕ → Entry → Type 0 → Option Halt → Type 0
@@ -76,35 +77,35 @@ abbrev pub EndsAt : Relation → List Entry → Type 0 → ℕ → Option Halt �
 EndsAt has entries Risen end None = end ≡ length entries
 EndsAt has entries Risen end (Some halt) = (entry : Entry) × (slice_get entries end ≡ Some entry) × Halts (RefusesLong has end entry) Risen halt
 
--- Of the files of these entries those at the indexes that `done` is true of were loaded, and taken, as `Taken` says of all files and of these indexes.
+-- Of the files of these entries those at the indexes that `done` is true of were loaded, and taken, as `Taken` says of all files, read in this profile, and of these indexes.
 -- Nothing is said of the bytes of the other files.
-pub record HasLoaded (has : Relation) (entries : List Entry) (Taken : List FileView → (ℕ → Bool) → Type 0) (done : ℕ → Bool) : Type 0 where
+pub record HasLoaded (has : Relation) (profile : Profile) (entries : List Entry) (Taken : List FileView → (ℕ → Bool) → Type 0) (done : ℕ → Bool) : Type 0 where
   pub files : List (List ℕ)
   pub size : length files ≡ length entries
   pub loaded : (i : ℕ) (entry : Entry) → done i ≡ true → slice_get entries i ≡ Some entry → within file_limit has entry.file (get_or files i [])
-  pub taken : Taken (sources entries files) done
+  pub taken : Taken (sources profile entries files) done
 
 -- Between two states of a reader the files of one kind below an index were loaded, and the reader has taken them. These are the files of the first entries of some
 -- list, whichever it is, of which other files were loaded before.
 abbrev pub LoadsKind : Relation → List Entry → PackageReader → PackageReader → Bool → ℕ → Type 0
-LoadsKind has entries before after copper end = (all : List Entry) (keep : Keep) (done : ℕ → Bool) → AreFirstOf entries all → copper_files before ≡ copper_entries all
-    → ((i : ℕ) → is_kind_at copper all i ≡ true → done i ≡ false) → HasLoaded has all (HasTaken before keep) done → HasLoaded has all (HasTaken after keep) (λ i. done i || (nat_lt i end && is_kind_at copper all i))
+LoadsKind has entries before after copper end = (profile : Profile) (all : List Entry) (keep : Keep) (done : ℕ → Bool) → AreFirstOf entries all → reader_setting before ≡ setting_in profile all
+    → ((i : ℕ) → is_kind_at copper all i ≡ true → done i ≡ false) → HasLoaded has profile all (HasTaken before keep) done → HasLoaded has profile all (HasTaken after keep) (λ i. done i || (nat_lt i end && is_kind_at copper all i))
 
 -- ---- the check
 
 -- the copper file of an entry was loaded, and a check has taken it, its layer having this number
 abbrev pub LoadsCopper : Relation → CheckView → CheckView → ℕ → ℕ → Entry → Type 0
-LoadsCopper has before after index layer entry = (bytes : List ℕ) × within file_limit has entry.file bytes × TakesCopper before after index layer (source before.layers entry bytes)
+LoadsCopper has before after index layer entry = (bytes : List ℕ) × within file_limit has entry.file bytes × TakesCopper before after index layer (source (setting_of before) entry bytes)
 
 -- what came of handing the copper file of an entry to a check: the check, which has taken it; or why the file cannot be loaded
 abbrev pub OfCheckedFile : Relation → CheckView → ℕ → ℕ → Entry → Type 0 → Result CheckView Halt → Type 0
-OfCheckedFile has before index layer entry Risen (Ok after) = LoadsCopper has before after index layer entry × (after.layers ≡ before.layers)
+OfCheckedFile has before index layer entry Risen (Ok after) = LoadsCopper has before after index layer entry × (setting_of after ≡ setting_of before)
 OfCheckedFile has before index layer entry Risen (Err halt) = Halts (RefusesLong has index entry) Risen halt
 
 -- between two states of a check the copper files of these entries below an index were loaded, and the check has taken them; other files were loaded before
 abbrev pub LoadsCopperTo : Relation → List Entry → CheckView → CheckView → ℕ → Type 0
-LoadsCopperTo has entries before after end = (rules : GridRules) (done : ℕ → Bool) → before.layers ≡ copper_entries entries → ((i : ℕ) → is_kind_at true entries i ≡ true → done i ≡ false)
-    → HasLoaded has entries (λ all. HasJudged before all rules) done → HasLoaded has entries (λ all. HasJudged after all rules) (λ i. done i || (nat_lt i end && is_kind_at true entries i))
+LoadsCopperTo has entries before after end = (profile : Profile) (rules : GridRules) (done : ℕ → Bool) → setting_of before ≡ setting_in profile entries → ((i : ℕ) → is_kind_at true entries i ≡ true → done i ≡ false)
+    → HasLoaded has profile entries (λ all. HasJudged before all rules) done → HasLoaded has profile entries (λ all. HasJudged after all rules) (λ i. done i || (nat_lt i end && is_kind_at true entries i))
 
 -- what came of handing the copper files of these entries to a check: the check, which has taken them; or why the first of them that cannot be loaded
 -- cannot be, those before it having been taken

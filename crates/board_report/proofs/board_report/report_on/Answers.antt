@@ -2,16 +2,16 @@ use Rattle.std.proofs.Common.{◌∙◌, List, refl, subst}
 use Rattle.std.specs.Prelude.{not}
 use Rattle.std.specs.List.{AllZip, filter}
 use Rattle.ring_rules.specs.declared.finding.Finding.{Finding}
-use Rattle.board_report.specs.BoardReport.{IsGapEntry, IsRingEntry, is_gap}
+use Rattle.board_report.specs.BoardReport.{IsGapEntry, IsRingEntry, in_strict, is_gap}
 use Rattle.board_report.proofs.board_report.report_on.Goals as goal
 
 pub returns : goal.returns
 returns c =
     let board = c.args.board.now in
-    let required = c.args.rules in
+    let required = in_strict c.args.rules in
     let found = c.in_ok-findings.ensures.are in
     record {
-      rules = refl;
+      rules = c.in_profile.ensures;
       layers = c.in_ok-heads.ensures;
       rings = subst (λ (fs : List Finding). AllZip (IsRingEntry board required.ring) (filter (λ finding. not (is_gap finding)) fs) c.in_ok-ring_lacks.field-0.items) (c.deref-4.ensures.value ∙ found) c.in_ok-ring_lacks.ensures;
       gaps = subst (λ (fs : List Finding). AllZip (IsGapEntry board required.gap) (filter is_gap fs) c.in_ok-gap_lacks.field-0.items) (c.deref-6.ensures.value ∙ found) c.in_ok-gap_lacks.ensures;

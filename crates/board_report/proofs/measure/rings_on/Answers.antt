@@ -1,4 +1,4 @@
-use Rattle.std.proofs.Common.{◌≡◌, ◌+◌, ◌<◌, ◌≤◌, ℕ, List, [], length, get_or, map, ap, sym, subst, ◌∙◌, arith, rules}
+use Rattle.std.proofs.Common.{Bor, ◌≡◌, ◌+◌, ◌<◌, ◌≤◌, ℕ, List, [], length, get_or, map, ap, sym, subst, ◌∙◌, arith, rules}
 use Rattle.std.specs.Prelude.{Option}
 use Rattle.std.specs.Global.{Vec}
 use Rattle.std.proofs.lemmas.List.{get_or-map, length-map}
@@ -15,10 +15,11 @@ use Rattle.board_report.proofs.LayerBestsLemmas.{all_kept, none_kept, one_more}
 use Rattle.board_report.proofs.UnitMistakeLinesLemmas.{ScalesAt, all_layers, first_layer, later_layer, no_layer_yet}
 use Rattle.board_report.proofs.measure.rings_on.Goals as goal
 use Rattle.board_report.proofs.measure.rings_on.Goals.{then-layer-eq0+in_ok-scales, else-layer-eq0}
+use Rattle.grid_units.specs.declared.profile.Profile.TheVariants.{Strict}
 
 pub loop-layer-init : goal.loop-layer-init
 loop-layer-init c = record {
-  met = search rules;
+  met = subst (λ (layers : List (Bor (List Pad))). MeetsOnLayers pad_covers Strict (map (λ pads. pads.now) layers) c.holes-holes.result.now 0 c.met_without_layers-met.result) c.deref.ensures.value (c.met_without_layers-met.ensures Strict);
   lines = subst (AreRowLines c.args.board.now (λ key. key.layer < 0)) (sym c.new-lines.ensures.items) (none c.args.board.now (λ key. key.layer < 0) (λ key less some. omega (arith, less)));
   scales = subst (ScalesAt c.args.board.now 0) (sym c.new-scales.ensures.items) (no_layer_yet c.args.board.now);
   bests = λ keeps. subst (λ (kept : List (Vec (Option BestPad))). AreLayerBests c.args.board.now 0 (map (λ bests. bests.items) kept)) (sym c.new-kept.ensures.items) (none_kept c.args.board.now);
@@ -61,9 +62,9 @@ returns-clause-scales c =
 pub returns-clause-met : goal.returns-clause-met
 returns-clause-met c =
     let board = c.args.board.now in
-    subst (λ (holes : List Drilled). MeetsOnLayers pad_covers board.layers holes (length board.layers) c.loop-layer.met) c.holes-holes.ensures
-    (subst (λ (layers : List (List Pad)). MeetsOnLayers pad_covers layers c.holes-holes.result.now (length board.layers) c.loop-layer.met) c.in_ok-layers.ensures
-    (subst (λ (n : ℕ). MeetsOnLayers pad_covers (map (λ pads. pads.now) c.in_ok-layers.layers.items) c.holes-holes.result.now n c.loop-layer.met) (all_layers_seen c) c.loop-layer.invariant.met))
+    subst (λ (holes : List Drilled). MeetsOnLayers pad_covers Strict board.layers holes (length board.layers) c.loop-layer.met) c.holes-holes.ensures
+    (subst (λ (layers : List (List Pad)). MeetsOnLayers pad_covers Strict layers c.holes-holes.result.now (length board.layers) c.loop-layer.met) c.in_ok-layers.ensures
+    (subst (λ (n : ℕ). MeetsOnLayers pad_covers Strict (map (λ pads. pads.now) c.in_ok-layers.layers.items) c.holes-holes.result.now n c.loop-layer.met) (all_layers_seen c) c.loop-layer.invariant.met))
 
 pub returns-clause-bests : goal.returns-clause-bests
 returns-clause-bests c = λ keeps. all_kept c.args.board.now c.loop-layer.layer (length c.args.board.now.layers) (map (λ bests. bests.items) c.loop-layer.kept.items) (all_layers_seen c) (c.loop-layer.invariant.bests keeps)

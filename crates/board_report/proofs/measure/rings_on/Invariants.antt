@@ -5,10 +5,11 @@ use Rattle.board_report.specs.Measures.{AreLayerBests}
 use Rattle.board_report.specs.Rows.{AreRowLines}
 use Rattle.board_report.proofs.UnitMistakeLinesLemmas.{ScalesAt}
 use Rattle.board_report.proofs.measure.rings_on.Given as goal
+use Rattle.grid_units.specs.declared.profile.Profile.TheVariants.{Strict}
 
 abbrev pub invariant-loop-layer : goal.invariant-loop-layer
 invariant-loop-layer l = record {
-  met : MeetsOnLayers pad_covers (map (λ pads. pads.now) l.layers.items) l.holes l.layer l.met;
+  met : MeetsOnLayers pad_covers Strict (map (λ pads. pads.now) l.layers.items) l.holes l.layer l.met;
   lines : AreRowLines l.board (λ key. key.layer < l.layer) l.lines.items;
   scales : ScalesAt l.board l.layer l.scales.items;
   bests : l.keeps ≡ true → AreLayerBests l.board l.layer (map (λ bests. bests.items) l.kept.items);

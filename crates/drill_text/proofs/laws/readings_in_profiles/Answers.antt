@@ -1,4 +1,5 @@
 use Rattle.drill_text.proofs.FaultsStay.{shown_is_read_in}
+use Rattle.drill_text.proofs.FirstFaults.{each_read_in}
 use Rattle.drill_text.proofs.UniqueReading.{one_shown_in, one_read_in}
 use Rattle.drill_text.proofs.laws.readings_in_profiles.Goals as goal
 
@@ -10,3 +11,6 @@ returns-clause-read c = one_read_in
 
 pub returns-clause-stays : goal.returns-clause-stays
 returns-clause-stays c = shown_is_read_in
+
+pub returns-clause-some : goal.returns-clause-some
+returns-clause-some c = each_read_in

@@ -29,7 +29,7 @@ loop-layer-preserved g c =
     let more = length-map c.args.bests.now (λ (layer_bests : Vec (Option BestPad)). layer_bests.items) in
     let inside : layer < length pads = omega (arith, size, more, c.loop-layer-test.true) in
     c.in_ok-add_lacking.ensures
-    ∙ flat_listed_more (λ layer. layer_findings g.S.PadShape.covers c.args.rules.ring c.args.holes.now layer.0 layer.1) c.loop-layer.findings.items pads layer [] inside c.loop-layer.invariant
+    ∙ flat_listed_more (λ layer. layer_findings g.S.PadShape.covers c.args.rules.profile c.args.rules.ring c.args.holes.now layer.0 layer.1) c.loop-layer.findings.items pads layer [] inside c.loop-layer.invariant
 
 pub returns : goal.returns
 returns g c =
@@ -38,4 +38,4 @@ returns g c =
     let more = length-map c.args.bests.now (λ (layer_bests : Vec (Option BestPad)). layer_bests.items) in
     let all : length pads ≤ c.loop-layer.layer = omega (arith, size, more, c.loop-layer-test.false) in
     c.loop-layer.invariant
-    ∙ ap (flat_map (λ layer. layer_findings g.S.PadShape.covers c.args.rules.ring c.args.holes.now layer.0 layer.1)) (enumerated_all pads c.loop-layer.layer all)
+    ∙ ap (flat_map (λ layer. layer_findings g.S.PadShape.covers c.args.rules.profile c.args.rules.ring c.args.holes.now layer.0 layer.1)) (enumerated_all pads c.loop-layer.layer all)

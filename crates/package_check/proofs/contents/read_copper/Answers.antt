@@ -3,6 +3,7 @@ use Rattle.std.proofs.lemmas.Result.{err_from_is_err_and}
 use Rattle.grid_units.specs.Results.{Answers}
 use Rattle.grid_units.specs.declared.fault.Fail.{Fail}
 use Rattle.grid_units.specs.declared.fault.Fail.TheVariants as fails
+use Rattle.grid_units.specs.declared.profile.Profile.{Profile}
 use Rattle.package_check.specs.FileTexts.{ReadsLayer}
 use Rattle.package_check.specs.LayerViews.{LayerView}
 use Rattle.package_check.specs.Package.{ReadsCopper}
@@ -11,17 +12,17 @@ use Rattle.package_check.proofs.FlashReadingLemmas.{held}
 use Rattle.package_check.proofs.contents.read_copper.Goals as goal
 
 -- the fault of a layer's text is one of a copper file
-copper_fault : (bytes : List ℕ) (why : Fail) → Answers {T = LayerView} (λ x. x) (ReadsLayer bytes) (Err why) → Answers {T = Content} (λ x. x) (ReadsCopper bytes) (Err why)
-copper_fault bytes fails.Memory h = tt
-copper_fault bytes (fails.Refused fault) h = inl h
+copper_fault : (profile : Profile) (bytes : List ℕ) (why : Fail) → Answers {T = LayerView} (λ x. x) (ReadsLayer profile bytes) (Err why) → Answers {T = Content} (λ x. x) (ReadsCopper profile bytes) (Err why)
+copper_fault profile bytes fails.Memory h = tt
+copper_fault profile bytes (fails.Refused fault) h = inl h
 
 pub returns-in_err-layer-clause-copper : goal.returns-in_err-layer-clause-copper
 returns-in_err-layer-clause-copper c = λ text stands.
     let p = err_from_is_err_and c.from_residual.result c.from_residual.ensures.1 in
-    rw (p.1, p.2) (copper_fault text c.in_err-layer.field-0.0 (c.in_err-layer.ensures.image text stands))
+    rw (p.1, p.2) (copper_fault c.args.profile text c.in_err-layer.field-0.0 (c.in_err-layer.ensures.image text stands))
 
 pub returns-clause-copper : goal.returns-clause-copper
-returns-clause-copper c = λ text stands. c.require_copper.ensures text (c.in_ok-layer.ensures.image text stands)
+returns-clause-copper c = λ text stands. c.require_copper.ensures c.args.profile text (c.in_ok-layer.ensures.image text stands)
 
 pub returns-clause-flashes : goal.returns-clause-flashes
 returns-clause-flashes c = λ text stands keeps. held c.require_copper.result _ (c.in_ok-layer.ensures.flashes text stands keeps)

@@ -1,23 +1,23 @@
-use Rattle.package_check.specs.Package.{layer_count, file_view, file_views}
+use Rattle.package_check.specs.Package.{Setting, layer_count, file_view, file_views_in}
 use Rattle.std.proofs.Common.{refl}
 use Rattle.package_check.proofs.NoObliqueSlots.{passed_straight}
 use Rattle.package_check.proofs.AnswerLemmas.{just, legal, named, passed}
 use Rattle.package_check.proofs.package.check_bytes.Goals as goal
 
 pub returns-clause-only : goal.returns-clause-only
-returns-clause-only c = just (file_views c.args.files.now) c.args.rules c.unique_answer.ensures c.report_of.result c.report_of.ensures
+returns-clause-only c = just (file_views_in c.args.rules.profile c.args.files.now) c.args.rules c.unique_answer.ensures c.report_of.result c.report_of.ensures
 
 pub returns-clause-places : goal.returns-clause-places
-returns-clause-places c = named (file_views c.args.files.now) c.args.rules c.findings_name_their_places.ensures c.report_of.result c.report_of.ensures
+returns-clause-places c = named (file_views_in c.args.rules.profile c.args.files.now) c.args.rules c.findings_name_their_places.ensures c.report_of.result c.report_of.ensures
 
 pub returns-clause-legal : goal.returns-clause-legal
-returns-clause-legal c = legal (file_views c.args.files.now) c.args.rules c.report_of.result c.report_of.ensures
+returns-clause-legal c = legal (file_views_in c.args.rules.profile c.args.files.now) c.args.rules c.report_of.result c.report_of.ensures
 
 pub returns-clause-sound : goal.returns-clause-sound
-returns-clause-sound c = passed (file_views c.args.files.now) c.args.rules c.passing_is_sound.ensures c.report_of.result c.report_of.ensures
+returns-clause-sound c = passed (file_views_in c.args.rules.profile c.args.files.now) c.args.rules c.passing_is_sound.ensures c.report_of.result c.report_of.ensures
 
 pub returns-clause-straight : goal.returns-clause-straight
-returns-clause-straight c =
+returns-clause-straight c = λ strict.
     let files = c.args.files.now in
-    let n = layer_count files in
-    passed_straight (file_view n) (λ file. file.role) n (λ file. refl) (λ file. refl) c.files_say_once.ensures.holes c.passing_is_sound.ensures c.args.rules files c.report_of.result refl c.report_of.ensures
+    let setting : Setting = record { layers = layer_count files; profile = c.args.rules.profile } in
+    passed_straight (file_view setting) (λ file. file.role) setting (λ file. refl) (λ file. refl) c.files_say_once.ensures.holes c.passing_is_sound.ensures c.args.rules files c.report_of.result strict strict refl c.report_of.ensures

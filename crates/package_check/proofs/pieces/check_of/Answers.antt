@@ -1,13 +1,20 @@
-use Rattle.std.proofs.Common.{◌∙◌, false}
+use Rattle.std.proofs.Common.{◌≡◌, ◌∙◌, ap, false, subst, true}
 use Rattle.layer_image.specs.declared.keep.Keep.TheVariants as keep
-use Rattle.package_check.specs.Pieces.{pieced_file_views}
+use Rattle.package_check.specs.Package.{Setting}
+use Rattle.package_check.specs.Pieces.{pieced_file_views, pieced_layer_count}
+use Rattle.grid_units.specs.Holes.{GridRules}
+use Rattle.grid_units.specs.declared.profile.Profile.{Profile}
+use Rattle.package_check.specs.Checking.{JudgesThose}
+use Rattle.package_check.specs.Holding.{is_kind_at, setting_of}
 use Rattle.package_check.proofs.CheckSteps.{all_taken}
 use Rattle.package_check.proofs.pieces.check_of.Goals as goal
 
 pub returns : goal.returns
 returns c =
-    let sources = pieced_file_views c.args.files.now in
-    let layers = c.new-reader.ensures.layers ∙ c.layer_count.ensures in
-    let drills = c.in_ok-take_drills.ensures.takes layers keep.Pads (λ i. false) (c.new-reader.ensures.stands sources) in
-    all_taken c.in_ok-check.check c.take_copper.new.check sources c.args.rules (c.in_ok-check.ensures.stands keep.Pads sources drills)
-    (c.in_ok-take_copper.ensures (c.in_ok-check.ensures.layers ∙ (c.in_ok-take_drills.ensures.layers ∙ layers)))
+    let sources = pieced_file_views c.args.rules.profile c.args.files.now in
+    let setting : setting_of c.new-reader.result ≡ record { layers = pieced_layer_count c.args.files.now; profile = c.args.rules.profile } = c.new-reader.ensures.setting ∙ (λ j. record { layers = c.layer_count.ensures j; profile = c.profile.ensures j }) in
+    let drills = c.in_ok-take_drills.ensures.takes c.args.rules.profile setting keep.Pads (λ i. false) (c.new-reader.ensures.stands sources) in
+    let drilled = c.in_ok-check.ensures.stands keep.Pads sources drills in
+    all_taken c.in_ok-check.check c.take_copper.new.check sources c.args.rules drilled
+    (subst (λ (p : Profile). JudgesThose c.in_ok-check.check c.take_copper.new.check (pieced_file_views p c.args.files.now) (is_kind_at true (pieced_file_views p c.args.files.now))) (ap (λ (r : GridRules). r.profile) drilled.same_rules)
+    (c.in_ok-take_copper.ensures (c.in_ok-check.ensures.layers ∙ ap (λ (s : Setting). s.layers) (c.in_ok-take_drills.ensures.setting ∙ setting))))

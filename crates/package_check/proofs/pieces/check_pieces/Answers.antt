@@ -1,23 +1,24 @@
 use Rattle.package_check.specs.Pieces.{pieced_layer_count, pieced_file_view, pieced_file_views}
+use Rattle.package_check.specs.Package.{Setting}
 use Rattle.std.proofs.Common.{refl}
 use Rattle.package_check.proofs.NoObliqueSlots.{passed_straight}
 use Rattle.package_check.proofs.AnswerLemmas.{just, legal, named, passed}
 use Rattle.package_check.proofs.pieces.check_pieces.Goals as goal
 
 pub returns-clause-only : goal.returns-clause-only
-returns-clause-only c = just (pieced_file_views c.args.files.now) c.args.rules c.unique_answer.ensures c.report_of.result c.report_of.ensures
+returns-clause-only c = just (pieced_file_views c.args.rules.profile c.args.files.now) c.args.rules c.unique_answer.ensures c.report_of.result c.report_of.ensures
 
 pub returns-clause-places : goal.returns-clause-places
-returns-clause-places c = named (pieced_file_views c.args.files.now) c.args.rules c.findings_name_their_places.ensures c.report_of.result c.report_of.ensures
+returns-clause-places c = named (pieced_file_views c.args.rules.profile c.args.files.now) c.args.rules c.findings_name_their_places.ensures c.report_of.result c.report_of.ensures
 
 pub returns-clause-legal : goal.returns-clause-legal
-returns-clause-legal c = legal (pieced_file_views c.args.files.now) c.args.rules c.report_of.result c.report_of.ensures
+returns-clause-legal c = legal (pieced_file_views c.args.rules.profile c.args.files.now) c.args.rules c.report_of.result c.report_of.ensures
 
 pub returns-clause-sound : goal.returns-clause-sound
-returns-clause-sound c = passed (pieced_file_views c.args.files.now) c.args.rules c.passing_is_sound.ensures c.report_of.result c.report_of.ensures
+returns-clause-sound c = passed (pieced_file_views c.args.rules.profile c.args.files.now) c.args.rules c.passing_is_sound.ensures c.report_of.result c.report_of.ensures
 
 pub returns-clause-straight : goal.returns-clause-straight
-returns-clause-straight c =
+returns-clause-straight c = λ strict.
     let files = c.args.files.now in
-    let n = pieced_layer_count files in
-    passed_straight (pieced_file_view n) (λ file. file.role) n (λ file. refl) (λ file. refl) c.files_say_once.ensures.holes c.passing_is_sound.ensures c.args.rules files c.report_of.result refl c.report_of.ensures
+    let setting : Setting = record { layers = pieced_layer_count files; profile = c.args.rules.profile } in
+    passed_straight (pieced_file_view setting) (λ file. file.role) setting (λ file. refl) (λ file. refl) c.files_say_once.ensures.holes c.passing_is_sound.ensures c.args.rules files c.report_of.result strict strict refl c.report_of.ensures

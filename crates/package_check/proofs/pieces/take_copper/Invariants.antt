@@ -1,5 +1,6 @@
 use Rattle.std.proofs.Common.{◌≡◌, ◌≤◌, ◌&&◌}
 use Rattle.std.specs.Prelude.{true, nat_lt}
+use Rattle.package_check.specs.CheckViews.{setting_of}
 use Rattle.package_check.specs.Checking.{JudgesThose, layer_number}
 use Rattle.package_check.specs.Holding.{is_kind_at}
 use Rattle.package_check.specs.Pieces.{pieced_file_views, pieced_layer_count}
@@ -7,8 +8,8 @@ use Rattle.package_check.proofs.pieces.take_copper.Given as goal
 
 abbrev pub invariant-loop-index : goal.invariant-loop-index
 invariant-loop-index l = record {
-  layers : l.check.layers ≡ l.initial.check.layers;
-  number : l.layer ≡ layer_number (pieced_file_views l.files) l.index;
+  setting : setting_of l.check ≡ setting_of l.initial.check;
+  number : l.layer ≡ layer_number (pieced_file_views l.initial.check.rules.profile l.files) l.index;
   few : l.layer ≤ l.index;
-  takes : l.initial.check.layers ≡ pieced_layer_count l.files → JudgesThose l.initial.check l.check (pieced_file_views l.files) (λ i. nat_lt i l.index && is_kind_at true (pieced_file_views l.files) i);
+  takes : l.initial.check.layers ≡ pieced_layer_count l.files → JudgesThose l.initial.check l.check (pieced_file_views l.initial.check.rules.profile l.files) (λ i. nat_lt i l.index && is_kind_at true (pieced_file_views l.initial.check.rules.profile l.files) i);
 }

@@ -1,7 +1,8 @@
 use Rattle.std.proofs.Common.{◌≡◌, ℕ, List, ◌++◌}
 use Rattle.std.specs.Slice.Iter.{chunks_rest, chunks_size}
 use Rattle.layer_image.specs.declared.keep.Keep.{Keep}
-use Rattle.layer_image.specs.Holding.{LayerStandsAfter}
+use Rattle.layer_image.specs.Holding.{LayerStandsIn}
+use Rattle.grid_units.specs.declared.profile.Profile.{Profile}
 use Rattle.package_check.proofs.readers.feed_layer.Given as goal
 
 abbrev pub invariant-loop-chunk : goal.invariant-loop-chunk
@@ -9,4 +10,4 @@ invariant-loop-chunk l =
     goal.iterator-loop-chunk.can_next l.chunk-iterator
     × goal.iterator-loop-chunk.is_finite l.chunk-iterator
     × (chunks_size l.chunk-iterator ≡ 65536)
-    × ((keep : Keep) (text : List ℕ) → LayerStandsAfter l.initial.reader keep text → (done : List ℕ) × LayerStandsAfter l.reader keep (text ++ done) × (done ++ chunks_rest l.chunk-iterator ≡ l.piece))
+    × ((profile : Profile) (keep : Keep) (text : List ℕ) → LayerStandsIn l.initial.reader profile keep text → (done : List ℕ) × LayerStandsIn l.reader profile keep (text ++ done) × (done ++ chunks_rest l.chunk-iterator ≡ l.piece))

@@ -1,21 +1,38 @@
-use Rattle.std.proofs.Common.{ap}
-use Rattle.layer_image.specs.KeptFlashes.{keeps_flashes}
+use Rattle.std.proofs.Common.{OnOk, subst, sym}
+use Rattle.grid_units.specs.Results.{Answers}
+use Rattle.grid_units.specs.declared.profile.Profile.{Profile}
+use Rattle.layer_image.specs.Holding.{LayerStandsIn}
+use Rattle.package_check.specs.FileTexts.{Draws, HasFlashes, ReadsLayer}
+use Rattle.package_check.specs.LayerViews.{LayerView}
+use Rattle.package_check.specs.OpenFiles.{keep_in}
 use Rattle.package_check.proofs.readers.read_layer_view.Goals as goal
 
-pub returns-in-All : goal.returns-in-All
-returns-in-All c =
-    let keeps = ap keeps_flashes c.in-All.is in
-    record {
-      image = λ text stands. c.read_shown.ensures.image c.args.keep text stands keeps;
-      flashes = λ text stands _. c.read_shown.ensures.flashes c.args.keep text stands keeps;
-      drawn = λ text stands draws. c.read_shown.ensures.drawn c.args.keep text stands draws;
-    }
+pub returns-in-Strict-clause-image : goal.returns-in-Strict-clause-image
+returns-in-Strict-clause-image c = λ text stands.
+    subst (λ (p : Profile). Answers {T = LayerView} (λ x. x) (ReadsLayer p text) c.read_strict.result) (sym c.in-Strict.is)
+    (c.read_strict.ensures.image text (subst (λ (p : Profile). LayerStandsIn c.args.reader p (keep_in p c.args.keep) text) c.in-Strict.is stands))
 
-pub returns-in-Flashes : goal.returns-in-Flashes
-returns-in-Flashes c =
-    let keeps = ap keeps_flashes c.in-Flashes.is in
-    record {
-      image = λ text stands. c.read_shown-in-Flashes.ensures.image c.args.keep text stands keeps;
-      flashes = λ text stands _. c.read_shown-in-Flashes.ensures.flashes c.args.keep text stands keeps;
-      drawn = λ text stands draws. c.read_shown-in-Flashes.ensures.drawn c.args.keep text stands draws;
-    }
+pub returns-in-Strict-clause-flashes : goal.returns-in-Strict-clause-flashes
+returns-in-Strict-clause-flashes c = λ text stands keeps.
+    subst (λ (p : Profile). OnOk c.read_strict.result (HasFlashes p text c.read_strict.new.shown.flashes.items)) (sym c.in-Strict.is)
+    (c.read_strict.ensures.flashes text (subst (λ (p : Profile). LayerStandsIn c.args.reader p (keep_in p c.args.keep) text) c.in-Strict.is stands) keeps)
+
+pub returns-in-Strict-clause-drawn : goal.returns-in-Strict-clause-drawn
+returns-in-Strict-clause-drawn c = λ text stands keeps.
+    subst (λ (p : Profile). OnOk c.read_strict.result (Draws p text c.read_strict.new.shown.drawn.items)) (sym c.in-Strict.is)
+    (c.read_strict.ensures.drawn text (subst (λ (p : Profile). LayerStandsIn c.args.reader p (keep_in p c.args.keep) text) c.in-Strict.is stands) keeps)
+
+pub returns-in-Wide-clause-image : goal.returns-in-Wide-clause-image
+returns-in-Wide-clause-image c = λ text stands.
+    subst (λ (p : Profile). Answers {T = LayerView} (λ x. x) (ReadsLayer p text) c.read_wide.result) (sym c.in-Wide.is)
+    (c.read_wide.ensures.image text (subst (λ (p : Profile). LayerStandsIn c.args.reader p (keep_in p c.args.keep) text) c.in-Wide.is stands))
+
+pub returns-in-Wide-clause-flashes : goal.returns-in-Wide-clause-flashes
+returns-in-Wide-clause-flashes c = λ text stands keeps.
+    subst (λ (p : Profile). OnOk c.read_wide.result (HasFlashes p text c.read_wide.new.shown.flashes.items)) (sym c.in-Wide.is)
+    (c.read_wide.ensures.flashes text (subst (λ (p : Profile). LayerStandsIn c.args.reader p (keep_in p c.args.keep) text) c.in-Wide.is stands))
+
+pub returns-in-Wide-clause-drawn : goal.returns-in-Wide-clause-drawn
+returns-in-Wide-clause-drawn c = λ text stands keeps.
+    subst (λ (p : Profile). OnOk c.read_wide.result (Draws p text c.read_wide.new.shown.drawn.items)) (sym c.in-Wide.is)
+    (c.read_wide.ensures.drawn text (subst (λ (p : Profile). LayerStandsIn c.args.reader p (keep_in p c.args.keep) text) c.in-Wide.is stands))

@@ -3,13 +3,14 @@ use Rattle.std.proofs.lemmas.Result.{err_from_is_err_and}
 use Rattle.layer_image.specs.Layers.{LayerImage}
 use Rattle.layer_image.specs.declared.keep.Keep.TheVariants as keep
 use Rattle.package_check.specs.FileTexts.{is_copper_function}
+use Rattle.grid_units.specs.declared.profile.Profile.TheVariants.{Strict}
 use Rattle.package_check.proofs.OpenFiles.{layer_fault}
 use Rattle.package_check.proofs.readers.read_pads.Goals as goal
 
 pub returns-in_err-layer : goal.returns-in_err-layer
 returns-in_err-layer c = λ text stands.
     let p = err_from_is_err_and c.from_residual.result c.from_residual.ensures.1 in
-    rw (p.1, p.2) (layer_fault keep.Pads text c.in_err-layer.field-0.0 (c.in_err-layer.ensures.exact keep.Pads text stands))
+    rw (p.1, p.2) (layer_fault Strict keep.Pads text c.in_err-layer.field-0.0 (c.in_err-layer.ensures.exact keep.Pads text stands))
 
 pub returns : goal.returns
 returns c = λ text stands.
@@ -18,6 +19,8 @@ returns c = λ text stands.
       read.1,
       λ i. record {
         pads = (c.into_pads.ensures ∙ ap (λ (l : LayerImage). l.pads) read.2) i;
+        flashed = c.new.ensures.items i;
+        contours = c.new-2.ensures.items i;
         other = (c.other-other.ensures ∙ ap (λ (l : LayerImage). l.other) read.2) i;
         is_copper = (c.is_copper_function-is_copper.ensures ∙ ap is_copper_function (c.file_function.ensures ∙ ap (λ (l : LayerImage). l.file_function) read.2)) i;
       },

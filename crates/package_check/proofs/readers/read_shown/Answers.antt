@@ -6,13 +6,14 @@ use Rattle.layer_image.specs.Flashes.{pads_of}
 use Rattle.layer_image.specs.Layers.{LayerImage}
 use Rattle.package_check.specs.FileTexts.{is_copper_function}
 use Rattle.package_check.proofs.FlashReadingLemmas.{commands_kept, flashes_kept, pads_are}
+use Rattle.grid_units.specs.declared.profile.Profile.TheVariants.{Strict}
 use Rattle.package_check.proofs.OpenFiles.{layer_fault}
 use Rattle.package_check.proofs.readers.read_shown.Goals as goal
 
 pub returns-in_err-layer-clause-image : goal.returns-in_err-layer-clause-image
 returns-in_err-layer-clause-image c = λ keep text stands keeps.
     let p = err_from_is_err_and c.from_residual.result c.from_residual.ensures.1 in
-    rw (p.1, p.2) (layer_fault keep text c.in_err-layer.field-0.0 (c.in_err-layer.ensures.exact keep text stands))
+    rw (p.1, p.2) (layer_fault Strict keep text c.in_err-layer.field-0.0 (c.in_err-layer.ensures.exact keep text stands))
 
 pub returns-clause-image : goal.returns-clause-image
 returns-clause-image c = λ keep text stands keeps.
@@ -23,6 +24,8 @@ returns-clause-image c = λ keep text stands keeps.
       read.1,
       λ i. record {
         pads = pads i;
+        flashed = c.new.ensures.items i;
+        contours = c.new-2.ensures.items i;
         other = (c.other-other.ensures ∙ ap (λ (l : LayerImage). l.other) read.2) i;
         is_copper = (c.is_copper_function-is_copper.ensures ∙ ap is_copper_function (c.file_function.ensures ∙ ap (λ (l : LayerImage). l.file_function) read.2)) i;
       },

@@ -1,4 +1,4 @@
-use Rattle.ring_rules.proofs.Oblique.{oblique_found}
+use Rattle.ring_rules.proofs.RingLists.{oblique_found}
 use Rattle.ring_rules.proofs.laws.oblique_slots_are_found.Goals as goal
 
 pub returns : goal.returns

@@ -14,8 +14,8 @@ returns-then-run-part-clause-tried g c = λ i from below marked.
     let hole : GridHole = (spot_at c.args.spots.now i).hole in
     let fits_left : to_z w64 (of_z w64 c.left.result) ≡ c.left.result = search (rules, to_z-of_z) in
     let fits_right : to_z w64 (of_z w64 c.right.result) ≡ c.right.result = search (rules, to_z-of_z) in
-    fails (gives_ring_at g.S.PadShape.covers c.args.rules.ring spots c.args.pad.now i) (λ e.
-    let covered = given_from g.S.PadShape.covers c.args.rules.ring hole c.args.pad.now e in
+    fails (gives_ring_at g.S.PadShape.covers c.args.rules.profile c.args.rules.ring spots c.args.pad.now i) (λ e.
+    let covered = given_from g.S.PadShape.covers c.args.rules.profile c.args.rules.ring hole c.args.pad.now e in
     let between = g.met.S.PadShape.between c.args.pad.now hole.from (hole.radius + c.args.rules.ring) covered in
     let left : to_z w64 (of_z w64 c.left.result) ≤ℤ (spot_at c.args.spots.now i).hole.from.x = subst (λ (v : ℤ). v ≤ℤ (spot_at c.args.spots.now i).hole.from.x) (sym (fits_left ∙ c.left.ensures)) between.0 in
     let right : (spot_at c.args.spots.now i).hole.from.x ≤ℤ to_z w64 (of_z w64 c.right.result) = subst (λ (v : ℤ). (spot_at c.args.spots.now i).hole.from.x ≤ℤ v) (sym (fits_right ∙ c.right.ensures)) between.1 in
@@ -28,8 +28,8 @@ returns-else-run-part-clause-tried g c = λ i from below marked.
     let hole : GridHole = (spot_at c.args.spots.now i).hole in
     let fits_left : to_z w64 (of_z w64 c.left.result) ≡ c.left.result = search (rules, to_z-of_z) in
     let fits_right : to_z w64 (of_z w64 c.right.result) ≡ c.right.result = search (rules, to_z-of_z) in
-    fails (gives_ring_at g.S.PadShape.covers c.args.rules.ring spots c.args.pad.now i) (λ e.
-    let covered = given_from g.S.PadShape.covers c.args.rules.ring hole c.args.pad.now e in
+    fails (gives_ring_at g.S.PadShape.covers c.args.rules.profile c.args.rules.ring spots c.args.pad.now i) (λ e.
+    let covered = given_from g.S.PadShape.covers c.args.rules.profile c.args.rules.ring hole c.args.pad.now e in
     let between = g.met.S.PadShape.between c.args.pad.now hole.from (hole.radius + c.args.rules.ring) covered in
     let left : to_z w64 (of_z w64 c.left.result) ≤ℤ (spot_at c.args.spots.now i).hole.from.x = subst (λ (v : ℤ). v ≤ℤ (spot_at c.args.spots.now i).hole.from.x) (sym (fits_left ∙ c.left.ensures)) between.0 in
     let right : (spot_at c.args.spots.now i).hole.from.x ≤ℤ to_z w64 (of_z w64 c.right.result) = subst (λ (v : ℤ). (spot_at c.args.spots.now i).hole.from.x ≤ℤ v) (sym (fits_right ∙ c.right.ensures)) between.1 in

@@ -8,7 +8,7 @@ pub loop-i-preserved : goal.loop-i-preserved
 loop-i-preserved g c =
     let p : ℕ = c.loop-i.i in
     let marks : List Bool = c.loop-i.marks in
-    let test : ℕ → Bool = gives_ring_at g.S.PadShape.covers c.args.rules.ring c.args.spots.now c.args.pad.now in
+    let test : ℕ → Bool = gives_ring_at g.S.PadShape.covers c.args.rules.profile c.args.rules.ring c.args.spots.now c.args.pad.now in
     let listed : c.loop-i.i < length c.args.spots.now = omega (arith, c.loop-i-test.true, c.requires.within) in
     let inside : c.loop-i.i < length c.loop-i.marks = omega (arith, listed, c.loop-i.invariant.removes.size, c.requires.size) in
     let same : c.keeps_mark-keeps_mark.result ≡ (is_marked c.loop-i.marks c.loop-i.i && not (test c.loop-i.i)) = c.keeps_mark-keeps_mark.ensures in

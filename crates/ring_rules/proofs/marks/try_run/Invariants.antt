@@ -5,7 +5,7 @@ use Rattle.ring_rules.proofs.marks.try_run.Given as goal
 -- the spots so far are tried
 abbrev pub invariant-loop-i : goal.invariant-loop-i
 invariant-loop-i g l = record {
-  removes : RemovesMarks (gives_ring_at g.S.PadShape.covers l.rules.ring l.spots l.pad) l.initial.marks l.marks;
-  tried : NoMarkPassesFrom (gives_ring_at g.S.PadShape.covers l.rules.ring l.spots l.pad) l.fn.run.start l.i l.marks;
+  removes : RemovesMarks (gives_ring_at g.S.PadShape.covers l.rules.profile l.rules.ring l.spots l.pad) l.initial.marks l.marks;
+  tried : NoMarkPassesFrom (gives_ring_at g.S.PadShape.covers l.rules.profile l.rules.ring l.spots l.pad) l.fn.run.start l.i l.marks;
   none : l.is_left ≡ false → HasNoMarkFrom l.fn.run.start l.i l.marks;
 }

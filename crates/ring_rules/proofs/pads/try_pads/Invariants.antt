@@ -10,5 +10,5 @@ use Rattle.ring_rules.proofs.pads.try_pads.Given as goal
 abbrev pub invariant-loop-pad : goal.invariant-loop-pad
 invariant-loop-pad g l = record {
   closed : AreClosedUnmarked l.index.cells.x l.index.cells.y l.index.cells.spots l.index.nodes.items l.open_nodes l.marks;
-  marked : (i : ℕ) → i < length l.index.cells.spots → is_marked l.marks i ≡ (is_marked l.initial.marks i && not (list_any (gives_ring g.S.PadShape.covers l.index.rules.ring (spot_at l.index.cells.spots i).hole) (take l.pad-index l.pads)));
+  marked : (i : ℕ) → i < length l.index.cells.spots → is_marked l.marks i ≡ (is_marked l.initial.marks i && not (list_any (gives_ring g.S.PadShape.covers l.index.rules.profile l.index.rules.ring (spot_at l.index.cells.spots i).hole) (take l.pad-index l.pads)));
 }

@@ -18,11 +18,11 @@ loop-hole-preserved c =
       | then-lacking-hole+in_ok-push w ↦ λ test e.
           ap (λ v. v.items) w.findings-is
           ∙ (w.in_ok-push.ensures.items
-          ∙ (ap (λ (f : Finding). c.loop-hole.findings.items ++ f ∷ []) (w.finding_of.ensures ∙ ap (λ (x : Drilled). finding_of c.args.layer (k, x)) (sym at))
-          ∙ listed_more (finding_of c.args.layer) (λ (hole : ℕ × Drilled). test hole.1) true _ _ c.args.holes.now k d c.loop-hole-test.true (mark test e true w.if-lacking-hole.true) (c.loop-hole.invariant test e)))
-      | else-lacking-hole w ↦ λ test e. ap (λ v. v.items) w.findings-is ∙ listed_more_none (finding_of c.args.layer) (λ (hole : ℕ × Drilled). test hole.1) _ _ c.args.holes.now k d c.loop-hole-test.true (mark test e false w.if-lacking-hole.false) (c.loop-hole.invariant test e)
+          ∙ (ap (λ (f : Finding). c.loop-hole.findings.items ++ f ∷ []) (w.finding_of.ensures ∙ ap (λ (x : Drilled). finding_of c.args.profile c.args.layer (k, x)) (sym at))
+          ∙ listed_more (finding_of c.args.profile c.args.layer) (λ (hole : ℕ × Drilled). test hole.1) true _ _ c.args.holes.now k d c.loop-hole-test.true (mark test e true w.if-lacking-hole.true) (c.loop-hole.invariant test e)))
+      | else-lacking-hole w ↦ λ test e. ap (λ v. v.items) w.findings-is ∙ listed_more_none (finding_of c.args.profile c.args.layer) (λ (hole : ℕ × Drilled). test hole.1) _ _ c.args.holes.now k d c.loop-hole-test.true (mark test e false w.if-lacking-hole.false) (c.loop-hole.invariant test e)
     ]
 
 pub returns : goal.returns
 returns c = λ test e.
-    c.loop-hole.invariant test e ∙ ap (λ xs. c.args.findings.now.items ++ listed (finding_of c.args.layer) (λ (hole : ℕ × Drilled). test hole.1) xs) (enumerated_all c.args.holes.now c.loop-hole.hole c.loop-hole-test.false)
+    c.loop-hole.invariant test e ∙ ap (λ xs. c.args.findings.now.items ++ listed (finding_of c.args.profile c.args.layer) (λ (hole : ℕ × Drilled). test hole.1) xs) (enumerated_all c.args.holes.now c.loop-hole.hole c.loop-hole-test.false)

@@ -14,12 +14,12 @@ loop-layer-preserved g c =
     get_or-map (λ (pads : Bor (List g.row.S.Denot)). pads.now) c.args.layers.now c.loop-layer.layer c.index-layers-layer.result c.index-layers-layer.result.now c.loop-layer-test.true
     ∙ ap (λ (pads : Bor (List g.row.S.Denot)). pads.now) (sym c.index-layers-layer.is) in
     c.in_ok-push_layer.ensures
-    ∙ (ap (λ (rules : GridRules). c.loop-layer.findings.items ++ layer_findings g.S.PadShape.covers rules.ring c.args.holes.now c.loop-layer.layer c.index-layers-layer.result.now) c.in_ok-index.ensures.rules
-    ∙ (ap (λ pads. c.loop-layer.findings.items ++ layer_findings g.S.PadShape.covers c.args.rules.ring c.args.holes.now c.loop-layer.layer pads) (sym read)
-    ∙ flat_listed_more (λ layer. layer_findings g.S.PadShape.covers c.args.rules.ring c.args.holes.now layer.0 layer.1) c.loop-layer.findings.items (map (λ (pads : Bor (List g.row.S.Denot)). pads.now) c.args.layers.now) c.loop-layer.layer c.index-layers-layer.result.now inside c.loop-layer.invariant))
+    ∙ (ap (λ (rules : GridRules). c.loop-layer.findings.items ++ layer_findings g.S.PadShape.covers rules.profile rules.ring c.args.holes.now c.loop-layer.layer c.index-layers-layer.result.now) c.in_ok-index.ensures.rules
+    ∙ (ap (λ pads. c.loop-layer.findings.items ++ layer_findings g.S.PadShape.covers c.args.rules.profile c.args.rules.ring c.args.holes.now c.loop-layer.layer pads) (sym read)
+    ∙ flat_listed_more (λ layer. layer_findings g.S.PadShape.covers c.args.rules.profile c.args.rules.ring c.args.holes.now layer.0 layer.1) c.loop-layer.findings.items (map (λ (pads : Bor (List g.row.S.Denot)). pads.now) c.args.layers.now) c.loop-layer.layer c.index-layers-layer.result.now inside c.loop-layer.invariant))
 
 pub returns : goal.returns
 returns g c =
     c.loop-layer.invariant
-    ∙ ap (flat_map (λ layer. layer_findings g.S.PadShape.covers c.args.rules.ring c.args.holes.now layer.0 layer.1))
+    ∙ ap (flat_map (λ layer. layer_findings g.S.PadShape.covers c.args.rules.profile c.args.rules.ring c.args.holes.now layer.0 layer.1))
     (enumerated_all (map (λ (pads : Bor (List g.row.S.Denot)). pads.now) c.args.layers.now) c.loop-layer.layer (omega (arith, length-map c.args.layers.now (λ (pads : Bor (List g.row.S.Denot)). pads.now), c.loop-layer-test.false)))

@@ -2,7 +2,7 @@ use Rattle.std.proofs.Common.{◌≡◌, ◌∙◌, ◌&&◌, ◌||◌, ◌+◌,
 use Rattle.std.proofs.lemmas.List.Sums.{count_by_more_no, count_by_more_yes}
 use Rattle.std.proofs.lemmas.Option.{slice_get_read}
 use Rattle.manifest.specs.declared.Entry.{Entry}
-use Rattle.package_check.specs.CheckViews.{CheckView}
+use Rattle.package_check.specs.CheckViews.{CheckView, setting_of}
 use Rattle.package_check.specs.Checking.{HasJudged}
 use Rattle.package_check.specs.Package.{is_copper}
 use Rattle.ringcheck.specs.Inner.Loading.{HasLoaded, LoadsCopperTo, is_kind_at, is_kind_of}
@@ -14,10 +14,10 @@ pub loop-index-init : goal.loop-index-init
 loop-index-init g c = record {
   keeps = λ n b. (λ h. h, λ h. h);
   counted = omega arith;
-  layers = refl;
+  setting = refl;
   number = refl;
   few = omega arith;
-  loaded = λ rules done layers new h. none_yet (g.L.Loader.has c.args.loader.now) c.args.entries.now true (λ files. HasJudged c.args.check files rules) done h;
+  loaded = λ profile rules done read_in new h. none_yet (g.L.Loader.has c.args.loader.now) profile c.args.entries.now true (λ files. HasJudged c.args.check files rules) done h;
 }
 
 pub loop-index-preserved : goal.loop-index-preserved
@@ -33,18 +33,18 @@ loop-index-preserved g c =
       | then-is_copper+in_ok-checked+in-Ok w ↦
           let one = w.in_ok-checked.ensures in
           let copper = sym c.is_copper.ensures ∙ w.if-is_copper.true in
-          let ((bytes, held, takes), same_layers) = rw w.in-Ok.is at one.taken copper in
+          let ((bytes, held, takes), same_setting) = rw w.in-Ok.is at one.taken copper in
           let layer_is = w.layer-is in
           record {
             keeps = λ n b. rw w.loader-is (λ h. (inv.keeps n b).0 ((one.keeps n b).0 h), λ h. (one.keeps n b).1 ((inv.keeps n b).1 h));
             counted = rw w.loader-is (omega (arith, one.counts, inv.counted));
-            layers = ap (λ (v : CheckView). v.layers) w.check-is ∙ (same_layers ∙ inv.layers);
+            setting = ap setting_of w.check-is ∙ (same_setting ∙ inv.setting);
             number = w.layer-is ∙ (ap (λ (n : ℕ). n + 1) inv.number ∙ sym (count_by_more_yes (λ (e : Entry). is_copper e.role) entries k entry c.loop-index-test.true (ap (λ (e : Entry). is_copper e.role) (sym c.index-entries-index.is) ∙ copper)));
             few = omega (arith, few, layer_is);
-            loaded = λ rules done layers new h.
-                subst (λ (v : CheckView). HasLoaded has entries (λ files. HasJudged v files rules) (λ i. done i || (ltb i (k + 1) && is_kind_at true entries i))) (sym w.check-is)
-                (copper_loaded has entries rules c.loop-index.check w.in-Ok.checked done k c.loop-index.layer entry at copper (inv.layers ∙ layers) (new k (ap (is_kind_of true) at ∙ copper)) inv.number
-                (bytes, ((inv.keeps entry.file bytes).0 held.0, held.1), takes) (inv.loaded rules done layers new h));
+            loaded = λ profile rules done read_in new h.
+                subst (λ (v : CheckView). HasLoaded has profile entries (λ files. HasJudged v files rules) (λ i. done i || (ltb i (k + 1) && is_kind_at true entries i))) (sym w.check-is)
+                (copper_loaded has profile entries rules c.loop-index.check w.in-Ok.checked done k c.loop-index.layer entry at copper (inv.setting ∙ read_in) (new k (ap (is_kind_of true) at ∙ copper)) inv.number
+                (bytes, ((inv.keeps entry.file bytes).0 held.0, held.1), takes) (inv.loaded profile rules done read_in new h));
           }
       | else-is_copper w ↦
           let drill = sym c.is_copper.ensures ∙ w.if-is_copper.false in
@@ -52,12 +52,12 @@ loop-index-preserved g c =
           record {
             keeps = λ n b. rw w.loader-is (inv.keeps n b);
             counted = rw w.loader-is inv.counted;
-            layers = ap (λ (v : CheckView). v.layers) w.check-is ∙ inv.layers;
+            setting = ap setting_of w.check-is ∙ inv.setting;
             number = w.layer-is ∙ (inv.number ∙ sym (count_by_more_no (λ (e : Entry). is_copper e.role) entries k entry c.loop-index-test.true (ap (λ (e : Entry). is_copper e.role) (sym c.index-entries-index.is) ∙ drill)));
             few = omega (arith, few, layer_is);
-            loaded = λ rules done layers new h.
-                subst (λ (v : CheckView). HasLoaded has entries (λ files. HasJudged v files rules) (λ i. done i || (ltb i (k + 1) && is_kind_at true entries i))) (sym w.check-is)
-                (kind_passed has entries true (λ files. HasJudged c.loop-index.check files rules) done k entry at drill (inv.loaded rules done layers new h));
+            loaded = λ profile rules done read_in new h.
+                subst (λ (v : CheckView). HasLoaded has profile entries (λ files. HasJudged v files rules) (λ i. done i || (ltb i (k + 1) && is_kind_at true entries i))) (sym w.check-is)
+                (kind_passed has profile entries true (λ files. HasJudged c.loop-index.check files rules) done k entry at drill (inv.loaded profile rules done read_in new h));
           }
     ]
 

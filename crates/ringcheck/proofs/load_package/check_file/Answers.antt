@@ -1,7 +1,8 @@
 use Rattle.std.proofs.Common.{[], append-nil, subst, sym, ◌∙◌}
 use Rattle.package_check.specs.Checking.{TakesCopper}
 use Rattle.package_check.specs.OpenFiles.{HasOpenedCopper}
-use Rattle.package_check.specs.Package.{FileView}
+use Rattle.package_check.specs.CheckViews.{setting_of}
+use Rattle.package_check.specs.Package.{FileView, Setting}
 use Rattle.package_check.proofs.FileKinds.{role_copper}
 use Rattle.ringcheck.specs.Inner.Loading.{CopperGoesOn}
 use Rattle.ringcheck.specs.declared.load_package.CheckSink.{CheckSink}
@@ -17,7 +18,7 @@ returns-in-None-clause-taken g c = λ copper.
     let before = c.args.check in
     let index = c.args.index in
     let layer = c.args.layer in
-    let n = before.layers in
+    let read_in = setting_of before in
     let (bytes, held, goes_on) = rw c.in-None.is at c.in_ok-hand_file.ensures.loaded in
     let start : CheckSink = record { check = c.begin-file.new.self; file = c.begin-file.result } in
     let opened = goes_on start [] (no_piece start) before index layer entry.span [] c.begin-file.ensures in
@@ -25,8 +26,8 @@ returns-in-None-clause-taken g c = λ copper.
       (
         bytes,
         held,
-        subst (λ (s : FileView). TakesCopper before c.end.new.self index layer s) (λ j. let s : FileView = record { role = sym (role_copper entry.role copper) j; name = entry.name; span = entry.span; bytes = bytes; layers = n } in s)
+        subst (λ (s : FileView). TakesCopper before c.end.new.self index layer s) (λ j. let s : FileView = record { role = sym (role_copper entry.role copper) j; name = entry.name; span = entry.span; bytes = bytes; setting = read_in } in s)
             (ended.stands before index layer entry.span bytes entry.name opened),
       ),
-      ended.layers ∙ opened.same_layers,
+      ended.setting ∙ (λ j. let s : Setting = record { layers = opened.same_layers j; profile = (opened.same_rules j).profile } in s),
     )

@@ -5,6 +5,7 @@ use Rattle.layer_image.specs.declared.keep.Keep.TheVariants as keep
 use Rattle.ringcheck_files.specs.Outcomes.{HasRisen}
 use Rattle.package_check.specs.Checking.{HasJudgedAll}
 use Rattle.package_check.specs.Holding.{HasTaken}
+use Rattle.package_check.specs.Package.{Setting}
 use Rattle.ringcheck.specs.Inner.Halting.{OfFiles}
 use Rattle.ringcheck.specs.Inner.Loading.{OfCheckedCopper}
 use Rattle.ringcheck.proofs.LoadedFiles.{all_checked, both_passes, first_of, or_default, passes_halt}
@@ -20,10 +21,10 @@ returns-in-Some g c =
     let before = c.in_ok-before.before in
     let one = c.in_ok-drills.ensures in
     let two = c.in_ok-before.ensures in
-    let layers = c.new-reader.ensures.layers ∙ c.layer_count.ensures in
-    let loaded = both_passes has later one.keeps all (take drills.end all) keep.Pads c.new-reader.result c.take_kind.new.reader c.take_kind-in-Some.new.reader drills.end before.end (first_of drills.end all) layers one.layers
+    let read_in = c.new-reader.ensures.setting ∙ (λ j. let s : Setting = record { layers = c.layer_count.ensures j; profile = c.profile.ensures j } in s) in
+    let loaded = both_passes has later one.keeps c.args.rules.profile all (take drills.end all) keep.Pads c.new-reader.result c.take_kind.new.reader c.take_kind-in-Some.new.reader drills.end before.end (first_of drills.end all) read_in one.setting
     c.new-reader.ensures.stands one.loaded two.loaded in
-    passes_halt has later (λ n b. (one.keeps n b).0) all (HasTaken c.take_kind-in-Some.new.reader keep.Pads) drills.end before.end (failed c.args.loader.now) (failed c.take_kind.new.loader) (failed c.take_kind-in-Some.new.loader)
+    passes_halt has later (λ n b. (one.keeps n b).0) c.args.rules.profile all (HasTaken c.take_kind-in-Some.new.reader keep.Pads) drills.end before.end (failed c.args.loader.now) (failed c.take_kind.new.loader) (failed c.take_kind-in-Some.new.loader)
     one.counts two.counts one.within two.within loaded drills.halt before.halt c.unwrap_or.result one.ends two.ends
     (ap (option_or before.halt) c.in-Some.is ∙ (or_default before.halt c.in-Some.halt ∙ ap Some (sym c.unwrap_or.ensures)))
 
@@ -36,10 +37,10 @@ returns g c =
     let rules = c.args.rules in
     let drills = c.in_ok-drills.drills in
     let one = c.in_ok-drills.ensures in
-    let layers = c.new-reader.ensures.layers ∙ c.layer_count.ensures in
+    let read_in = c.new-reader.ensures.setting ∙ (λ j. let s : Setting = record { layers = c.layer_count.ensures j; profile = c.profile.ensures j } in s) in
     let old = failed c.args.loader.now in
     let between = failed c.take_kind.new.loader in
     let new = failed c.check_copper.new.loader in
-    IfOk-weaker c.check_copper.result (OfCheckedCopper later all c.in_ok-check.check (HasRisen between new)) (OfFiles has all (HasRisen old new) (λ it files. HasJudgedAll it files rules))
-    (all_checked has later one.keeps all keep.Pads rules c.new-reader.result c.take_kind.new.reader c.in_ok-check.check drills.end old between new (rw c.in_default.is at one.ends) layers one.layers c.in_ok-check.ensures.layers
+    IfOk-weaker c.check_copper.result (OfCheckedCopper later all c.in_ok-check.check (HasRisen between new)) (OfFiles has rules.profile all (HasRisen old new) (λ it files. HasJudgedAll it files rules))
+    (all_checked has later one.keeps all keep.Pads rules c.new-reader.result c.take_kind.new.reader c.in_ok-check.check drills.end old between new (rw c.in_default.is at one.ends) read_in one.setting c.in_ok-check.ensures.layers
     c.new-reader.ensures.stands one.loaded (λ files. c.in_ok-check.ensures.stands keep.Pads files) one.counts) c.check_copper.ensures.taken

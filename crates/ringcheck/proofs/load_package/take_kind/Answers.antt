@@ -1,6 +1,6 @@
 use Rattle.std.proofs.Common.{◌∙◌, ◌&&◌, ◌||◌, ◌+◌, ap, arith, ltb, refl, subst, sym}
 use Rattle.std.proofs.lemmas.Option.{slice_get_read}
-use Rattle.package_check.specs.Holding.{HasTaken, copper_files}
+use Rattle.package_check.specs.Holding.{HasTaken, setting_of}
 use Rattle.package_check.specs.declared.package_reader.PackageReader.{PackageReader}
 use Rattle.ringcheck.specs.Inner.Loading.{HasLoaded, is_kind_at, is_kind_of}
 use Rattle.ringcheck.proofs.LoadedFiles.{kind_passed, none_yet, reader_loaded}
@@ -11,8 +11,8 @@ pub loop-index-init : goal.loop-index-init
 loop-index-init g c = record {
   keeps = λ n b. (λ h. h, λ h. h);
   counted = omega arith;
-  layers = refl;
-  loaded = λ all keep done first layers new h. none_yet (g.L.Loader.has c.args.loader.now) all c.args.copper (HasTaken c.args.reader.now keep) done h;
+  setting = refl;
+  loaded = λ profile all keep done first read_in new h. none_yet (g.L.Loader.has c.args.loader.now) profile all c.args.copper (HasTaken c.args.reader.now keep) done h;
 }
 
 pub loop-index-preserved : goal.loop-index-preserved
@@ -32,21 +32,21 @@ loop-index-preserved g c =
           record {
             keeps = λ n b. rw w.loader-is (λ h. (inv.keeps n b).0 ((one.keeps n b).0 h), λ h. (one.keeps n b).1 ((inv.keeps n b).1 h));
             counted = rw w.loader-is (omega (arith, one.counts, inv.counted));
-            layers = ap copper_files w.reader-is ∙ (one.layers ∙ inv.layers);
-            loaded = λ all keep done first layers new h.
+            setting = ap setting_of w.reader-is ∙ (one.setting ∙ inv.setting);
+            loaded = λ profile all keep done first read_in new h.
                 let at = first k entry here in
-                subst (λ (r : PackageReader). HasLoaded has all (HasTaken r keep) (λ i. done i || (ltb i (k + 1) && is_kind_at copper all i))) (sym w.reader-is)
-                (reader_loaded has all keep copper c.loop-index.reader w.take_file.new.reader done k entry at kind (inv.layers ∙ layers) (new k (ap (is_kind_of copper) at ∙ kind))
-                (bytes, ((inv.keeps entry.file bytes).0 held.0, held.1), takes) (inv.loaded all keep done first layers new h));
+                subst (λ (r : PackageReader). HasLoaded has profile all (HasTaken r keep) (λ i. done i || (ltb i (k + 1) && is_kind_at copper all i))) (sym w.reader-is)
+                (reader_loaded has profile all keep copper c.loop-index.reader w.take_file.new.reader done k entry at kind (inv.setting ∙ read_in) (new k (ap (is_kind_of copper) at ∙ kind))
+                (bytes, ((inv.keeps entry.file bytes).0 held.0, held.1), takes) (inv.loaded profile all keep done first read_in new h));
           }
       | else-is_kind w ↦
           let kind = sym c.is_kind.ensures ∙ w.if-is_kind.false in
           record {
             keeps = λ n b. rw w.loader-is (inv.keeps n b);
             counted = rw w.loader-is inv.counted;
-            layers = ap copper_files w.reader-is ∙ inv.layers;
-            loaded = λ all keep done first layers new h.
-                subst (λ (r : PackageReader). HasLoaded has all (HasTaken r keep) (λ i. done i || (ltb i (k + 1) && is_kind_at copper all i))) (sym w.reader-is)
-                (kind_passed has all copper (HasTaken c.loop-index.reader keep) done k entry (first k entry here) kind (inv.loaded all keep done first layers new h));
+            setting = ap setting_of w.reader-is ∙ inv.setting;
+            loaded = λ profile all keep done first read_in new h.
+                subst (λ (r : PackageReader). HasLoaded has profile all (HasTaken r keep) (λ i. done i || (ltb i (k + 1) && is_kind_at copper all i))) (sym w.reader-is)
+                (kind_passed has profile all copper (HasTaken c.loop-index.reader keep) done k entry (first k entry here) kind (inv.loaded profile all keep done first read_in new h));
           }
     ]

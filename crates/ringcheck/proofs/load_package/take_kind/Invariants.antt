@@ -1,5 +1,5 @@
 use Rattle.std.proofs.Common.{◌≡◌, ◌≤◌, ◌↔◌, ℕ, List}
-use Rattle.package_check.specs.Holding.{copper_files}
+use Rattle.package_check.specs.Holding.{setting_of}
 use Rattle.ringcheck.specs.Inner.Loading.{LoadsKind}
 use Rattle.ringcheck.proofs.load_package.take_kind.Given as goal
 
@@ -7,6 +7,6 @@ abbrev pub invariant-loop-index : goal.invariant-loop-index
 invariant-loop-index g l = record {
   keeps : (n b : List ℕ) → g.L.Loader.has l.loader n b ↔ g.L.Loader.has l.initial.loader n b;
   counted : g.L.Loader.failed l.initial.loader ≤ g.L.Loader.failed l.loader;
-  layers : copper_files l.reader ≡ copper_files l.initial.reader;
+  setting : setting_of l.reader ≡ setting_of l.initial.reader;
   loaded : LoadsKind (g.L.Loader.has l.initial.loader) l.entries l.initial.reader l.reader l.fn.copper l.index;
 }

@@ -2,7 +2,7 @@ use Rattle.manifest.specs.Manifest.{manifest}
 use Rattle.ringcheck_files.specs.Outcomes.{HasRisen}
 use Rattle.ringcheck.specs.declared.refusals.Subject.TheVariants as subject
 use Rattle.ringcheck.specs.Inner.Halting.{RefusesTable}
-use Rattle.ringcheck.specs.Inner.Jobs.{Holds, SaysJob, job_style}
+use Rattle.ringcheck.specs.Inner.Jobs.{Holds, SaysJob, job_profile, job_style}
 use Rattle.ringcheck.specs.CheckStatus.{RefusedFile, refused_file, refused_manifest}
 use Rattle.ringcheck.proofs.Outcomes.{file_along, files_along, halted, worked}
 use Rattle.ringcheck.proofs.packages.run_job.Goals as goal
@@ -30,7 +30,7 @@ returns-in-Ok-2-clause-says g c =
     let listed = rw c.in-Ok.is at c.in_ok-entries.ensures.loaded in
     let (files, held, holds) = rw (c.in-Ok-2.is, c.as_slice.ensures.value) at c.in_ok-passes.ensures.answers in
     let has_files_along = files_along later has c.in_ok-entries.ensures.keeps entries files held in
-    rw c.status_of.ensures (worked has c.args.name.now (Holds job before after) (job_style job) before after entries files listed has_files_along c.in-Ok-2.passes holds)
+    rw c.status_of.ensures (worked has (job_profile job) c.args.name.now (Holds job before after) (job_style job) before after entries files listed has_files_along c.in-Ok-2.passes holds)
 
 pub returns-clause-says : goal.returns-clause-says
 returns-clause-says g c =
@@ -43,7 +43,7 @@ returns-clause-says g c =
     let entries = c.in-Ok.entries.items in
     let listed = rw c.in-Ok.is at c.in_ok-entries.ensures.loaded in
     let silent = rw c.in-Err-2.is at c.in_ok-passes.ensures.silent in
-    halted (RefusedFile later entries) (HasRisen (failed c.load_table.new.loader) (failed c.answer.new.loader)) (job_style job) c.path_of-path.result.now c.is_unread_folder-is_folder-in-Err-2.result before after
+    halted (RefusedFile later (job_profile job) entries) (HasRisen (failed c.load_table.new.loader) (failed c.answer.new.loader)) (job_style job) c.path_of-path.result.now c.is_unread_folder-is_folder-in-Err-2.result before after
     (SaysJob job has c.args.name.now before after) (λ risen. tt)
-    (λ why is printed. record { why = why; refused = refused_file entries listed (file_along later has c.in_ok-entries.ensures.keeps entries why is); printed = printed })
+    (λ why is printed. record { why = why; refused = refused_file entries listed (file_along later has c.in_ok-entries.ensures.keeps (job_profile job) entries why is); printed = printed })
     c.in-Err-2.halt (rw (c.in-Err-2.is, c.as_slice.ensures.value) at c.in_ok-passes.ensures.answers) c.print_halt-in-Err-2.result (rw (c.style-in-Err-2.ensures, silent) at c.print_halt-in-Err-2.ensures)

@@ -1,5 +1,5 @@
 use Rattle.std.proofs.Common.{ℕ, List, subst}
-use Rattle.drill_lines.specs.declared.line_reader.Profile.TheVariants.{Wide}
+use Rattle.grid_units.specs.declared.profile.Profile.TheVariants.{Wide}
 use Rattle.drill_lines.specs.LineReading.{ReadsLine}
 use Rattle.drill_lines.specs.Lines.{trimmed}
 use Rattle.drill_lines.proofs.RouteLemmas.{strict_answers, wide_answers}

@@ -1,4 +1,4 @@
-use Rattle.drill_lines.specs.declared.line_reader.Profile.TheVariants.{Strict}
+use Rattle.grid_units.specs.declared.profile.Profile.TheVariants.{Strict}
 use Rattle.std.proofs.Common.{◌++◌}
 use Rattle.drill_text.proofs.ProfileLemmas.{strict_fault}
 use Rattle.drill_text.proofs.reader.DrillReader.feed.Goals as goal

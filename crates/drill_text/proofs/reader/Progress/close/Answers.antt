@@ -1,7 +1,7 @@
 use Rattle.std.proofs.Common.{◌≡◌, ◌+◌, ℕ, suc, List, [], ◌∷◌, ◌++◌, Err, length, sym, ap, subst, ◌∙◌, arith}
 use Rattle.std.proofs.lemmas.List.{length-append}
 use Rattle.std.proofs.lemmas.Result.{err_from_is_err_and}
-use Rattle.drill_lines.specs.declared.line_reader.Profile.{Profile}
+use Rattle.grid_units.specs.declared.profile.Profile.{Profile}
 use Rattle.grid_units.specs.declared.fault.Fail.{Fail}
 use Rattle.grid_units.specs.declared.fault.Fail.TheVariants.{Memory, Refused}
 use Rattle.grid_units.specs.Results.{IfFault}

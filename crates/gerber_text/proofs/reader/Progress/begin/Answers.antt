@@ -10,7 +10,7 @@ use Rattle.gerber_text.proofs.ReaderStepLemmas.{offset_bytes-push, length-bytes_
 use Rattle.gerber_text.proofs.reader.Progress.begin.Goals as goal
 
 pub returns-clause-ok : goal.returns-clause-ok
-returns-clause-ok c gone text h =
+returns-clause-ok c profile gone text h =
     let b = c.args.byte in
     let m : OffsetByte = (length text, b) in
     let none = sym h.ended ∙ c.requires.running in
@@ -18,13 +18,14 @@ returns-clause-ok c gone text h =
     let item_empty : c.args.self.now.item.items ≡ [] = nil_from_length _ (omega (arith, c.args.self.now.item.ok.0, c.requires.fresh)) in
     let rest_empty : h.rest ≡ [] = nil_from_length h.rest (sym (length-bytes_of h.rest) ∙ (ap length (sym is) ∙ ap length item_empty)) in
     let one : h.rest ++ m ∷ [] ≡ m ∷ [] = ap (λ (r : List OffsetByte). r ++ m ∷ []) rest_empty in
-    let before = running_ok h.items h.rest _ none h.commands in
+    let before = running_ok profile h.items h.rest _ none h.commands in
     let grown = Splits-grow (offset_bytes text) h.items h.rest (m ∷ []) h.splits (λ _. subst (λ (r : List OffsetByte). IsUnfinished (bytes_of r)) (sym one) (IsUnfinished-one b (eqb-false b 42 c.requires.inside.0))) in
     record {
       items = h.items;
       rest = m ∷ [];
       splits = subst (λ (r : List OffsetByte). Splits (offset_bytes (text ++ b ∷ [])) h.items r) one (subst (λ (ms : List OffsetByte). Splits ms h.items (h.rest ++ m ∷ [])) (sym (offset_bytes-push text b c.requires.inside.1)) grown);
-      commands = show_ok h.items (m ∷ []) _ none before.0 (omega arith);
+      commands = show_ok profile h.items (m ∷ []) _ none before.0 (omega arith);
+      profile_is = h.profile_is;
       plotting = h.plotting;
       count = h.count;
       pending = λ _. c.in_ok-push.ensures.items ∙ ap (λ (x : List ℕ). x ++ b ∷ []) item_empty;

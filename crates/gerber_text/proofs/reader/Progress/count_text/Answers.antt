@@ -4,7 +4,7 @@ use Rattle.std.proofs.lemmas.List.{length-append, length-take, nil_from_length}
 use Rattle.gerber_commands.specs.declared.command.Command.{Command}
 use Rattle.grid_units.specs.Limits.{item_limit}
 use Rattle.gerber_text.specs.FastPath.{text_command}
-use Rattle.gerber_text.specs.Reading.{Entries, is_plotting, placed, spelled}
+use Rattle.gerber_text.specs.Reading.{Entries, is_plotting, placed, spelled_in}
 use Rattle.gerber_text.proofs.LeadingTextLemmas.{plots_no, text_item}
 use Rattle.gerber_text.proofs.ReaderStepLemmas.{length-bytes_of}
 use Rattle.gerber_text.proofs.PlottingLemmas.{counted_gone, plots_on}
@@ -12,7 +12,7 @@ use Rattle.gerber_text.proofs.Items.{takes, spelled_ok}
 use Rattle.gerber_text.proofs.reader.Progress.count_text.Goals as goal
 
 pub returns-clause-ok : goal.returns-clause-ok
-returns-clause-ok c none_held gone text h =
+returns-clause-ok c none_held profile gone text h =
     let self = c.args.self.now in
     let bytes = c.args.bytes.now in
     let found = c.args.item in
@@ -26,16 +26,17 @@ returns-clause-ok c none_held gone text h =
     let no_rest : h.rest ≡ [] = nil_from_length h.rest (sym (length-bytes_of h.rest) ∙ (ap length (sym (h.pending none)) ∙ ap length no_item)) in
     let size : length item ≡ found.len = omega (arith, length-take found.len bytes, c.requires.within) in
     let short : length item ≤ item_limit = omega (arith, size, c.requires.begins.short) in
-    let k = takes text item h.items h.rest (self.items + 1) before h.splits no_rest none h.commands f.one f.kept short (omega (arith, h.count)) in
+    let k = takes profile text item h.items h.rest (self.items + 1) before h.splits no_rest none h.commands f.one f.kept short (omega (arith, h.count)) in
     let added = placed (self.items + 1) self.offset whats in
     let after = (gone ++ added) ++ self.commands.items in
     let gone_on : before ++ added ≡ after = counted_gone gone self.commands.items added none_held in
-    let said : spelled (self.items + 1) (length text) item before ≡ Ok after = spelled_ok (self.items + 1) (length text) item before whats short (f.parses (is_plotting before)) ∙ (ap (λ b. Ok (before ++ placed (self.items + 1) b whats)) (sym h.offset) ∙ ap (λ (x : Entries). Ok x) gone_on) in
+    let said : spelled_in profile (self.items + 1) (length text) item before ≡ Ok after = spelled_ok profile (self.items + 1) (length text) item before whats short (f.parses profile (is_plotting before)) ∙ (ap (λ b. Ok (before ++ placed (self.items + 1) b whats)) (sym h.offset) ∙ ap (λ (x : Entries). Ok x) gone_on) in
     record {
       items = h.items ++ k.last ∷ [];
       rest = [];
       splits = k.splits;
       commands = k.shows ∙ said;
+      profile_is = h.profile_is;
       plotting = plots_on before after added what self.plotting self.plotting (sym gone_on) refl h.plotting (ap (λ o. unwrap_or o self.plotting) (sym (plots_no found.kind _)));
       count = ap (λ n. n + 1) h.count ∙ sym k.count;
       pending = λ _. no_item;

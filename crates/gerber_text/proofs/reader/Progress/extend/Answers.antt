@@ -20,21 +20,22 @@ longer item run text items rest s none is long inside =
     lengthens text items rest run s (subst (λ (x : List ℕ). IsUnfinished (x ++ run)) is (run_inside item run long (subst IsUnfinished (sym is) (s.partial none)) inside)) (run_kept (end_byte item) run inside)
 
 pub returns-clause-ok : goal.returns-clause-ok
-returns-clause-ok c gone text h =
+returns-clause-ok c profile gone text h =
     let run = c.args.run.now in
     let item = c.args.self.now.item.items in
     let none = sym h.ended ∙ c.requires.running in
     let is = h.pending none in
     let begun : 0 < length item = omega (arith, c.args.self.now.item.ok.0, c.requires.begun) in
     let long = longer item run text h.items h.rest h.splits none is begun (recursion_from_All (IsInside (end_byte item)) run c.requires.inside) in
-    let before = running_ok h.items h.rest _ none h.commands in
+    let before = running_ok profile h.items h.rest _ none h.commands in
     let size : length h.rest ≡ length item = sym (length-bytes_of h.rest) ∙ ap length (sym is) in
     let some : 0 < length h.rest = omega (arith, size, begun) in
     record {
       items = h.items;
       rest = h.rest ++ long.more;
       splits = long.splits;
-      commands = show_ok h.items (h.rest ++ long.more) _ none before.0 (omega (arith, long.long, size, c.args.self.now.item.ok.0, c.if-run-len.false));
+      commands = show_ok profile h.items (h.rest ++ long.more) _ none before.0 (omega (arith, long.long, size, c.args.self.now.item.ok.0, c.if-run-len.false));
+      profile_is = h.profile_is;
       plotting = h.plotting;
       count = h.count;
       pending = λ _. c.in_ok-extend_from_slice.ensures.items ∙ (ap (λ (x : List ℕ). x ++ run) is ∙ sym long.bytes);
@@ -44,14 +45,14 @@ returns-clause-ok c gone text h =
     }
 
 pub returns-then-run-len-clause-err : goal.returns-then-run-len-clause-err
-returns-then-run-len-clause-err c = subst (Refuses c.args.self.now c.args.self.now.commands.items c.args.run.now) (sym c.refuse.ensures) (λ gone text h.
+returns-then-run-len-clause-err c = subst (Refuses c.args.self.now c.args.self.now.commands.items c.args.run.now) (sym c.refuse.ensures) (λ profile gone text h.
     let run = c.args.run.now in
     let item = c.args.self.now.item.items in
     let none = sym h.ended ∙ c.requires.running in
     let is = h.pending none in
     let begun : 0 < length item = omega (arith, c.args.self.now.item.ok.0, c.requires.begun) in
     let long = longer item run text h.items h.rest h.splits none is begun (recursion_from_All (IsInside (end_byte item)) run c.requires.inside) in
-    let before = running_ok h.items h.rest _ none h.commands in
+    let before = running_ok profile h.items h.rest _ none h.commands in
     let size : length h.rest ≡ length item = sym (length-bytes_of h.rest) ∙ ap length (sym is) in
     let some : 0 < length h.rest = omega (arith, size, begun) in
     let place : suc (length h.items) ≡ c.args.self.now.items + 1 = omega (arith, h.count) in
@@ -61,8 +62,8 @@ returns-then-run-len-clause-err c = subst (Refuses c.args.self.now c.args.self.n
       splits = long.splits;
       kept = length h.items;
       within = omega arith;
-      spelled = kept_all c.args.self.now gone text h;
-      reported = (show_long h.items (h.rest ++ long.more) _ none before.0 (omega (arith, long.long, size, c.args.self.now.item.ok.0, c.if-run-len.true)) ∙ (ap (λ b. Err (fault (suc (length h.items)) b TooLong)) (first_offset-append h.rest long.more some ∙ sym (h.start none some)) ∙ ap (λ p. Err (fault p c.args.self.now.start TooLong)) place), sym place);
+      spelled = kept_all profile c.args.self.now gone text h;
+      reported = (show_long profile h.items (h.rest ++ long.more) _ none before.0 (omega (arith, long.long, size, c.args.self.now.item.ok.0, c.if-run-len.true)) ∙ (ap (λ b. Err (fault (suc (length h.items)) b TooLong)) (first_offset-append h.rest long.more some ∙ sym (h.start none some)) ∙ ap (λ p. Err (fault p c.args.self.now.start TooLong)) place), sym place);
     })
 
 pub returns-in_err-extend_from_slice-clause-err : goal.returns-in_err-extend_from_slice-clause-err

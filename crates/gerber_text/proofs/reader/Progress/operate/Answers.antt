@@ -4,7 +4,7 @@ use Rattle.std.proofs.lemmas.Result.{err_from_is_err_and}
 use Rattle.gerber_commands.specs.declared.command.Command.{Command}
 use Rattle.gerber_commands.specs.declared.command.Command.TheVariants.{Operate}
 use Rattle.gerber_commands.specs.Rows.{modes_of}
-use Rattle.gerber_text.specs.Reading.{Entries, is_plotting, placed, spelled}
+use Rattle.gerber_text.specs.Reading.{Entries, is_plotting, placed, spelled_in}
 use Rattle.gerber_text.proofs.ShowsLemmas.{out_of_memory}
 use Rattle.gerber_text.proofs.ReaderStepLemmas.{length-bytes_of}
 use Rattle.gerber_text.proofs.Items.{takes, spelled_ok}
@@ -12,7 +12,7 @@ use Rattle.gerber_text.proofs.reader.Progress.operate.Goals as goal
 use Rattle.grid_units.specs.Limits.{item_limit}
 
 pub returns-clause-ok : goal.returns-clause-ok
-returns-clause-ok c gone text h =
+returns-clause-ok c profile gone text h =
     let self = c.args.self.now in
     let operation = c.args.operation in
     let begins = c.requires.begins in
@@ -24,15 +24,16 @@ returns-clause-ok c gone text h =
     let no_rest : h.rest ≡ [] = nil_from_length h.rest (sym (length-bytes_of h.rest) ∙ (ap length (sym (h.pending none)) ∙ ap length no_item)) in
     let size : length item ≡ operation.len = omega (arith, length-take operation.len c.args.bytes.now, begins.within) in
     let short : length item ≤ item_limit = omega (arith, size, begins.short) in
-    let k = takes text item h.items h.rest (self.items + 1) before h.splits no_rest none h.commands begins.one begins.kept short (omega (arith, h.count)) in
+    let k = takes profile text item h.items h.rest (self.items + 1) before h.splits no_rest none h.commands begins.one begins.kept short (omega (arith, h.count)) in
     let after = gone ++ c.add_with_mode.new.commands.items in
     let added : before ++ placed (self.items + 1) (length text) whats ≡ after = ap (λ b. before ++ placed (self.items + 1) b whats) (sym h.offset) ∙ sym (ap (λ (x : Entries). gone ++ x) c.in_ok-self.ensures.added ∙ sym (append_assoc gone self.commands.items (placed (self.items + 1) self.offset whats))) in
-    let said : spelled (self.items + 1) (length text) item before ≡ Ok after = spelled_ok (self.items + 1) (length text) item before whats short (begins.parses (is_plotting before)) ∙ ap (λ (x : Entries). Ok x) added in
+    let said : spelled_in profile (self.items + 1) (length text) item before ≡ Ok after = spelled_ok profile (self.items + 1) (length text) item before whats short (begins.parses profile (is_plotting before)) ∙ ap (λ (x : Entries). Ok x) added in
     record {
       items = h.items ++ k.last ∷ [];
       rest = [];
       splits = k.splits;
       commands = k.shows ∙ said;
+      profile_is = h.profile_is;
       plotting = c.in_ok-self.ensures.plotting before h.plotting ∙ ap is_plotting (ap (λ b. before ++ placed (self.items + 1) b whats) h.offset ∙ added);
       count = ap (λ n. n + 1) h.count ∙ sym k.count;
       pending = λ _. no_item;

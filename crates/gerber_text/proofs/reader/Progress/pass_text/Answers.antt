@@ -12,9 +12,9 @@ pub returns-clause-text : goal.returns-clause-text
 returns-clause-text c = omega (arith, c.in_ok-item.ensures.begins.item_long, c.in_ok-item.ensures.within)
 
 pub returns-clause-some : goal.returns-clause-some
-returns-clause-some c none_held gone text h =
+returns-clause-some c none_held profile gone text h =
     let self = c.args.self.now in
     let bytes = c.args.bytes.now in
     let item = c.in_ok-item.item in
     let more = gone ++ placed (self.items + 1) self.offset (text_command item.kind (take item.text_len (drop 3 bytes)) ∷ []) in
-    subst (Holds c.skip_breaks.new.self more) (two_takes text bytes item.len c.skip_breaks.result) (c.skip_breaks.ensures.ok more _ (c.count_text.ensures.ok none_held gone text h))
+    subst (Holds c.skip_breaks.new.self profile more) (two_takes text bytes item.len c.skip_breaks.result) (c.skip_breaks.ensures.ok profile more _ (c.count_text.ensures.ok none_held profile gone text h))

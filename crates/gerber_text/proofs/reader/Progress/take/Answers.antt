@@ -5,7 +5,7 @@ use Rattle.grid_units.specs.Results.{fault}
 use Rattle.grid_units.specs.Limits.{text_limit}
 use Rattle.grid_units.specs.declared.fault.Reason.TheVariants.{TooLong}
 use Rattle.grid_units.specs.declared.fault.Fail.TheVariants.{Refused}
-use Rattle.gerber_text.specs.Holding.{Refuses, RefusesText, FailsWith}
+use Rattle.gerber_text.specs.Holding.{Refuses, RefusesText, FailsWithIn}
 use Rattle.gerber_text.proofs.FinishLemmas.{refuses_within, refuses_beyond, too_long_text}
 use Rattle.gerber_text.proofs.reader.Progress.take.Goals as goal
 
@@ -24,9 +24,9 @@ returns-in_err-take_all-clause-err c =
     rw (p.1, p.2) (subst (λ (x : List ℕ). RefusesText c.args.self.now left x e) (take-append-drop room piece) (refuses_beyond c.args.self.now left (take room piece) (drop room piece) e (omega (arith, c.args.self.now.in_text, c.if-piece-room.false, length-take room piece)) c.in_err-take_all.ensures.err))
 
 pub returns-clause-err : goal.returns-clause-err
-returns-clause-err c gone text h =
+returns-clause-err c profile gone text h =
     let piece = c.args.piece.now in
     let room = text_limit - c.args.self.now.offset in
     let new = c.take_all-2.new.self in
     let joined : (text ++ take room piece) ++ drop room piece ≡ text ++ piece = append_assoc text (take room piece) (drop room piece) ∙ ap (λ (x : List ℕ). text ++ x) (take-append-drop room piece) in
-    subst (FailsWith (text ++ piece) (gone ++ new.commands.items)) (sym c.refuse.ensures) (subst (λ (x : List ℕ). FailsWith x (gone ++ new.commands.items) (Refused (fault (new.items + 1) text_limit TooLong))) joined (too_long_text new gone (text ++ take room piece) (drop room piece) (omega (arith, h.offset, c.args.self.now.in_text, c.if-piece-room.false, length-append text (take room piece), length-take room piece)) (omega (arith, c.if-piece-room.false, length-drop room piece)) (c.in_ok-take_all.ensures.ok gone text h)))
+    subst (FailsWithIn profile (text ++ piece) (gone ++ new.commands.items)) (sym c.refuse.ensures) (subst (λ (x : List ℕ). FailsWithIn profile x (gone ++ new.commands.items) (Refused (fault (new.items + 1) text_limit TooLong))) joined (too_long_text profile new gone (text ++ take room piece) (drop room piece) (omega (arith, h.offset, c.args.self.now.in_text, c.if-piece-room.false, length-append text (take room piece), length-take room piece)) (omega (arith, c.if-piece-room.false, length-drop room piece)) (c.in_ok-take_all.ensures.ok profile gone text h)))

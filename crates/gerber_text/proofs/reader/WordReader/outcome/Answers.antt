@@ -1,5 +1,6 @@
 use Rattle.std.proofs.Common.{[], ◌≡◌, None, Some, Err, sym, subst, ◌∙◌}
 use Rattle.grid_units.specs.declared.fault.Fail.{Fail}
+use Rattle.grid_units.specs.declared.profile.Profile.TheVariants.{Strict}
 use Rattle.gerber_text.specs.Reading.{ReadsUpToFault}
 use Rattle.gerber_text.proofs.FinishLemmas.{ends_keeps, keeps_err}
 use Rattle.gerber_text.proofs.reader.WordReader.outcome.Goals as goal
@@ -19,7 +20,7 @@ returns-in-Some-clause-failed c text e h =
     subst (λ (f : Fail). ReadsUpToFault {X = Unit {0}} text cs (Err f)) (same e c.in-Some.fail (sym h.failed ∙ c.in-Some.is)) (keeps_err text cs e h.fails)
 
 pub returns-in-None-clause-stands : goal.returns-in-None-clause-stands
-returns-in-None-clause-stands c text h = ends_keeps text c.args.self.now.progress.commands.items c.end.result (c.end.ensures [] text h.holds)
+returns-in-None-clause-stands c text h = ends_keeps text c.args.self.now.progress.commands.items c.end.result (c.end.ensures Strict [] text h.holds)
 
 pub returns-in-None-clause-failed : goal.returns-in-None-clause-failed
 returns-in-None-clause-failed c text e h = absurd (never e (sym h.failed ∙ c.in-None.is))

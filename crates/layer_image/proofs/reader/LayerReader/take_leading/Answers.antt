@@ -2,26 +2,26 @@
 use Rattle.std.proofs.Common.{◌≡◌, ◌++◌, sym, ap, subst, ◌∙◌}
 use Rattle.std.proofs.lemmas.Result.{err_from_is_err_and}
 use Rattle.gerber_text.specs.declared.reader.WordReader.{WordReader}
-use Rattle.gerber_text.specs.Holding.{StandsAfterDrop, held, passed_entries}
+use Rattle.gerber_text.specs.Holding.{StandsIn, held, passed_entries}
 use Rattle.layer_image.specs.KeptFlashes.{keeps_commands, without_pads}
 use Rattle.layer_image.proofs.Pieces.{gone_shown, none_kept}
 use Rattle.layer_image.proofs.reader.LayerReader.take_leading.Goals as goal
 
 pub returns-in_err-operate-in-Some-clause-err : goal.returns-in_err-operate-in-Some-clause-err
-returns-in_err-operate-in-Some-clause-err c keep taken text h =
+returns-in_err-operate-in-Some-clause-err c profile keep taken text h =
     let p = err_from_is_err_and c.from_residual.result c.from_residual.ensures.1 in
     let passed = c.in-Some.passed in
-    rw (p.1, p.2) (gone_shown text c.args.bytes.now passed.len c.pass_operation.new.self (h.gone ++ passed_entries passed) c.in_err-operate-in-Some.field-0.0 (c.in-Some.ensures.some h.none h.gone text h.words) (c.pass_operation.ensures.held ∙ h.none) (c.in_err-operate-in-Some.ensures.refused (without_pads keep taken) h.gone h.scanned))
+    rw (p.1, p.2) (gone_shown profile text c.args.bytes.now passed.len c.pass_operation.new.self (h.gone ++ passed_entries passed) c.in_err-operate-in-Some.field-0.0 (c.in-Some.ensures.some_in h.none profile h.gone text h.words) (c.pass_operation.ensures.held ∙ h.none) (c.in_err-operate-in-Some.ensures.refused (without_pads keep taken) h.gone h.scanned))
 
 pub returns-in_ok-operate-in-Some-clause-ok : goal.returns-in_ok-operate-in-Some-clause-ok
-returns-in_ok-operate-in-Some-clause-ok c keep taken text h =
+returns-in_ok-operate-in-Some-clause-ok c profile keep taken text h =
     let passed = c.in-Some.passed in
     let gone = h.gone ++ passed_entries passed in
     record {
       sound = h.sound;
       same = h.same;
       gone = gone;
-      words = c.in-Some.ensures.some h.none h.gone text h.words;
+      words = c.in-Some.ensures.some_in h.none profile h.gone text h.words;
       none = c.pass_operation.ensures.held ∙ h.none;
       scanned = c.in_ok-operate-in-Some.ensures.ok (without_pads keep taken) h.gone h.scanned;
       kept = h.kept ∙ none_kept (keeps_commands keep) h.gone gone (ap keeps_commands (sym h.same) ∙ c.requires.dropped);
@@ -29,13 +29,13 @@ returns-in_ok-operate-in-Some-clause-ok c keep taken text h =
 
 -- where no operation was passed, nothing has changed
 pub returns-in-None-clause-err : goal.returns-in-None-clause-err
-returns-in-None-clause-err c keep taken text h =
+returns-in-None-clause-err c profile keep taken text h =
     let same : c.pass_operation.new.self ≡ c.args.self.now.words = c.in-None.ensures.none in
-    c.take_other.ensures.err keep taken text (record {
+    c.take_other.ensures.err profile keep taken text (record {
       sound = h.sound;
       same = h.same;
       gone = h.gone;
-      words = subst (λ (w : WordReader). StandsAfterDrop w h.gone text) (sym same) h.words;
+      words = subst (λ (w : WordReader). StandsIn w profile h.gone text) (sym same) h.words;
       none = ap held same ∙ h.none;
       scanned = h.scanned;
       kept = h.kept;

@@ -1,7 +1,7 @@
 -- The text is met, and its command is gone.
 use Rattle.std.proofs.Common.{◌≡◌, ℕ, List, [], ◌∷◌, ◌++◌, sym, ap, subst, ◌∙◌}
 use Rattle.gerber_text.specs.declared.reader.WordReader.{WordReader}
-use Rattle.gerber_text.specs.Holding.{StandsAfterDrop, held, passed_text, text_entries}
+use Rattle.gerber_text.specs.Holding.{StandsIn, held, passed_text, text_entries}
 use Rattle.layer_image.specs.KeptFlashes.{keeps_commands, without_pads}
 use Rattle.gerber_text.specs.FastPath.{text_command}
 use Rattle.gerber_text.specs.Reading.{placed}
@@ -10,14 +10,14 @@ use Rattle.layer_image.proofs.Pieces.{none_kept}
 use Rattle.layer_image.proofs.reader.LayerReader.take_other.Goals as goal
 
 pub returns-in_ok-text-in-Some-clause-ok : goal.returns-in_ok-text-in-Some-clause-ok
-returns-in_ok-text-in-Some-clause-ok c keep taken text h =
+returns-in_ok-text-in-Some-clause-ok c profile keep taken text h =
     let passed = c.in-Some.passed in
     let gone = h.gone ++ text_entries passed (passed_text passed c.args.bytes.now) in
     record {
       sound = h.sound;
       same = h.same;
       gone = gone;
-      words = c.in-Some.ensures.some h.none h.gone text h.words;
+      words = c.in-Some.ensures.some_in h.none profile h.gone text h.words;
       none = c.pass_text.ensures.held ∙ h.none;
       scanned = subst (λ (t : List ℕ). HasScannedLegal c.text.new.self (without_pads keep taken) (h.gone ++ placed passed.place passed.byte (text_command passed.item.kind t ∷ []))) c.text_in.ensures (c.in_ok-text-in-Some.ensures (without_pads keep taken) h.gone passed.place passed.byte h.scanned);
       kept = h.kept ∙ none_kept (keeps_commands keep) h.gone gone (ap keeps_commands (sym h.same) ∙ c.requires.dropped);
@@ -25,13 +25,13 @@ returns-in_ok-text-in-Some-clause-ok c keep taken text h =
 
 -- where no text was passed, nothing has changed
 pub returns-in-None-clause-err : goal.returns-in-None-clause-err
-returns-in-None-clause-err c keep taken text h =
+returns-in-None-clause-err c profile keep taken text h =
     let same : c.pass_text.new.self ≡ c.args.self.now.words = c.in-None.ensures.none in
-    c.take_part-in-None.ensures.err keep taken text (record {
+    c.take_part-in-None.ensures.err profile keep taken text (record {
       sound = h.sound;
       same = h.same;
       gone = h.gone;
-      words = subst (λ (w : WordReader). StandsAfterDrop w h.gone text) (sym same) h.words;
+      words = subst (λ (w : WordReader). StandsIn w profile h.gone text) (sym same) h.words;
       none = ap held same ∙ h.none;
       scanned = h.scanned;
       kept = h.kept;

@@ -11,28 +11,28 @@ use Rattle.layer_image.proofs.Pieces.{part_shown, words_shown}
 use Rattle.layer_image.proofs.reader.LayerReader.take_part.Goals as goal
 
 pub returns-in_err-scan-clause-err : goal.returns-in_err-scan-clause-err
-returns-in_err-scan-clause-err c keep taken text h =
+returns-in_err-scan-clause-err c profile keep taken text h =
     let p = err_from_is_err_and c.from_residual.result c.from_residual.ensures.1 in
-    rw (p.1, p.2) (part_shown text c.args.bytes.now c.feed_part-outcome.new.self h.gone c.commands.result.now c.feed_part-outcome.result c.in_err-scan.field-0.0 (c.feed_part-outcome.ensures.ok h.gone text h.words) (c.feed_part-outcome.ensures.err h.gone text h.words)
-    (c.commands.ensures.shown h.gone) (c.commands.ensures.kept h.gone) (c.in_err-scan.ensures.refused (without_pads keep taken) h.gone h.scanned))
+    rw (p.1, p.2) (part_shown profile text c.args.bytes.now c.feed_part-outcome.new.self h.gone c.commands.result.now c.feed_part-outcome.result c.in_err-scan.field-0.0 (c.feed_part-outcome.ensures.ok_in profile h.gone text h.words) (c.feed_part-outcome.ensures.err_in profile h.gone text h.words)
+    (c.commands.ensures.shown_in profile h.gone) (c.commands.ensures.kept_in profile h.gone) (c.in_err-scan.ensures.refused (without_pads keep taken) h.gone h.scanned))
 
 pub returns-in_err-len-clause-err : goal.returns-in_err-len-clause-err
-returns-in_err-len-clause-err c keep taken text h =
+returns-in_err-len-clause-err c profile keep taken text h =
     let p = err_from_is_err_and c.from_residual-in_err-len.result c.from_residual-in_err-len.ensures.1 in
     let all = text ++ c.args.bytes.now in
     let e = c.in_err-len.field-0.0 in
-    let failed = c.in_err-len.ensures.err h.gone text h.words in
-    rw (p.1, p.2) (words_shown all c.feed_part-outcome.new.self h.gone c.commands.result.now e failed (c.commands.ensures.kept h.gone all e failed) (c.in_ok-scan.ensures.ok (without_pads keep taken) h.gone h.scanned).legal)
+    let failed = c.in_err-len.ensures.err_in profile h.gone text h.words in
+    rw (p.1, p.2) (words_shown profile all c.feed_part-outcome.new.self h.gone c.commands.result.now e failed (c.commands.ensures.kept_in profile h.gone all e failed) (c.in_ok-scan.ensures.ok (without_pads keep taken) h.gone h.scanned).legal)
 
 pub returns-clause-ok : goal.returns-clause-ok
-returns-clause-ok c keep taken text h =
+returns-clause-ok c profile keep taken text h =
     let now = held c.feed_part-outcome.new.self in
     let scanned = subst (λ (x : Entries). HasScannedLegal c.scan.new.self (without_pads keep taken) (h.gone ++ x)) c.commands.ensures.held (c.in_ok-scan.ensures.ok (without_pads keep taken) h.gone h.scanned) in
     record {
       sound = c.in_ok-keep_commands.ensures.failed ∙ h.sound;
       same = c.in_ok-keep_commands.ensures.keep ∙ h.same;
       gone = h.gone ++ now;
-      words = c.in_ok-keep_commands.ensures.words h.gone (text ++ take c.in_ok-len.len c.args.bytes.now) (c.in_ok-len.ensures.ok h.gone text h.words);
+      words = c.in_ok-keep_commands.ensures.words profile h.gone (text ++ take c.in_ok-len.len c.args.bytes.now) (c.in_ok-len.ensures.ok_in profile h.gone text h.words);
       none = c.in_ok-keep_commands.ensures.none;
       scanned = subst (λ (s : Scan). HasScannedLegal s (without_pads keep taken) (h.gone ++ now)) (sym c.in_ok-keep_commands.ensures.scan) scanned;
       kept = c.in_ok-keep_commands.ensures.kept ∙ (λ i. h.kept i ++ cond (keeps_commands (h.same i)) now []) ∙ sym (kept_append (keeps_commands keep) h.gone now);

@@ -4,18 +4,18 @@ use Rattle.std.proofs.lemmas.List.{length-drop, length-take, take-append-drop, t
 use Rattle.std.proofs.lemmas.Result.{err_from_is_err_and}
 use Rattle.grid_units.specs.Results.{IfFault}
 use Rattle.gerber_text.proofs.ShowsLemmas.{two_takes}
-use Rattle.layer_image.specs.Holding.{LayerStandsAfterPads, ShowsLayerFault}
+use Rattle.layer_image.specs.Holding.{LayerStandsInAfterPads, ShowsLayerFaultIn}
 use Rattle.layer_image.specs.KeptFlashes.{keeps_commands}
 use Rattle.layer_image.proofs.reader.LayerReader.take_parts.Goals as goal
 
 pub returns-in_err-taken-clause-err : goal.returns-in_err-taken-clause-err
-returns-in_err-taken-clause-err c keep taken text h =
+returns-in_err-taken-clause-err c profile keep taken text h =
     let p = err_from_is_err_and c.from_residual.result c.from_residual.ensures.1 in
     let piece = c.args.piece.now in
     let n = c.loop-taken.taken in
     let so_far = text ++ take n piece in
     let whole : so_far ++ take (length piece - n) (drop n piece) ≡ text ++ piece = ap (λ (x : List ℕ). so_far ++ x) (take_rest piece n) ∙ (append_assoc text (take n piece) (drop n piece) ∙ ap (λ (x : List ℕ). text ++ x) (take-append-drop n piece)) in
-    rw (p.1, p.2) (subst (λ (t : List ℕ). IfFault (ShowsLayerFault t) c.in_err-taken.field-0.0) whole (c.in_err-taken.ensures.err keep taken so_far (c.loop-taken.invariant.stands keep taken text h)))
+    rw (p.1, p.2) (subst (λ (t : List ℕ). IfFault (ShowsLayerFaultIn profile t) c.in_err-taken.field-0.0) whole (c.in_err-taken.ensures.err profile keep taken so_far (c.loop-taken.invariant.stands profile keep taken text h)))
 
 pub loop-taken-preserved : goal.loop-taken-preserved
 loop-taken-preserved c =
@@ -25,13 +25,13 @@ loop-taken-preserved c =
     record {
       within = omega (arith, c.in_ok-taken.ensures.taken, length-drop n piece, length-take (length piece - n) (drop n piece));
       dropped = ap keeps_commands c.in_ok-taken.ensures.keep ∙ c.loop-taken.invariant.dropped;
-      stands = λ keep taken text h.
+      stands = λ profile keep taken text h.
           let so_far = text ++ take n piece in
-          subst (LayerStandsAfterPads c.take_leading.new.self keep taken) (two_takes text piece n k) (c.in_ok-taken.ensures.ok keep taken so_far (c.loop-taken.invariant.stands keep taken text h));
+          subst (LayerStandsInAfterPads c.take_leading.new.self profile keep taken) (two_takes text piece n k) (c.in_ok-taken.ensures.ok profile keep taken so_far (c.loop-taken.invariant.stands profile keep taken text h));
     }
 
 pub returns-clause-ok : goal.returns-clause-ok
-returns-clause-ok c keep taken text h =
+returns-clause-ok c profile keep taken text h =
     let piece = c.args.piece.now in
     let n = c.loop-taken.taken in
-    subst (λ (x : List ℕ). LayerStandsAfterPads c.loop-taken.self keep taken (text ++ x)) (take_all n piece (omega arith)) (c.loop-taken.invariant.stands keep taken text h)
+    subst (λ (x : List ℕ). LayerStandsInAfterPads c.loop-taken.self profile keep taken (text ++ x)) (take_all n piece (omega arith)) (c.loop-taken.invariant.stands profile keep taken text h)

@@ -3,7 +3,7 @@ use Rattle.std.proofs.lemmas.Result.{err_from_is_err_and}
 use Rattle.grid_units.specs.Results.{Answers}
 use Rattle.manifest.specs.declared.Role.TheVariants as role
 use Rattle.ring_rules.specs.declared.finding.Drilled.{Drilled}
-use Rattle.package_check.specs.CheckViews.{CheckView, holes_of, is_drill_in}
+use Rattle.package_check.specs.CheckViews.{CheckView, holes_of, is_drill_in, setting_of}
 use Rattle.package_check.specs.Holding.{IsPutAt, ReadsInto, kept_at}
 use Rattle.package_check.specs.Judging.{Judges}
 use Rattle.package_check.specs.OpenFiles.{HasReadCopper}
@@ -18,9 +18,9 @@ returns-in_err-judged-clause-read c = λ span text h free.
     let old = c.args.self.now in
     let file = c.args.file in
     let e = c.in_err-judged.field-0.0 in
-    let source = unnamed_file role.Copper span old.layers text in
+    let source = unnamed_file role.Copper span (setting_of old) text in
     let read = subst (λ (v : CheckView). HasReadCopper (holes_of v) file.layer span old.layers file.reading text) (sym c.self.view_is) h in
-    let fault = subst (λ (v : CheckView). Answers {T = Judged} (λ one. one) (Judges v.rules v.holes file.layer source) (Err e)) c.self.view_is (c.in_err-judged.ensures.judged span old.layers text read) in
+    let fault = subst (λ (v : CheckView). Answers {T = Judged} (λ one. one) (Judges v.rules v.holes file.layer (unnamed_file role.Copper span (record { layers = old.layers; profile = v.rules.profile }) text)) (Err e)) c.self.view_is (c.in_err-judged.ensures.judged span old.layers text read) in
     rw (p.1, p.2)
     (subst (λ (ss : List (Option Judged)). ReadsInto {X = Judged} (λ one. Judges old.rules old.holes file.layer source (Ok one)) file.index source old.slots ss (Err e)) (sym (ap (λ (v : CheckView). v.slots) c.self.view_is))
     (puts_none old.rules old.holes file.layer file.index old.layers span text old.slots e fault))
@@ -45,6 +45,6 @@ returns-clause-read c = λ span text h free.
     let one = c.in_ok-judged.judged in
     let read = subst (λ (v : CheckView). HasReadCopper (holes_of v) file.layer span old.layers file.reading text) (sym c.self.view_is) h in (
       one,
-      subst (λ (v : CheckView). Judges v.rules v.holes file.layer (unnamed_file role.Copper span old.layers text) (Ok one)) c.self.view_is (c.in_ok-judged.ensures.judged span old.layers text read),
+      subst (λ (v : CheckView). Judges v.rules v.holes file.layer (unnamed_file role.Copper span (record { layers = old.layers; profile = v.rules.profile }) text) (Ok one)) c.self.view_is (c.in_ok-judged.ensures.judged span old.layers text read),
       subst (λ (v : CheckView). IsPutAt file.index one v.slots c.put.new.slots.items) c.self.view_is c.in_ok-put.ensures.put,
     )

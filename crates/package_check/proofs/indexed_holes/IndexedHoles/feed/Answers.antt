@@ -1,40 +1,34 @@
-use Rattle.std.proofs.Common.{◌≡◌, ◌++◌, ℕ, List, [], ap, refl, rules, subst, sym, ◌∙◌, append_assoc, append-nil}
-use Rattle.std.proofs.lemmas.Result.{err_from_is_err_and}
-use Rattle.std.specs.Slice.Iter.{chunks_rest}
-use Rattle.package_check.specs.Judging.{HasTriedPadsOf}
-use Rattle.package_check.proofs.PiecesLemmas.{fault_stays_in_longer}
+use Rattle.std.proofs.Common.{◌≡◌, ◌++◌, [], Result, OnOk, Ok, Err, ap, sym, ◌∙◌}
+use Rattle.grid_units.specs.Holes.{GridRules}
+use Rattle.grid_units.specs.declared.profile.Profile.TheVariants.{Strict, Wide}
+use Rattle.layer_image.specs.declared.keep.Keep.TheVariants as keep
+use Rattle.package_check.specs.HoleViews.{HolesView}
+use Rattle.package_check.proofs.CopperPieces.{also_on, read_on, shown_on, strictly_read, widely_read}
 use Rattle.package_check.proofs.indexed_holes.IndexedHoles.feed.Goals as goal
 
-pub loop-chunk-init : goal.loop-chunk-init
-loop-chunk-init c =
-    (search rules, tt, search rules, λ text stands. ([], subst (HasTriedPadsOf c.args.self.now c.args.layer c.args.reader.now) (sym (append-nil text)) stands, search rules), refl, refl)
+pub returns-in-Strict-clause-ok : goal.returns-in-Strict-clause-ok
+returns-in-Strict-clause-ok c = λ text h.
+    let old = c.args.self.now in
+    let strict : old.rules.profile ≡ Strict = sym (ap (λ (v : HolesView). v.rules.profile) c.self.view_is) ∙ (sym (ap (λ (r : GridRules). r.profile) c.self.invariant.1) ∙ (sym c.profile.ensures ∙ c.in-Strict.is)) in
+    read_on Strict old.rules.profile c.feed_chunks.new.self c.args.layer c.feed_chunks.new.reader (text ++ c.args.piece.now) c.feed_chunks.result (sym strict)
+    (c.feed_chunks.ensures.ok text (strictly_read old.rules.profile old c.args.layer c.args.reader.now text strict h))
 
-pub loop-chunk-preserved : goal.loop-chunk-preserved
-loop-chunk-preserved c =
-    let chunk = c.in-Some.chunk.now in
-    let steps = c.in-Some.ensures.steps in
-    let was = c.loop-chunk.invariant in (
-      search rules,
-      tt,
-      steps.0 ∙ was.2,
-      λ text stands.
-          let so_far = was.3 text stands in (
-            so_far.0 ++ chunk,
-            subst (HasTriedPadsOf c.feed_chunk.new.self c.args.layer c.feed_chunk.new.reader) (append_assoc text so_far.0 chunk) (c.in_ok-feed_chunk.ensures.ok (text ++ so_far.0) so_far.1),
-            append_assoc so_far.0 chunk (chunks_rest c.next.new.self) ∙ (ap (λ (t : List ℕ). so_far.0 ++ t) (sym steps.1.0) ∙ so_far.2),
-          ),
-      c.in_ok-feed_chunk.ensures.holes ∙ was.4,
-      c.in_ok-feed_chunk.ensures.rules ∙ was.5,
-    )
+pub returns-in-Strict-clause-err : goal.returns-in-Strict-clause-err
+returns-in-Strict-clause-err c = λ text h.
+    let old = c.args.self.now in
+    let strict : old.rules.profile ≡ Strict = sym (ap (λ (v : HolesView). v.rules.profile) c.self.view_is) ∙ (sym (ap (λ (r : GridRules). r.profile) c.self.invariant.1) ∙ (sym c.profile.ensures ∙ c.in-Strict.is)) in
+    shown_on Strict old.rules.profile (text ++ c.args.piece.now) c.feed_chunks.result (sym strict) (c.feed_chunks.ensures.err text (strictly_read old.rules.profile old c.args.layer c.args.reader.now text strict h))
 
-pub returns-in_err-feed_chunk-clause-err : goal.returns-in_err-feed_chunk-clause-err
-returns-in_err-feed_chunk-clause-err c = λ text stands.
-    let p = err_from_is_err_and c.from_residual.result c.from_residual.ensures.1 in
-    let chunk = c.in-Some.chunk.now in
-    let rest = chunks_rest c.next.new.self in
-    let so_far = c.loop-chunk.invariant.3 text stands in
-    let parts = append_assoc so_far.0 chunk rest ∙ (ap (λ (t : List ℕ). so_far.0 ++ t) (sym c.in-Some.ensures.steps.1.0) ∙ so_far.2) in
-    let whole : ((text ++ so_far.0) ++ chunk) ++ rest ≡ text ++ c.args.piece.now =
-    ap (λ (t : List ℕ). t ++ rest) (append_assoc text so_far.0 chunk) ∙ (append_assoc text (so_far.0 ++ chunk) rest ∙ ap (λ (t : List ℕ). text ++ t) parts) in
-    rw (p.1, p.2)
-    (fault_stays_in_longer c.shown_faults.ensures.stays ((text ++ so_far.0) ++ chunk) rest (text ++ c.args.piece.now) c.in_err-feed_chunk.field-0.0 whole (c.in_err-feed_chunk.ensures.err (text ++ so_far.0) so_far.1))
+pub returns-in-Wide-clause-ok : goal.returns-in-Wide-clause-ok
+returns-in-Wide-clause-ok c = λ text h.
+    let old = c.args.self.now in
+    let wide : old.rules.profile ≡ Wide = sym (ap (λ (v : HolesView). v.rules.profile) c.self.view_is) ∙ (sym (ap (λ (r : GridRules). r.profile) c.self.invariant.1) ∙ (sym c.profile.ensures ∙ c.in-Wide.is)) in
+    let was = widely_read old.rules.profile old c.args.layer c.args.reader.now text wide h in
+    read_on Wide old.rules.profile old c.args.layer c.feed.new.self (text ++ c.args.piece.now) c.feed.result (sym wide) (also_on _ c.feed.result was.0 (c.feed.ensures.ok_in Wide keep.All [] text was.1))
+
+pub returns-in-Wide-clause-err : goal.returns-in-Wide-clause-err
+returns-in-Wide-clause-err c = λ text h.
+    let old = c.args.self.now in
+    let wide : old.rules.profile ≡ Wide = sym (ap (λ (v : HolesView). v.rules.profile) c.self.view_is) ∙ (sym (ap (λ (r : GridRules). r.profile) c.self.invariant.1) ∙ (sym c.profile.ensures ∙ c.in-Wide.is)) in
+    let was = widely_read old.rules.profile old c.args.layer c.args.reader.now text wide h in
+    shown_on Wide old.rules.profile (text ++ c.args.piece.now) c.feed.result (sym wide) (c.feed.ensures.err_in Wide keep.All [] text was.1)

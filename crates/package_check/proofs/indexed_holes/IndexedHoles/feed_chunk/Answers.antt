@@ -1,6 +1,7 @@
-use Rattle.std.proofs.Common.{◌++◌}
+use Rattle.std.proofs.Common.{◌++◌, map}
 use Rattle.std.proofs.lemmas.Result.{err_from_is_err_and}
 use Rattle.layer_image.specs.declared.keep.Keep.TheVariants as keep
+use Rattle.package_check.specs.LayerViews.{plain}
 use Rattle.package_check.proofs.JudgedCopper.{tried_more}
 use Rattle.package_check.proofs.indexed_holes.IndexedHoles.feed_chunk.Goals as goal
 
@@ -14,4 +15,4 @@ returns-clause-ok c = λ text before.
     let whole = text ++ c.args.chunk.now in
     tried_more c.try_pads.new.self c.args.layer c.feed.new.self c.clear_pads.new.self whole before.dropped c.pads.result.now c.pads.ensures
     (c.clear_pads.ensures.gone keep.Pads before.dropped whole (c.in_ok-feed.ensures.ok_after_pads keep.Pads before.dropped text before.read))
-    (c.in_ok-try_pads.ensures.tried before.dropped before.tried)
+    (c.in_ok-try_pads.ensures.tried (map plain before.dropped) before.tried)

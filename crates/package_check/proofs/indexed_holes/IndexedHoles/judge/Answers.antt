@@ -1,28 +1,19 @@
-use Rattle.std.proofs.Common.{◌++◌, ap, sym, ◌∙◌}
-use Rattle.std.proofs.lemmas.Result.{err_from_is_err_and}
-use Rattle.layer_image.specs.declared.keep.Keep.TheVariants as keep
-use Rattle.package_check.specs.FileTexts.{is_copper_function}
-use Rattle.package_check.specs.declared.FileSum.TheVariants as sum
-use Rattle.package_check.proofs.JudgedCopper.{is_left, refused_as_no_copper, rest_fault, rings_there}
+use Rattle.std.proofs.Common.{◌≡◌, ap, sym, ◌∙◌}
+use Rattle.grid_units.specs.Holes.{GridRules}
+use Rattle.grid_units.specs.declared.profile.Profile.TheVariants.{Strict, Wide}
+use Rattle.package_check.specs.HoleViews.{HolesView}
+use Rattle.package_check.proofs.CopperPieces.{strictly_read, widely_read}
 use Rattle.package_check.proofs.indexed_holes.IndexedHoles.judge.Goals as goal
 
-pub returns-in_err-rest-clause-judged : goal.returns-in_err-rest-clause-judged
-returns-in_err-rest-clause-judged c = λ text before.
-    let p = err_from_is_err_and c.from_residual.result c.from_residual.ensures.1 in
-    rw (p.1, p.2) (rest_fault c.args.self.now.rules c.args.self.now.holes c.args.layer text before.dropped c.in_err-rest.field-0.0 (c.in_err-rest.ensures.rest keep.Pads before.dropped text before.read))
-
-pub returns-then-not-is_copper_function-clause-judged : goal.returns-then-not-is_copper_function-clause-judged
-returns-then-not-is_copper_function-clause-judged c = λ text before.
-    refused_as_no_copper c.args.self.now.rules c.args.self.now.holes c.args.layer text before.dropped c.in_ok-rest.rest (c.in_ok-rest.ensures.rest keep.Pads before.dropped text before.read) c.not_copper.result c.not_copper.ensures
-    (sym (ap is_copper_function c.file_function.ensures) ∙ (sym c.is_copper_function.ensures ∙ c.if-not-is_copper_function.true))
-
-pub returns-clause-judged : goal.returns-clause-judged
-returns-clause-judged c = λ text before.
+pub returns-in-Strict-clause-judged : goal.returns-in-Strict-clause-judged
+returns-in-Strict-clause-judged c = λ text h.
     let old = c.args.self.now in
-    let mid = c.try_pads.new.self in
-    is_left old.rules old.holes c.args.layer text before.dropped c.in_ok-rest.rest (c.in_ok-rest.ensures.rest keep.Pads before.dropped text before.read)
-    (sym (ap is_copper_function c.file_function.ensures) ∙ (sym c.is_copper_function.ensures ∙ c.if-not-is_copper_function.false))
-    (record { sum = sum.Layer c.pad_count.result c.other.result; rings = c.in_ok-rings.rings })
-    (λ j. sum.Layer (c.pad_count.ensures j) (c.other.ensures j))
-    (rings_there mid.rules old.rules mid.holes old.holes c.args.layer before.dropped c.pads.result.now c.in_ok-rest.rest.pads c.in_ok-rings.rings c.in_ok-try_pads.ensures.rules c.in_ok-try_pads.ensures.holes c.pads.ensures
-    (c.in_ok-rings.ensures.rings (before.dropped ++ c.pads.result.now) (c.in_ok-try_pads.ensures.tried before.dropped before.tried)))
+    let strict : old.rules.profile ≡ Strict = sym (ap (λ (v : HolesView). v.rules.profile) c.self.view_is) ∙ (sym (ap (λ (r : GridRules). r.profile) c.self.invariant.1) ∙ (sym c.profile.ensures ∙ c.in-Strict.is)) in
+    c.judge_strict.ensures.judged strict text (strictly_read old.rules.profile old c.args.layer c.args.reader text strict h)
+
+pub returns-in-Wide-clause-judged : goal.returns-in-Wide-clause-judged
+returns-in-Wide-clause-judged c = λ text h.
+    let old = c.args.self.now in
+    let wide : old.rules.profile ≡ Wide = sym (ap (λ (v : HolesView). v.rules.profile) c.self.view_is) ∙ (sym (ap (λ (r : GridRules). r.profile) c.self.invariant.1) ∙ (sym c.profile.ensures ∙ c.in-Wide.is)) in
+    let was = widely_read old.rules.profile old c.args.layer c.args.reader text wide h in
+    c.judge_wide.ensures.judged wide text was.0 was.1

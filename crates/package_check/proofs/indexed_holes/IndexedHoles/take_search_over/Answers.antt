@@ -1,5 +1,5 @@
-use Rattle.std.proofs.Common.{◌≡◌, ◌∙◌, List, Option, ap, subst, sym}
-use Rattle.pad_shapes.specs.Pads.{pad_covers}
+use Rattle.std.proofs.Common.{◌≡◌, ◌∙◌, List, Option, map, ap, subst, sym}
+use Rattle.wide_pads.specs.WidePads.{wide_pad_covers}
 use Rattle.package_check.specs.HoleViews.{HolesView}
 use Rattle.package_check.specs.Judging.{HasTriedIn}
 use Rattle.ring_rules.specs.Search.{HasTried}
@@ -20,8 +20,8 @@ returns-clause-tried c = λ layer pads h.
           let same_holes = w.deref.ensures.value ∙ ap (λ (v : HolesView). v.holes) c.self.view_is in
           let same_index = ap (λ (v : HolesView). v.index) c.self.view_is in
           let tried = subst (λ (o : Option LayerSearch). HasTriedIn now.holes now.index layer pads o) w.in-Some.is was in
-          let given = subst (λ (hs : List Drilled). HasTried pad_covers hs layer pads c.self.inside.index search) (sym same_holes)
-          (subst (λ (ix : RingIndex). HasTried pad_covers now.holes layer pads ix search) (sym same_index) tried) in
-          rw w.result-is (subst (λ (hs : List Drilled). HasTried pad_covers hs layer pads c.args.index.now w.in_ok-over-in-Some.over) same_holes (w.in_ok-over-in-Some.ensures.tried layer pads given))
+          let given = subst (λ (hs : List Drilled). HasTried wide_pad_covers hs layer pads c.self.inside.index search) (sym same_holes)
+          (subst (λ (ix : RingIndex). HasTried wide_pad_covers now.holes layer pads ix search) (sym same_index) tried) in
+          rw w.result-is (subst (λ (hs : List Drilled). HasTried wide_pad_covers hs layer pads c.args.index.now w.in_ok-over-in-Some.over) same_holes (w.in_ok-over-in-Some.ensures.tried layer (map wide_pad_covers pads) given))
       | in-None w ↦ rw w.result-is (subst (λ (o : Option LayerSearch). HasTriedIn now.holes now.index layer pads o) w.in-None.is was)
     ]

@@ -1,5 +1,8 @@
-use Rattle.std.proofs.Common.{List, ap, subst, sym, ◌∙◌}
+use Rattle.std.proofs.Common.{List, map, refl, ap, subst, sym, ◌∙◌}
+use Rattle.wide_pads.specs.WidePads.{wide_pad_covers}
 use Rattle.pad_shapes.specs.Pads.{pad_covers}
+use Rattle.ring_rules.proofs.TriedPads.{tried_more_by_map}
+use Rattle.package_check.specs.LayerViews.{plain}
 use Rattle.ring_rules.specs.Search.{HasTried}
 use Rattle.ring_rules.specs.declared.finding.Drilled.{Drilled}
 use Rattle.ring_rules.specs.declared.ring_index.RingIndex.{RingIndex}
@@ -13,6 +16,7 @@ returns-clause-tried c = λ tried h.
     let search = c.in_ok-search.search in
     let same_holes = ap (λ (v : HolesView). v.holes) c.self.view_is ∙ c.in_ok-search.ensures.holes in
     let same_index = ap (λ (v : HolesView). v.index) c.self.view_is ∙ c.in_ok-search.ensures.index in
-    c.try_pads.ensures.tried c.self.inside.holes.items layer tried
-    (subst (λ (hs : List Drilled). HasTried pad_covers hs layer tried c.self.inside.index search) (sym same_holes)
-    (subst (λ (ix : RingIndex). HasTried pad_covers mid.holes layer tried ix search) (sym same_index) (c.in_ok-search.ensures.tried tried (c.in_ok-suit.ensures.tried layer tried h))))
+    tried_more_by_map pad_covers wide_pad_covers plain (λ s p r. refl) c.self.inside.holes.items layer tried c.args.pads.now c.self.inside.index c.try_pads.new.self
+    (c.try_pads.ensures.tried c.self.inside.holes.items layer (map wide_pad_covers tried)
+    (subst (λ (hs : List Drilled). HasTried wide_pad_covers hs layer tried c.self.inside.index search) (sym same_holes)
+    (subst (λ (ix : RingIndex). HasTried wide_pad_covers mid.holes layer tried ix search) (sym same_index) (c.in_ok-search.ensures.tried tried (c.in_ok-suit.ensures.tried layer tried h)))))

@@ -1,11 +1,14 @@
 use Rattle.std.proofs.Common.{◌∙◌, ◌++◌, List, ℕ, ap, append_assoc, refl, sym}
 use Rattle.std.proofs.Output.{has_written_append, has_written_of_eq}
-use Rattle.package_check.specs.Texts.{drill_words, file_line, name_words, span_words}
+use Rattle.package_check.specs.Texts.{drill_words, file_line, layer_words, name_words, span_words}
 use Rattle.package_check.proofs.lines.FileLineDisplay.fmt.Goals as goal
 
-pub returns-in-Layer-clause-writes : goal.returns-in-Layer-clause-writes
-returns-in-Layer-clause-writes g c = λ plain ok.
-    has_written_of_eq _ _ _ _ _ (ap (file_line c.args.self.now.number c.args.self.now.name.now) (sym c.in-Layer.is)) (c.write.ensures.writes plain ok)
+pub returns-in_ok-write-in-Layer-clause-writes : goal.returns-in_ok-write-in-Layer-clause-writes
+unfolding layer_words
+returns-in_ok-write-in-Layer-clause-writes g c = λ plain ok.
+    let line = c.args.self.now in
+    let first = c.in_ok-write-in-Layer.ensures.writes plain refl in
+    has_written_of_eq _ _ _ _ _ (ap (file_line line.profile line.number line.name.now) (sym c.in-Layer.is)) (has_written_append _ _ _ _ _ _ first (c.write-in-Layer.ensures.writes first.plain ok))
 
 pub returns-in_ok-write-in-Drill-clause-writes : goal.returns-in_ok-write-in-Drill-clause-writes
 unfolding drill_words
@@ -14,5 +17,5 @@ returns-in_ok-write-in-Drill-clause-writes g c = λ plain ok.
     let first = c.in_ok-write-in-Drill.ensures.writes plain refl in
     has_written_of_eq _ _ _ _ _
     (ap (λ (word : List ℕ). drill_words line.number word c.in-Drill.round c.in-Drill.slots ++ (span_words c.in-Drill.span ++ name_words line.name.now)) c.yes_or_no-plated.ensures
-    ∙ (sym (append_assoc (drill_words line.number _ c.in-Drill.round c.in-Drill.slots) (span_words c.in-Drill.span) (name_words line.name.now)) ∙ ap (file_line line.number line.name.now) (sym c.in-Drill.is)))
+    ∙ (sym (append_assoc (drill_words line.number _ c.in-Drill.round c.in-Drill.slots) (span_words c.in-Drill.span) (name_words line.name.now)) ∙ ap (file_line line.profile line.number line.name.now) (sym c.in-Drill.is)))
     (has_written_append _ _ _ _ _ _ first (c.write-in-Drill-2.ensures.writes first.plain ok))

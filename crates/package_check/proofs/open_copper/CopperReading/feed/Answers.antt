@@ -1,17 +1,19 @@
-use Rattle.std.proofs.Common.{◌++◌, refl, subst}
+use Rattle.std.proofs.Common.{◌++◌, ap, refl, subst, sym}
+use Rattle.grid_units.specs.Holes.{GridRules}
+use Rattle.grid_units.specs.declared.profile.Profile.{Profile}
 use Rattle.manifest.specs.declared.Role.TheVariants as role
-use Rattle.package_check.specs.OpenFiles.{HasReadCopper}
+use Rattle.package_check.specs.OpenFiles.{HasReadCopper, HasReadLayer}
 use Rattle.package_check.specs.declared.open_copper.CopperReading.{CopperReading}
-use Rattle.package_check.proofs.CopperPieces.{also_on, no_span}
+use Rattle.package_check.proofs.CopperPieces.{also_on, no_span, read_on}
 use Rattle.package_check.proofs.OpenFiles.{layer_errs}
 use Rattle.package_check.proofs.open_copper.CopperReading.feed.Goals as goal
 
 pub returns-in-Layer-clause-ok : goal.returns-in-Layer-clause-ok
 returns-in-Layer-clause-ok c = λ span layers text h.
     let was = subst (λ (r : CopperReading). HasReadCopper c.args.holes.now c.args.layer span layers r text) c.in-Layer.is h in
-    also_on _ c.feed.result was.0 (c.feed.ensures.ok text was.1)
+    also_on _ c.feed.result was.0 (read_on c.args.holes.now.rules.profile c.feed.new.self.rules.profile c.feed.new.self c.args.layer c.feed.new.reader (text ++ c.args.piece.now) c.feed.result (ap (λ (r : GridRules). r.profile) (sym c.feed.ensures.rules)) (c.feed.ensures.ok text was.1))
 
 pub returns-in-Layer-clause-err : goal.returns-in-Layer-clause-err
 returns-in-Layer-clause-err c = λ span layers text h.
     let was = subst (λ (r : CopperReading). HasReadCopper c.args.holes.now c.args.layer span layers r text) c.in-Layer.is h in
-    layer_errs c.shown_faults.ensures.joined role.Copper span layers (text ++ c.args.piece.now) c.feed.result refl (no_span span layers was.0) (c.feed.ensures.err text was.1)
+    layer_errs c.readings_in_profiles.ensures.joined role.Copper span (record { layers = layers; profile = c.args.holes.now.rules.profile }) (text ++ c.args.piece.now) c.feed.result refl (no_span span layers was.0) (c.feed.ensures.err text was.1)

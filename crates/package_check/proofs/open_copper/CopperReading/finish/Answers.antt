@@ -12,4 +12,4 @@ returns-in-Layer-clause-judged c = λ span layers text h.
 
 pub returns-in-Failed-clause-judged : goal.returns-in-Failed-clause-judged
 returns-in-Failed-clause-judged c = λ span layers text h.
-    failed_judged c.args.holes.now.rules c.args.holes.now.holes c.args.layer span layers text c.in-Failed.fail (subst (λ (r : CopperReading). HasReadCopper c.args.holes.now c.args.layer span layers r text) c.in-Failed.is h)
+    failed_judged c.args.holes.now.rules c.args.holes.now.holes c.args.layer span (record { layers = layers; profile = c.args.holes.now.rules.profile }) text c.in-Failed.fail (subst (λ (r : CopperReading). HasReadCopper c.args.holes.now c.args.layer span layers r text) c.in-Failed.is h)

@@ -1,19 +1,23 @@
 use Rattle.std.proofs.Common.{subst}
 use Rattle.package_check.specs.OpenFiles.{HasReadText}
+use Rattle.package_check.specs.Package.{Setting}
 use Rattle.package_check.specs.declared.open_file.Reading.{Reading}
 use Rattle.package_check.proofs.OpenFiles.{failed_read, read_as_copper, read_as_drill}
 use Rattle.package_check.proofs.open_file.Reading.finish.Goals as goal
 
 pub returns-in-Layer-clause-content : goal.returns-in-Layer-clause-content
 returns-in-Layer-clause-content c = λ of layers text h.
-    let was = subst (λ (r : Reading). HasReadText c.args.keep of c.args.span layers r text) c.in-Layer.is h in
-    read_as_copper of c.args.span layers text c.read_copper.result was.0 was.1 (c.read_copper.ensures.copper text was.2)
+    let setting : Setting = record { layers = layers; profile = c.args.profile } in
+    let was = subst (λ (r : Reading). HasReadText c.args.keep of c.args.span setting r text) c.in-Layer.is h in
+    read_as_copper of c.args.span setting text c.read_copper.result was.0 was.1 (c.read_copper.ensures.copper text was.2)
 
 pub returns-in-Drill-clause-content : goal.returns-in-Drill-clause-content
 returns-in-Drill-clause-content c = λ of layers text h.
-    let was = subst (λ (r : Reading). HasReadText c.args.keep of c.args.span layers r text) c.in-Drill.is h in
-    read_as_drill of c.in-Drill.plated c.args.span layers text c.read_drill_content.result was.0 was.1 (c.read_drill_content.ensures text was.2)
+    let setting : Setting = record { layers = layers; profile = c.args.profile } in
+    let was = subst (λ (r : Reading). HasReadText c.args.keep of c.args.span setting r text) c.in-Drill.is h in
+    read_as_drill of c.in-Drill.plated c.args.span setting text c.read_drill_content.result was.0 was.1 (c.read_drill_content.ensures c.args.profile text was.2)
 
 pub returns-in-Failed-clause-content : goal.returns-in-Failed-clause-content
 returns-in-Failed-clause-content c = λ of layers text h.
-    failed_read of c.args.span layers text c.in-Failed.fail (subst (λ (r : Reading). HasReadText c.args.keep of c.args.span layers r text) c.in-Failed.is h)
+    let setting : Setting = record { layers = layers; profile = c.args.profile } in
+    failed_read of c.args.span setting text c.in-Failed.fail (subst (λ (r : Reading). HasReadText c.args.keep of c.args.span setting r text) c.in-Failed.is h)

@@ -1,6 +1,7 @@
-use Rattle.std.proofs.Common.{◌∙◌, ◌++◌, append_assoc, length, map, sym}
+use Rattle.std.proofs.Common.{◌∙◌, ◌++◌, ap, append_assoc, length, map, sym}
 use Rattle.std.specs.List.{flat_map}
 use Rattle.std.proofs.Output.{has_written_of_eq}
+use Rattle.grid_units.specs.Holes.{GridRules}
 use Rattle.package_check.specs.Texts.{file_lines, finding_line, last_line, rules_line}
 use Rattle.package_check.proofs.text.CheckTextDisplay.fmt.Goals as goal
 
@@ -8,11 +9,12 @@ pub returns-clause-writes : goal.returns-clause-writes
 returns-clause-writes g c = λ plain ok.
     let report = c.args.self.now.report.now in
     let rules = rules_line report.rules in
-    let files = file_lines 1 (map (λ name. name.now) c.args.self.now.names.now) report.files in
+    let files = file_lines report.rules.profile 1 (map (λ name. name.now) c.args.self.now.names.now) report.files in
+    let profile_is = c.profile-profile.ensures ∙ ap (λ (r : GridRules). r.profile) c.rules.ensures in
     let line = finding_line report.layers report.holes in
     let findings = flat_map line report.findings in
     let last = last_line (length report.findings) in
     has_written_of_eq _ _ _ _ _
-    ((λ i. rules_line (c.rules.ensures i) ++ (file_lines 1 (map (λ name. name.now) c.args.self.now.names.now) (c.files-files.ensures i) ++ (flat_map line (c.findings-found.ensures i) ++ last_line (length (c.findings-found.ensures i)))))
+    ((λ i. rules_line (c.rules-2.ensures i) ++ (file_lines (profile_is i) 1 (map (λ name. name.now) c.args.self.now.names.now) (c.files-files.ensures i) ++ (flat_map line (c.findings-found.ensures i) ++ last_line (length (c.findings-found.ensures i)))))
     ∙ (sym (append_assoc rules files (findings ++ last)) ∙ sym (append_assoc (rules ++ files) findings last)))
     (c.write.ensures.writes plain ok)

@@ -10,7 +10,7 @@ returns c =
     record {
       covered = i.covers;
       in_range = omega (arith, i.apart, i.high);
-      greatest = λ n less t. elim (cases_lt c.loop-missed.covered n) [
+      greatest = λ n t. elim (cases_lt c.loop-missed.covered n) [
         | inl more ↦ absurd (false≢true (sym i.misses ∙ covers_less c.args.self.now c.args.hole n c.loop-missed.missed (omega (arith, more, c.loop-missed-test.false)) t))
         | inr within ↦ within
       ];

@@ -1,4 +1,4 @@
-use Rattle.std.proofs.Common.{ℕ, Bool, List, map, ◌++◌, sym, ap, subst, ◌∙◌}
+use Rattle.std.proofs.Common.{Bool, List, map, ◌++◌, sym, subst, ◌∙◌}
 use Rattle.std.specs.List.{filter, enumerate_from}
 use Rattle.std.proofs.lemmas.Result.{on_ok_weaker}
 use Rattle.ring_rules.specs.Findings.{finding_of, is_ring_finding}
@@ -7,12 +7,12 @@ use Rattle.ring_rules.specs.declared.finding.Drilled.{Drilled}
 use Rattle.ring_rules.proofs.layer_search.LayerSearch.push_findings.Goals as goal
 
 pub returns : goal.returns
-returns g c =
+returns c =
     let holes : List Drilled = c.args.holes.now in
     on_ok_weaker c.layer_findings.result
-    (λ listed layer pads was.
-    let test : Drilled → Bool = is_ring_finding g.S.PadShape.covers c.args.index.now.rules.ring layer pads in
+    (λ listed layer tried was.
+    let test : Drilled → Bool = is_ring_finding (λ covering. covering) c.args.index.now.rules.profile c.args.index.now.rules.ring layer tried in
     let marked = subst (λ (ms : List Bool). AreMarkedBy test holes c.args.index.now ms) (sym c.deref.ensures.value) was.marks in
     listed test (c.deref-2.ensures.value ∙ c.in_ok-lacking.ensures.marks test marked)
-    ∙ ap (λ (n : ℕ). c.args.findings.now.items ++ map (finding_of n) (filter (λ hole. test hole.1) (enumerate_from 0 holes))) was.same_layer)
+    ∙ (λ j. c.args.findings.now.items ++ map (finding_of (c.profile.ensures j) (was.same_layer j)) (filter (λ hole. test hole.1) (enumerate_from 0 holes))))
     c.layer_findings.ensures

@@ -1,31 +1,32 @@
-use Rattle.std.proofs.Common.{◌≡◌, ℕ, ◌<◌, Bool, List, ◌++◌, length, sym, ap, subst, ◌∙◌}
+use Rattle.std.proofs.Common.{◌≡◌, ℕ, ◌<◌, Bool, List, ◌++◌, map, length, sym, ap, subst, ◌∙◌}
 use Rattle.std.specs.Prelude.{◌&&◌, not}
 use Rattle.std.specs.List.{list_any}
 use Rattle.std.specs.Vec.{with_items}
 use Rattle.std.proofs.lemmas.List.{with_items_is}
 use Rattle.ring_rules.specs.Findings.{is_ring_finding}
 use Rattle.ring_rules.specs.Spots.{spot_at}
-use Rattle.ring_rules.specs.Search.{AreMarkedBy}
+use Rattle.grid_units.specs.Holes.{GridRules}
+use Rattle.ring_rules.specs.Search.{AreMarkedBy, Covering}
 use Rattle.ring_rules.specs.Inner.Marks.{is_marked, gives_ring}
 use Rattle.ring_rules.specs.Inner.Trees.{AreClosedUnmarked}
 use Rattle.ring_rules.specs.declared.spots.Spot.{Spot}
 use Rattle.ring_rules.proofs.MarksAfterPads.{marked_more}
+use Rattle.ring_rules.proofs.TriedPads.{marked_by_coverings}
 use Rattle.ring_rules.proofs.layer_search.LayerSearch.try_pads.Goals as goal
 
 pub returns-clause-tried : goal.returns-clause-tried
-returns-clause-tried g c = λ holes layer pads was.
+returns-clause-tried g c = λ holes layer tried was.
     let index = c.args.index.now in
     let cells = c.args.index.now.cells in
     let spots : List Spot = c.args.index.now.cells.spots in
-    let covers = g.S.PadShape.covers in
-    let ring : ℕ = c.args.index.now.rules.ring in
-    let more = c.args.more.now in
+    let rules : GridRules = c.args.index.now.rules in
+    let more : List Covering = map g.S.PadShape.covers c.args.more.now in
     let now : List Bool = c.try_pads.new.marks in
     let marks : (with_items c.args.self.now.marks c.try_pads.new.marks).items ≡ c.try_pads.new.marks =
     with_items_is c.args.self.now.marks c.try_pads.new.marks (c.try_pads.auto.marks ∙ c.deref_mut-2.ensures.len) in
     let opened : (with_items c.args.self.now.open_nodes c.try_pads.new.open_nodes).items ≡ c.try_pads.new.open_nodes =
     with_items_is c.args.self.now.open_nodes c.try_pads.new.open_nodes (c.try_pads.auto.open_nodes ∙ c.deref_mut.ensures.len) in
-    let marked = subst (λ (ms : List Bool). (i : ℕ) → i < length spots → is_marked now i ≡ (is_marked ms i && not (list_any (gives_ring g.S.PadShape.covers c.args.index.now.rules.ring (spot_at spots i).hole) c.args.more.now))) c.deref_mut-2.ensures.value c.try_pads.ensures.marked in
+    let marked = subst (λ (ms : List Bool). (i : ℕ) → i < length spots → is_marked now i ≡ (is_marked ms i && not (list_any (gives_ring g.S.PadShape.covers c.args.index.now.rules.profile c.args.index.now.rules.ring (spot_at spots i).hole) c.args.more.now))) c.deref_mut-2.ensures.value c.try_pads.ensures.marked in
     record {
       listed = was.listed;
       over = record {
@@ -36,6 +37,7 @@ returns-clause-tried g c = λ holes layer pads was.
             (subst (λ (os : List Bool). AreClosedUnmarked cells.x cells.y cells.spots index.nodes.items os now) (sym opened) c.try_pads.ensures.closed);
       };
       same_layer = was.same_layer;
-      marks = subst (λ (ms : List Bool). AreMarkedBy (is_ring_finding g.S.PadShape.covers c.args.index.now.rules.ring layer (pads ++ c.args.more.now)) holes index ms) (sym marks)
-          (marked_more covers ring layer holes spots was.listed.listed c.args.self.now.marks.items now pads more was.marks marked);
+      marks = subst (λ (ms : List Bool). AreMarkedBy (is_ring_finding (λ covering. covering) c.args.index.now.rules.profile c.args.index.now.rules.ring layer (tried ++ map g.S.PadShape.covers c.args.more.now)) holes index ms) (sym marks)
+          (marked_more (λ covering. covering) rules.profile rules.ring layer holes spots was.listed.listed c.args.self.now.marks.items now tried more was.marks
+          (marked_by_coverings g.S.PadShape.covers rules.profile rules.ring spots c.args.self.now.marks.items now c.args.more.now marked));
     }

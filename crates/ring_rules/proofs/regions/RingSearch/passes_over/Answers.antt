@@ -16,12 +16,12 @@ zone_of-zone-requires g c =
 pub returns-then-not-open_nodes-i : goal.returns-then-not-open_nodes-i
 returns-then-not-open_nodes-i g c = λ e marks closed.
     let spots : List Spot = c.args.self.now.cells.now.spots in
-    none_passes c.args.self.now.cells.now.x c.args.self.now.cells.now.y spots c.args.nodes.now (gives_ring_at g.S.PadShape.covers c.args.self.now.rules.ring spots c.args.pad.now) c.args.i marks (closed c.args.i c.requires.inside c.if-not-open_nodes-i.true)
+    none_passes c.args.self.now.cells.now.x c.args.self.now.cells.now.y spots c.args.nodes.now (gives_ring_at g.S.PadShape.covers c.args.self.now.rules.profile c.args.self.now.rules.ring spots c.args.pad.now) c.args.i marks (closed c.args.i c.requires.inside c.if-not-open_nodes-i.true)
 
 pub returns : goal.returns
 returns g c = λ e marks closed k h inside marked.
     let hole = (spot_at c.args.self.now.cells.now.spots k).hole in
     let at = point_at c.args.self.now.cells.now.spots k in
     let there = subst (λ (r : Region). IsIn c.args.self.now.cells.now.x c.args.self.now.cells.now.y r at) (sym c.region_at-region.ensures) inside in
-    gives_none g.S.PadShape.covers c.args.self.now.rules.ring hole c.args.pad.now
+    gives_none g.S.PadShape.covers c.args.self.now.rules.profile c.args.self.now.rules.ring hole c.args.pad.now
     (c.may_cover.ensures (not_is_true c.may_cover.result e) at (hole.radius + c.args.self.now.rules.ring) (c.requires.ready.reach k h) (c.zone_of-zone.ensures at (c.requires.ready.ends k h) there))

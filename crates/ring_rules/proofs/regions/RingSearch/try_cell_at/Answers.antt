@@ -7,7 +7,7 @@ pub returns-then-not-may_cover-clause-tried : goal.returns-then-not-may_cover-cl
 returns-then-not-may_cover-clause-tried g c = λ i h inside marked.
     let hole = (spot_at c.args.self.now.cells.now.spots i).hole in
     let at = point_at c.args.self.now.cells.now.spots i in
-    gives_none g.S.PadShape.covers c.args.self.now.rules.ring hole c.args.pad.now
+    gives_none g.S.PadShape.covers c.args.self.now.rules.profile c.args.self.now.rules.ring hole c.args.pad.now
     (c.may_cover.ensures c.if-not-may_cover.true at (hole.radius + c.args.self.now.rules.ring) (c.requires.ready.reach i h) (c.zone_of.ensures at (c.requires.ready.ends i h) inside))
 
 pub returns-clause-tried : goal.returns-clause-tried

@@ -25,7 +25,7 @@ returns-clause-closed g c =
     let x = c.args.self.now.cells.now.x in
     let y = c.args.self.now.cells.now.y in
     let spots : List Spot = c.args.self.now.cells.now.spots in
-    let test : ℕ → Bool = gives_ring_at g.S.PadShape.covers c.args.self.now.rules.ring spots c.args.pad.now in
+    let test : ℕ → Bool = gives_ring_at g.S.PadShape.covers c.args.self.now.rules.profile c.args.self.now.rules.ring spots c.args.pad.now in
     let now : List Bool = c.try_rows-is_left.new.marks in
     let inside : c.args.i < length c.args.open_nodes.now = omega (arith, c.requires.inside, c.requires.open_nodes) in
     closed_more x y spots c.args.nodes.now c.args.open_nodes.now now c.args.i c.try_rows-is_left.result inside
@@ -35,5 +35,5 @@ returns-clause-closed g c =
 pub returns-clause-tried : goal.returns-clause-tried
 returns-clause-tried g c =
     let spots : List Spot = c.args.self.now.cells.now.spots in
-    let test : ℕ → Bool = gives_ring_at g.S.PadShape.covers c.args.self.now.rules.ring spots c.args.pad.now in
+    let test : ℕ → Bool = gives_ring_at g.S.PadShape.covers c.args.self.now.rules.profile c.args.self.now.rules.ring spots c.args.pad.now in
     subst (λ (r : Region). NoMarkPassesIn test c.args.self.now.cells.now.x c.args.self.now.cells.now.y spots r.top r.bottom r.left r.right c.try_rows-is_left.new.marks) c.region_at-region.ensures c.try_rows-is_left.ensures.tried

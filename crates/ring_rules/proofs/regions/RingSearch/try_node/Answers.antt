@@ -19,7 +19,7 @@ returns-then-passes_over-clause-tried g c =
     let x = c.args.self.now.cells.now.x in
     let y = c.args.self.now.cells.now.y in
     let spots : List Spot = c.args.self.now.cells.now.spots in
-    let test : ℕ → Bool = gives_ring_at g.S.PadShape.covers c.args.self.now.rules.ring spots c.args.pad.now in
+    let test : ℕ → Bool = gives_ring_at g.S.PadShape.covers c.args.self.now.rules.profile c.args.self.now.rules.ring spots c.args.pad.now in
     subst (λ (end : ℕ). NoMarkPassesInLeaves test c.args.self.now.cells.now.x c.args.self.now.cells.now.y spots c.args.nodes.now c.args.i end c.args.marks.now) (sym c.end_at-end.ensures)
     (passes_in_leaves x y spots c.args.nodes.now c.requires.tree.trees test c.args.i c.args.marks.now c.requires.inside (c.passes_over.ensures c.if-passes_over.true c.args.marks.now c.requires.closed))
 
@@ -28,7 +28,7 @@ returns-then-end-i-clause-tried g c =
     let x = c.args.self.now.cells.now.x in
     let y = c.args.self.now.cells.now.y in
     let spots : List Spot = c.args.self.now.cells.now.spots in
-    let test : ℕ → Bool = gives_ring_at g.S.PadShape.covers c.args.self.now.rules.ring spots c.args.pad.now in
+    let test : ℕ → Bool = gives_ring_at g.S.PadShape.covers c.args.self.now.rules.profile c.args.self.now.rules.ring spots c.args.pad.now in
     subst (λ (end : ℕ). NoMarkPassesInLeaves test c.args.self.now.cells.now.x c.args.self.now.cells.now.y spots c.args.nodes.now c.args.i end c.try_leaf.new.marks) (sym c.end_at-end.ensures)
     (passes_in_leaves x y spots c.args.nodes.now c.requires.tree.trees test c.args.i c.try_leaf.new.marks c.requires.inside c.try_leaf.ensures.tried)
 
@@ -47,6 +47,6 @@ returns-clause-closed g c =
 pub returns-clause-tried : goal.returns-clause-tried
 returns-clause-tried g c =
     let spots : List Spot = c.args.self.now.cells.now.spots in
-    let test : ℕ → Bool = gives_ring_at g.S.PadShape.covers c.args.self.now.rules.ring spots c.args.pad.now in
+    let test : ℕ → Bool = gives_ring_at g.S.PadShape.covers c.args.self.now.rules.profile c.args.self.now.rules.ring spots c.args.pad.now in
     let inner : (node_at c.args.nodes.now c.args.i).end ≢ c.args.i + 1 = λ q. absurd (omega (arith, q, c.end_at-end.ensures)) in
     passes_in_no_leaf c.args.self.now.cells.now.x c.args.self.now.cells.now.y spots c.args.nodes.now test c.args.i c.args.marks.now inner

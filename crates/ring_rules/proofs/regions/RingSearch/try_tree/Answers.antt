@@ -8,7 +8,7 @@ use Rattle.ring_rules.proofs.regions.RingSearch.try_tree.Goals as goal
 pub loop-i-preserved : goal.loop-i-preserved
 loop-i-preserved g c =
     let spots : List Spot = c.args.self.now.cells.now.spots in
-    let test : ℕ → Bool = gives_ring_at g.S.PadShape.covers c.args.self.now.rules.ring spots c.args.pad.now in
+    let test : ℕ → Bool = gives_ring_at g.S.PadShape.covers c.args.self.now.rules.profile c.args.self.now.rules.ring spots c.args.pad.now in
     record {
       within = c.try_node-i.ensures.within;
       removes = removes_both test c.args.marks.now c.loop-i.marks c.try_node-i.new.marks c.loop-i.invariant.removes c.try_node-i.ensures.removes;

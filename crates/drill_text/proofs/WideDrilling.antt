@@ -1,0 +1,58 @@
+-- The legal commands of a wide text drill in the body alone, and so they drill the holes that are listed of them.
+use Rattle.std.proofs.Common.{◌≡◌, ℕ, Bool, true, List, [], ◌∷◌, ◌++◌, Option, None, Some, inl, inr, refl, sym, subst, ◌∙◌, append_assoc, append-nil}
+use Rattle.std.specs.Option.{option_to_list}
+use Rattle.grid_units.specs.Lists.{IsLegal}
+use Rattle.drill_lines.specs.declared.command.Part.{Part}
+use Rattle.drill_lines.specs.declared.command.Part.TheVariants as part
+use Rattle.drill_lines.specs.declared.command.Settings.{Settings}
+use Rattle.drill_lines.specs.declared.command.DrillCommand.{DrillCommand}
+use Rattle.drill_lines.specs.declared.command.DrillCommand.TheVariants as command
+use Rattle.drill_lines.specs.Lines.{trimmed}
+use Rattle.drill_lines.specs.RouteGrammar.{IsAlone}
+use Rattle.drill_lines.specs.Routes.{is_routing}
+use Rattle.drill_text.specs.Lookback.{settings_after, part_after}
+use Rattle.drill_text.specs.Rules.{broken_rule, drills}
+use Rattle.drill_text.specs.WideGrammar.{AreEntries, IsEntry, WideHolesAreDrilled}
+use Rattle.drill_text.proofs.DrillingLemmas.{AreInBody, legal_are_drilled}
+use Rattle.drill_text.proofs.RoundTrip.{part_more}
+use Rattle.std.specs.Prelude.{map}
+
+-- these commands come after others, and drill in the body alone
+record InBodyAfter (before new : List DrillCommand) : Type 0 where
+  more : List DrillCommand
+  whole : new ≡ before ++ more
+  stands : AreInBody (part_after before) more
+
+body_next : (before new : List DrillCommand) (spelled : Option DrillCommand) → ((c : DrillCommand) → spelled ≡ Some c → drills c ≡ true → part_after before ≡ part.Body) → InBodyAfter (before ++ option_to_list spelled) new → InBodyAfter before new
+body_next before new None h k = subst (λ (x : List DrillCommand). InBodyAfter x new) (append-nil before) k
+body_next before new (Some c) h k = record {
+  more = c ∷ k.more;
+  whole = k.whole ∙ append_assoc before (c ∷ []) k.more;
+  stands = (h c refl, subst (λ (p : Part). AreInBody p k.more) (part_more before c) k.stands);
+}
+
+-- a line by itself that drills stands in the body
+alone_in_body : (settings : Settings) (routing : Bool) (line : List ℕ) (c : DrillCommand) → IsAlone settings routing line (Some c) → drills c ≡ true → settings.part ≡ part.Body
+alone_in_body settings routing line (command.Hit p) (inl h) d = h.0.0
+alone_in_body settings routing line (command.Slot p q) (inl h) d = h.0.0
+alone_in_body settings routing line (command.Hit p) (inr h) d = let e = h.2 in absurd cc
+alone_in_body settings routing line (command.Slot p q) (inr h) d = let e = h.2 in absurd cc
+alone_in_body settings routing line c h d = absurd cc
+
+-- and so do the lines of a route
+entry_in_body : (settings : Settings) (routing : Bool) (entry : List (List ℕ)) (c : DrillCommand) → IsEntry settings routing entry (Some c) → drills c ≡ true → settings.part ≡ part.Body
+entry_in_body settings routing (line ∷ []) c h d = alone_in_body settings routing (trimmed line) c h d
+entry_in_body settings routing (first ∷ second ∷ third ∷ fourth ∷ []) (command.Slot p q) h d = h.in_body
+entry_in_body settings routing entry c h d = absurd h
+
+spelled_in_body : (earlier : List (List ℕ)) (before : List DrillCommand) (entries : List (List (List ℕ))) (commands : List DrillCommand) → AreEntries earlier before entries commands → InBodyAfter before commands
+spelled_in_body earlier before [] commands h = record { more = []; whole = h ∙ sym (append-nil before); stands = tt }
+spelled_in_body earlier before (entry ∷ entries) commands h =
+    body_next before commands h.0
+    (λ c e d. entry_in_body (settings_after before) (is_routing (map trimmed earlier)) entry c (subst (IsEntry (settings_after before) (is_routing (map trimmed earlier)) entry) e h.1) d)
+    (spelled_in_body (earlier ++ entry) (before ++ option_to_list h.0) entries commands h.2)
+
+pub wide_holes_are_drilled : WideHolesAreDrilled
+wide_holes_are_drilled text commands written legal =
+    let all = spelled_in_body [] [] written.entries commands written.spells in
+    legal_are_drilled commands legal (subst (AreInBody part.Before) (sym all.whole) all.stands)

@@ -1,0 +1,47 @@
+-- How the fields of further copper stand for the commands that it has met.
+use Rattle.std.specs.Prelude.{◌≡◌, suc, min, ◌+◌, false, ◌&&◌, ◌||◌, List, [], ◌++◌, unwrap_or, if◌then◌else◌}
+use Rattle.std.specs.List.{cons_option}
+use Rattle.gerber_commands.specs.declared.command.Command.{Command}
+use Rattle.layer_image.specs.Lookback.{block_set}
+use Rattle.layer_image.specs.Drawn.{DrawState}
+use Rattle.layer_image.specs.Inner.Pencils.{after_command, draw_state}
+use Rattle.further_copper.specs.declared.clearing.Clearing.{Clearing}
+use Rattle.further_copper.specs.declared.copper.FurtherCopper.{FurtherCopper}
+use Rattle.further_copper.specs.declared.part.Part.{Part}
+use Rattle.further_copper.specs.Blocks.{changes_block}
+use Rattle.further_copper.specs.Clearing.{draws, polarity_set}
+use Rattle.further_copper.specs.Contours.{part_by, starts_region}
+use Rattle.further_copper.specs.FurtherPads.{CopperState, contours_of, copper_state_after, ended_copies, flashed_pads_of, max_regions, mirroring_set, uncleared_flashes}
+
+-- the fields as the state that the next command meets
+abbrev pub copper_state : FurtherCopper → CopperState
+copper_state c = record { draw = draw_state c.pencil; mirroring = c.mirroring; block = c.block; parts = c.parts.items; regions = c.regions; clearing = c.clearing }
+
+-- the parts of the last region after one more command
+abbrev pub parts_after : Command → DrawState → List Part → List Part
+parts_after c s parts = if starts_region c then [] else parts ++ cons_option (part_by s c) []
+
+-- polarity, and whether something of the open block was drawn in clear polarity, after one more command
+abbrev pub clearing_with : Command → Clearing → Clearing
+clearing_with c s = record {
+  clear = unwrap_or (polarity_set c) s.clear;
+  in_block = if changes_block c then false else ((draws c && s.clear) || s.in_block);
+}
+
+-- the state after one more command
+abbrev pub after : Command → CopperState → CopperState
+after c s = record {
+  draw = after_command c s.draw;
+  mirroring = unwrap_or (mirroring_set c) s.mirroring;
+  block = unwrap_or (block_set c) s.block;
+  parts = parts_after c s.draw s.parts;
+  regions = min (s.regions + ended_copies s.block c) (suc max_regions);
+  clearing = clearing_with c s.clearing;
+}
+
+-- these commands were met, and their pads that count are kept
+pub record HasMet (copper : FurtherCopper) (commands : List Command) : Type 0 where
+  pub state : copper_state copper ≡ copper_state_after commands
+  pub flashed : copper.flashed.items ≡ flashed_pads_of commands
+  pub contours : copper.contours.items ≡ contours_of commands
+  pub flashes : copper.flashes ≡ uncleared_flashes commands

@@ -1,0 +1,82 @@
+-- How the shape of an aperture lies on the board: mirrored, turned and moved (Gerber format, Aperture transformations LP, LM, LR, LS).
+use Rattle.std.specs.Prelude.{ℕ, ℤ, ◌+ℤ◌, ◌*ℤ◌, neg_ℤ, pos, Bool, false, not, ◌&&◌, List, map, reverse, Option, None, Some, if◌then◌else◌}
+use Rattle.std.specs.List.{filter_map, flat_map, list_all}
+use Rattle.grid_units.specs.Points.{GridPoint}
+use Rattle.grid_units.specs.Numbers.{is_too_far}
+use Rattle.grid_units.specs.declared.lengths.Unit.{Unit as Units}
+use Rattle.pad_shapes.specs.Rounded.{GridRounded, corners, is_outline}
+use Rattle.macro_shapes.specs.Primitives.{turned_x, turned_y}
+use Rattle.gerber_commands.specs.declared.command.StepRepeat.{StepRepeat}
+use Rattle.layer_image.specs.Numbers.{dec_length}
+use Rattle.layer_image.specs.Flashes.{numbers_below}
+use Rattle.further_copper.specs.declared.mirroring.Mirroring.{Mirroring}
+
+-- ---- mirrored and turned
+
+-- nothing is mirrored, as by `%LMN*%` (Gerber format, Load mirroring LM)
+abbrev pub no_mirroring : Mirroring
+no_mirroring = record { x = false; y = false }
+
+-- a number with its sign changed where this is so
+abbrev pub negated_where : Bool → ℤ → ℤ
+negated_where changed n = if changed then neg_ℤ n else n
+
+-- a point with the signs of its mirrored coordinates changed (Gerber format, Load mirroring LM)
+abbrev pub mirrored_point : Mirroring → GridPoint → GridPoint
+mirrored_point m p = record { x = negated_where m.x p.x; y = negated_where m.y p.y }
+
+-- a point turned counterclockwise about (0, 0) by so many quarters (Gerber format, Load rotation LR)
+abbrev pub turned_point : ℕ → GridPoint → GridPoint
+turned_point turns p = record { x = turned_x turns p; y = turned_y turns p }
+
+-- a corner of an aperture as it is flashed: mirrored first, and then turned (Gerber format, Aperture transformations, order)
+abbrev pub oriented_point : Mirroring → ℕ → GridPoint → GridPoint
+oriented_point m turns p = turned_point turns (mirrored_point m p)
+
+-- one axis alone is mirrored: then corners that went round counterclockwise go round clockwise
+abbrev pub is_turned_over : Mirroring → Bool
+is_turned_over m = if m.x then not m.y else m.y
+
+-- the corners after the first one, counterclockwise again
+abbrev pub in_order : Mirroring → List GridPoint → List GridPoint
+in_order m others = if is_turned_over m then reverse others else others
+
+-- the rounded polygon of these corners, where they are those of one
+abbrev pub rounded_by : GridPoint → List GridPoint → ℕ → Option GridRounded
+rounded_by first others radius = if is_outline first others then Some (record { first = first; others = others; radius = radius }) else None
+
+-- the shape of an aperture as it is flashed, about the point of the flash
+abbrev pub oriented_shape : Mirroring → ℕ → GridRounded → Option GridRounded
+oriented_shape m turns s = rounded_by (oriented_point m turns s.first) (in_order m (map (oriented_point m turns) s.others)) s.radius
+
+-- ---- moved
+
+-- a point moved by an offset
+abbrev pub moved_point : GridPoint → GridPoint → GridPoint
+moved_point offset p = record { x = offset.x +ℤ p.x; y = offset.y +ℤ p.y }
+
+-- a shape moved by an offset
+abbrev pub moved_shape : GridPoint → GridRounded → GridRounded
+moved_shape offset s = record { first = moved_point offset s.first; others = map (moved_point offset) s.others; radius = s.radius }
+
+-- a point lies at most 10 m from zero along each axis
+abbrev pub is_near : GridPoint → Bool
+is_near p = not (is_too_far p.x) && not (is_too_far p.y)
+
+-- a shape moved by an offset, where each of its corners then lies at most 10 m from zero along each axis
+abbrev pub shape_at : GridRounded → GridPoint → Option GridRounded
+shape_at s offset = if list_all is_near (corners (moved_shape offset s)) then Some (moved_shape offset s) else None
+
+-- ---- copies
+
+-- the copy of a point in a column and a row, both from 0 (Gerber format, Step and repeat SR)
+abbrev pub copy_in : Units → StepRepeat → GridPoint → ℕ → ℕ → GridPoint
+copy_in unit block p u v = record { x = p.x +ℤ pos u *ℤ dec_length unit block.step_x; y = p.y +ℤ pos v *ℤ dec_length unit block.step_y }
+
+-- the copies of a point in a step and repeat block: column by column, and in each column row by row
+abbrev pub copies_from : Units → StepRepeat → GridPoint → List GridPoint
+copies_from unit block p = flat_map (λ u. map (copy_in unit block p u) (numbers_below block.rows)) (numbers_below block.columns)
+
+-- a shape at each copy of a point where it may lie there
+abbrev pub shapes_at : Units → StepRepeat → GridPoint → GridRounded → List GridRounded
+shapes_at unit block p s = filter_map (shape_at s) (copies_from unit block p)

@@ -1,0 +1,198 @@
+//! The parts of a region.
+
+ghost use Rattle.std.specs.Prelude.{◌≡◌, ◌++◌, [], OnOk};
+ghost use Rattle.std.specs.List.{cons_option};
+ghost use Rattle.gerber_commands.specs.declared.command.Command.TheVariants as command;
+ghost use Rattle.layer_image.specs.Drawn.{current_point};
+ghost use Rattle.further_copper.specs.Contours.{arc_side, end_of, is_clockwise, is_counterclockwise, is_move, part_by, part_of, side_between, side_by, start_of, straight_side};
+ghost use Rattle.layer_image.specs.Inner.Pencils.{draw_state};
+ghost use Rattle.further_copper.specs.Inner.States.{parts_after};
+
+use gerber_text::{Action, Command, Interpolation, QuadrantMode};
+use grid_units::Point;
+use layer_image::Pencil;
+use std::alloc::AllocError;
+
+/// How a side of a contour goes to its end.
+#[derive(Clone, Copy, Debug, PartialEq, Eq)]
+pub(crate) enum Way {
+    Straight,
+    Clockwise,
+    Counterclockwise,
+}
+
+/// What an operation adds to a region.
+#[derive(Clone, Copy, Debug, PartialEq, Eq)]
+pub(crate) enum Part {
+    /// A move, which ends a contour.
+    Move,
+    /// A side of a contour.
+    Side { from: Point, to: Point, way: Way },
+    /// A plot that counts as no side.
+    Other,
+}
+
+impl Part {
+    /// Whether it is a move.
+    pub(crate) fn is_move(&self) -> bool
+        ensures { result ≡ is_move self.now }
+    {
+        matches!(self, Part::Move)
+    }
+
+    /// The point where a side begins.
+    pub(crate) fn start(&self) -> Option<Point>
+        ensures { result ≡ start_of self.now }
+    {
+        match self {
+            Part::Side { from, .. } => Some(*from),
+            Part::Move | Part::Other => None,
+        }
+    }
+
+    /// The point where a side ends.
+    pub(crate) fn end(&self) -> Option<Point>
+        ensures { result ≡ end_of self.now }
+    {
+        match self {
+            Part::Side { to, .. } => Some(*to),
+            Part::Move | Part::Other => None,
+        }
+    }
+
+    /// Whether it is an arc clockwise.
+    pub(crate) fn is_clockwise(&self) -> bool
+        ensures { result ≡ is_clockwise self.now }
+    {
+        match self {
+            Part::Side { way, .. } => match way {
+                Way::Clockwise => true,
+                Way::Straight | Way::Counterclockwise => false,
+            },
+            Part::Move | Part::Other => false,
+        }
+    }
+
+    /// Whether it is an arc counterclockwise.
+    pub(crate) fn is_counterclockwise(&self) -> bool
+        ensures { result ≡ is_counterclockwise self.now }
+    {
+        match self {
+            Part::Side { way, .. } => match way {
+                Way::Counterclockwise => true,
+                Way::Straight | Way::Clockwise => false,
+            },
+            Part::Move | Part::Other => false,
+        }
+    }
+}
+
+/// A straight side, which is written without the offsets of a centre.
+fn straight_side(from: Point, to: Point, i: Option<i64>, j: Option<i64>) -> Part
+    ensures { result ≡ straight_side from to i j }
+{
+    match (i, j) {
+        (None, None) => Part::Side {
+            from,
+            to,
+            way: Way::Straight,
+        },
+        _ => Part::Other,
+    }
+}
+
+/// An arc in this mode of quadrants.
+fn arc_side(from: Point, to: Point, quadrant: Option<QuadrantMode>, way: Way) -> Part
+    ensures { result ≡ arc_side from to quadrant way }
+{
+    match quadrant {
+        Some(QuadrantMode::Multi) => {
+            if from.x() == to.x() && from.y() == to.y() {
+                Part::Other
+            } else {
+                Part::Side { from, to, way }
+            }
+        }
+        Some(QuadrantMode::Single) | None => Part::Other,
+    }
+}
+
+/// The side from one point to another.
+fn side_by(pencil: &Pencil, from: Point, to: Point, i: Option<i64>, j: Option<i64>) -> Part
+    ensures { result ≡ side_by (draw_state pencil.now) (draw_state pencil.now).mode from to i j }
+{
+    match pencil.mode() {
+        Interpolation::Linear => straight_side(from, to, i, j),
+        Interpolation::Clockwise => arc_side(from, to, pencil.quadrant(), Way::Clockwise),
+        Interpolation::Counterclockwise => {
+            arc_side(from, to, pencil.quadrant(), Way::Counterclockwise)
+        }
+    }
+}
+
+/// The side from the current point to another, where both are near.
+fn side_to(pencil: &Pencil, to: Option<Point>, i: Option<i64>, j: Option<i64>) -> Part
+    ensures { result ≡ side_between (draw_state pencil.now) (current_point (draw_state pencil.now)) to i j }
+{
+    match (pencil.current_point(), to) {
+        (Some(from), Some(to)) => side_by(pencil, from, to, i, j),
+        _ => Part::Other,
+    }
+}
+
+/// What an operation adds to a region.
+fn part_of(
+    pencil: &Pencil,
+    action: Action,
+    x: Option<i64>,
+    y: Option<i64>,
+    i: Option<i64>,
+    j: Option<i64>,
+) -> Part
+    ensures { result ≡ part_of (draw_state pencil.now) action x y i j }
+{
+    match action {
+        Action::Move => Part::Move,
+        Action::Plot => side_to(pencil, pencil.operation_point(x, y), i, j),
+        Action::Flash => Part::Other,
+    }
+}
+
+/// Adds what an operation adds to the region that is open.
+fn add_part(
+    parts: &mut Vec<Part>,
+    pencil: &Pencil,
+    action: Action,
+    x: Option<i64>,
+    y: Option<i64>,
+    i: Option<i64>,
+    j: Option<i64>,
+) -> Result<(), AllocError>
+    ensures { OnOk result (parts.new.items ≡ parts.old.items ++ cons_option (part_by (draw_state pencil.now) (command.Operate action x y i j)) []) }
+{
+    if !pencil.in_region() {
+        return Ok(());
+    }
+    parts.push(part_of(pencil, action, x, y, i, j))?;
+    Ok(())
+}
+
+/// Adds what a command adds to the last region, which may start with it.
+pub(crate) fn add_parts(
+    parts: &mut Vec<Part>,
+    pencil: &Pencil,
+    command: &Command,
+) -> Result<(), AllocError>
+    ensures { OnOk result (parts.new.items ≡ parts_after command.now (draw_state pencil.now) parts.old.items) }
+{
+    match command {
+        Command::RegionStart => {
+            parts.clear();
+            Ok(())
+        }
+        Command::Operate { action, x, y, i, j } => {
+            add_part(parts, pencil, *action, x.get(), y.get(), i.get(), j.get())
+        }
+        _ => Ok(()),
+    }
+}

@@ -1,0 +1,181 @@
+-- What files say in the strict profile, they say in the wide one, with further pads.
+use Rattle.std.proofs.Common.{◌≡◌, ◌⊎◌, inl, inr, ◌↔◌, ◌<◌, ◌+◌, ◌++◌, ℕ, zero, suc, Bool, true, false, List, [], ◌∷◌, Option, Result, Ok, Err, length, map, get_or, arith, refl, ap, ap₂, sym, subst, ◌∙◌}
+use Rattle.std.specs.Prelude.{⊤}
+use Rattle.std.specs.List.{Contains, enumerate_from, filter, flat_map}
+use Rattle.std.proofs.lemmas.Bool.{false≢true}
+use Rattle.std.proofs.lemmas.List.{append-nil}
+use Rattle.std.proofs.lemmas.List.Concat.{flat_map-cons}
+use Rattle.std.proofs.lemmas.List.Elements.{Contains-append_cases, Contains-append_left}
+use Rattle.grid_units.specs.Holes.{GridHole, GridRules}
+use Rattle.grid_units.specs.Spans.{LayerSpan}
+use Rattle.grid_units.specs.declared.profile.Profile.TheVariants.{Strict, Wide}
+use Rattle.drill_lines.specs.declared.command.DrillCommand.{DrillCommand}
+use Rattle.drill_text.specs.Profiles.{ReadsIn}
+use Rattle.drill_text.specs.Reading as drills
+use Rattle.drill_text.specs.Texts.{IsDrillText}
+use Rattle.wide_layers.specs.WideLayers.{StrictLayers}
+use Rattle.wide_pads.specs.WidePads.{wide_pad_covers}
+use Rattle.wide_pads.specs.declared.wide_pad.WidePad.{WidePad}
+use Rattle.manifest.specs.declared.Role.{Role}
+use Rattle.manifest.specs.declared.Role.TheVariants as role
+use Rattle.ring_rules.specs.Findings.{gap_findings, ring_findings}
+use Rattle.ring_rules.specs.WithoutFindings.{AreAmong, FindsNoObliqueInWide, WideFindsNoMore as RingsFindNoMore}
+use Rattle.ring_rules.specs.declared.finding.Drilled.{Drilled}
+use Rattle.ring_rules.specs.declared.finding.Finding.{Finding}
+use Rattle.ring_rules.specs.declared.finding.Finding.TheVariants.{Ring, Oblique, Gap}
+use Rattle.package_check.specs.FileTexts.{HasLayerView, ReadsDrill, is_copper_function, layer_view, wide_view}
+use Rattle.package_check.specs.LayerViews.{LayerView, all_pads, plain, rounded}
+use Rattle.package_check.specs.Package.{FileView, HasContent, BytesHaveContent, HaveContents, Setting, drilled, holes_of, index_of, layer_indexes, layers, numbered_holes, pads_of, report_on}
+use Rattle.package_check.specs.Reports.{ReportView}
+use Rattle.package_check.specs.WiderProfile.{FindsNoMore, WideFindsNoMore, is_gap, read_in}
+use Rattle.package_check.specs.declared.Numbered.{Numbered}
+use Rattle.package_check.specs.declared.contents.Content.{Content}
+use Rattle.package_check.specs.declared.contents.Content.TheVariants as content
+use Rattle.package_check.proofs.WiderFindings.{gaps_among, gaps_are, is_among, rings_are}
+
+-- a content has all that another has, and may have further pads
+abbrev IsWider : Content → Content → Type 0
+IsWider (content.Layer a) (content.Layer b) = (w : WidePad) → Contains (all_pads a) w → Contains (all_pads b) w
+IsWider (content.Drill p v d) (content.Drill q w e) = content.Drill p v d ≡ content.Drill q w e
+IsWider (content.Layer a) (content.Drill q w e) = ⊥
+IsWider (content.Drill p v d) (content.Layer b) = ⊥
+
+abbrev AreWider : List Content → List Content → Type 0
+AreWider [] [] = ⊤
+AreWider [] (d ∷ ds) = ⊥
+AreWider (c ∷ cs) [] = ⊥
+AreWider (c ∷ cs) (d ∷ ds) = IsWider c d × AreWider cs ds
+
+module _ (layers_too : StrictLayers) (texts : (text : List ℕ) (commands : List DrillCommand) → (drills.Reads text (Ok commands)) ↔ (IsDrillText text commands))
+    (drills_too : (text : List ℕ) (commands : List DrillCommand) → drills.Reads text (Ok commands) → ReadsIn Wide text (Ok commands)) where
+  -- a layer has its pads in the wide profile too
+  wider_layer : (bytes : List ℕ) (a : LayerView) → HasLayerView Strict bytes a → (b : LayerView) × HasLayerView Wide bytes b × (b.is_copper ≡ a.is_copper) × ((w : WidePad) → Contains (all_pads a) w → Contains (all_pads b) w)
+  wider_layer bytes a h =
+      let wide = layers_too bytes h.0 h.1 in
+      let same : all_pads a ≡ map plain wide.0.pads = ap all_pads h.2 ∙ (append-nil (map plain h.0.pads) ∙ ap (map plain) (sym wide.2)) in (
+        wide_view wide.0,
+        (wide.0, wide.1, refl),
+        ap is_copper_function wide.3 ∙ sym (ap (λ (v : LayerView). v.is_copper) h.2),
+        λ w among. Contains-append_left (map plain wide.0.pads) (map rounded (wide.0.flashed ++ wide.0.contours)) w (subst (λ (ps : List WidePad). Contains ps w) same among),
+      )
+
+  wider_drill : (bytes : List ℕ) (holes : List GridHole) → ReadsDrill Strict bytes (Ok holes) → ReadsDrill Wide bytes (Ok holes)
+  wider_drill bytes holes h = (h.0, drills_too bytes h.0 ((texts bytes h.0).1 h.1), h.2)
+
+  wider_file : (q : Role) (name : List ℕ) (span : Option LayerSpan) (bytes : List ℕ) (n : ℕ) (c : Content) → BytesHaveContent (record { role = q; name = name; span = span; bytes = bytes; setting = record { layers = n; profile = Strict } }) c
+      → (d : Content) × BytesHaveContent (record { role = q; name = name; span = span; bytes = bytes; setting = record { layers = n; profile = Wide } }) d × IsWider c d
+  wider_file role.Copper name span bytes n (content.Layer a) h = let more = wider_layer bytes a h.0 in (content.Layer more.0, (more.1, more.2 ∙ h.1), more.3)
+  wider_file role.Copper name span bytes n (content.Drill p v d) h = absurd h
+  wider_file role.Plated name span bytes n (content.Layer a) h = absurd h
+  wider_file role.Plated name span bytes n (content.Drill p v d) h = (content.Drill p v d, (wider_drill bytes d h.0, h.1, h.2), refl)
+  wider_file role.Unplated name span bytes n (content.Layer a) h = absurd h
+  wider_file role.Unplated name span bytes n (content.Drill p v d) h = (content.Drill p v d, (wider_drill bytes d h.0, h.1, h.2), refl)
+
+  wider_files : (sources : List FileView) (cs : List Content) → HaveContents (map (read_in Strict) sources) cs → (ds : List Content) × HaveContents (map (read_in Wide) sources) ds × AreWider cs ds
+  wider_files [] [] h = ([], tt, tt)
+  wider_files [] (c ∷ cs) h = absurd h
+  wider_files (s ∷ ss) [] h = absurd h
+  wider_files (s ∷ ss) (c ∷ cs) h =
+      let one = wider_file s.role s.name s.span s.bytes s.setting.layers c h.0.1 in
+      let rest = wider_files ss cs h.1 in
+      (one.0 ∷ rest.0, ((h.0.0, one.1), rest.1), (one.2, rest.2))
+
+-- ---- what wider contents have
+
+same_holes : (n : ℕ) (c d : Content) → IsWider c d → holes_of (n, d) ≡ holes_of (n, c)
+same_holes n (content.Layer a) (content.Layer b) h = refl
+same_holes n (content.Drill p v d) (content.Drill q w e) h = ap (λ (one : Content). holes_of (n, one)) (sym h)
+same_holes n (content.Layer a) (content.Drill q w e) h = absurd h
+same_holes n (content.Drill p v d) (content.Layer b) h = absurd h
+
+same_index : (n : ℕ) (c d : Content) → IsWider c d → index_of (n, d) ≡ index_of (n, c)
+same_index n (content.Layer a) (content.Layer b) h = refl
+same_index n (content.Drill p v d) (content.Drill q w e) h = refl
+same_index n (content.Layer a) (content.Drill q w e) h = absurd h
+same_index n (content.Drill p v d) (content.Layer b) h = absurd h
+
+same_over : {Y : Type 0} (f : ℕ × Content → List Y) → ((n : ℕ) (c d : Content) → IsWider c d → f (n, d) ≡ f (n, c)) → (n : ℕ) (cs ds : List Content) → AreWider cs ds → flat_map f (enumerate_from n ds) ≡ flat_map f (enumerate_from n cs)
+same_over f one n [] [] h = refl
+same_over f one n [] (d ∷ ds) h = absurd h
+same_over f one n (c ∷ cs) [] h = absurd h
+same_over {Y} f one n (c ∷ cs) (d ∷ ds) h =
+    flat_map-cons f (n, d) (enumerate_from (n + 1) ds)
+    ∙ (ap₂ (λ (xs ys : List Y). xs ++ ys) (one n c d h.0) (same_over f one (n + 1) cs ds h.1) ∙ sym (flat_map-cons f (n, c) (enumerate_from (n + 1) cs)))
+
+-- the pads of each layer are among those of the same layer
+wider_pads : (cs ds : List Content) → AreWider cs ds → (length (layers cs) ≡ length (layers ds)) × ((l : ℕ) (w : WidePad) → l < length (layers cs) → Contains (get_or (layers cs) l []) w → Contains (get_or (layers ds) l []) w)
+wider_pads [] [] h = (refl, λ l w lt c. c)
+wider_pads [] (d ∷ ds) h = absurd h
+wider_pads (c ∷ cs) [] h = absurd h
+wider_pads (c ∷ cs) (d ∷ ds) h =
+    subst (λ (xs : List (List WidePad)). (length xs ≡ length (layers (d ∷ ds))) × ((l : ℕ) (w : WidePad) → l < length xs → Contains (get_or xs l []) w → Contains (get_or (layers (d ∷ ds)) l []) w)) (sym (flat_map-cons pads_of c cs))
+    (subst (λ (ys : List (List WidePad)). (length (pads_of c ++ layers cs) ≡ length ys) × ((l : ℕ) (w : WidePad) → l < length (pads_of c ++ layers cs) → Contains (get_or (pads_of c ++ layers cs) l []) w → Contains (get_or ys l []) w)) (sym (flat_map-cons pads_of d ds))
+    (first c d h.0 (wider_pads cs ds h.1)))
+  where
+    first : (a b : Content) → IsWider a b → (length (layers cs) ≡ length (layers ds)) × ((l : ℕ) (w : WidePad) → l < length (layers cs) → Contains (get_or (layers cs) l []) w → Contains (get_or (layers ds) l []) w)
+        → (length (pads_of a ++ layers cs) ≡ length (pads_of b ++ layers ds)) × ((l : ℕ) (w : WidePad) → l < length (pads_of a ++ layers cs) → Contains (get_or (pads_of a ++ layers cs) l []) w → Contains (get_or (pads_of b ++ layers ds) l []) w)
+    first (content.Layer a) (content.Layer b) one rest = (ap suc rest.0, by one rest.1)
+      where
+        by : ((w : WidePad) → Contains (all_pads a) w → Contains (all_pads b) w) → ((l : ℕ) (w : WidePad) → l < length (layers cs) → Contains (get_or (layers cs) l []) w → Contains (get_or (layers ds) l []) w)
+            → (l : ℕ) (w : WidePad) → l < length (all_pads a ∷ layers cs) → Contains (get_or (all_pads a ∷ layers cs) l []) w → Contains (get_or (all_pads b ∷ layers ds) l []) w
+        by one rest zero w lt among = one w among
+        by one rest (suc l) w lt among = rest l w (omega arith) among
+    first (content.Drill p v e) (content.Drill q w g) one rest = rest
+    first (content.Layer a) (content.Drill q w g) one rest = absurd one
+    first (content.Drill p v e) (content.Layer b) one rest = absurd one
+
+-- ---- the reports
+
+module _ (rings_no_more : RingsFindNoMore {S = WidePad} {W = WidePad} wide_pad_covers wide_pad_covers) (no_oblique : FindsNoObliqueInWide wide_pad_covers) (ring gap : ℕ) (cs ds : List Content) (wider : AreWider cs ds) where
+  all_same : numbered_holes ds ≡ numbered_holes cs
+  all_same = same_over holes_of same_holes 0 cs ds wider
+
+  drilled_same : drilled ds ≡ drilled cs
+  drilled_same = ap (map (λ (hole : Numbered). hole.drilled)) all_same
+
+  abbrev wide_rings : List Finding
+  wide_rings = ring_findings wide_pad_covers Wide ring (layers ds) (drilled cs)
+
+  ring_there : (l h : ℕ) → Contains wide_rings (Ring l h) → Contains (ring_findings wide_pad_covers Strict ring (layers cs) (drilled cs)) (Ring l h) ⊎ Contains (ring_findings wide_pad_covers Strict ring (layers cs) (drilled cs)) (Oblique l h)
+  ring_there l h =
+      let pads = wider_pads cs ds wider in
+      rings_no_more (λ w. w) ring (layers cs) (layers ds) (drilled cs) l h (record { as_many = pads.0; same = λ s p r. refl; among = pads.1 })
+
+  beside : {A B : Type 0} (f : A → B) {C D : Type 0} (g : C → D) → A ⊎ C → B ⊎ D
+  beside f g (inl a) = inl (f a)
+  beside f g (inr c) = inr (g c)
+
+  no_gap : (t : Bool) → t ≡ true → t ≡ false → ⊥
+  no_gap true e k = absurd cc
+  no_gap false e k = absurd cc
+
+  among_rings : (f : Finding) → is_gap f ≡ false → Contains (wide_rings ++ gap_findings gap (drilled cs)) f → Contains wide_rings f
+  among_rings f other c = by (Contains-append_cases wide_rings (gap_findings gap (drilled cs)) f c)
+    where
+      by : Contains wide_rings f ⊎ Contains (gap_findings gap (drilled cs)) f → Contains wide_rings f
+      by (inl here) = here
+      by (inr there) = absurd (no_gap (is_gap f) (is_among true (gap_findings gap (drilled cs)) f (gaps_are gap (drilled cs)) there) other)
+
+  pub finds_no_more : FindsNoMore (report_on (record { ring = ring; gap = gap; profile = Wide }) ds) (report_on (record { ring = ring; gap = gap; profile = Strict }) cs)
+  finds_no_more =
+      let there = ring_findings wide_pad_covers Strict ring (layers cs) (drilled cs) in
+      let gaps = gap_findings gap (drilled cs) in
+      let found : ring_findings wide_pad_covers Wide ring (layers ds) (drilled ds) ++ gap_findings gap (drilled ds) ≡ wide_rings ++ gaps =
+      (λ i. ring_findings wide_pad_covers Wide ring (layers ds) (drilled_same i) ++ gap_findings gap (drilled_same i)) in
+      record {
+        layers = same_over index_of same_index 0 cs ds wider;
+        holes = all_same;
+        gaps = ap (filter is_gap) found ∙ (gaps_among wide_rings gaps (rings_are wide_pad_covers Wide ring (layers ds) (drilled cs)) (gaps_are gap (drilled cs))
+            ∙ sym (gaps_among there gaps (rings_are wide_pad_covers Strict ring (layers cs) (drilled cs)) (gaps_are gap (drilled cs))));
+        rings = λ layer hole c.
+            beside (Contains-append_left there gaps (Ring layer hole)) (Contains-append_left there gaps (Oblique layer hole))
+            (ring_there layer hole (among_rings (Ring layer hole) refl (subst (λ (fs : List Finding). Contains fs (Ring layer hole)) found c)));
+        angles = λ layer hole c. no_oblique ring (layers ds) (drilled cs) layer hole (among_rings (Oblique layer hole) refl (subst (λ (fs : List Finding). Contains fs (Oblique layer hole)) found c));
+      }
+
+pub wide_finds_no_more : StrictLayers → ((text : List ℕ) (commands : List DrillCommand) → (drills.Reads text (Ok commands)) ↔ (IsDrillText text commands))
+    → ((text : List ℕ) (commands : List DrillCommand) → drills.Reads text (Ok commands) → ReadsIn Wide text (Ok commands)) → RingsFindNoMore {S = WidePad} {W = WidePad} wide_pad_covers wide_pad_covers → FindsNoObliqueInWide wide_pad_covers → WideFindsNoMore
+wide_finds_no_more layers_too texts drills_too rings_no_more no_oblique sources ring gap strict h =
+    let more = wider_files layers_too texts drills_too sources h.contents h.read in
+    let wide = report_on (record { ring = ring; gap = gap; profile = Wide }) more.0 in
+    (wide, record { contents = more.0; read = more.1; is = refl }, subst (FindsNoMore wide) (sym h.is) (finds_no_more rings_no_more no_oblique ring gap h.contents more.0 more.2))

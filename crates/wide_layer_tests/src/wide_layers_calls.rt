@@ -1,0 +1,233 @@
+//! What counts of layers in the wide profile: pads, macros, contours and other flashes, in whole texts and in pieces.
+
+use grid_units::{Fail, Profile, Reason};
+use layer_image::{Keep, LayerReader};
+use std::alloc::Global;
+use wide_layers::{WideLayer, read_wide_layer, wide_layer};
+
+/// What is written after the head of a layer, and how many pads of standard apertures, flashes of macros, contours and other flashes
+/// it has.
+const LAYERS: [(&[u8], [usize; 4]); 24] = [
+    // A rounded rectangle, which is no pad of a standard aperture.
+    (
+        b"%AMRoundRect*0 Rectangle with rounded corners*4,1,4,$2,$3,$4,$5,$6,$7,$8,$9,$2,$3,0*1,1,$1+$1,$2,$3*1,1,$1+$1,$4,$5*1,1,$1+$1,$6,$7*1,1,$1+$1,$8,$9*20,1,$1+$1,$2,$3,$4,$5,0*20,1,$1+$1,$4,$5,$6,$7,0*20,1,$1+$1,$6,$7,$8,$9,0*20,1,$1+$1,$8,$9,$2,$3,0*%\n%ADD10RoundRect,0.25X-0.25X0.25X-0.25X-0.25X0.25X-0.25X0.25X0.25X0*%\nD10*\nX0Y0D03*\n",
+        [0, 1, 0, 0],
+    ),
+    // A contour.
+    (
+        b"G36*\nX-1000000Y-1000000D02*\nX1000000D01*\nY1000000D01*\nX-1000000D01*\nY-1000000D01*\nG37*\n",
+        [0, 0, 1, 0],
+    ),
+    // Something clear before the flash takes nothing away.
+    (
+        b"%ADD10C,0.65*%\n%ADD11C,0.1*%\n%LPC*%\nD11*\nX5000000Y0D02*\nX6000000Y0D01*\n%LPD*%\nD10*\nX0Y0D03*\n",
+        [1, 0, 0, 0],
+    ),
+    // Something clear after it does.
+    (
+        b"%ADD10C,0.65*%\n%ADD11C,0.1*%\nD10*\nX0Y0D03*\n%LPC*%\nD11*\nX5000000Y0D02*\nX6000000Y0D01*\n%LPD*%\n",
+        [0, 0, 0, 1],
+    ),
+    // A move draws nothing.
+    (
+        b"%ADD10C,0.65*%\n%ADD11C,0.1*%\nD10*\nX0Y0D03*\n%LPC*%\nD11*\nX1Y1D02*\n",
+        [1, 0, 0, 0],
+    ),
+    // A clear flash is none that counts, nor is the one before it.
+    (
+        b"%ADD10C,0.65*%\n%ADD11C,0.1*%\nD10*\nX0Y0D03*\n%LPC*%\nX1Y1D03*\n%LPD*%\nX0Y0D03*\n",
+        [1, 0, 0, 2],
+    ),
+    // Polarity stays as it is until it is set again.
+    (
+        b"%ADD10C,0.65*%\n%ADD11C,0.1*%\n%LPC*%\nD10*\nX0Y0D03*\nX1Y1D03*\n",
+        [0, 0, 0, 2],
+    ),
+    // In a block of one copy nothing clear comes after the dark flash.
+    (
+        b"%ADD10C,0.65*%\n%ADD11C,0.1*%\n%SRX1Y1I5.0J0*%\n%LPC*%\nD11*\nX0Y0D03*\n%LPD*%\nD10*\nX0Y0D03*\n%SR*%\n",
+        [1, 0, 0, 1],
+    ),
+    // In one of two copies that of the second copy does.
+    (
+        b"%ADD10C,0.65*%\n%ADD11C,0.1*%\n%SRX2Y1I5.0J0*%\n%LPC*%\nD11*\nX0Y0D03*\n%LPD*%\nD10*\nX0Y0D03*\n%SR*%\n",
+        [0, 0, 0, 4],
+    ),
+    // After such a block flashes count again.
+    (
+        b"%ADD10C,0.65*%\n%ADD11C,0.1*%\n%SRX2Y1I5.0J0*%\n%LPC*%\nD11*\nX0Y0D03*\n%LPD*%\nD10*\nX0Y0D03*\n%SR*%\nX9000000Y0D03*\n",
+        [1, 0, 0, 4],
+    ),
+    // So they do in the block after it.
+    (
+        b"%ADD10C,0.65*%\n%ADD11C,0.1*%\n%SRX2Y1I5.0J0*%\n%LPC*%\nD11*\nX0Y0D03*\n%LPD*%\n%SRX3Y1I5.0J0*%\nD10*\nX0Y0D03*\n%SR*%\n",
+        [3, 0, 0, 2],
+    ),
+    // In a block of two copies all is taken away, after the clear flash too.
+    (
+        b"%ADD10C,0.65*%\n%ADD11C,0.1*%\n%SRX1Y2I0J5.0*%\nD10*\nX0Y0D03*\n%LPC*%\nD11*\nX0Y0D03*\n%LPD*%\nD10*\nX1Y1D03*\n%SR*%\n",
+        [0, 0, 0, 6],
+    ),
+    // A contour is taken away as a flash is.
+    (
+        b"%ADD10C,0.65*%\n%ADD11C,0.1*%\nG36*\nX-1000000Y-1000000D02*\nX1000000D01*\nY1000000D01*\nX-1000000D01*\nY-1000000D01*\nG37*\n%LPC*%\nD11*\nX5000000Y0D02*\nX6000000Y0D01*\n%LPD*%\n",
+        [0, 0, 0, 0],
+    ),
+    // One after it counts.
+    (
+        b"%ADD10C,0.65*%\n%ADD11C,0.1*%\n%LPC*%\nD11*\nX5000000Y0D02*\nX6000000Y0D01*\n%LPD*%\nG36*\nX-1000000Y-1000000D02*\nX1000000D01*\nY1000000D01*\nX-1000000D01*\nY-1000000D01*\nG37*\n",
+        [0, 0, 1, 0],
+    ),
+    // A clear region is no contour, and takes away what stands before it.
+    (
+        b"%ADD10C,0.65*%\n%ADD11C,0.1*%\nD10*\nX0Y0D03*\nG36*\nX-1000000Y-1000000D02*\nX1000000D01*\nY1000000D01*\nX-1000000D01*\nY-1000000D01*\nG37*\n%LPC*%\nG36*\nX-1000000Y-1000000D02*\nX1000000D01*\nY1000000D01*\nX-1000000D01*\nY-1000000D01*\nG37*\n%LPD*%\n",
+        [0, 0, 0, 1],
+    ),
+    // A clear region without a plot takes nothing away.
+    (
+        b"%ADD10C,0.65*%\n%ADD11C,0.1*%\nD10*\nX0Y0D03*\n%LPC*%\nG36*\nX0Y0D02*\nG37*\n",
+        [1, 0, 0, 0],
+    ),
+    // In a block of two copies with a clear flash no contour counts.
+    (
+        b"%ADD10C,0.65*%\n%ADD11C,0.1*%\n%SRX2Y1I5.0J0*%\n%LPC*%\nD11*\nX0Y0D03*\n%LPD*%\nG36*\nX-1000000Y-1000000D02*\nX1000000D01*\nY1000000D01*\nX-1000000D01*\nY-1000000D01*\nG37*\n%SR*%\n",
+        [0, 0, 0, 2],
+    ),
+    // A macro is taken away as well.
+    (
+        b"%AMT*4,1,3,0,0,3,0,0,2,0,0,0*%\n%ADD10T*%\n%ADD11C,0.1*%\nD10*\nX0Y0D03*\n%LPC*%\nD11*\nX5000000Y0D02*\nX6000000Y0D01*\n%LPD*%\n",
+        [0, 0, 0, 1],
+    ),
+    // And counts after it.
+    (
+        b"%AMT*4,1,3,0,0,3,0,0,2,0,0,0*%\n%ADD10T*%\n%ADD11C,0.1*%\n%LPC*%\nD11*\nX5000000Y0D02*\nX6000000Y0D01*\n%LPD*%\nD10*\nX0Y0D03*\n",
+        [0, 1, 0, 0],
+    ),
+    // A macro that is turned by another angle is no pad.
+    (
+        b"%AMT*4,1,3,0,0,3,0,0,2,0,0,0*%\n%ADD10T*%\n%LR45*%\nD10*\nX0Y0D03*\n",
+        [0, 0, 0, 1],
+    ),
+    // Copies of flashes, macros and contours.
+    (
+        b"%AMT*4,1,3,0,0,3,0,0,2,0,0,0*%\n%ADD10T*%\n%ADD11C,0.1*%\n%SRX2Y1I5.0J0*%\nD10*\nX0Y0D03*\nD11*\nX0Y0D03*\nG36*\nX-1000000Y-1000000D02*\nX1000000D01*\nY1000000D01*\nX-1000000D01*\nY-1000000D01*\nG37*\n%SR*%\n",
+        [2, 2, 2, 0],
+    ),
+    // A macro that is not judged, one with a hole and a polygon are no pads.
+    (
+        b"%AMA*4,1,5,0.5,-0.75,-0.65,-0.75,-0.15,0,-0.65,0.75,0.5,0.75,0.5,-0.75,0*%\n%ADD10A*%\n%ADD11C,0.6X0.2*%\n%ADD12P,1X6*%\nD10*\nX0Y0D03*\nD11*\nX0Y0D03*\nD12*\nX0Y0D03*\n",
+        [0, 0, 0, 3],
+    ),
+    // A contour twice, by a block.
+    (
+        b"%SRX2Y1I5.0J0*%\nG36*\nX-1000000Y-1000000D02*\nX1000000D01*\nY1000000D01*\nX-1000000D01*\nY-1000000D01*\nG37*\n%SR*%\n",
+        [0, 0, 2, 0],
+    ),
+    // Nothing at all.
+    (b"", [0, 0, 0, 0]),
+];
+
+/// Layers that are refused: the place, the byte and the reason.
+const REFUSED: [(&[u8], u64, u64, Reason); 4] = [
+    // Clear polarity within a region.
+    (b"G36*\n%LPC*%\nG37*\n", 5, 32, Reason::InRegion),
+    // Several pieces in one item.
+    (b"%LPC*LPD*%\n", 4, 27, Reason::SeveralInOne),
+    // A rule's fault before a later fault of reading.
+    (b"%LPC*%\nD10*\nX1X*\n", 5, 34, Reason::UnknownAperture),
+    // Another negative image.
+    (b"%IPNEG*%\n", 4, 27, Reason::NegativeImage),
+];
+
+/// The text of a layer in millimetres.
+fn layer_text(alloc: Global, body: &[u8]) -> Option<Vec<u8>> {
+    let pieces: [&[u8]; 3] = [b"%FSLAX46Y46*%\n%MOMM*%\nG01*\n", body, b"M02*\n"];
+    pieces.concat(alloc).ok()
+}
+
+/// Whether a layer has these numbers.
+fn has_numbers(layer: &WideLayer, [pads, flashed, contours, other]: [usize; 4]) -> bool {
+    layer.pads().len() == pads
+        && layer.flashed().len() == flashed
+        && layer.contours().len() == contours
+        && layer.other() == other
+}
+
+/// The layer of a text that comes in pieces of one byte.
+fn read_bytes(alloc: Global, text: &[u8]) -> Result<WideLayer, Fail> {
+    let mut reader = LayerReader::in_profile(alloc, Keep::All, Profile::Wide);
+    for i in 0..text.len() {
+        reader.feed(&text[i..i + 1])?;
+    }
+    let layer = reader.finish()?;
+    let wide = wide_layer(alloc, &layer)?;
+    Ok(wide)
+}
+
+/// Whether the layer has these numbers, read whole and in pieces.
+fn counts(alloc: Global, body: &[u8], numbers: [usize; 4]) -> bool {
+    let Some(text) = layer_text(alloc, body) else {
+        return false;
+    };
+    match (read_wide_layer(alloc, &text), read_bytes(alloc, &text)) {
+        (Ok(whole), Ok(in_pieces)) => {
+            has_numbers(&whole, numbers) && has_numbers(&in_pieces, numbers)
+        }
+        _ => false,
+    }
+}
+
+/// Whether the layer is refused so.
+fn is_refused(alloc: Global, body: &[u8], place: u64, byte: u64, reason: Reason) -> bool {
+    let Some(text) = layer_text(alloc, body) else {
+        return false;
+    };
+    match read_wide_layer(alloc, &text) {
+        Err(Fail::Refused(fault)) => {
+            fault.place == place && fault.byte == byte && fault.reason == reason
+        }
+        _ => false,
+    }
+}
+
+#[test]
+fn clear_polarity_takes_away_what_stands_before_it(rt: HostRuntime) {
+    for (place, &(body, numbers)) in LAYERS.iter().enumerate() {
+        assert!(rt; counts(rt.alloc(), body, numbers), "at {place}");
+    }
+}
+
+#[test]
+fn other_texts_are_refused_with_their_first_fault(rt: HostRuntime) {
+    for (i, &(body, place, byte, reason)) in REFUSED.iter().enumerate() {
+        assert!(rt; is_refused(rt.alloc(), body, place, byte, reason), "at {i}");
+    }
+}
+
+#[test]
+fn the_file_function_is_that_of_the_layer(rt: HostRuntime) {
+    let body = b"%TF.FileFunction,Copper,L1,Top*%\n%LPC*%\n";
+    let text = layer_text(rt.alloc(), body).expect(&rt, "memory");
+    let function: &[u8] = b"Copper,L1,Top";
+    match read_wide_layer(rt.alloc(), &text) {
+        Ok(layer) => assert!(rt; layer.file_function() == Some(function)),
+        Err(_) => assert!(rt; false),
+    }
+}
+
+#[test]
+fn the_strict_profile_refuses_clear_polarity(rt: HostRuntime) {
+    let body = b"%ADD10C,0.65*%\n%ADD11C,0.1*%\n%LPC*%\n";
+    let text = layer_text(rt.alloc(), body).expect(&rt, "memory");
+    let mut strict = LayerReader::keeping(rt.alloc(), Keep::All);
+    match strict.feed(&text) {
+        Err(Fail::Refused(fault)) => {
+            assert!(rt;
+                fault.place == 6 && fault.byte == 56 && fault.reason == Reason::ClearPolarity
+            );
+        }
+        _ => assert!(rt; false),
+    }
+    let mut wide = LayerReader::in_profile(rt.alloc(), Keep::All, Profile::Wide);
+    assert!(rt; wide.feed(&text).is_ok());
+}

@@ -1,0 +1,4 @@
+pub mod FlashCounts
+pub mod LastFlashes
+pub mod Readings
+pub mod StrictReading
