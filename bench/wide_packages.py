@@ -3,15 +3,18 @@
 
     wide_packages.py write --seed S --count N FOLDER      writes each package to a folder of its own, FOLDER/00001 and so on
     wide_packages.py compare --seed S --count N --oracle FOLDER PROGRAM
+    wide_packages.py measures --seed S --count N PROGRAM
 
 A package has a manifest m.csv, its files, and a file `rules` with the words of the ring and the gap. Its pads are macros of the bodies that
 exporters write (rounded and oblong rectangles, lines, outlines, two arms), bodies that are nearly such, contours that are convex, nearly convex, open, or
 painted with arcs, and usual pads; turned, mirrored, repeated, and cleared before or after. Its holes and slots, at any angle, are just held by such a pad,
 or lack a picometre or a step; slots are written by G85 or by routing. `compare` runs `PROGRAM check --profile wide` on each, and a slow program
-that is not in this repository (oracle_wide.py in the folder of --oracle), and prints where they differ.
+that is not in this repository (oracle_wide.py in the folder of --oracle), and prints where they differ. `measures` runs `PROGRAM measure` on each in both profiles, and
+`PROGRAM check` at the ring and the gap that the measure says are met, one step below the limit and one above, and prints where a check is not as measured.
 """
 import argparse
 import contextlib
+import json
 import math
 import os
 import random
@@ -285,9 +288,61 @@ def compare(program, oracle, seed, count):
     return 1 if differ else 0
 
 
+def run_json(program, folder, profile):
+    """The measure of the package in a folder, as JSON, and its status."""
+    words = [program, "measure", "--profile", profile, "--format", "json", "m.csv"]
+    ran = subprocess.run(words, cwd=folder, stdout=subprocess.PIPE, check=False)
+    return json.loads(ran.stdout), ran.returncode
+
+
+def check_status(program, folder, profile, rules):
+    """The status of a check under a ring and a gap in steps of 10 pm, the finest of a rule."""
+    ring, gap = (f"{steps // 10**8}.{steps % 10**8:08d}" for steps in rules)
+    words = [program, "check", "--profile", profile, "--ring", ring, "--gap", gap, "m.csv"]
+    return subprocess.run(words, cwd=folder, stdout=subprocess.DEVNULL, check=False).returncode
+
+
+def is_met(limit, steps):
+    return limit == "any" or (limit != "none" and steps * 10 <= limit)
+
+
+def rules_round(meets):
+    """Rings and gaps in steps of 10 pm: the least rule, the greatest that is met, and the next."""
+    ring, gap = ((limit if isinstance(limit, int) else MM) // 10 for limit in (meets["ring_pm"], meets["gap_pm"]))
+    rings = sorted({0, max(0, ring), max(0, ring + 1)})
+    return [(r, g) for r in rings for g in sorted({1, max(1, gap), max(1, gap + 1)})]
+
+
+def wrong_checks(program, folder, profile):
+    """How many checks are made, and the rules under which a check is not as the measure says."""
+    measure, status = run_json(program, folder, profile)
+    if measure["result"] == "refused":
+        return 1, [] if check_status(program, folder, profile, (0, 1)) == status == 2 else ["refused"]
+    meets = measure["meets"]
+    tried = rules_round(meets)
+    wanted = ((rules, 0 if is_met(meets["ring_pm"], rules[0]) and is_met(meets["gap_pm"], rules[1]) else 1) for rules in tried)
+    return len(tried), [rules for rules, want in wanted if check_status(program, folder, profile, rules) != want]
+
+
+def measures(program, seed, count):
+    made, wrong = 0, 0
+    with tempfile.TemporaryDirectory() as folder:
+        for number in range(1, count + 1):
+            for old in os.listdir(folder):
+                os.remove(os.path.join(folder, old))
+            write(*package(random.Random(f"{seed}/{number}")), folder)
+            for profile in ("strict", "wide"):
+                checks, found = wrong_checks(program, folder, profile)
+                made, wrong = made + checks, wrong + len(found)
+                if found:
+                    print(f"not as measured: seed {seed}, package {number}, profile {profile}: {found}")
+    print(f"{count} packages, {made} checks, {wrong} not as measured")
+    return 1 if wrong else 0
+
+
 def main():
     words = argparse.ArgumentParser(description=__doc__, formatter_class=argparse.RawDescriptionHelpFormatter)
-    words.add_argument("what", choices=["write", "compare"])
+    words.add_argument("what", choices=["write", "compare", "measures"])
     words.add_argument("target", help="a folder to write to, or the program; - for none")
     words.add_argument("--seed", default="1")
     words.add_argument("--count", type=int, default=1000)
@@ -297,6 +352,8 @@ def main():
         for number in range(1, given.count + 1):
             write(*package(random.Random(f"{given.seed}/{number}")), os.path.join(given.target, f"{number:05d}"))
         return 0
+    if given.what == "measures":
+        return measures(given.target, given.seed, given.count)
     sys.path.insert(0, given.oracle)
     import oracle_wide  # pylint: disable=import-outside-toplevel,import-error
 

@@ -38,7 +38,7 @@ _ringcheck() {
     check) options='--ring --gap --profile --help' ;;
     draw) options='--ring --gap --outline --help' ;;
     report) options='--ring --gap --max --waive --outline --format --help' ;;
-    measure) options='--format --help' ;;
+    measure) options='--profile --format --help' ;;
     manifest) options='--why --help' ;;
     show | rewrite) options='--kind --help' ;;
     explain)

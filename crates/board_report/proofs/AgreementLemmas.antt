@@ -56,10 +56,10 @@ ok_same : {x y : ReportView} → answered x ≡ answered y → x ≡ y
 ok_same e = cc
 
 pub report_agrees_with_check : AnswerIsUnique → PassingIsSound → ReportAgreesWithCheck
-report_agrees_with_check one sound sources required output strict h =
+report_agrees_with_check one sound sources required output h =
     let board = h.board in
     let its = reported required board in
-    let is = reported_on sources required board its strict h.read.is refl in
+    let is = reported_on sources required board its h.read.is refl in
     let count = parted _ _ (board_findings required board) output.rings.items output.gaps.items h.is.rings h.is.gaps in
     let same : (report : ReportView) → IsReport sources required report → report ≡ its = λ report k. ok_same (one sources required (Ok report) (Ok its) k is) in
     record {

@@ -1,5 +1,6 @@
 -- The lines of rows, joined.
 use Rattle.std.proofs.Common.{◌≡◌, ℕ, ◌+◌, ◌-◌, ◌<◌, ◌≤◌, ◌⊎◌, inl, inr, List, [], ◌++◌, length, get_or, refl, sym, subst, ap, ap₂, ◌∙◌, arith}
+use Rattle.grid_units.specs.declared.profile.Profile.{Profile}
 use Rattle.std.specs.List.{AllPairs}
 use Rattle.std.proofs.lemmas.List.{length-append, get_or_append_left, get_or-append_right}
 use Rattle.std.proofs.lemmas.List.Elements.{Contains-append_left, Contains-append_right}
@@ -31,9 +32,9 @@ module _ {X : Type 0} (xs ys : List X) where
     ])
   ]
 
-module _ (board : BoardView) where
+module _ (profile : Profile) (board : BoardView) where
   -- no lines for rows without holes
-  pub none : (among : RowKey → Type 0) → ((key : RowKey) → among key → 0 < length (places_of board key) → ⊥) → AreRowLines board among []
+  pub none : (among : RowKey → Type 0) → ((key : RowKey) → among key → 0 < length (places_of board key) → ⊥) → AreRowLines profile board among []
   none among empty = record {
     keys = [];
     size = refl;
@@ -44,7 +45,7 @@ module _ (board : BoardView) where
   }
 
   -- the same lines for rows that are described in another way
-  pub renamed : (p q : RowKey → Type 0) (lines : List RingLine) → ((key : RowKey) → p key → q key) → ((key : RowKey) → q key → 0 < length (places_of board key) → p key) → AreRowLines board p lines → AreRowLines board q lines
+  pub renamed : (p q : RowKey → Type 0) (lines : List RingLine) → ((key : RowKey) → p key → q key) → ((key : RowKey) → q key → 0 < length (places_of board key) → p key) → AreRowLines profile board p lines → AreRowLines profile board q lines
   renamed p q lines to back h = record {
     keys = h.keys;
     size = h.size;
@@ -56,7 +57,7 @@ module _ (board : BoardView) where
 
   -- the lines of some rows, and those of later rows
   pub join : (p q r : RowKey → Type 0) (xs ys : List RingLine) → ((a b : RowKey) → p a → q b → IsBefore a b) → ((key : RowKey) → p key → r key) → ((key : RowKey) → q key → r key) → ((key : RowKey) → r key → p key ⊎ q key)
-      → AreRowLines board p xs → AreRowLines board q ys → AreRowLines board r (xs ++ ys)
+      → AreRowLines profile board p xs → AreRowLines profile board q ys → AreRowLines profile board r (xs ++ ys)
   join p q r xs ys before first last split x y =
       let both = length-append x.keys y.keys in record {
         keys = x.keys ++ y.keys;
@@ -64,13 +65,13 @@ module _ (board : BoardView) where
         line = λ i k d l. elim (cases_lt i (length x.keys)) [
           | inl low ↦ (
               let there : i < length xs = omega (arith, low, x.size) in
-              subst (λ (key : RowKey). IsRowLine board key (get_or (xs ++ ys) i d)) (sym (first_of x.keys y.keys i k low)) (subst (IsRowLine board (get_or x.keys i k)) (sym (first_of xs ys i d there)) (x.line i k d low)))
+              subst (λ (key : RowKey). IsRowLine profile board key (get_or (xs ++ ys) i d)) (sym (first_of x.keys y.keys i k low)) (subst (IsRowLine profile board (get_or x.keys i k)) (sym (first_of xs ys i d there)) (x.line i k d low)))
           | inr high ↦ (
               let far : length xs ≤ i = omega (arith, high, x.size) in
               let at : i - length x.keys ≡ i - length xs = ap (λ (n : ℕ). i - n) x.size in
               let inside : i - length x.keys < length y.keys = within x.keys y.keys i l high in
-              subst (λ (key : RowKey). IsRowLine board key (get_or (xs ++ ys) i d)) (sym (last_of x.keys y.keys i k high))
-              (subst (IsRowLine board (get_or y.keys (i - length x.keys) k)) (ap (λ (n : ℕ). get_or ys n d) at ∙ sym (last_of xs ys i d far)) (y.line (i - length x.keys) k d inside)))
+              subst (λ (key : RowKey). IsRowLine profile board key (get_or (xs ++ ys) i d)) (sym (last_of x.keys y.keys i k high))
+              (subst (IsRowLine profile board (get_or y.keys (i - length x.keys) k)) (ap (λ (n : ℕ). get_or ys n d) at ∙ sym (last_of xs ys i d far)) (y.line (i - length x.keys) k d inside)))
         ];
         there = λ i k l. elim (cases_lt i (length x.keys)) [
           | inl low ↦ (let t = x.there i k low in subst (λ (key : RowKey). r key × (0 < length (places_of board key))) (sym (first_of x.keys y.keys i k low)) (first (get_or x.keys i k) t.0, t.1))

@@ -3,7 +3,7 @@ use Rattle.std.proofs.Common.{◌≡◌, ℕ, ◌+◌, ◌++◌, ◌∷◌, inl,
 use Rattle.std.specs.Global.{Vec}
 use Rattle.std.proofs.lemmas.Bool.{cases_lt}
 use Rattle.std.proofs.lemmas.List.{get_or_append_left, get_or_push, length-append, map_push}
-use Rattle.pad_shapes.specs.Pads.{pad_covers}
+use Rattle.wide_pads.specs.WidePads.{wide_pad_covers}
 use Rattle.margins.specs.BestPads.{AreBestPads}
 use Rattle.margins.specs.declared.best.BestPad.{BestPad}
 use Rattle.package_check.specs.Boards.{BoardView}
@@ -14,21 +14,21 @@ module _ (board : BoardView) where
   pub none_kept : AreLayerBests board 0 []
   none_kept = record { size = refl; each = λ layer l. absurd (omega (arith, l)) }
 
-  next_kept : (count : ℕ) (old : List (List (Option BestPad))) (bests : List (Option BestPad)) → AreLayerBests board count old → AreBestPads pad_covers (get_or board.layers count []) board.holes bests → AreLayerBests board (count + 1) (old ++ bests ∷ [])
+  next_kept : (count : ℕ) (old : List (List (Option BestPad))) (bests : List (Option BestPad)) → AreLayerBests board count old → AreBestPads wide_pad_covers (get_or board.layers count []) board.holes bests → AreLayerBests board (count + 1) (old ++ bests ∷ [])
   next_kept count old bests was is = record {
     size = (let size = length-append old (bests ∷ []) in omega (arith, size, was.size));
     each = λ layer l. elim (cases_lt layer count) [
-      | inl low ↦ subst (λ (b : List (Option BestPad)). AreBestPads pad_covers (get_or board.layers layer []) board.holes b) (sym (get_or_append_left old (bests ∷ []) [] layer (omega (arith, low, was.size)))) (was.each layer low)
+      | inl low ↦ subst (λ (b : List (Option BestPad)). AreBestPads wide_pad_covers (get_or board.layers layer []) board.holes b) (sym (get_or_append_left old (bests ∷ []) [] layer (omega (arith, low, was.size)))) (was.each layer low)
       | inr high ↦ (
           let last : count ≡ layer = omega (arith, l, high) in
-          subst (λ (n : ℕ). AreBestPads pad_covers (get_or board.layers n []) board.holes (get_or (old ++ bests ∷ []) n [])) last
-          (subst (λ (b : List (Option BestPad)). AreBestPads pad_covers (get_or board.layers count []) board.holes b) (sym (get_or_push old bests [] count was.size)) is))
+          subst (λ (n : ℕ). AreBestPads wide_pad_covers (get_or board.layers n []) board.holes (get_or (old ++ bests ∷ []) n [])) last
+          (subst (λ (b : List (Option BestPad)). AreBestPads wide_pad_covers (get_or board.layers count []) board.holes b) (sym (get_or_push old bests [] count was.size)) is))
     ];
   }
 
   -- the best pads of one more layer
   pub one_more : (count : ℕ) (old new : List (Vec (Option BestPad))) (bests : Vec (Option BestPad)) → new ≡ old ++ bests ∷ [] → AreLayerBests board count (map (λ b. b.items) old)
-      → AreBestPads pad_covers (get_or board.layers count []) board.holes bests.items → AreLayerBests board (count + 1) (map (λ b. b.items) new)
+      → AreBestPads wide_pad_covers (get_or board.layers count []) board.holes bests.items → AreLayerBests board (count + 1) (map (λ b. b.items) new)
   one_more count old new bests e was is =
       subst (AreLayerBests board (count + 1)) (sym (ap (map (λ b. b.items)) e ∙ map_push (λ b. b.items) old bests)) (next_kept count (map (λ b. b.items) old) bests.items was is)
 

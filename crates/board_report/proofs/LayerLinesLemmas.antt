@@ -1,5 +1,6 @@
 -- The lines of a layer, drill file by drill file.
 use Rattle.std.proofs.Common.{◌≡◌, ℕ, ◌+◌, ◌-◌, ◌<◌, ◌≤◌, ◌⊎◌, inl, inr, List, [], ◌++◌, length, get_or, refl, sym, subst, ap, ◌∙◌, arith}
+use Rattle.grid_units.specs.declared.profile.Profile.{Profile}
 use Rattle.std.specs.List.{Contains, filter, range_with_len}
 use Rattle.std.proofs.lemmas.List.{get_or_default}
 use Rattle.std.proofs.lemmas.Bool.{cases_lt}
@@ -29,18 +30,18 @@ has_hole board key some = elim (cases_lt (holes_before board.files key.drill) (h
       omega (arith, few))
 ]
 
-module _ (board : BoardView) (with_holes : List FileHoles) (are : AreFilesWithHoles board with_holes) (layer : ℕ) where
-  pub first_file : (lines : List RingLine) → AreRowLines board (λ key. key.layer < layer) lines → AreRowLines board (IsUpTo with_holes layer 0) lines
-  first_file lines = renamed board (λ key. key.layer < layer) (IsUpTo with_holes layer 0) lines (λ key a. inl a) (λ key a some. back key a)
+module _ (profile : Profile) (board : BoardView) (with_holes : List FileHoles) (are : AreFilesWithHoles board with_holes) (layer : ℕ) where
+  pub first_file : (lines : List RingLine) → AreRowLines profile board (λ key. key.layer < layer) lines → AreRowLines profile board (IsUpTo with_holes layer 0) lines
+  first_file lines = renamed profile board (λ key. key.layer < layer) (IsUpTo with_holes layer 0) lines (λ key a. inl a) (λ key a some. back key a)
     where
       back : (key : RowKey) → IsUpTo with_holes layer 0 key → key.layer < layer
       back key (inl a) = a
       back key (inr a) = absurd (let l = a.1.1 in omega (arith, l))
 
   pub next_file : (i : ℕ) (file_holes : LayerFileHoles) (old its all : List RingLine) → i < length with_holes → file_holes.layer ≡ layer → ((d : FileHoles) → (get_or with_holes i d).drill ≡ file_holes.drill) → all ≡ old ++ its
-      → AreRowLines board (IsUpTo with_holes layer i) old → AreRowLines board (IsRowOf file_holes) its → AreRowLines board (IsUpTo with_holes layer (i + 1)) all
+      → AreRowLines profile board (IsUpTo with_holes layer i) old → AreRowLines profile board (IsRowOf file_holes) its → AreRowLines profile board (IsUpTo with_holes layer (i + 1)) all
   next_file i file_holes old its all inside on in_it is x y =
-      subst (AreRowLines board (IsUpTo with_holes layer (i + 1))) (sym is) (join board (IsUpTo with_holes layer i) (IsRowOf file_holes) (IsUpTo with_holes layer (i + 1)) old its before first last split x y)
+      subst (AreRowLines profile board (IsUpTo with_holes layer (i + 1))) (sym is) (join profile board (IsUpTo with_holes layer i) (IsRowOf file_holes) (IsUpTo with_holes layer (i + 1)) old its before first last split x y)
     where
       some_file : FileHoles
       some_file = record { drill = 0; start = 0; end = 0 }
@@ -71,8 +72,8 @@ module _ (board : BoardView) (with_holes : List FileHoles) (are : AreFilesWithHo
             inr (same.0 ∙ sym on, sym (same.1.2 some_file) ∙ (ap (λ (n : ℕ). (get_or with_holes n some_file).drill) (sym e) ∙ in_it some_file)))
       ]
 
-  pub last_file : (count : ℕ) (lines : List RingLine) → length with_holes ≤ count → AreRowLines board (IsUpTo with_holes layer count) lines → AreRowLines board (λ key. key.layer < layer + 1) lines
-  last_file count lines past = renamed board (IsUpTo with_holes layer count) (λ key. key.layer < layer + 1) lines to back
+  pub last_file : (count : ℕ) (lines : List RingLine) → length with_holes ≤ count → AreRowLines profile board (IsUpTo with_holes layer count) lines → AreRowLines profile board (λ key. key.layer < layer + 1) lines
+  last_file count lines past = renamed profile board (IsUpTo with_holes layer count) (λ key. key.layer < layer + 1) lines to back
     where
       to : (key : RowKey) → IsUpTo with_holes layer count key → key.layer < layer + 1
       to key (inl less) = omega (arith, less)

@@ -1,5 +1,6 @@
 -- The lines of a drill file on a layer, from the table of its holes.
 use Rattle.std.proofs.Common.{Less, Equal, Greater, ltb, ℤ, w64, to_z, of_z, ◌≡◌, ◌++◌, ◌&&◌, ℕ, pos, ◌+◌, ◌*◌, ◌<◌, ◌≤◌, inl, inr, Bool, true, false, cond, List, [], ◌∷◌, Option, Some, None, length, map, get_or, drop, refl, sym, subst, ap, ◌∙◌, arith}
+use Rattle.grid_units.specs.declared.profile.Profile.{Profile}
 use Rattle.std.specs.Prelude.{is_some, ◌*ℤ◌}
 use Rattle.std.specs.Int.Signed.{mag}
 use Rattle.std.proofs.lemmas.Int.{ints}
@@ -34,7 +35,6 @@ use Rattle.board_report.specs.Rows.{AreRowLines, IsBefore, IsRowLine, RowKey, Is
 use Rattle.package_check.specs.Boards.{holes_before}
 use Rattle.board_report.specs.declared.rows.LayerFileHoles.{LayerFileHoles}
 use Rattle.board_report.specs.Inner.Tables.{IsRowOf, IsTableOf, IsNumberedLeast, is_not_empty, row_of}
-use Rattle.grid_units.specs.declared.profile.Profile.TheVariants.{Strict}
 
 -- the next element of a list
 pub next_of : {X : Type 0} (xs rest : List X) (n : ℕ) (x : X) → drop n xs ≡ x ∷ rest → (n < length xs) × (get_or xs n x ≡ x) × (rest ≡ drop (n + 1) xs)
@@ -84,10 +84,10 @@ all_taken xs n e = elim (cases_lt n (length xs)) [
     taken_more (x ∷ xs) n l e = (let more = drop_more (x ∷ xs) n x l in let none : get_or (x ∷ xs) n x ∷ drop (n + 1) (x ∷ xs) ≡ [] = sym more ∙ e in cc)
 
 -- the least ring of a row is that of one of its holes
-pub least_inside : (bests : List (Option BestPad)) (holes : List Drilled) (chosen : List ℕ) (row : RingRow) (low high : ℕ) → IsRingRow Strict bests holes chosen row → All (λ place. (low ≤ place) × (place < high)) chosen
+pub least_inside : (profile : Profile) (bests : List (Option BestPad)) (holes : List Drilled) (chosen : List ℕ) (row : RingRow) (low high : ℕ) → IsRingRow profile bests holes chosen row → All (λ place. (low ≤ place) × (place < high)) chosen
     → (least : RowLeast) → row.least ≡ Some least → (low ≤ least.hole) × (least.hole < high)
-least_inside bests holes chosen row low high is inside least e =
-    let held = subst (IsLeastRingOf Strict bests holes chosen (length chosen)) e is.least in
+least_inside profile bests holes chosen row low high is inside least e =
+    let held = subst (IsLeastRingOf profile bests holes chosen (length chosen)) e is.least in
     subst (λ (place : ℕ). (low ≤ place) × (place < high)) held.there (inside held.i 0 held.inside)
 
 -- and its number is the number of that hole
@@ -111,7 +111,7 @@ radius_of board key d some =
     second true b e = e
     second false b e = absurd cc
 
-module _ (board : BoardView) (file_holes : LayerFileHoles) (table : BTreeMap ℕ (Vec ℕ)) (is : IsTableOf board file_holes table) (ordered : IsOrdered nat_cmp table) where
+module _ (profile : Profile) (board : BoardView) (file_holes : LayerFileHoles) (table : BTreeMap ℕ (Vec ℕ)) (is : IsTableOf board file_holes table) (ordered : IsOrdered nat_cmp table) where
   -- the places at an entry of the table are those of its row
   pub at_entry : (i k : ℕ) (v : Vec ℕ) → i < length table.entries → ((get_or (values table) i v).items ≡ places_of board (row_of file_holes (get_or (keys table) i k))) × (0 < length (get_or (values table) i v).items)
   at_entry i k v inside =
@@ -161,7 +161,7 @@ module _ (board : BoardView) (file_holes : LayerFileHoles) (table : BTreeMap ℕ
         | inr past ↦ absurd (let none : None ≡ Some x = sym past.1 ∙ e in cc)
       ]
 
-  pub all_lined : (lines : List RingLine) → length lines ≡ length table.entries → ((i k : ℕ) (d : RingLine) → i < length lines → IsRowLine board (row_of file_holes (get_or (keys table) i k)) (get_or lines i d)) → AreRowLines board (IsRowOf file_holes) lines
+  pub all_lined : (lines : List RingLine) → length lines ≡ length table.entries → ((i k : ℕ) (d : RingLine) → i < length lines → IsRowLine profile board (row_of file_holes (get_or (keys table) i k)) (get_or lines i d)) → AreRowLines profile board (IsRowOf file_holes) lines
   all_lined lines size line =
       let rows = map (row_of file_holes) (keys table) in
       let count : length (keys table) ≡ length table.entries = length-map table.entries (λ (x : ℕ × Vec ℕ). x.0) in
@@ -170,7 +170,7 @@ module _ (board : BoardView) (file_holes : LayerFileHoles) (table : BTreeMap ℕ
       record {
         keys = rows;
         size = many ∙ (count ∙ sym size);
-        line = λ i k d l. subst (λ (key : RowKey). IsRowLine board key (get_or lines i d)) (sym (row i k l)) (line i k.radius d (omega (arith, l, many, count, size)));
+        line = λ i k d l. subst (λ (key : RowKey). IsRowLine profile board key (get_or lines i d)) (sym (row i k l)) (line i k.radius d (omega (arith, l, many, count, size)));
         there = λ i k l. subst (λ (key : RowKey). IsRowOf file_holes key × (0 < length (places_of board key))) (sym (row i k l)) ((refl, refl), some i k.radius (omega (arith, l, many, count)));
         sorted = λ i j d less l.
             let rises : get_or (keys table) i d.radius < get_or (keys table) j d.radius = below_from_sorted (keys table) i j d.radius ordered less (omega (arith, l, many)) in
@@ -192,14 +192,14 @@ module _ (board : BoardView) (file_holes : LayerFileHoles) (table : BTreeMap ℕ
       ]
 
 -- one more line
-pub lines_more : (board : BoardView) (file_holes : LayerFileHoles) (ks : List ℕ) (lines all : List RingLine) (line : RingLine) → all ≡ lines ++ line ∷ [] → ((k : ℕ) → IsRowLine board (row_of file_holes (get_or ks (length lines) k)) line)
-    → ((i k : ℕ) (d : RingLine) → i < length lines → IsRowLine board (row_of file_holes (get_or ks i k)) (get_or lines i d)) → (i k : ℕ) (d : RingLine) → i < length all → IsRowLine board (row_of file_holes (get_or ks i k)) (get_or all i d)
-lines_more board file_holes ks lines all line is new old i k d l =
+pub lines_more : (profile : Profile) (board : BoardView) (file_holes : LayerFileHoles) (ks : List ℕ) (lines all : List RingLine) (line : RingLine) → all ≡ lines ++ line ∷ [] → ((k : ℕ) → IsRowLine profile board (row_of file_holes (get_or ks (length lines) k)) line)
+    → ((i k : ℕ) (d : RingLine) → i < length lines → IsRowLine profile board (row_of file_holes (get_or ks i k)) (get_or lines i d)) → (i k : ℕ) (d : RingLine) → i < length all → IsRowLine profile board (row_of file_holes (get_or ks i k)) (get_or all i d)
+lines_more profile board file_holes ks lines all line is new old i k d l =
     let count = ap length is ∙ length-append lines (line ∷ []) in
-    subst (λ (xs : List RingLine). IsRowLine board (row_of file_holes (get_or ks i k)) (get_or xs i d)) (sym is) (elim (cases_lt i (length lines)) [
-      | inl low ↦ subst (IsRowLine board (row_of file_holes (get_or ks i k))) (sym (get_or_append_left lines (line ∷ []) d i low)) (old i k d low)
+    subst (λ (xs : List RingLine). IsRowLine profile board (row_of file_holes (get_or ks i k)) (get_or xs i d)) (sym is) (elim (cases_lt i (length lines)) [
+      | inl low ↦ subst (IsRowLine profile board (row_of file_holes (get_or ks i k))) (sym (get_or_append_left lines (line ∷ []) d i low)) (old i k d low)
       | inr high ↦ (
           let last : i ≡ length lines = omega (arith, high, l, count) in
-          subst (λ (n : ℕ). IsRowLine board (row_of file_holes (get_or ks n k)) (get_or (lines ++ line ∷ []) n d)) (sym last)
-          (subst (IsRowLine board (row_of file_holes (get_or ks (length lines) k))) (sym (get_or-append_seam lines line [] d)) (new k)))
+          subst (λ (n : ℕ). IsRowLine profile board (row_of file_holes (get_or ks n k)) (get_or (lines ++ line ∷ []) n d)) (sym last)
+          (subst (IsRowLine profile board (row_of file_holes (get_or ks (length lines) k))) (sym (get_or-append_seam lines line [] d)) (new k)))
     ])

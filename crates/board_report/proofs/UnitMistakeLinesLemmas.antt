@@ -5,7 +5,7 @@ use Rattle.std.specs.List.{slice_range}
 use Rattle.std.proofs.lemmas.Bool.{cases_lt, false≢true}
 use Rattle.std.proofs.lemmas.List.{append-nil, get_or_append_left, get_or_default, get_or-append_right, length-append}
 use Rattle.std.proofs.lemmas.List.Elements.{Contains-append_left, Contains-append_right}
-use Rattle.pad_shapes.specs.declared.pad.Pad.{Pad}
+use Rattle.wide_pads.specs.declared.wide_pad.WidePad.{WidePad}
 use Rattle.ring_rules.specs.declared.finding.Drilled.{Drilled}
 use Rattle.report.specs.declared.UnitMistake.{UnitMistake}
 use Rattle.report.specs.UnitMistakes.{AreFileRanges, IsUnitMistake, IsUnitMistakeOrNone, bare_count}
@@ -22,11 +22,11 @@ use Rattle.board_report.proofs.JoinedRows.{pairs_join}
 
 module _ (board : BoardView) where
   -- the line found for a file's holes is the file's line, and a file without plated holes has none
-  pub found_line : (drill : ℕ) (searched : FileRange) (pads : List Pad) (line : Option UnitMistake) → IsSearched board drill searched → drill < length board.files → 0 < length board.layers → pads ≡ first_pads board
+  pub found_line : (drill : ℕ) (searched : FileRange) (pads : List WidePad) (line : Option UnitMistake) → IsSearched board drill searched → drill < length board.files → 0 < length board.layers → pads ≡ first_pads board
       → IsUnitMistakeOrNone pads (slice_range board.holes searched.start searched.end) searched.drill line → IsUnitMistakeOfOrNone board drill line
   found_line drill searched pads line is inside layer first scale =
       by (is_plated (get_or board.files drill nothing)) refl line
-      (subst (λ (ps : List Pad). IsUnitMistakeOrNone ps (slice_range board.holes searched.start searched.end) drill line) first (subst (λ (n : ℕ). IsUnitMistakeOrNone pads (slice_range board.holes searched.start searched.end) n line) is.file scale))
+      (subst (λ (ps : List WidePad). IsUnitMistakeOrNone ps (slice_range board.holes searched.start searched.end) drill line) first (subst (λ (n : ℕ). IsUnitMistakeOrNone pads (slice_range board.holes searched.start searched.end) n line) is.file scale))
     where
       nothing : FileSum
       nothing = sum.Layer 0 0 0
@@ -69,7 +69,7 @@ module _ (board : BoardView) where
   searched_fit searched are = λ k d l. (let size = are.size in let is = are.each k d (omega (arith, l, size)) in (is.ordered, is.inside))
 
   -- each file has its line, or none
-  pub all_found : (searched : List FileRange) (pads : List Pad) (found : List (Option UnitMistake)) → AreSearched board (length board.files) searched → 0 < length board.layers → pads ≡ first_pads board
+  pub all_found : (searched : List FileRange) (pads : List WidePad) (found : List (Option UnitMistake)) → AreSearched board (length board.files) searched → 0 < length board.layers → pads ≡ first_pads board
       → scales.AreUnitMistakes pads board.holes searched found → AreFoundMistakes board found
   all_found searched pads found are layer first is = record {
     size = is.size ∙ are.size;

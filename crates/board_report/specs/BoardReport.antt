@@ -11,7 +11,7 @@ use Rattle.ring_rules.specs.declared.finding.Finding.TheVariants.{Gap, Oblique, 
 use Rattle.margins.specs.Gaps.{IsGap}
 use Rattle.margins.specs.Meets.{needs_ring}
 use Rattle.package_check.specs.Boards.{BoardView, IsFlashedBoard, board_findings}
-use Rattle.package_check.specs.Package.{AreStrict, IsFirstRefused, IsReport, FileView}
+use Rattle.package_check.specs.Package.{IsFirstRefused, IsReport, FileView}
 use Rattle.package_check.specs.Reports.{ReportView}
 use Rattle.package_check.specs.Soundness.{IsSound}
 use Rattle.package_check.specs.declared.FileSum.{FileSum}
@@ -82,7 +82,7 @@ pub record IsBoardReport (required : GridRules) (board : BoardView) (output : Bo
   pub rings : AllZip (IsRingEntry board required.ring) (filter (λ finding. not (is_gap finding)) (board_findings required board)) output.rings.items
   pub gaps : AllZip (IsGapEntry board required.gap) (filter is_gap (board_findings required board)) output.gaps.items
   pub measure : Measure
-  pub measured : IsMeasure board measure
+  pub measured : IsMeasure required.profile board measure
   pub scales : output.scales.items ≡ measure.scales.items
   pub meets : output.meets ≡ measure.meets
 
@@ -123,6 +123,6 @@ pub record AgreesWithCheck (sources : List FileView) (required : GridRules) (out
   pub count : (report : ReportView) → IsReport sources required report → length report.findings ≡ length output.rings.items + length output.gaps.items
   pub sound : output.rings.items ≡ [] → output.gaps.items ≡ [] → IsSound sources required
 
--- the report on any package whose files are read in the strict profile agrees with its check
+-- the report on any package agrees with its check
 abbrev pub ReportAgreesWithCheck : Type 0
-ReportAgreesWithCheck = (sources : List FileView) (required : GridRules) (output : BoardReport) → AreStrict sources → IsBoardReportOf sources required output → AgreesWithCheck sources required output
+ReportAgreesWithCheck = (sources : List FileView) (required : GridRules) (output : BoardReport) → IsBoardReportOf sources required output → AgreesWithCheck sources required output

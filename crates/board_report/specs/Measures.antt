@@ -2,14 +2,14 @@
 use Rattle.std.specs.Prelude.{◌≡◌, ◌↔◌, ℕ, ◌<◌, Option, List, [], length, get_or, Result, Ok, Err, ⊤}
 use Rattle.grid_units.specs.Holes.{GridRules}
 use Rattle.grid_units.specs.declared.fault.Fault.{Fault}
-use Rattle.grid_units.specs.declared.profile.Profile.TheVariants.{Strict}
-use Rattle.pad_shapes.specs.Pads.{pad_covers}
+use Rattle.grid_units.specs.declared.profile.Profile.{Profile}
+use Rattle.wide_pads.specs.WidePads.{wide_pad_covers}
 use Rattle.margins.specs.BestPads.{AreBestPads}
 use Rattle.margins.specs.Meets.{MeetsRings, MeetsRingsInPads, MeetsGaps, allows}
 use Rattle.margins.specs.declared.best.BestPad.{BestPad}
 use Rattle.margins.specs.declared.met.Met.{Met}
 use Rattle.package_check.specs.Boards.{IsBoard, BoardView, board_findings}
-use Rattle.package_check.specs.Package.{AreStrict, IsFirstRefused, IsReport, FileView}
+use Rattle.package_check.specs.Package.{IsFirstRefused, IsReport, FileView}
 use Rattle.package_check.specs.Reports.{ReportView}
 use Rattle.package_check.specs.declared.PackageFault.{PackageFault}
 use Rattle.package_check.specs.declared.PackageFault.TheVariants as stop
@@ -21,40 +21,40 @@ use Rattle.report.specs.declared.Measure.{Measure}
 abbrev pub AllowsRules : Met → Met → GridRules → Type 0
 AllowsRules ring gap rules = allows ring rules.ring × allows gap rules.gap
 
--- a check of the board in the strict profile has no findings under just the rules that are allowed
-abbrev pub BoardPasses : BoardView → Met → Met → Type 0
-BoardPasses board ring gap = (rules : GridRules) → rules.profile ≡ Strict → (board_findings rules board ≡ []) ↔ AllowsRules ring gap rules
+-- a check of the board in this profile has no findings under just the rules that are allowed
+abbrev pub BoardPasses : Profile → BoardView → Met → Met → Type 0
+BoardPasses profile board ring gap = (rules : GridRules) → rules.profile ≡ profile → (board_findings rules board ≡ []) ↔ AllowsRules ring gap rules
 
--- the files of a package can be read, whatever the rules are, and in the strict profile its report has no findings under just the rules that are allowed
-pub record PackagePasses (sources : List FileView) (ring gap : Met) : Type 0 where
+-- the files of a package can be read, whatever the rules are, and in this profile its report has no findings under just the rules that are allowed
+pub record PackagePasses (profile : Profile) (sources : List FileView) (ring gap : Met) : Type 0 where
   pub reported : (rules : GridRules) → (report : ReportView) × IsReport sources rules report
-  pub passes : (rules : GridRules) (report : ReportView) → rules.profile ≡ Strict → IsReport sources rules report → (report.findings ≡ []) ↔ AllowsRules ring gap rules
+  pub passes : (rules : GridRules) (report : ReportView) → rules.profile ≡ profile → IsReport sources rules report → (report.findings ≡ []) ↔ AllowsRules ring gap rules
 
--- the measure of a board: the lines of its rings, its scales and its least gap, and the greatest rules that it meets
-pub record IsMeasure (board : BoardView) (measure : Measure) : Type 0 where
-  pub lines : AreRingLines board measure.rings.items
+-- the measure of a board in a profile: the lines of its rings, its scales and its least gap, and the greatest rules that it meets
+pub record IsMeasure (profile : Profile) (board : BoardView) (measure : Measure) : Type 0 where
+  pub lines : AreRingLines profile board measure.rings.items
   pub scales : AreUnitMistakes board (length board.files) measure.scales.items
   pub gap : IsGapLine board measure.gap
-  pub rings : MeetsRings pad_covers Strict board.layers board.holes measure.meets.ring
-  pub held : MeetsRingsInPads pad_covers Strict board.layers board.holes measure.meets.in_pads
+  pub rings : MeetsRings wide_pad_covers profile board.layers board.holes measure.meets.ring
+  pub held : MeetsRingsInPads wide_pad_covers profile board.layers board.holes measure.meets.in_pads
   pub gaps : MeetsGaps board.holes measure.meets.gap
 
--- the measure of a package: that of the board of its files
-pub record IsMeasureOf (sources : List FileView) (measure : Measure) : Type 0 where
+-- the measure of a package in a profile: that of the board of its files
+pub record IsMeasureOf (profile : Profile) (sources : List FileView) (measure : Measure) : Type 0 where
   pub board : BoardView
   pub read : IsBoard sources board
-  pub is : IsMeasure board measure
+  pub is : IsMeasure profile board measure
 
 -- the best pad of each hole of a board, on each of its first `count` layers
 pub record AreLayerBests (board : BoardView) (count : ℕ) (bests : List (List (Option BestPad))) : Type 0 where
   pub size : length bests ≡ count
-  pub each : (layer : ℕ) → layer < count → AreBestPads pad_covers (get_or board.layers layer []) board.holes (get_or bests layer [])
+  pub each : (layer : ℕ) → layer < count → AreBestPads wide_pad_covers (get_or board.layers layer []) board.holes (get_or bests layer [])
 
 -- the answer is the measure of the package, or its first file that is refused; if memory runs out nothing is claimed
-abbrev pub AnswersMeasure : List FileView → Result Measure PackageFault → Type 0
-AnswersMeasure sources (Ok measure) = IsMeasureOf sources measure
-AnswersMeasure sources (Err stop.Memory) = ⊤
-AnswersMeasure sources (Err (stop.File index fault)) = IsFirstRefused sources index fault
+abbrev pub AnswersMeasure : Profile → List FileView → Result Measure PackageFault → Type 0
+AnswersMeasure profile sources (Ok measure) = IsMeasureOf profile sources measure
+AnswersMeasure profile sources (Err stop.Memory) = ⊤
+AnswersMeasure profile sources (Err (stop.File index fault)) = IsFirstRefused sources index fault
 
 -- a package has a measure just where a check reports on it, and is refused just as by a check, unless memory runs out
 abbrev pub RefusesAlike : Result ReportView (ℕ × Fault) → Result Measure PackageFault → Type 0
@@ -65,6 +65,6 @@ RefusesAlike (Err refusal) (Err stop.Memory) = ⊤
 RefusesAlike (Ok report) (Err (stop.File index fault)) = ⊥
 RefusesAlike (Err refusal) (Err (stop.File index fault)) = refusal ≡ (index, fault)
 
--- a package whose files can all be read in the strict profile passes under just the rules that its board meets
+-- in each profile a package whose files can all be read passes under just the rules that its board meets
 abbrev pub MeasuredPasses : Type 0
-MeasuredPasses = (sources : List FileView) (board : BoardView) (ring gap : Met) → AreStrict sources → IsBoard sources board → MeetsRings pad_covers Strict board.layers board.holes ring → MeetsGaps board.holes gap → PackagePasses sources ring gap
+MeasuredPasses = (profile : Profile) (sources : List FileView) (board : BoardView) (ring gap : Met) → IsBoard sources board → MeetsRings wide_pad_covers profile board.layers board.holes ring → MeetsGaps board.holes gap → PackagePasses profile sources ring gap

@@ -1,7 +1,7 @@
 -- The lines of a measure for rings and for the least gap. Lengths are whole pm. The places of holes in the list of all holes count from 0.
 use Rattle.std.specs.Prelude.{◌≡◌, ◌⊎◌, ◌&&◌, ◌==◌, ℕ, pos, ◌+◌, ◌-◌, ◌*◌, ◌<◌, Bool, Option, Some, None, List, [], length, get_or, ⊤}
 use Rattle.std.specs.List.{All, AllPairs, Contains, filter, range_with_len}
-use Rattle.pad_shapes.specs.Pads.{pad_covers}
+use Rattle.wide_pads.specs.WidePads.{wide_pad_covers}
 use Rattle.ring_rules.specs.Places.{hole_at, default_hole}
 use Rattle.margins.specs.BestPads.{AreBestPads}
 use Rattle.margins.specs.Meets.{needs_ring}
@@ -18,7 +18,7 @@ use Rattle.report.specs.declared.RingLine.{RingLine}
 use Rattle.package_check.specs.Boards.{BoardView, CountsAddUp, holes_before}
 use Rattle.package_check.specs.declared.FileSum.{FileSum}
 use Rattle.board_report.specs.declared.places.FileHoles.{FileHoles}
-use Rattle.grid_units.specs.declared.profile.Profile.TheVariants.{Strict}
+use Rattle.grid_units.specs.declared.profile.Profile.{Profile}
 
 -- the hole at a place in the list of all holes has this number, from 1, in this drill file
 pub record IsPlace (files : List FileSum) (hole : ℕ) (place : HolePlace) : Type 0 where
@@ -68,12 +68,12 @@ IsLeastWithNumber files drill None (Some shown) = ⊥
 IsLeastWithNumber files drill (Some held) None = ⊥
 IsLeastWithNumber files drill (Some held) (Some shown) = (shown.ring ≡ held.ring) × IsPlace files held.hole (record { drill = drill; number = shown.hole })
 
--- the line of a row, by the best pads of its layer: `ring layer=1 drill=4 diameter=0.300000000 holes=81 bare=0 least=0.099394596 hole=68`
-pub record IsRowLine (board : BoardView) (key : RowKey) (line : RingLine) : Type 0 where
+-- the line of a row in a profile, by the best pads of its layer: `ring layer=1 drill=4 diameter=0.300000000 holes=81 bare=0 least=0.099394596 hole=68`
+pub record IsRowLine (profile : Profile) (board : BoardView) (key : RowKey) (line : RingLine) : Type 0 where
   pub bests : List (Option BestPad)
-  pub best : AreBestPads pad_covers (get_or board.layers key.layer []) board.holes bests
+  pub best : AreBestPads wide_pad_covers (get_or board.layers key.layer []) board.holes bests
   pub row : RingRow
-  pub is : IsRingRow Strict bests board.holes (places_of board key) row
+  pub is : IsRingRow profile bests board.holes (places_of board key) row
   pub layer : line.layer ≡ get_or board.layer_indexes key.layer 0
   pub drill : line.drill ≡ key.drill
   pub diameter : line.diameter ≡ pos (2 * key.radius)
@@ -86,17 +86,17 @@ abbrev pub IsBefore : RowKey → RowKey → Type 0
 IsBefore a b = (a.layer < b.layer) ⊎ ((a.layer ≡ b.layer) × ((a.drill < b.drill) ⊎ ((a.drill ≡ b.drill) × (a.radius < b.radius))))
 
 -- one line for each of some rows that has a hole, in the order of rows
-pub record AreRowLines (board : BoardView) (among : RowKey → Type 0) (lines : List RingLine) : Type 0 where
+pub record AreRowLines (profile : Profile) (board : BoardView) (among : RowKey → Type 0) (lines : List RingLine) : Type 0 where
   pub keys : List RowKey
   pub size : length keys ≡ length lines
-  pub line : (i : ℕ) (k : RowKey) (d : RingLine) → i < length keys → IsRowLine board (get_or keys i k) (get_or lines i d)
+  pub line : (i : ℕ) (k : RowKey) (d : RingLine) → i < length keys → IsRowLine profile board (get_or keys i k) (get_or lines i d)
   pub there : (i : ℕ) (k : RowKey) → i < length keys → among (get_or keys i k) × (0 < length (places_of board (get_or keys i k)))
   pub sorted : AllPairs IsBefore keys
   pub all : (key : RowKey) → among key → 0 < length (places_of board key) → Contains keys key
 
 -- the lines of a board's rings: those of all rows on its layers
-abbrev pub AreRingLines : BoardView → List RingLine → Type 0
-AreRingLines board lines = AreRowLines board (λ key. key.layer < length board.layers) lines
+abbrev pub AreRingLines : Profile → BoardView → List RingLine → Type 0
+AreRingLines profile board lines = AreRowLines profile board (λ key. key.layer < length board.layers) lines
 
 -- the line of the least gap, of the first two holes that have it: `gap least=0.300000000 drill=3 hole=1 drill=4 hole=47`
 pub record IsLeastGap (board : BoardView) (line : GapLine) : Type 0 where

@@ -1,7 +1,7 @@
 -- The lines of a measure for drill files whose coordinates seem to be off by a factor.
 use Rattle.std.specs.Prelude.{◌≡◌, ℕ, ◌+◌, ◌<◌, Bool, true, false, List, [], length, get_or}
 use Rattle.std.specs.List.{All, AllPairs, Contains, slice_range}
-use Rattle.pad_shapes.specs.declared.pad.Pad.{Pad}
+use Rattle.wide_pads.specs.declared.wide_pad.WidePad.{WidePad}
 use Rattle.ring_rules.specs.declared.finding.Drilled.{Drilled}
 use Rattle.report.specs.declared.UnitMistake.{UnitMistake}
 use Rattle.report.specs.UnitMistakes.{IsUnitMistake}
@@ -20,7 +20,7 @@ abbrev pub holes_in : BoardView → ℕ → List Drilled
 holes_in board file = slice_range board.holes (holes_before board.files file) (holes_before board.files (file + 1))
 
 -- the pads of the first layer, none where there is no layer
-abbrev pub first_pads : BoardView → List Pad
+abbrev pub first_pads : BoardView → List WidePad
 first_pads board = get_or board.layers 0 []
 
 -- the line of a plated drill file whose coordinates seem to be off, on a board with a layer: `scale drill=2 bare=3 factor=25.4 then=0`

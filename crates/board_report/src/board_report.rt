@@ -15,11 +15,11 @@ use crate::{files_with_holes, measure_with_bests};
 use grid_units::{Profile, Rules};
 use margins::{BestPad, ring_findings_from_bests};
 use package_check::{Board, File, Keep, PackageFault, read_package};
-use pad_shapes::Pad;
 use report::BoardReport;
 use ring_rules::laws::findings_name_places;
 use ring_rules::{Finding, gap_findings};
 use std::alloc::{AllocError, Global};
+use wide_pads::WidePad;
 
 /// The findings of a board in the strict profile: those of rings, by the best pads of its layers, then those of gaps.
 fn rings_and_gaps(
@@ -56,7 +56,7 @@ fn findings_on(
     ensures are { IfOk result (λ found. found.items ≡ board_findings (in_strict rules) board.now) }
     ensures places { IfOk result (λ found. All (NamesPlaces (length board.now.layers) (length board.now.holes)) found.items) }
 {
-    findings_name_places::<Pad>();
+    findings_name_places::<WidePad>();
     rings_and_gaps(alloc, board, bests, rules)
 }
 
@@ -68,7 +68,7 @@ fn findings_on(
 pub fn report_on(alloc: Global, board: &Board, rules: Rules) -> Result<BoardReport, AllocError>
     ensures { IfOk result (IsBoardReport (in_strict rules) board.now) }
 {
-    let (measure, bests) = measure_with_bests(alloc, board)?;
+    let (measure, bests) = measure_with_bests(alloc, board, Profile::Strict)?;
     let findings = findings_on(alloc, board, &bests, rules)?;
     let files = files_with_holes(alloc, board)?;
     Ok(BoardReport {

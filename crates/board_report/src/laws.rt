@@ -4,13 +4,13 @@ ghost use Rattle.board_report.specs.Measures.{MeasuredPasses};
 
 use margins::laws::{gaps_pass, rings_pass};
 use package_check::laws::unique_answer;
-use pad_shapes::Pad;
+use wide_pads::WidePad;
 
-/// A package whose files can all be read in the strict profile passes under just the rules that it meets.
+/// In each profile a package whose files can all be read passes under just the rules that it meets.
 pub fn measured_passes()
     ensures { MeasuredPasses }
 {
     unique_answer();
-    rings_pass::<Pad>();
+    rings_pass::<WidePad>();
     gaps_pass();
 }

@@ -1,12 +1,11 @@
 //! The measure of a package.
 
 ghost use Rattle.std.specs.Prelude.{◌≡◌, ◌++◌, ◌∷◌, [], ℕ, Result, IfOk, OnOk, false, true, length, map};
-ghost use Rattle.grid_units.specs.declared.profile.Profile.TheVariants.{Strict};
 ghost use Rattle.grid_units.specs.Holes.{GridRules};
 ghost use Rattle.grid_units.specs.declared.fault.Fault.{Fault as TheFault};
-ghost use Rattle.pad_shapes.specs.Pads.{pad_covers};
+ghost use Rattle.wide_pads.specs.WidePads.{wide_pad_covers};
 ghost use Rattle.margins.specs.Meets.{MeetsOnLayers};
-ghost use Rattle.package_check.specs.Package.{IsAnswer, file_views};
+ghost use Rattle.package_check.specs.Package.{IsAnswer, file_views_in};
 ghost use Rattle.package_check.specs.Reports.{ReportView};
 ghost use Rattle.board_report.specs.Measures.{AnswersMeasure, AreLayerBests, BoardPasses, IsMeasure, PackagePasses, RefusesAlike};
 ghost use Rattle.board_report.specs.Rows.{AreRingLines};
@@ -24,9 +23,9 @@ use margins::{
 };
 use package_check::laws::unique_answer;
 use package_check::{Board, File, Keep, PackageFault, read_package};
-use pad_shapes::Pad;
 use report::{GapLine, Measure, Meets, RingLine, UnitMistake};
 use std::alloc::{AllocError, Global};
+use wide_pads::WidePad;
 
 /// The greatest rings that a board meets, the lines of its rings and scales, and the best pads of its layers if they are kept.
 #[derive(Drop)]
@@ -56,9 +55,14 @@ fn keep(
 
 /// The rings of a board, and its scales. The best pads of each layer are searched for once. They are kept only if `keeps` says so, since
 /// those of all layers take memory. The drill files that have holes are listed once for all layers.
-fn rings_on(alloc: Global, board: &Board, keeps: bool) -> Result<Rings, AllocError>
-    ensures met { IfOk result (λ rings. MeetsOnLayers pad_covers Strict board.now.layers board.now.holes (length board.now.layers) rings.met) }
-    ensures lines { IfOk result (λ rings. AreRingLines board.now rings.lines.items) }
+fn rings_on(
+    alloc: Global,
+    board: &Board,
+    profile: Profile,
+    keeps: bool,
+) -> Result<Rings, AllocError>
+    ensures met { IfOk result (λ rings. MeetsOnLayers wide_pad_covers profile board.now.layers board.now.holes (length board.now.layers) rings.met) }
+    ensures lines { IfOk result (λ rings. AreRingLines profile board.now rings.lines.items) }
     ensures scales { IfOk result (λ rings. AreUnitMistakes board.now (length board.now.files) rings.scales.items) }
     ensures bests { keeps ≡ true → IfOk result (λ rings. AreLayerBests board.now (length board.now.layers) (map (λ bests. bests.items) rings.bests.items)) }
 {
@@ -74,8 +78,8 @@ fn rings_on(alloc: Global, board: &Board, keeps: bool) -> Result<Rings, AllocErr
         if layer == 0 {
             scales = unit_mistakes(alloc, board, layers[layer], &bests)?;
         }
-        met = met_with_layer(&layers, layer, &bests, holes, Profile::Strict, met);
-        push_layer_lines(alloc, board, &files, &bests, layer, &mut lines)?;
+        met = met_with_layer(&layers, layer, &bests, holes, profile, met);
+        push_layer_lines(alloc, board, &files, profile, &bests, layer, &mut lines)?;
         keep(keeps, bests, &mut kept)?;
     }
     Ok(Rings {
@@ -90,12 +94,13 @@ fn rings_on(alloc: Global, board: &Board, keeps: bool) -> Result<Rings, AllocErr
 fn measure_of(
     alloc: Global,
     board: &Board,
+    profile: Profile,
     keeps: bool,
 ) -> Result<(Measure, Vec<Vec<Option<BestPad>>>), AllocError>
-    ensures exact { IfOk result (λ found. IsMeasure board.now found.0) }
+    ensures exact { IfOk result (λ found. IsMeasure profile board.now found.0) }
     ensures bests { keeps ≡ true → IfOk result (λ found. AreLayerBests board.now (length board.now.layers) (map (λ bests. bests.items) found.1.items)) }
 {
-    let rings = rings_on(alloc, board, keeps)?;
+    let rings = rings_on(alloc, board, profile, keeps)?;
     let nearest = nearest_holes(alloc, board.holes())?;
     let gap = gap_met_of_nearest(board.holes(), nearest);
     let measure = Measure {
@@ -112,25 +117,25 @@ fn measure_of(
 }
 
 /// The measure of a board, without best pads.
-fn measure_alone(alloc: Global, board: &Board) -> Result<Measure, AllocError>
-    ensures { IfOk result (IsMeasure board.now) }
+fn measure_alone(alloc: Global, board: &Board, profile: Profile) -> Result<Measure, AllocError>
+    ensures { IfOk result (IsMeasure profile board.now) }
 {
-    let (measure, _) = measure_of(alloc, board, false)?;
+    let (measure, _) = measure_of(alloc, board, profile, false)?;
     Ok(measure)
 }
 
-/// The measure of a board.
+/// The measure of a board that was read in a profile.
 ///
 /// # Errors
 ///
 /// An `AllocError` when memory runs out.
-pub fn measure_board(alloc: Global, board: &Board) -> Result<Measure, AllocError>
-    ensures exact { IfOk result (IsMeasure board.now) }
-    ensures passes { IfOk result (λ measure. BoardPasses board.now measure.meets.ring measure.meets.gap) }
+pub fn measure_board(alloc: Global, board: &Board, profile: Profile) -> Result<Measure, AllocError>
+    ensures exact { IfOk result (IsMeasure profile board.now) }
+    ensures passes { IfOk result (λ measure. BoardPasses profile board.now measure.meets.ring measure.meets.gap) }
 {
-    rings_pass::<Pad>();
+    rings_pass::<WidePad>();
     gaps_pass();
-    measure_alone(alloc, board)
+    measure_alone(alloc, board, profile)
 }
 
 /// The measure of a board, and for each of its layers the best pad of each hole there. These take memory for each layer and hole;
@@ -142,18 +147,19 @@ pub fn measure_board(alloc: Global, board: &Board) -> Result<Measure, AllocError
 pub fn measure_with_bests(
     alloc: Global,
     board: &Board,
+    profile: Profile,
 ) -> Result<(Measure, Vec<Vec<Option<BestPad>>>), AllocError>
-    ensures exact { IfOk result (λ found. IsMeasure board.now found.0) }
+    ensures exact { IfOk result (λ found. IsMeasure profile board.now found.0) }
     ensures bests { IfOk result (λ found. AreLayerBests board.now (length board.now.layers) (map (λ bests. bests.items) found.1.items)) }
 {
-    measure_of(alloc, board, true)
+    measure_of(alloc, board, profile, true)
 }
 
-fn measure_files(alloc: Global, files: &[File]) -> Result<Measure, PackageFault>
-    ensures { AnswersMeasure (file_views files.now) result }
+fn measure_files(alloc: Global, profile: Profile, files: &[File]) -> Result<Measure, PackageFault>
+    ensures { AnswersMeasure profile (file_views_in profile files.now) result }
 {
-    match read_package(alloc, Profile::Strict, files, Keep::Pads) {
-        Ok(board) => match measure_board(alloc, &board) {
+    match read_package(alloc, profile, files, Keep::Pads) {
+        Ok(board) => match measure_board(alloc, &board, profile) {
             Ok(measure) => Ok(measure),
             Err(_) => Err(PackageFault::Memory),
         },
@@ -161,19 +167,23 @@ fn measure_files(alloc: Global, files: &[File]) -> Result<Measure, PackageFault>
     }
 }
 
-/// The measure of the package of these files, read in the strict profile. A check of them in that profile has no findings under just the
-/// rules that it allows: a ring of 0 or more, and a gap of 1 pm or more.
+/// The measure of the package of these files in a profile. A check of them in that profile has no findings under just the rules that it
+/// allows: a ring of 0 or more, and a gap of 1 pm or more.
 ///
 /// # Errors
 ///
 /// As those of [`package_check::check_bytes`] on these files, whatever its rules are: the first file that is refused, by its index,
 /// with its fault; `Memory` when memory runs out.
-pub fn measure_bytes(alloc: Global, files: &[File]) -> Result<Measure, PackageFault>
-    ensures exact { AnswersMeasure (file_views files.now) result }
-    ensures same { (rules : GridRules) (answer : Result ReportView (ℕ × TheFault)) → IsAnswer (file_views files.now) rules answer → RefusesAlike answer result }
-    ensures passes { IfOk result (λ measure. PackagePasses (file_views files.now) measure.meets.ring measure.meets.gap) }
+pub fn measure_bytes(
+    alloc: Global,
+    profile: Profile,
+    files: &[File],
+) -> Result<Measure, PackageFault>
+    ensures exact { AnswersMeasure profile (file_views_in profile files.now) result }
+    ensures same { (rules : GridRules) (answer : Result ReportView (ℕ × TheFault)) → IsAnswer (file_views_in profile files.now) rules answer → RefusesAlike answer result }
+    ensures passes { IfOk result (λ measure. PackagePasses profile (file_views_in profile files.now) measure.meets.ring measure.meets.gap) }
 {
     unique_answer();
     measured_passes();
-    measure_files(alloc, files)
+    measure_files(alloc, profile, files)
 }

@@ -4,7 +4,7 @@ ghost use Rattle.board_report.specs.BoardReport.{ReportAgreesWithCheck};
 
 use package_check::laws::{passing_is_sound, unique_answer};
 
-/// In the strict profile the entries of a report are those of its check's findings, in order, and a package whose report has none is sound.
+/// The entries of a report are those of its check's findings, in order, and a package whose report has none is sound.
 pub fn report_agrees_with_check()
     ensures { ReportAgreesWithCheck }
 {

@@ -14,16 +14,16 @@ use grid_units::Rules;
 use layer_image::Flash;
 use margins::BestPad;
 use package_check::Board;
-use pad_shapes::Pad;
 use report::{CauseFinder, RingLack};
 use ring_rules::Finding;
 use std::alloc::{AllocError, Global};
+use wide_pads::WidePad;
 
 /// The data made once for a board, for all entries of its rings.
 #[derive(Drop)]
 pub(crate) struct BoardData<'a> {
     /// The pads of each layer.
-    pub(crate) layers: &'a [&'a [Pad]],
+    pub(crate) layers: &'a [&'a [WidePad]],
     /// The best of these for each hole.
     pub(crate) bests: &'a [Vec<Option<BestPad>>],
     /// The drill files that have holes.

@@ -2,7 +2,7 @@
 
 ghost use Rattle.std.specs.Prelude.{◌≡◌, ◌==◌, ◌&&◌, ◌||◌, ◌++◌, ◌∷◌, ◌+◌, ◌<◌, ◌≤◌, [], ℕ, length, get_or, IfOk, OnOk, if◌then◌else◌};
 ghost use Rattle.std.specs.List.{All};
-ghost use Rattle.pad_shapes.specs.Pads.{pad_covers};
+ghost use Rattle.wide_pads.specs.WidePads.{wide_pad_covers};
 ghost use Rattle.margins.specs.BestPads.{AreBestPads};
 ghost use Rattle.margins.specs.Meets.{needs_ring};
 ghost use Rattle.board_report.specs.Rows.{AreFilesWithHoles, AreRowLines, IsRowLine, places_of};
@@ -103,18 +103,19 @@ fn numbered_least(row: &RingRow, start: usize) -> Option<LeastRing>
 /// The line of a row, by the places of its holes.
 fn row_line(
     board: &Board,
+    profile: Profile,
     bests: &[Option<BestPad>],
     file_holes: &LayerFileHoles,
     places: &[usize],
 ) -> RingLine
     requires file_holes { IsLayerFileHoles board.now file_holes.now }
-    requires bests { AreBestPads pad_covers (get_or board.now.layers file_holes.now.layer []) board.now.holes bests.now }
+    requires bests { AreBestPads wide_pad_covers (get_or board.now.layers file_holes.now.layer []) board.now.holes bests.now }
     requires some { 0 < length places.now }
     requires inside { All (λ place. (file_holes.now.start ≤ place) × (place < file_holes.now.end)) places.now }
-    ensures { (radius : ℕ) → places.now ≡ places_of board.now (row_of file_holes.now radius) → IsRowLine board.now (row_of file_holes.now radius) result }
+    ensures { (radius : ℕ) → places.now ≡ places_of board.now (row_of file_holes.now radius) → IsRowLine profile board.now (row_of file_holes.now radius) result }
 {
     let holes = board.holes();
-    let row = ring_row(Profile::Strict, bests, holes, places);
+    let row = ring_row(profile, bests, holes, places);
     RingLine {
         layer: layer_index(board, file_holes.layer),
         drill: file_holes.drill,
@@ -129,18 +130,19 @@ fn row_line(
 fn lines_of_table(
     alloc: Global,
     board: &Board,
+    profile: Profile,
     bests: &[Option<BestPad>],
     file_holes: &LayerFileHoles,
     table: &BTreeMap<u64, Vec<usize>>,
 ) -> Result<Vec<RingLine>, AllocError>
     requires file_holes { IsLayerFileHoles board.now file_holes.now }
-    requires bests { AreBestPads pad_covers (get_or board.now.layers file_holes.now.layer []) board.now.holes bests.now }
+    requires bests { AreBestPads wide_pad_covers (get_or board.now.layers file_holes.now.layer []) board.now.holes bests.now }
     requires table { IsTableOf board.now file_holes.now table.now }
-    ensures { IfOk result (λ lines. AreRowLines board.now (IsRowOf file_holes.now) lines.items) }
+    ensures { IfOk result (λ lines. AreRowLines profile board.now (IsRowOf file_holes.now) lines.items) }
 {
     let mut lines = Vec::new(alloc);
     for places in table.values() {
-        lines.push(row_line(board, bests, file_holes, places))?;
+        lines.push(row_line(board, profile, bests, file_holes, places))?;
     }
     Ok(lines)
 }
@@ -149,15 +151,16 @@ fn lines_of_table(
 fn file_lines(
     alloc: Global,
     board: &Board,
+    profile: Profile,
     bests: &[Option<BestPad>],
     file_holes: &LayerFileHoles,
 ) -> Result<Vec<RingLine>, AllocError>
     requires file_holes { IsLayerFileHoles board.now file_holes.now }
-    requires bests { AreBestPads pad_covers (get_or board.now.layers file_holes.now.layer []) board.now.holes bests.now }
-    ensures { IfOk result (λ lines. AreRowLines board.now (IsRowOf file_holes.now) lines.items) }
+    requires bests { AreBestPads wide_pad_covers (get_or board.now.layers file_holes.now.layer []) board.now.holes bests.now }
+    ensures { IfOk result (λ lines. AreRowLines profile board.now (IsRowOf file_holes.now) lines.items) }
 {
     let table = table_of(alloc, board, file_holes)?;
-    lines_of_table(alloc, board, bests, file_holes, &table)
+    lines_of_table(alloc, board, profile, bests, file_holes, &table)
 }
 
 /// Appends the lines of a layer, by the drill files that have holes and the best pads of the holes there.
@@ -165,14 +168,15 @@ pub(crate) fn push_layer_lines(
     alloc: Global,
     board: &Board,
     files: &[FileHoles],
+    profile: Profile,
     bests: &[Option<BestPad>],
     layer: usize,
     lines: &mut Vec<RingLine>,
 ) -> Result<(), AllocError>
     requires files { AreFilesWithHoles board.now files.now }
-    requires bests { AreBestPads pad_covers (get_or board.now.layers layer []) board.now.holes bests.now }
-    requires so_far { AreRowLines board.now (λ key. key.layer < layer) lines.old.items }
-    ensures { OnOk result (AreRowLines board.now (λ key. key.layer < layer + 1) lines.new.items) }
+    requires bests { AreBestPads wide_pad_covers (get_or board.now.layers layer []) board.now.holes bests.now }
+    requires so_far { AreRowLines profile board.now (λ key. key.layer < layer) lines.old.items }
+    ensures { OnOk result (AreRowLines profile board.now (λ key. key.layer < layer + 1) lines.new.items) }
 {
     for file in files {
         let file_holes = LayerFileHoles {
@@ -181,7 +185,7 @@ pub(crate) fn push_layer_lines(
             start: file.start,
             end: file.end,
         };
-        let its = file_lines(alloc, board, bests, &file_holes)?;
+        let its = file_lines(alloc, board, profile, bests, &file_holes)?;
         lines.extend_from_slice(&its)?;
     }
     Ok(())

@@ -1,7 +1,7 @@
 //! The lines of drill files whose coordinates seem to be off by a factor.
 
 ghost use Rattle.std.specs.Prelude.{◌≡◌, ◌++◌, ◌<◌, length, IfOk, OnOk};
-ghost use Rattle.pad_shapes.specs.Pads.{pad_covers};
+ghost use Rattle.wide_pads.specs.WidePads.{wide_pad_covers};
 ghost use Rattle.margins.specs.BestPads.{AreBestPads};
 ghost use Rattle.board_report.specs.UnitMistakeLines.{AreUnitMistakes, first_pads, is_plated};
 ghost use Rattle.board_report.specs.Inner.Tables.{AreSearched, AreFoundMistakes, IsSearched, IsLayerFileHoles, listed};
@@ -10,9 +10,9 @@ use crate::places::end_of;
 use crate::rows::LayerFileHoles;
 use margins::BestPad;
 use package_check::{Board, FileSum};
-use pad_shapes::Pad;
 use report::{FileRange, UnitMistake};
 use std::alloc::{AllocError, Global};
+use wide_pads::WidePad;
 
 /// Whether a file is a drill file of plated holes.
 fn is_plated(file: &FileSum) -> bool
@@ -89,10 +89,10 @@ fn all_listed(
 pub(crate) fn unit_mistakes(
     alloc: Global,
     board: &Board,
-    pads: &[Pad],
+    pads: &[WidePad],
     bests: &[Option<BestPad>],
 ) -> Result<Vec<UnitMistake>, AllocError>
-    requires bests { AreBestPads pad_covers pads.now board.now.holes bests.now }
+    requires bests { AreBestPads wide_pad_covers pads.now board.now.holes bests.now }
     requires pads { pads.now ≡ first_pads board.now }
     requires layer { 0 < length board.now.layers }
     ensures { IfOk result (λ lines. AreUnitMistakes board.now (length board.now.files) lines.items) }

@@ -98,7 +98,9 @@ fn measured(
     drill: &[u8],
 ) -> Result<(Meets, Option<GapLine>), Failure> {
     let files = files(layer, drill);
-    let measure = measure_bytes(alloc, &files).ok().ok_or("no measure")?;
+    let measure = measure_bytes(alloc, Profile::Strict, &files)
+        .ok()
+        .ok_or("no measure")?;
     Ok((measure.meets, measure.gap))
 }
 
@@ -148,6 +150,52 @@ fn gaps_of_two_holes(rt: HostRuntime) -> Result<(), Failure> {
     Ok(())
 }
 
+/// A square of 2 mm as a contour.
+const CONTOUR: &[u8] =
+    b"%FSLAX46Y46*%\n%MOMM*%\nG01*\nG36*\nX-1000000Y-1000000D02*\nX1000000D01*\nY1000000D01*\nX-1000000D01*\nY-1000000D01*\nG37*\nM02*\n";
+
+/// A square of 2 mm with corners of the radius 0.25 mm, as a macro.
+const ROUNDED: &[u8] =
+    b"%FSLAX46Y46*%\n%MOMM*%\n%AMRR*21,1,2,1.5,0,0,0*21,1,1.5,2,0,0,0*1,1,0.5,0.75,0.75*1,1,0.5,-0.75,0.75*1,1,0.5,0.75,-0.75*1,1,0.5,-0.75,-0.75*%\n%ADD10RR*%\nD10*\nX0Y0D03*\nM02*\n";
+
+/// A square of 0.65 mm that is taken away again.
+const CLEARED: &[u8] =
+    b"%FSLAX46Y46*%\n%MOMM*%\n%ADD10R,0.65X0.65*%\nD10*\nX0Y0D03*\n%LPC*%\nX0Y0D03*\nM02*\n";
+
+const BESIDE_THE_MIDDLE: &[u8] = b"M48\nMETRIC\nT1C0.4\n%\nT1\nX0.5Y0.0\nM30\n";
+
+const IN_A_CORNER: &[u8] = b"M48\nMETRIC\nT1C0.4\n%\nT1\nX0.75Y0.75\nM30\n";
+
+const OBLIQUE: &[u8] = b"M48\nMETRIC\nT1C0.5\n%\nT1\nX0.0Y0.0G85X0.3Y0.4\nM30\n";
+
+/// A layer, a drill file, and the greatest ring of its one hole in the wide profile. In the strict one the hole is bare, or the layer is refused.
+const WIDE_RINGS: [(&[u8], &[u8], Met); 7] = [
+    (CONTOUR, HIT, Met::UpTo(800_000_000)),
+    (CONTOUR, BESIDE_THE_MIDDLE, Met::UpTo(300_000_000)),
+    (CONTOUR, OBLIQUE, Met::UpTo(350_000_000)),
+    (FOUR, OBLIQUE, Met::UpTo(1_250_000_000)),
+    (ROUNDED, HIT, Met::UpTo(800_000_000)),
+    (ROUNDED, IN_A_CORNER, Met::UpTo(50_000_000)),
+    (CLEARED, HIT, Met::None),
+];
+
+/// The greatest ring of a package in a profile, or `None` where it is refused.
+fn ring_in(alloc: Global, profile: Profile, files: &[File]) -> Option<Met> {
+    let measure = measure_bytes(alloc, profile, files).ok()?;
+    Some(measure.meets.ring)
+}
+
+#[test]
+fn rings_in_both_profiles(rt: HostRuntime) {
+    let alloc = rt.alloc();
+    for &(layer, drill, ring) in &WIDE_RINGS {
+        let files = files(layer, drill);
+        let strict = ring_in(alloc, Profile::Strict, &files);
+        let is_strict = matches!(strict, None | Some(Met::None));
+        assert!(rt; is_strict && ring_in(alloc, Profile::Wide, &files) == Some(ring));
+    }
+}
+
 fn gap_line(gap: i64, first: (usize, usize), second: (usize, usize)) -> GapLine {
     GapLine {
         gap,
@@ -192,7 +240,9 @@ fn scale_of(
         file(role, "drill", TENTHS),
         file(Role::Copper, "second", second),
     ];
-    let measure = measure_bytes(rt.alloc(), &files).ok().ok_or("no measure")?;
+    let measure = measure_bytes(rt.alloc(), Profile::Strict, &files)
+        .ok()
+        .ok_or("no measure")?;
     Ok(measure.scales.first().copied())
 }
 
@@ -231,7 +281,9 @@ fn scales_of_many_records(rt: HostRuntime) -> Result<(), Failure> {
         file(Role::Plated, "none", NO_HIT),
         file(Role::Plated, "five", TENTHS),
     ];
-    let measure = measure_bytes(rt.alloc(), &files).ok().ok_or("no measure")?;
+    let measure = measure_bytes(rt.alloc(), Profile::Strict, &files)
+        .ok()
+        .ok_or("no measure")?;
     let wanted = [tenth(0), tenth(1), tenth(4), tenth(6)];
     assert!(rt; measure.scales.as_slice() == wanted.as_slice());
     Ok(())
@@ -246,7 +298,9 @@ fn a_gap_between_files(rt: HostRuntime) -> Result<(), Failure> {
         file(Role::Copper, "top", FOUR),
         file(Role::Unplated, "second", two),
     ];
-    let measure = measure_bytes(rt.alloc(), &files).ok().ok_or("no measure")?;
+    let measure = measure_bytes(rt.alloc(), Profile::Strict, &files)
+        .ok()
+        .ok_or("no measure")?;
     assert!(rt; measure.gap == Some(gap_line(200_000_000, (0, 2), (2, 2))));
     Ok(())
 }
@@ -305,7 +359,9 @@ fn first_row(
     drill: &[u8],
 ) -> Result<(usize, Option<RingLine>), Failure> {
     let files = files(layer, drill);
-    let measure = measure_bytes(alloc, &files).ok().ok_or("no measure")?;
+    let measure = measure_bytes(alloc, Profile::Strict, &files)
+        .ok()
+        .ok_or("no measure")?;
     Ok((measure.rings.len(), measure.rings.first().copied()))
 }
 
@@ -360,7 +416,7 @@ fn row_of(line: &RingLine) -> Option<(usize, usize, i64, i64, usize)> {
 
 #[test]
 fn lines_in_their_order(rt: HostRuntime) -> Result<(), Failure> {
-    let measure = measure_bytes(rt.alloc(), &seven_files())
+    let measure = measure_bytes(rt.alloc(), Profile::Strict, &seven_files())
         .ok()
         .ok_or("no measure")?;
     let mut lines = measure.rings.iter();
@@ -396,7 +452,9 @@ fn places_of_holes(rt: HostRuntime) -> Result<(), Failure> {
 #[test]
 fn unplated_holes(rt: HostRuntime) -> Result<(), Failure> {
     let files = files_as(Role::Unplated, SMALL, FAR);
-    let measure = measure_bytes(rt.alloc(), &files).ok().ok_or("no measure")?;
+    let measure = measure_bytes(rt.alloc(), Profile::Strict, &files)
+        .ok()
+        .ok_or("no measure")?;
     let meets = measure.meets;
     assert!(rt; (meets.ring, meets.gap) == (Met::Any, Met::UpTo(1_014_213_562)));
     Ok(())
@@ -404,7 +462,7 @@ fn unplated_holes(rt: HostRuntime) -> Result<(), Failure> {
 
 #[test]
 fn what_is_refused_has_no_measure(rt: HostRuntime) {
-    let refused = measure_bytes(rt.alloc(), &files(b"", HIT)).err();
+    let refused = measure_bytes(rt.alloc(), Profile::Strict, &files(b"", HIT)).err();
     let fault = Fault {
         place: 1,
         byte: 0,
@@ -431,7 +489,7 @@ fn best_pads_of_each_layer(rt: HostRuntime) -> Result<(), Failure> {
     let board = read_package(alloc, Profile::Strict, &files, Keep::Pads)
         .ok()
         .ok_or("no board")?;
-    let (measure, bests) = measure_with_bests(alloc, &board)?;
+    let (measure, bests) = measure_with_bests(alloc, &board, Profile::Strict)?;
     let depths = [0, 1, 2].map(|layer| first_depth(&bests, layer));
     let wanted = [Some(325_000_000), None, Some(1_000_000_000)];
     assert!(rt; (measure.rings.len(), bests.len()) == (3, 3) && depths == wanted);

@@ -46,15 +46,15 @@ report_answer r g n v l o m p q t w x u s =
 
 -- ---- `measure`
 
-abbrev pub measure_options : Option Text → Text → Options
-measure_options o m = (codes "format", o) ∷ (codes "manifest", Some m) ∷ []
+abbrev pub measure_options : Option Text → Option Text → Text → Options
+measure_options p o m = (codes "profile", p) ∷ (codes "format", o) ∷ (codes "manifest", Some m) ∷ []
 
-pub measure_answer : (o : Option Text) (m : Text) → is_plain_if_some o ≡ true → is_plain_word m ≡ true
-    → answer (measure_words o m) ≡ (true, Some (codes "measure", rows_of (measure_options o m)))
+pub measure_answer : (p o : Option Text) (m : Text) → is_plain_if_some p ≡ true → is_plain_if_some o ≡ true → is_plain_word m ≡ true
+    → answer (measure_words p o m) ≡ (true, Some (codes "measure", rows_of (measure_options p o m)))
 unfolding clap_on_literals
-measure_answer o m t s =
-    command_answer (codes "measure") ((codes "format", o) ∷ []) (codes "manifest") m
-    (record { named = (λ rest. refl, λ rest. refl); options = (refl, tt); end = refl }) (t, tt) s
+measure_answer p o m q t s =
+    command_answer (codes "measure") ((codes "profile", p) ∷ (codes "format", o) ∷ []) (codes "manifest") m
+    (record { named = (λ rest. refl, λ rest. refl); options = (refl, (refl, tt)); end = refl }) (q, (t, tt)) s
 
 -- ---- `draw`
 

@@ -18,10 +18,11 @@ some_is x y e = cc
 differ : (a : Text) {b : Text} → a ≡ b → bytes_eq a b ≡ false → ⊥
 differ a {b} same e = false≢true (sym e ∙ (bytes_eq-Decides a b).1 same)
 
-pub is_measure : (o : Option Text) (m : Text) (request : Request) → IsRequestOf (Some (codes "measure", rows_of (measure_options o m))) request → IsMeasure o m request
-is_measure o m (Measure format manifest) a =
-    (sym a.1 ∙ first_is (codes "format") (measure_options o m), some_is manifest.now m (sym a.2 ∙ first_is (codes "manifest") (measure_options o m)))
-is_measure o m request a = absurd (differ (codes "measure") a.0 refl)
+pub is_measure : (p o : Option Text) (m : Text) (request : Request) → IsRequestOf (Some (codes "measure", rows_of (measure_options p o m))) request → IsMeasure p o m request
+is_measure p o m (Measure profile format manifest) a =
+    let all = measure_options p o m in
+    (sym a.1 ∙ first_is (codes "profile") all, sym a.2 ∙ first_is (codes "format") all, some_is manifest.now m (sym a.3 ∙ first_is (codes "manifest") all))
+is_measure p o m request a = absurd (differ (codes "measure") a.0 refl)
 
 pub is_report : (r g : Text) (n v l o : Option Text) (m : Text) (request : Request) → IsRequestOf (Some (codes "report", rows_of (report_options r g n v l o m))) request → IsReport r g n v l o m request
 is_report r g n v l o m (Report ring gap limit waive outline format manifest) a =

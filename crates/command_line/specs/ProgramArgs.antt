@@ -44,9 +44,9 @@ check_app =
     with_rule (with_rule (with_rule (with_rule (new_app (codes "check")) (option (codes "ring"))) (option (codes "gap"))) (optional_option (codes "profile")))
     (positional (codes "manifest"))
 
--- `measure [--format text|json] MANIFEST`
+-- `measure [--profile strict|wide] [--format text|json] MANIFEST`
 abbrev pub measure_app : App
-measure_app = with_rule (with_rule (new_app (codes "measure")) (optional_option (codes "format"))) (positional (codes "manifest"))
+measure_app = with_rule (with_rule (with_rule (new_app (codes "measure")) (optional_option (codes "profile"))) (optional_option (codes "format"))) (positional (codes "manifest"))
 
 -- `report --ring MM --gap MM [--max N] [--waive FILE] [--outline FILE] [--format text|html|json|waivers] MANIFEST`
 abbrev pub report_app : App
@@ -97,8 +97,9 @@ IsRequestOf None request = ⊥
 IsRequestOf (Some (name, rows)) (Check ring gap profile manifest) =
     (name ≡ codes "check") × (first_of (codes "ring") rows ≡ Some ring.now) × (first_of (codes "gap") rows ≡ Some gap.now)
     × (first_of (codes "profile") rows ≡ option_map (λ p. p.now) profile) × (first_of (codes "manifest") rows ≡ Some manifest.now)
-IsRequestOf (Some (name, rows)) (Measure format manifest) =
-    (name ≡ codes "measure") × (first_of (codes "format") rows ≡ option_map (λ f. f.now) format) × (first_of (codes "manifest") rows ≡ Some manifest.now)
+IsRequestOf (Some (name, rows)) (Measure profile format manifest) =
+    (name ≡ codes "measure") × (first_of (codes "profile") rows ≡ option_map (λ p. p.now) profile)
+    × (first_of (codes "format") rows ≡ option_map (λ f. f.now) format) × (first_of (codes "manifest") rows ≡ Some manifest.now)
 IsRequestOf (Some (name, rows)) (Report ring gap limit waive outline format manifest) =
     (name ≡ codes "report") × (first_of (codes "ring") rows ≡ Some ring.now) × (first_of (codes "gap") rows ≡ Some gap.now)
     × (first_of (codes "max") rows ≡ option_map (λ n. n.now) limit) × (first_of (codes "waive") rows ≡ option_map (λ w. w.now) waive)
@@ -147,7 +148,7 @@ check_words ring gap profile manifest = codes "check" ∷ codes "--ring" ∷ rin
 -- the request is a check with just this ring, gap and manifest, and just this word for a profile or none
 abbrev pub IsCheck : Text → Text → Option Text → Text → Request → Type 0
 IsCheck r g p m (Check ring gap profile manifest) = (ring.now ≡ r) × (gap.now ≡ g) × (option_map (λ w. w.now) profile ≡ p) × (manifest.now ≡ m)
-IsCheck r g p m (Measure format manifest) = ⊥
+IsCheck r g p m (Measure profile format manifest) = ⊥
 IsCheck r g p m (Report ring gap limit waive outline format manifest) = ⊥
 IsCheck r g p m (Draw ring gap outline manifest) = ⊥
 IsCheck r g p m (Show kind file) = ⊥
@@ -172,7 +173,7 @@ file_words name kind file = name ∷ codes "--kind" ∷ kind ∷ file ∷ []
 -- the request is to show this file as one of this kind
 abbrev pub IsShow : Text → Text → Request → Type 0
 IsShow k f (Check ring gap profile manifest) = ⊥
-IsShow k f (Measure format manifest) = ⊥
+IsShow k f (Measure profile format manifest) = ⊥
 IsShow k f (Report ring gap limit waive outline format manifest) = ⊥
 IsShow k f (Draw ring gap outline manifest) = ⊥
 IsShow k f (Show kind file) = (kind.now ≡ k) × (file.now ≡ f)
@@ -183,7 +184,7 @@ IsShow k f (Explain word) = ⊥
 -- the request is to rewrite this file as one of this kind
 abbrev pub IsRewrite : Text → Text → Request → Type 0
 IsRewrite k f (Check ring gap profile manifest) = ⊥
-IsRewrite k f (Measure format manifest) = ⊥
+IsRewrite k f (Measure profile format manifest) = ⊥
 IsRewrite k f (Report ring gap limit waive outline format manifest) = ⊥
 IsRewrite k f (Draw ring gap outline manifest) = ⊥
 IsRewrite k f (Show kind file) = ⊥
@@ -212,7 +213,7 @@ manifest_words why files = codes "manifest" ∷ (if why then codes "--why" ∷ f
 -- the request is for a manifest of these files, or for the table of why
 abbrev pub IsManifest : Bool → List Text → Request → Type 0
 IsManifest w fs (Check ring gap profile manifest) = ⊥
-IsManifest w fs (Measure format manifest) = ⊥
+IsManifest w fs (Measure profile format manifest) = ⊥
 IsManifest w fs (Report ring gap limit waive outline format manifest) = ⊥
 IsManifest w fs (Draw ring gap outline manifest) = ⊥
 IsManifest w fs (Show kind file) = ⊥
@@ -220,20 +221,20 @@ IsManifest w fs (Rewrite kind file) = ⊥
 IsManifest w fs (Manifest why files) = (why ≡ w) × (map (λ file. file.now) files.items ≡ fs)
 IsManifest w fs (Explain word) = ⊥
 
--- the words `measure [--format F] M`
-abbrev pub measure_words : Option Text → Text → List Text
-measure_words format manifest = codes "measure" ∷ (option_words (codes "--format") format ++ manifest ∷ [])
+-- the words `measure [--profile P] [--format F] M`
+abbrev pub measure_words : Option Text → Option Text → Text → List Text
+measure_words profile format manifest = codes "measure" ∷ (option_words (codes "--profile") profile ++ (option_words (codes "--format") format ++ manifest ∷ []))
 
--- the request is to measure the package of this manifest, with just this format or with none
-abbrev pub IsMeasure : Option Text → Text → Request → Type 0
-IsMeasure o m (Check ring gap profile manifest) = ⊥
-IsMeasure o m (Measure format manifest) = (option_map (λ f. f.now) format ≡ o) × (manifest.now ≡ m)
-IsMeasure o m (Report ring gap limit waive outline format manifest) = ⊥
-IsMeasure o m (Draw ring gap outline manifest) = ⊥
-IsMeasure o m (Show kind file) = ⊥
-IsMeasure o m (Rewrite kind file) = ⊥
-IsMeasure o m (Manifest why files) = ⊥
-IsMeasure o m (Explain word) = ⊥
+-- the request is to measure the package of this manifest, with just these words for a profile and a format or with none
+abbrev pub IsMeasure : Option Text → Option Text → Text → Request → Type 0
+IsMeasure p o m (Check ring gap profile manifest) = ⊥
+IsMeasure p o m (Measure profile format manifest) = (option_map (λ w. w.now) profile ≡ p) × (option_map (λ f. f.now) format ≡ o) × (manifest.now ≡ m)
+IsMeasure p o m (Report ring gap limit waive outline format manifest) = ⊥
+IsMeasure p o m (Draw ring gap outline manifest) = ⊥
+IsMeasure p o m (Show kind file) = ⊥
+IsMeasure p o m (Rewrite kind file) = ⊥
+IsMeasure p o m (Manifest why files) = ⊥
+IsMeasure p o m (Explain word) = ⊥
 
 -- the words `report --ring R --gap G [--max N] [--waive V] [--outline O] [--format F] M`
 abbrev pub report_words : Text → Text → Option Text → Option Text → Option Text → Option Text → Text → List Text
@@ -244,7 +245,7 @@ report_words ring gap limit waive outline format manifest =
 -- the request is a report with just this ring, gap and manifest, and just these of a limit of findings, a file of waivers, a file of an outline and a format
 abbrev pub IsReport : Text → Text → Option Text → Option Text → Option Text → Option Text → Text → Request → Type 0
 IsReport r g n v l o m (Check ring gap profile manifest) = ⊥
-IsReport r g n v l o m (Measure format manifest) = ⊥
+IsReport r g n v l o m (Measure profile format manifest) = ⊥
 IsReport r g n v l o m (Report ring gap limit waive outline format manifest) =
     (ring.now ≡ r) × (gap.now ≡ g) × (option_map (λ t. t.now) limit ≡ n) × (option_map (λ w. w.now) waive ≡ v) × (option_map (λ f. f.now) outline ≡ l) × (option_map (λ f. f.now) format ≡ o) × (manifest.now ≡ m)
 IsReport r g n v l o m (Draw ring gap outline manifest) = ⊥
@@ -267,7 +268,7 @@ are_plain_rules (Some (ring, gap)) = is_plain_word ring && is_plain_word gap
 -- the request is to draw the package of this manifest, with just this ring and gap or with neither, and just this file of an outline or none
 abbrev pub IsDraw : Option (Text × Text) → Option Text → Text → Request → Type 0
 IsDraw o l m (Check ring gap profile manifest) = ⊥
-IsDraw o l m (Measure format manifest) = ⊥
+IsDraw o l m (Measure profile format manifest) = ⊥
 IsDraw o l m (Report ring gap limit waive outline format manifest) = ⊥
 IsDraw o l m (Draw ring gap outline manifest) =
     (option_map (λ r. r.now) ring ≡ option_map (λ rules. rules.0) o) × (option_map (λ g. g.now) gap ≡ option_map (λ rules. rules.1) o)
@@ -285,7 +286,7 @@ explain_words (Some word) = codes "explain" ∷ word ∷ []
 -- the request is to explain this word, or to list the words
 abbrev pub IsExplain : Option Text → Request → Type 0
 IsExplain o (Check ring gap profile manifest) = ⊥
-IsExplain o (Measure format manifest) = ⊥
+IsExplain o (Measure profile format manifest) = ⊥
 IsExplain o (Report ring gap limit waive outline format manifest) = ⊥
 IsExplain o (Draw ring gap outline manifest) = ⊥
 IsExplain o (Show kind file) = ⊥

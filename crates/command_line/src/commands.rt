@@ -48,6 +48,10 @@ drill file may name the first and the last layer that it goes through. File
 names are taken from the working directory.
 Example:  ringcheck check --ring 0.125 --gap 0.25 board.csv";
 
+// After `Usage: ` it stands on two lines.
+const MEASURE_USAGE: &str = "ringcheck measure [--profile <strict|wide>] [--format <text|json>]
+                         <MANIFEST>";
+
 const MEASURE: &str = "It is the greatest rule under which check finds nothing; held is the greatest
 ring where holes without a pad are left out. Lengths are in mm, or any, or
 none. A line ring tells the least ring of the holes of one diameter.
@@ -160,7 +164,7 @@ fn check<'a>(alloc: Global) -> Result<Command<'a>, AllocError>
     ))
 }
 
-/// `measure [--format text|json] MANIFEST`
+/// `measure [--profile strict|wide] [--format text|json] MANIFEST`
 fn measure<'a>(alloc: Global) -> Result<Command<'a>, AllocError>
     ensures { IfOk result (λ c. app_of c ≡ measure_app) }
 {
@@ -168,9 +172,10 @@ fn measure<'a>(alloc: Global) -> Result<Command<'a>, AllocError>
         alloc,
         "measure",
         "Tell the greatest ring and gap that a package meets",
-        "ringcheck measure [--format <text|json>] <MANIFEST>",
+        MEASURE_USAGE,
         MEASURE,
     )
+    .arg(profile_arg(alloc))?
     .arg(format_arg(alloc))?
     .arg(required_arg(
         alloc,

@@ -3,7 +3,7 @@
 //! ```text
 //! ringcheck check --ring MM --gap MM [--profile strict|wide] MANIFEST
 //! ringcheck report --ring MM --gap MM [--max N] [--waive FILE] [--outline FILE] [--format text|html|json|waivers] MANIFEST
-//! ringcheck measure [--format text|json] MANIFEST
+//! ringcheck measure [--profile strict|wide] [--format text|json] MANIFEST
 //! ringcheck draw [--ring MM --gap MM] [--outline FILE] MANIFEST
 //! ringcheck manifest [--why] FILE..
 //! ringcheck explain [WORD]
@@ -38,8 +38,10 @@ pub enum Request<'a> {
         profile: Option<&'a str>,
         manifest: &'a str,
     },
-    /// Print the greatest ring and gap that the package of a manifest meets. `format` is the word for a format, where one is given.
+    /// Print the greatest ring and gap that the package of a manifest meets. `profile` is the word for the profile that the files
+    /// are read in, and `format` that for a format, where they are given.
     Measure {
+        profile: Option<&'a str>,
         format: Option<&'a str>,
         manifest: &'a str,
     },
@@ -110,8 +112,8 @@ pub fn parse<'a>(alloc: Global, words: &'a [&'a str]) -> Result<Request<'a>, Ref
     ensures exact { ParsesLine (map (λ w. w.now) words.entry.now) result }
     ensures check { (r g : Text) (profile : Option Text) (m : Text) → map (λ w. w.now) words.entry.now ≡ check_words r g profile m → is_plain_word r ≡ true
         → is_plain_word g ≡ true → is_plain_if_some profile ≡ true → is_plain_word m ≡ true → ParsesAsCheck r g profile m result }
-    ensures measure { (format : Option Text) (m : Text) → map (λ w. w.now) words.entry.now ≡ measure_words format m → is_plain_if_some format ≡ true
-        → is_plain_word m ≡ true → ParsesAs (IsMeasure format m) result }
+    ensures measure { (profile format : Option Text) (m : Text) → map (λ w. w.now) words.entry.now ≡ measure_words profile format m → is_plain_if_some profile ≡ true
+        → is_plain_if_some format ≡ true → is_plain_word m ≡ true → ParsesAs (IsMeasure profile format m) result }
     ensures report { (r g : Text) (limit waive outline format : Option Text) (m : Text) → map (λ w. w.now) words.entry.now ≡ report_words r g limit waive outline format m
         → is_plain_word r ≡ true → is_plain_word g ≡ true → is_plain_if_some limit ≡ true → is_plain_if_some waive ≡ true → is_plain_if_some outline ≡ true
         → is_plain_if_some format ≡ true → is_plain_word m ≡ true → ParsesAs (IsReport r g limit waive outline format m) result }
@@ -187,8 +189,12 @@ fn measure_request<'a>(values: &ArgMatches<'a>) -> Option<Request<'a>>
     ensures { IfSome result (λ request. IsRequestOf (Some (codes "measure", rows_of (found_of values.now))) request) }
 {
     let manifest = value(values, "manifest")?;
-    let format = value(values, "format");
-    Some(Request::Measure { format, manifest })
+    let (profile, format) = (value(values, "profile"), value(values, "format"));
+    Some(Request::Measure {
+        profile,
+        format,
+        manifest,
+    })
 }
 
 fn report_request<'a>(values: &ArgMatches<'a>) -> Option<Request<'a>>

@@ -9,6 +9,9 @@ use Rattle.layer_image.specs.declared.drawn.Drawn.TheVariants as drawn
 use Rattle.layer_image.specs.declared.flash.Flash.{Flash}
 use Rattle.pad_shapes.specs.declared.pad.Pad.{Pad}
 use Rattle.pad_shapes.specs.declared.pad.Pad.TheVariants as pads
+use Rattle.pad_shapes.specs.Rounded.{GridRounded, rounded_bottom, rounded_left, rounded_right, rounded_top}
+use Rattle.wide_pads.specs.declared.wide_pad.WidePad.{WidePad}
+use Rattle.wide_pads.specs.declared.wide_pad.WidePad.TheVariants as wide
 use Rattle.ring_rules.specs.declared.finding.Drilled.{Drilled}
 use Rattle.package_check.specs.Boards.{BoardView}
 use Rattle.picture.specs.Outlines.{long_radius}
@@ -32,11 +35,20 @@ abbrev pub joined : GridExtent → GridExtent → GridExtent
 joined a b =
     record { left = int_min a.left b.left; right = int_max a.right b.right; bottom = int_min a.bottom b.bottom; top = int_max a.top b.top }
 
--- the extent of a pad: its half sides round its centre, for a disc the radius
-abbrev pub pad_extent : Pad → GridExtent
-pad_extent (pads.Disc d) = extent_round d.centre d.radius d.radius
-pad_extent (pads.Rect r) = extent_round r.centre r.half_x r.half_y
-pad_extent (pads.Obround o) = extent_round o.centre o.half_x o.half_y
+-- the extent of a pad of a standard aperture: its half sides round its centre, for a disc the radius
+abbrev pub plain_extent : Pad → GridExtent
+plain_extent (pads.Disc d) = extent_round d.centre d.radius d.radius
+plain_extent (pads.Rect r) = extent_round r.centre r.half_x r.half_y
+plain_extent (pads.Obround o) = extent_round o.centre o.half_x o.half_y
+
+-- the extent of a rounded polygon: its least and its greatest x and y
+abbrev pub rounded_extent : GridRounded → GridExtent
+rounded_extent r = record { left = rounded_left r; right = rounded_right r; bottom = rounded_bottom r; top = rounded_top r }
+
+-- the extent of a pad
+abbrev pub pad_extent : WidePad → GridExtent
+pad_extent (wide.Plain p) = plain_extent p
+pad_extent (wide.Rounded r) = rounded_extent r
 
 -- the extent of a hole: its radius round both of its ends
 abbrev pub hole_extent : GridHole → GridExtent
@@ -48,7 +60,7 @@ joined_to None extent = Some extent
 joined_to (Some all) extent = Some (joined all extent)
 
 -- the extents of all pads of some layers, then of some holes
-abbrev pub extents : List (List Pad) → List Drilled → List GridExtent
+abbrev pub extents : List (List WidePad) → List Drilled → List GridExtent
 extents layers holes = flat_map (λ layer. map pad_extent layer) layers ++ map (λ drilled. hole_extent drilled.hole) holes
 
 -- the least extent that holds all of some; `None` where there are none

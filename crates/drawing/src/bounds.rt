@@ -7,11 +7,11 @@ ghost use Rattle.drawing.specs.Boxes.{cross_extent, cross_extents, extents, hole
 use crate::extent::{Extent, hole_extent, joined_to, pad_extent, point_extent};
 use layer_image::{Flash, What};
 use package_check::Board;
-use pad_shapes::Pad;
 use ring_rules::Drilled;
+use wide_pads::WidePad;
 
 /// The extent so far, joined with those of some pads.
-fn with_pads(before: Option<Extent>, pads: &[Pad]) -> Option<Extent>
+fn with_pads(before: Option<Extent>, pads: &[WidePad]) -> Option<Extent>
     ensures { result ≡ fold joined_to before (map pad_extent pads.now) }
 {
     let mut all = before;
@@ -22,7 +22,7 @@ fn with_pads(before: Option<Extent>, pads: &[Pad]) -> Option<Extent>
 }
 
 /// The extent so far, joined with those of the pads of some layers.
-fn with_layers(before: Option<Extent>, layers: &[&[Pad]]) -> Option<Extent>
+fn with_layers(before: Option<Extent>, layers: &[&[WidePad]]) -> Option<Extent>
     ensures { result ≡ fold joined_to before (flat_map (λ layer. map pad_extent layer) (map (λ layer. layer.now) layers.now)) }
 {
     let mut all = before;
@@ -76,7 +76,7 @@ fn with_crosses(before: Option<Extent>, board: &Board, files: &[usize]) -> Optio
 }
 
 /// The extent of a board: of the pads of its layers, of its holes and of its other flashes, if it has any of these.
-pub(crate) fn board_extent(layers: &[&[Pad]], board: &Board) -> Option<Extent>
+pub(crate) fn board_extent(layers: &[&[WidePad]], board: &Board) -> Option<Extent>
     ensures { result ≡ whole_extent (extents (map (λ layer. layer.now) layers.now) board.now.holes ++ cross_extents board.now.flashes board.now.layer_indexes) }
 {
     let pads_and_holes = with_holes(with_layers(None, layers), board.holes());

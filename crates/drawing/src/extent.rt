@@ -2,11 +2,12 @@
 
 ghost use Rattle.std.specs.Prelude.{◌≡◌, ◌≤◌, ◌^◌, ◌*◌, ◌+ℤ◌, ◌-ℤ◌, pos, unsigned_abs};
 ghost use Rattle.std.specs.Int.{int_min, int_max};
-ghost use Rattle.drawing.specs.Boxes.{extent_round, hole_extent, joined, joined_to, pad_extent};
+ghost use Rattle.drawing.specs.Boxes.{extent_round, hole_extent, joined, joined_to, pad_extent, plain_extent, rounded_extent};
 
 use grid_units::{Hole, Point};
-use pad_shapes::Pad;
+use pad_shapes::{Pad, PlacedRounded};
 use std::marker::Model;
+use wide_pads::WidePad;
 
 /// Half a millimetre in pm.
 const HALF_MILLIMETRE: u64 = 500_000_000;
@@ -129,9 +130,9 @@ pub(crate) fn extent_round(centre: Point, far_x: u64, far_y: u64) -> Extent
     }
 }
 
-/// The extent of a pad: its half sides, or its radius, round its centre.
-pub(crate) fn pad_extent(pad: &Pad) -> Extent
-    ensures { result ≡ pad_extent pad.now }
+/// The extent of a pad of a standard aperture: its half sides, or its radius, round its centre.
+fn plain_extent(pad: &Pad) -> Extent
+    ensures { result ≡ plain_extent pad.now }
 {
     match pad {
         Pad::Disc(disc) => {
@@ -148,6 +149,29 @@ pub(crate) fn pad_extent(pad: &Pad) -> Extent
             obround.half_x().unsigned_abs(),
             obround.half_y().unsigned_abs(),
         ),
+    }
+}
+
+/// The extent of a rounded polygon: its least and its greatest x and y.
+fn rounded_extent(rounded: &PlacedRounded) -> Extent
+    ensures { result ≡ rounded_extent rounded.now }
+{
+    let bounds = rounded.bounds();
+    Extent {
+        left: bounds.left,
+        right: bounds.right,
+        bottom: bounds.bottom,
+        top: bounds.top,
+    }
+}
+
+/// The extent of a pad.
+pub(crate) fn pad_extent(pad: &WidePad) -> Extent
+    ensures { result ≡ pad_extent pad.now }
+{
+    match pad {
+        WidePad::Plain(pad) => plain_extent(pad),
+        WidePad::Rounded(rounded) => rounded_extent(rounded),
     }
 }
 

@@ -11,10 +11,10 @@ use Rattle.pad_shapes.specs.Rounded.{GridRounded, IsNear, PolygonIsLeftOfEdges, 
 use Rattle.pad_shapes.specs.Shapes.{max_half_side}
 use Rattle.macro_shapes.specs.Primitives.{are_different, is_closed, polygon_of, polygon_round, stops}
 use Rattle.further_copper.specs.declared.part.Part.{Part}
-use Rattle.further_copper.specs.Placing.{is_near, moved_shape}
+use Rattle.pad_shapes.specs.Placed.{is_near, moved_shape}
 use Rattle.further_copper.specs.Contours.{clockwise_round, contour_of, counterclockwise_round, is_clockwise, is_counterclockwise, points_of, polygon_by, polygon_of_sides, sides_of}
 use Rattle.further_copper.specs.Laws.{ContoursAreInsideEdges}
-use Rattle.further_copper.proofs.MovedShapes.{convex-moved}
+use Rattle.pad_shapes.proofs.MovedShapes.{convex-moved}
 use Rattle.further_copper.proofs.PointsLemmas.{some_is}
 
 -- a convex polygon without a border

@@ -1,9 +1,7 @@
 pub mod ClearingLemmas
 pub mod CopperLemmas
 pub mod UnclearedPositions
-pub mod MovedShapes
 pub mod PointsLemmas
 pub mod CopiesLemmas
 pub mod ContourLemmas
-pub mod PadLemmas
 pub mod OrientLemmas

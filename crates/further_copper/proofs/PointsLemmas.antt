@@ -11,7 +11,8 @@ use Rattle.pad_shapes.specs.Rounded.{GridRounded, IsInRounded, IsNear, WeightedP
 use Rattle.pad_shapes.specs.Inner.Identities.{Is, is_add, is_mul, is_n, is_sub, is_z, same}
 use Rattle.macro_shapes.specs.Shapes.{ShapeIsInPrimitives}
 use Rattle.further_copper.specs.declared.mirroring.Mirroring.{Mirroring}
-use Rattle.further_copper.specs.Placing.{in_order, is_near, is_turned_over, mirrored_point, moved_point, moved_shape, oriented_point, turned_point}
+use Rattle.pad_shapes.specs.Placed.{is_near, moved_point, moved_shape}
+use Rattle.further_copper.specs.Placing.{in_order, is_turned_over, mirrored_point, oriented_point, turned_point}
 use Rattle.further_copper.specs.Laws.{FlashedShapesAreInPrimitives}
 
 -- ---- sums

@@ -18,7 +18,7 @@ use Rattle.layer_image.specs.Flashes.{flash_copies}
 use Rattle.further_copper.specs.declared.clearing.Clearing.{Clearing}
 use Rattle.further_copper.specs.declared.mirroring.Mirroring.{Mirroring}
 use Rattle.further_copper.specs.declared.part.Part.{Part}
-use Rattle.further_copper.specs.declared.pad.PlacedShape.{PlacedShape}
+use Rattle.further_copper.specs.declared.copies.PlacedShape.{PlacedShape}
 use Rattle.further_copper.specs.Blocks.{block_after, copy_count, in_open_block, is_repeated}
 use Rattle.further_copper.specs.Clearing.{draws, is_clear_after, is_clearing, uncleared}
 use Rattle.further_copper.specs.Placing.{no_mirroring, oriented_shape, shapes_at}

@@ -12,7 +12,8 @@ use Rattle.further_copper.specs.declared.mirroring.Mirroring.{Mirroring}
 use Rattle.further_copper.specs.declared.part.Part.{Part}
 use Rattle.further_copper.specs.Clearing.{clears_all, uncleared}
 use Rattle.further_copper.specs.Contours.{contour_of}
-use Rattle.further_copper.specs.Placing.{moved_point, oriented_point, oriented_shape, shape_at}
+use Rattle.pad_shapes.specs.Placed.{moved_point, shape_at}
+use Rattle.further_copper.specs.Placing.{oriented_point, oriented_shape}
 
 -- where a flash puts a point of its aperture: mirrored, turned and moved
 abbrev pub flashed_point : Mirroring → ℕ → GridPoint → GridPoint → GridPoint

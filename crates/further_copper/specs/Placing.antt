@@ -1,10 +1,10 @@
--- How the shape of an aperture lies on the board: mirrored, turned and moved (Gerber format, Aperture transformations LP, LM, LR, LS).
+-- How the shape of an aperture lies on the board: mirrored, turned and copied (Gerber format, Aperture transformations LP, LM, LR, LS).
 use Rattle.std.specs.Prelude.{ℕ, ℤ, ◌+ℤ◌, ◌*ℤ◌, neg_ℤ, pos, Bool, false, not, ◌&&◌, List, map, reverse, Option, None, Some, if◌then◌else◌}
-use Rattle.std.specs.List.{filter_map, flat_map, list_all}
+use Rattle.std.specs.List.{filter_map, flat_map}
 use Rattle.grid_units.specs.Points.{GridPoint}
-use Rattle.grid_units.specs.Numbers.{is_too_far}
 use Rattle.grid_units.specs.declared.lengths.Unit.{Unit as Units}
-use Rattle.pad_shapes.specs.Rounded.{GridRounded, corners, is_outline}
+use Rattle.pad_shapes.specs.Placed.{shape_at}
+use Rattle.pad_shapes.specs.Rounded.{GridRounded, is_outline}
 use Rattle.macro_shapes.specs.Primitives.{turned_x, turned_y}
 use Rattle.gerber_commands.specs.declared.command.StepRepeat.{StepRepeat}
 use Rattle.layer_image.specs.Numbers.{dec_length}
@@ -48,24 +48,6 @@ rounded_by first others radius = if is_outline first others then Some (record { 
 -- the shape of an aperture as it is flashed, about the point of the flash
 abbrev pub oriented_shape : Mirroring → ℕ → GridRounded → Option GridRounded
 oriented_shape m turns s = rounded_by (oriented_point m turns s.first) (in_order m (map (oriented_point m turns) s.others)) s.radius
-
--- ---- moved
-
--- a point moved by an offset
-abbrev pub moved_point : GridPoint → GridPoint → GridPoint
-moved_point offset p = record { x = offset.x +ℤ p.x; y = offset.y +ℤ p.y }
-
--- a shape moved by an offset
-abbrev pub moved_shape : GridPoint → GridRounded → GridRounded
-moved_shape offset s = record { first = moved_point offset s.first; others = map (moved_point offset) s.others; radius = s.radius }
-
--- a point lies at most 10 m from zero along each axis
-abbrev pub is_near : GridPoint → Bool
-is_near p = not (is_too_far p.x) && not (is_too_far p.y)
-
--- a shape moved by an offset, where each of its corners then lies at most 10 m from zero along each axis
-abbrev pub shape_at : GridRounded → GridPoint → Option GridRounded
-shape_at s offset = if list_all is_near (corners (moved_shape offset s)) then Some (moved_shape offset s) else None
 
 -- ---- copies
 

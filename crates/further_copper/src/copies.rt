@@ -5,12 +5,20 @@ ghost use Rattle.std.specs.List.{cons_option, filter_map};
 ghost use Rattle.layer_image.specs.Numbers.{dec_length};
 ghost use Rattle.layer_image.specs.Lookback.{no_repeat};
 ghost use Rattle.layer_image.specs.Flashes.{numbers_below};
-ghost use Rattle.further_copper.specs.Placing.{copy_in, shape_at, shapes_at};
+ghost use Rattle.pad_shapes.specs.Placed.{shape_at};
+ghost use Rattle.further_copper.specs.Placing.{copy_in, shapes_at};
 
-use crate::pad::{FurtherPad, PlacedShape, pad_at};
 use gerber_text::StepRepeat;
-use grid_units::{Dec, Unit};
+use grid_units::{Dec, Point, Unit};
+use pad_shapes::{PlacedRounded, SharedRounded};
 use std::alloc::AllocError;
+
+/// A shape of further copper, and the point that it lies about.
+#[derive(Debug, Drop)]
+pub(crate) struct PlacedShape {
+    pub(crate) at: Point,
+    pub(crate) shape: SharedRounded,
+}
 
 /// No repetition: one column and one row.
 pub(crate) fn no_repeat() -> StepRepeat
@@ -46,7 +54,7 @@ fn stepped(start: i64, step: Dec, unit: Unit, count: u32) -> i128
 
 /// Adds the pad of a shape at one copy, where it may lie there.
 fn lay_copy(
-    pads: &mut Vec<FurtherPad>,
+    pads: &mut Vec<PlacedRounded>,
     placed: &PlacedShape,
     unit: Unit,
     block: &StepRepeat,
@@ -57,7 +65,7 @@ fn lay_copy(
 {
     let x = stepped(placed.at.x(), block.step_x, unit, u);
     let y = stepped(placed.at.y(), block.step_y, unit, v);
-    if let Some(pad) = pad_at(&placed.shape, x, y)? {
+    if let Some(pad) = PlacedRounded::new(&placed.shape, x, y)? {
         pads.push(pad)?;
     }
     Ok(())
@@ -65,7 +73,7 @@ fn lay_copy(
 
 /// Adds the pads of a shape in one column.
 fn lay_column(
-    pads: &mut Vec<FurtherPad>,
+    pads: &mut Vec<PlacedRounded>,
     placed: &PlacedShape,
     unit: Unit,
     block: &StepRepeat,
@@ -81,7 +89,7 @@ fn lay_column(
 
 /// Adds the pads of a shape at each copy, column by column.
 pub(crate) fn lay(
-    pads: &mut Vec<FurtherPad>,
+    pads: &mut Vec<PlacedRounded>,
     placed: &PlacedShape,
     unit: Unit,
     block: &StepRepeat,

@@ -15,13 +15,13 @@ ghost use Rattle.further_copper.specs.Inner.States.{HasMet, after, copper_state}
 
 use crate::clearing::Clearing;
 use crate::contour::contour_of;
-use crate::copies::{lay, no_repeat};
+use crate::copies::{PlacedShape, lay, no_repeat};
 use crate::mirroring::{Mirroring, oriented, quarter_turns};
-use crate::pad::{FurtherPad, PlacedShape};
 use crate::part::{Part, add_parts};
 use gerber_text::{Action, Command, Placed, StepRepeat};
 use grid_units::Point;
-use layer_image::{Pencil, SharedRounded};
+use layer_image::Pencil;
+use pad_shapes::{PlacedRounded, SharedRounded};
 use std::alloc::{AllocError, Global};
 
 /// One, in units of 10^-8.
@@ -41,8 +41,8 @@ pub struct FurtherCopper {
     parts: Vec<Part>,
     regions: u64,
     clearing: Clearing,
-    flashed: Vec<FurtherPad>,
-    contours: Vec<FurtherPad>,
+    flashed: Vec<PlacedRounded>,
+    contours: Vec<PlacedRounded>,
     flashes: u64,
 }
 
@@ -50,9 +50,9 @@ pub struct FurtherCopper {
 #[derive(Debug, Drop)]
 pub struct FurtherPads {
     /// The flashes of macros that count as pads, in order.
-    pub flashed: Vec<FurtherPad>,
+    pub flashed: Vec<PlacedRounded>,
     /// The contours of regions that count as pads, in order.
-    pub contours: Vec<FurtherPad>,
+    pub contours: Vec<PlacedRounded>,
     /// How many flashes of every kind no clear polarity takes away, each copy counted. The greatest number of 64 bits stands for
     /// each above it.
     pub flashes: u64,

@@ -7,8 +7,6 @@ mod copies;
 mod copper;
 pub mod laws;
 mod mirroring;
-mod pad;
 mod part;
 
 pub use copper::{FurtherCopper, FurtherPads, further_pads};
-pub use pad::FurtherPad;

@@ -6,8 +6,7 @@ ghost use Rattle.macro_shapes.specs.Primitives.{quarter_turns, turned_x, turned_
 ghost use Rattle.further_copper.specs.Placing.{in_order, is_turned_over, mirrored_point, negated_where, no_mirroring, oriented_point, oriented_shape, turned_point};
 
 use grid_units::{Dec, Point};
-use layer_image::SharedRounded;
-use pad_shapes::Rounded;
+use pad_shapes::{Rounded, SharedRounded};
 use std::alloc::{AllocError, Global};
 
 /// The axes along which flashes are mirrored.

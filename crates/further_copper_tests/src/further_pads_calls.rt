@@ -1,9 +1,9 @@
 //! The further pads of layers: mirrored, turned and repeated macros, and contours that count and that do not.
 
-use further_copper::{FurtherPad, FurtherPads, further_pads};
+use further_copper::{FurtherPads, further_pads};
 use grid_units::Point;
 use layer_image::read_layer;
-use pad_shapes::Rounded;
+use pad_shapes::{PlacedRounded, Rounded};
 use std::alloc::Global;
 
 /// A pad: its radius, and its corners in µm.
@@ -267,7 +267,7 @@ fn is_pad(found: &Rounded, &(radius, corners): &Pad) -> bool {
 }
 
 /// Whether these are the pads of a list, in order.
-fn are_pads(alloc: Global, pads: &[FurtherPad], expected: &[Pad]) -> bool {
+fn are_pads(alloc: Global, pads: &[PlacedRounded], expected: &[Pad]) -> bool {
     if pads.len() != expected.len() {
         return false;
     }

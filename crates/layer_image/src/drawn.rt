@@ -7,9 +7,9 @@ ghost use Rattle.layer_image.specs.Drawn.{drawn_by, drawn_of};
 ghost use Rattle.layer_image.specs.Inner.Pencils.{draw_state};
 
 use crate::pencil::Pencil;
-use crate::shared::SharedRounded;
 use gerber_text::{Command, Placed};
 use grid_units::Point;
+use pad_shapes::SharedRounded;
 use std::alloc::{AllocError, Global};
 
 /// A part of what a layer draws with `D01`, or a flash of a macro. Points and widths are in pm.

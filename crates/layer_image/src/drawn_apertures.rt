@@ -10,12 +10,11 @@ ghost use Rattle.macro_shapes.specs.Macros.{fields_of};
 
 use crate::aperture::{has_hole, size_at};
 use crate::macros::Macros;
-use crate::shared::SharedRounded;
 use gerber_commands::Pieces;
 use gerber_text::{Sizes, Standard, Template};
 use grid_units::{Dec, Text, Unit};
 use macro_shapes::{Macro, macro_shape as shape_of_primitives, read_macro, read_primitives};
-use pad_shapes::Rounded;
+use pad_shapes::{Rounded, SharedRounded};
 use std::alloc::{AllocError, Global};
 use std::collections::BTreeMap;
 

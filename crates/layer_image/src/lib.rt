@@ -20,7 +20,6 @@ mod pencil;
 mod reader;
 mod rules;
 mod scan;
-mod shared;
 mod size;
 mod state;
 mod tables;
@@ -36,4 +35,3 @@ pub use laws::{
 pub use layer::{Layer, read_layer};
 pub use pencil::Pencil;
 pub use reader::LayerReader;
-pub use shared::SharedRounded;

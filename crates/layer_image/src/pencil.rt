@@ -17,9 +17,9 @@ use crate::drawn::Drawn;
 use crate::drawn_apertures::{DrawnAperture, DrawnApertures, drawn_aperture_of};
 use crate::length::{dec_length, step_length};
 use crate::macros::Macros;
-use crate::shared::SharedRounded;
 use gerber_text::{Action, Command, Interpolation, QuadrantMode, Template};
 use grid_units::{Dec, Point, Unit, is_too_far};
+use pad_shapes::SharedRounded;
 use std::alloc::{AllocError, Global};
 
 /// The state that the commands so far make, as far as a draw needs it.

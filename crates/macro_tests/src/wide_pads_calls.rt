@@ -1,7 +1,7 @@
 //! Holes at any angle in the pads of the wide profile, and the greatest rings with which they are covered.
 
 use grid_units::{Hole, Point, Rules};
-use pad_shapes::{Disc, Obround, Pad, PadShape, Rect, Rounded, Zone};
+use pad_shapes::{Disc, Obround, Pad, PadShape, PlacedRounded, Rect, Rounded, SharedRounded, Zone};
 use ring_rules::{Drilled, Finding, ring_findings};
 use std::alloc::Global;
 use std::test::Fail;
@@ -86,13 +86,19 @@ fn polygon(alloc: Global, copper: Copper) -> Result<Rounded, Fail> {
     }
 }
 
+/// A rounded polygon that is moved nowhere.
+fn placed(alloc: Global, shape: Rounded) -> Result<PlacedRounded, Fail> {
+    let shape = SharedRounded::new(alloc, shape)?;
+    Ok(PlacedRounded::new(&shape, 0, 0)?.ok_or("placed")?)
+}
+
 /// A pad of the tests.
 fn pad(alloc: Global, copper: Copper) -> Result<WidePad, Fail> {
     match copper {
         Copper::Disc => Ok(WidePad::Plain(Pad::Disc(disc()?))),
         Copper::Rect => Ok(WidePad::Plain(Pad::Rect(rect()?))),
         Copper::Obround => Ok(WidePad::Plain(Pad::Obround(obround()?))),
-        _ => Ok(WidePad::Rounded(polygon(alloc, copper)?)),
+        _ => Ok(WidePad::Rounded(placed(alloc, polygon(alloc, copper)?)?)),
     }
 }
 

@@ -8,7 +8,6 @@ use Rattle.grid_units.proofs.TriangleInequalities.{abs_diff_triangle, abs_diff_c
 use Rattle.pad_shapes.specs.Shapes.{GridDisc, GridRect, GridObround, end_radius, square_axis_distance, disc_covers, rect_covers, obround_covers}
 use Rattle.margins.specs.Hulls.{IsDeepIn, IsHullOf, IsWiderThan}
 use Rattle.margins.specs.Inner.DepthLaws.{both_le}
-use Rattle.margins.specs.Inner.Flats.{flat_covers}
 use Rattle.margins.specs.declared.hull.Hull.{Hull}
 
 -- a side of a right triangle is no longer than a bound on the longest one
@@ -119,12 +118,3 @@ less_deep hull c less reach h was =
     let round = was.round in
     let room = square-le (hull.radius - reach) (hull.radius - less) (omega (arith, h)) in
     record { depth = omega (arith, d, h); x = omega (arith, x, h); y = omega (arith, y, h); radius = omega (arith, r, h); round = omega (arith, round, room) }
-
-no_reach : (reach : ℕ) → nat_le reach 0 ≡ true → 0 ≡ reach
-no_reach reach e = grind (arith, nat_tests)
-
--- the hull of a flat shape
-pub flat_hull : {S : Type 0} (covers : S → GridPoint → ℕ → Bool) (s : S) (hull flat : Hull) → IsHullOf covers s hull → ((c : GridPoint) → IsDeepIn hull c 0 → IsDeepIn flat c 0) → (c : GridPoint) (reach : ℕ) → flat_covers covers s c reach ≡ true → IsDeepIn flat c reach
-flat_hull covers s hull flat was flatter c reach e =
-    let t = both_true (nat_le reach 0) (covers s c 0) e in
-    subst (IsDeepIn flat c) (no_reach reach t.0) (flatter c (was c 0 t.1))

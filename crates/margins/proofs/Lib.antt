@@ -9,7 +9,7 @@ pub mod NearestSearch
 pub mod TriedPairs
 pub mod BestPadsLemmas
 pub mod RowsLemmas
-pub mod FlatsLemmas
+pub mod BareLemmas
 pub mod LackingLemmas
 pub mod HullLemmas
 pub mod GroupLemmas

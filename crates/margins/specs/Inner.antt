@@ -2,6 +2,6 @@ pub mod BestPads
 pub mod NearestHoles
 pub mod Meets
 pub mod Rows
-pub mod Flats
+pub mod Zones
 pub mod DepthLaws
 pub mod Lacking

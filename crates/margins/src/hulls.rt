@@ -30,21 +30,6 @@ impl Hull {
         square_length(past_x, past_y) <= square(self.radius - reach)
     }
 
-    /// The hull of the flat shapes of its shapes, in which nothing lies deep.
-    pub(crate) fn flattened(&self) -> Hull
-        ensures { (c : GridPoint) → IsDeepIn self.now c 0 → IsDeepIn result c 0 }
-    {
-        Hull {
-            centre: self.centre,
-            half_x: self.half_x,
-            half_y: self.half_y,
-            radius: self.radius,
-            axis_x: self.axis_x,
-            axis_y: self.axis_y,
-            depth: 0,
-        }
-    }
-
     /// A hull about this one's middle that contains another one too. There is none where it would be wider than ten metres.
     pub(crate) fn around(&self, other: &Hull) -> Option<Hull>
         ensures this { IfSome result (λ hull. IsWiderThan hull self.now) }

@@ -5,11 +5,11 @@
 #![tactic(auto)]
 
 mod apart;
+mod bare;
 mod best;
 mod bests;
 mod better;
 mod deep;
-mod flat;
 mod gap;
 mod hull;
 mod hulls;
@@ -24,11 +24,11 @@ mod row;
 mod shapes;
 mod zones;
 
+pub use bare::bare_holes;
 pub use best::BestPad;
 pub use bests::best_pads;
 pub use better::best_pad;
 pub use deep::{DepthShape, depth_of_hole};
-pub use flat::bare_holes;
 pub use gap::gap_between;
 pub use hull::Hull;
 pub use lacking::ring_findings_from_bests;

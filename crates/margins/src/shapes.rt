@@ -8,7 +8,7 @@ use crate::deep::DepthShape;
 use crate::hull::Hull;
 use crate::roots::{length_rounded_up, less};
 use grid_units::Point;
-use pad_shapes::{Disc, Obround, Pad, Rect, Rounded};
+use pad_shapes::{Disc, Obround, Pad, PlacedRounded, Rect};
 use wide_pads::WidePad;
 
 impl DepthShape for Disc {
@@ -134,7 +134,7 @@ impl DepthShape for Pad {
     }
 }
 
-impl DepthShape for Rounded {
+impl DepthShape for PlacedRounded {
     ghost middle = { λ r. r.first };
 
     ghost covers_less = { rounded_covers_less };

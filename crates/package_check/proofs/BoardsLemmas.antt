@@ -1,7 +1,7 @@
 -- The board of a package, and its holes with their places.
 use Rattle.std.proofs.Common.{◌≡◌, ◌+◌, ◌++◌, ℕ, List, [], ◌∷◌, length, map, take, drop, arith, refl, sym, ap, ap₂, ◌∙◌, subst, Bool, true, false, cond, not, append_assoc}
 use Rattle.std.specs.List.{flat_map, enumerate_from, count_by, sum_by}
-use Rattle.std.proofs.lemmas.List.{append-nil, length-append, length-map, map-append}
+use Rattle.std.proofs.lemmas.List.{append-nil, length-append, length-map}
 use Rattle.std.proofs.lemmas.List.Concat.{flat_map-append, flat_map-cons}
 use Rattle.std.proofs.lemmas.List.Sums.{sum_by-cons}
 use Rattle.std.proofs.Math.Seq.{take-append_seam, drop-append_seam}
@@ -14,21 +14,10 @@ use Rattle.ring_rules.specs.declared.finding.Drilled.{Drilled}
 use Rattle.package_check.specs.declared.Numbered.{Numbered}
 use Rattle.package_check.specs.declared.contents.Content.{Content}
 use Rattle.package_check.specs.declared.contents.Content.TheVariants as content
-use Rattle.grid_units.specs.declared.profile.Profile.{Profile}
-use Rattle.grid_units.specs.declared.profile.Profile.TheVariants.{Strict}
-use Rattle.manifest.specs.declared.Role.{Role}
-use Rattle.manifest.specs.declared.Role.TheVariants as role
-use Rattle.pad_shapes.specs.Pads.{pad_covers}
-use Rattle.pad_shapes.specs.declared.pad.Pad.{Pad}
 use Rattle.wide_pads.specs.WidePads.{wide_pad_covers}
-use Rattle.wide_pads.specs.declared.wide_pad.WidePad.{WidePad}
-use Rattle.ring_rules.specs.Findings.{gap_findings, layer_findings, ring_findings}
-use Rattle.ring_rules.specs.declared.finding.Finding.{Finding}
-use Rattle.ring_rules.proofs.TriedPads.{layer_by_map}
+use Rattle.ring_rules.specs.Findings.{gap_findings, ring_findings}
 use Rattle.package_check.specs.Boards.{FileCountsAddUp, BoardView, IsBoard, board_findings, board_of, hole_count, numbered_from, numbered_in, reported}
-use Rattle.package_check.specs.FileTexts.{HasLayerView}
-use Rattle.package_check.specs.LayerViews.{LayerView, all_pads, plain}
-use Rattle.package_check.specs.Package.{AreStrict, BytesHaveContent, FileView, HaveContents, IsReport, Setting, drilled, findings, holes_of, layer_indexes, layers, pads_of, plain_layers, plain_pads_of, report_on, sum_of}
+use Rattle.package_check.specs.Package.{FileView, IsReport, drilled, findings, holes_of, layer_indexes, layers, report_on, sum_of}
 use Rattle.package_check.specs.Reports.{ReportView}
 use Rattle.package_check.specs.SoundnessAsRead.{drilled_in}
 use Rattle.package_check.proofs.Passing.{all_drilled}
@@ -97,54 +86,19 @@ numbered_all n (c ∷ cs) =
     ∙ (ap (λ (ys : List Numbered). holes_of (n, c) ++ ys) (numbered_all (n + 1) cs)
     ∙ sym (flat_map-cons holes_of (n, c) (enumerate_from (n + 1) cs)))))
 
--- ---- in the strict profile all pads are those of standard apertures
-
-plain_file : (q : Role) (name : List ℕ) (span : Option LayerSpan) (bytes : List ℕ) (n : Setting) (c : Content) → n.profile ≡ Strict → BytesHaveContent (record { role = q; name = name; span = span; bytes = bytes; setting = n }) c
-    → pads_of c ≡ map (map plain) (plain_pads_of c)
-plain_file role.Copper name span bytes n (content.Layer image) strict h =
-    let view : HasLayerView Strict bytes image = subst (λ (p : Profile). HasLayerView p bytes image) strict h.0 in
-    ap (λ (ps : List WidePad). ps ∷ []) (ap all_pads view.2 ∙ (append-nil (map plain view.0.pads) ∙ sym (ap (λ (v : LayerView). map plain v.pads) view.2)))
-plain_file role.Copper name span bytes n (content.Drill plated through holes) strict h = absurd h
-plain_file role.Plated name span bytes n (content.Layer image) strict h = absurd h
-plain_file role.Plated name span bytes n (content.Drill plated through holes) strict h = refl
-plain_file role.Unplated name span bytes n (content.Layer image) strict h = absurd h
-plain_file role.Unplated name span bytes n (content.Drill plated through holes) strict h = refl
-
-plain_files : (sources : List FileView) (contents : List Content) → AreStrict sources → HaveContents sources contents → layers contents ≡ map (map plain) (plain_layers contents)
-plain_files [] [] strict h = refl
-plain_files [] (c ∷ cs) strict h = absurd h
-plain_files (s ∷ ss) [] strict h = absurd h
-plain_files (s ∷ ss) (c ∷ cs) strict h =
-    flat_map-cons pads_of c cs
-    ∙ (ap₂ (λ (xs ys : List (List WidePad)). xs ++ ys) (plain_file s.role s.name s.span s.bytes s.setting c strict.0 h.0.1) (plain_files ss cs strict.1 h.1)
-    ∙ (sym (map-append (map plain) (plain_pads_of c) (plain_layers cs)) ∙ ap (map (map plain)) (sym (flat_map-cons plain_pads_of c cs))))
-
-plain_rings : (profile : Profile) (ring n : ℕ) (holes : List Drilled) (ls : List (List Pad))
-    → flat_map (λ layer. layer_findings wide_pad_covers profile ring holes layer.0 layer.1) (enumerate_from n (map (map plain) ls)) ≡ flat_map (λ layer. layer_findings pad_covers profile ring holes layer.0 layer.1) (enumerate_from n ls)
-plain_rings profile ring n holes [] = refl
-plain_rings profile ring n holes (l ∷ ls) =
-    flat_map-cons (λ (layer : ℕ × List WidePad). layer_findings wide_pad_covers profile ring holes layer.0 layer.1) (n, map plain l) (enumerate_from (n + 1) (map (map plain) ls))
-    ∙ (ap₂ (λ (xs ys : List Finding). xs ++ ys) (layer_by_map pad_covers wide_pad_covers plain (λ s p r. refl) profile ring n holes l) (plain_rings profile ring (n + 1) holes ls)
-    ∙ sym (flat_map-cons (λ (layer : ℕ × List Pad). layer_findings pad_covers profile ring holes layer.0 layer.1) (n, l) (enumerate_from (n + 1) ls)))
-
 -- the findings on the board of files are those on their contents
-same_findings : (sources : List FileView) (rules : GridRules) (contents : List Content) (flashes : List (List Flash)) (drawn : List (List Drawn)) → AreStrict sources → HaveContents sources contents
-    → board_findings rules (board_of contents flashes drawn) ≡ findings rules (layers contents) (drilled contents)
-same_findings sources rules contents flashes drawn strict h =
-    (λ i. ring_findings pad_covers rules.profile rules.ring (plain_layers contents) (sym (all_drilled contents) i) ++ gap_findings rules.gap (sym (all_drilled contents) i))
-    ∙ ap (λ (fs : List Finding). fs ++ gap_findings rules.gap (drilled contents))
-    (sym (plain_rings rules.profile rules.ring 0 (drilled contents) (plain_layers contents)) ∙ ap (λ (ls : List (List WidePad)). ring_findings wide_pad_covers rules.profile rules.ring ls (drilled contents)) (sym (plain_files sources contents strict h)))
+same_findings : (rules : GridRules) (contents : List Content) (flashes : List (List Flash)) (drawn : List (List Drawn)) → board_findings rules (board_of contents flashes drawn) ≡ findings rules (layers contents) (drilled contents)
+same_findings rules contents flashes drawn = λ i. ring_findings wide_pad_covers rules.profile rules.ring (layers contents) (sym (all_drilled contents) i) ++ gap_findings rules.gap (sym (all_drilled contents) i)
 
 -- and so is the report
-same_report : (sources : List FileView) (rules : GridRules) (contents : List Content) (flashes : List (List Flash)) (drawn : List (List Drawn)) → AreStrict sources → HaveContents sources contents
-    → reported rules (board_of contents flashes drawn) ≡ report_on rules contents
-same_report sources rules contents flashes drawn strict h = λ i. record {
+same_report : (rules : GridRules) (contents : List Content) (flashes : List (List Flash)) (drawn : List (List Drawn)) → reported rules (board_of contents flashes drawn) ≡ report_on rules contents
+same_report rules contents flashes drawn = λ i. record {
   rules = rules;
   files = map sum_of contents;
   layers = layer_indexes contents;
   holes = numbered_all 0 contents i;
-  findings = same_findings sources rules contents flashes drawn strict h i;
+  findings = same_findings rules contents flashes drawn i;
 }
 
-pub reported_on : (sources : List FileView) (rules : GridRules) (board : BoardView) (report : ReportView) → AreStrict sources → IsBoard sources board → report ≡ reported rules board → IsReport sources rules report
-reported_on sources rules board report strict b is = record { contents = b.contents; read = b.read; is = is ∙ (ap (reported rules) b.is ∙ same_report sources rules b.contents board.flashes board.drawn strict b.read) }
+pub reported_on : (sources : List FileView) (rules : GridRules) (board : BoardView) (report : ReportView) → IsBoard sources board → report ≡ reported rules board → IsReport sources rules report
+reported_on sources rules board report b is = record { contents = b.contents; read = b.read; is = is ∙ (ap (reported rules) b.is ∙ same_report rules b.contents board.flashes board.drawn) }

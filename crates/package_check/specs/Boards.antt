@@ -7,8 +7,8 @@ use Rattle.layer_image.specs.Drawn.{drawn_of}
 use Rattle.layer_image.specs.Layers.{LayerImage, ReadsLayerIn}
 use Rattle.layer_image.specs.declared.drawn.Drawn.{Drawn}
 use Rattle.layer_image.specs.declared.flash.Flash.{Flash}
-use Rattle.pad_shapes.specs.Pads.{pad_covers}
-use Rattle.pad_shapes.specs.declared.pad.Pad.{Pad}
+use Rattle.wide_pads.specs.WidePads.{wide_pad_covers}
+use Rattle.wide_pads.specs.declared.wide_pad.WidePad.{WidePad}
 use Rattle.ring_rules.specs.Findings.{gap_findings, ring_findings}
 use Rattle.ring_rules.specs.declared.finding.Drilled.{Drilled}
 use Rattle.ring_rules.specs.declared.finding.Finding.{Finding}
@@ -20,13 +20,13 @@ use Rattle.package_check.specs.declared.PackageFault.TheVariants as stop
 use Rattle.package_check.specs.declared.contents.Content.{Content}
 use Rattle.package_check.specs.Reports.{ReportView}
 use Rattle.package_check.specs.SoundnessAsRead.{drilled_in}
-use Rattle.package_check.specs.Package.{FileView, HaveContents, IsFirstRefused, is_copper, layer_indexes, plain_layers, sum_of}
+use Rattle.package_check.specs.Package.{FileView, HaveContents, IsFirstRefused, is_copper, layer_indexes, layers, sum_of}
 
 -- the board of a package: the counts of each file, the pads and the index of each copper file, the holes of all drill files in order, and what is kept of flashes and of
 -- what is drawn
 pub record BoardView : Type 0 where
   pub files : List FileSum
-  pub layers : List (List Pad)
+  pub layers : List (List WidePad)
   pub layer_indexes : List ℕ
   pub holes : List Drilled
   pub flashes : List (List Flash)
@@ -36,7 +36,7 @@ pub record BoardView : Type 0 where
 abbrev pub board_of : List Content → List (List Flash) → List (List Drawn) → BoardView
 board_of contents flashes drawn = record {
   files = map sum_of contents;
-  layers = plain_layers contents;
+  layers = layers contents;
   layer_indexes = layer_indexes contents;
   holes = flat_map drilled_in contents;
   flashes = flashes;
@@ -126,7 +126,7 @@ numbered board = numbered_from 0 board.files board.holes
 
 -- what the rules find on a board: first the rings that are lacking, then the gaps
 abbrev pub board_findings : GridRules → BoardView → List Finding
-board_findings rules board = ring_findings pad_covers rules.profile rules.ring board.layers board.holes ++ gap_findings rules.gap board.holes
+board_findings rules board = ring_findings wide_pad_covers rules.profile rules.ring board.layers board.holes ++ gap_findings rules.gap board.holes
 
 -- the report on a board under these rules
 abbrev pub reported : GridRules → BoardView → ReportView

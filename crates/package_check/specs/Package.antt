@@ -1,10 +1,9 @@
 -- The answer to a package: its report, or the first file that is refused.
 use Rattle.std.specs.Prelude.{◌≡◌, ◌⊎◌, ◌<◌, ◌+◌, ◌++◌, ℕ, Bool, true, false, not, ◌||◌, ◌&&◌, nat_le, List, [], ◌∷◌, length, map, take, get_or, count_by, Result, Ok, Err, ⊤, Option, None, Some}
-use Rattle.std.specs.List.{All, AllByRecursion, flat_map, enumerate_from}
+use Rattle.std.specs.List.{All, flat_map, enumerate_from}
 use Rattle.grid_units.specs.Holes.{GridHole, GridRules}
 use Rattle.grid_units.specs.declared.profile.Profile.{Profile}
 use Rattle.grid_units.specs.declared.profile.Profile.TheVariants.{Strict}
-use Rattle.pad_shapes.specs.declared.pad.Pad.{Pad}
 use Rattle.wide_pads.specs.WidePads.{wide_pad_covers}
 use Rattle.wide_pads.specs.declared.wide_pad.WidePad.{WidePad}
 use Rattle.grid_units.specs.Holes.{is_round}
@@ -67,10 +66,6 @@ file_views_in profile files = map (file_view (record { layers = layer_count file
 -- the same in the strict profile
 abbrev pub file_views : List File → List FileView
 file_views files = file_views_in Strict files
-
--- each file is read in the strict profile
-abbrev pub AreStrict : List FileView → Type 0
-AreStrict sources = AllByRecursion (λ source. source.setting.profile ≡ Strict) sources
 
 -- whether a span is bad: on a copper file, or not `1 <= first <= last <=` the number of copper files (docs/FORMATS.md, The check)
 abbrev pub is_bad_span : Role → Option LayerSpan → ℕ → Bool
@@ -154,15 +149,6 @@ pads_of (content.Drill plated span holes) = []
 -- the pads of each copper file, in the order of the files
 abbrev pub layers : List Content → List (List WidePad)
 layers contents = flat_map pads_of contents
-
--- the pads of standard apertures of a copper file, as a list of one; none for a drill file
-abbrev pub plain_pads_of : Content → List (List Pad)
-plain_pads_of (content.Layer image) = image.pads ∷ []
-plain_pads_of (content.Drill plated span holes) = []
-
--- the pads of standard apertures of each copper file: in the strict profile all pads
-abbrev pub plain_layers : List Content → List (List Pad)
-plain_layers contents = flat_map plain_pads_of contents
 
 -- the index of a copper file, as a list of one; none for a drill file
 abbrev pub index_of : ℕ × Content → List ℕ

@@ -5,26 +5,26 @@ ghost use Rattle.std.specs.List.{flat_map};
 ghost use Rattle.grid_units.specs.Holes.{is_round};
 ghost use Rattle.package_check.specs.Boards.{CountsAddUp, board_findings, board_of, hole_count};
 ghost use Rattle.package_check.specs.Holding.{all_drawn, all_flashes};
-ghost use Rattle.package_check.specs.Package.{sum_of, layer_indexes, plain_pads_of};
+ghost use Rattle.package_check.specs.Package.{sum_of, layer_indexes, pads_of};
 ghost use Rattle.package_check.specs.SoundnessAsRead.{drilled_in};
 
 use crate::FileSum;
 use crate::contents::Content;
 use crate::lists::push;
-use crate::readers::{Layer, Shown};
+use crate::readers::Shown;
 use grid_units::{Hole, Rules};
 use layer_image::{Drawn, Flash};
-use pad_shapes::Pad;
 use ring_rules::{Drilled, Finding, Span, gap_findings, ring_findings};
 use std::alloc::{AllocError, Global};
 use std::marker::Model;
+use wide_pads::WidePad;
 
 /// The board of a package: the counts of each file, the pads of each copper file, and the holes of all drill files; also the flashes
 /// of each file and what it draws, where they are kept.
 #[derive(Drop)]
 pub struct Board {
     pub(crate) files: Vec<FileSum>,
-    layers: Vec<Layer>,
+    layers: Vec<Vec<WidePad>>,
     pub(crate) layer_indexes: Vec<usize>,
     pub(crate) holes: Vec<Drilled>,
     shown: Vec<Shown>,
@@ -36,7 +36,7 @@ impl Model for Board {
 
     ghost Value = { BoardView };
 
-    ghost view = { λ b. record { files = b.files.items; layers = map (λ l. l.pads) b.layers.items; layer_indexes = b.layer_indexes.items; holes = b.holes.items; flashes = map (λ one. one.flashes.items) b.shown.items; drawn = map (λ one. one.drawn.items) b.shown.items } };
+    ghost view = { λ b. record { files = b.files.items; layers = map (λ l. l.items) b.layers.items; layer_indexes = b.layer_indexes.items; holes = b.holes.items; flashes = map (λ one. one.flashes.items) b.shown.items; drawn = map (λ one. one.drawn.items) b.shown.items } };
 
     ghost invariant = { λ b. CountsAddUp b.files.items b.holes.items };
 }
@@ -55,7 +55,7 @@ impl Board {
     /// # Errors
     ///
     /// An `AllocError` where there is no memory for the list.
-    pub fn layers(&self, alloc: Global) -> Result<Vec<&[Pad]>, AllocError>
+    pub fn layers(&self, alloc: Global) -> Result<Vec<&[WidePad]>, AllocError>
         ensures { IfOk result (λ layers. map (λ pads. pads.now) layers.items ≡ self.now.layers) }
     {
         pads_of_each(alloc, &self.layers)
@@ -111,12 +111,12 @@ impl Board {
     }
 }
 
-fn pads_of_each(alloc: Global, layers: &[Layer]) -> Result<Vec<&[Pad]>, AllocError>
-    ensures { IfOk result (λ all. map (λ pads. pads.now) all.items ≡ map (λ layer. layer.pads) layers.now) }
+fn pads_of_each(alloc: Global, layers: &[Vec<WidePad>]) -> Result<Vec<&[WidePad]>, AllocError>
+    ensures { IfOk result (λ all. map (λ pads. pads.now) all.items ≡ map (λ layer. layer.items) layers.now) }
 {
     let mut all = Vec::new(alloc);
     for layer in layers {
-        all.push(layer.pads())?;
+        all.push(layer.as_slice())?;
     }
     Ok(all)
 }
@@ -209,17 +209,18 @@ pub(crate) fn push_holes(holes: &mut Vec<Drilled>, content: &Content) -> Result<
     }
 }
 
-/// Moves the content of a file to the list of its kind. Its own list of holes is freed once they are appended.
+/// Moves the content of a file to the list of its kind. Its own lists are freed once they are moved.
 fn add_content(
-    layers: &mut Vec<Layer>,
+    alloc: Global,
+    layers: &mut Vec<Vec<WidePad>>,
     holes: &mut Vec<Drilled>,
     content: Content,
 ) -> Result<(), AllocError>
-    ensures layers { OnOk result (map (λ l. l.pads) layers.new.items ≡ map (λ l. l.pads) layers.old.items ++ plain_pads_of content) }
+    ensures layers { OnOk result (map (λ l. l.items) layers.new.items ≡ map (λ l. l.items) layers.old.items ++ pads_of content) }
     ensures holes { OnOk result (holes.new.items ≡ holes.old.items ++ drilled_in content) }
 {
     match content {
-        Content::Layer(layer) => push(layers, layer),
+        Content::Layer(layer) => push(layers, layer.into_pads(alloc)?),
         Content::Drill {
             plated,
             span,
@@ -230,15 +231,16 @@ fn add_content(
 
 /// Moves the contents of the files to the lists of their kinds, file by file.
 fn add_contents(
-    layers: &mut Vec<Layer>,
+    alloc: Global,
+    layers: &mut Vec<Vec<WidePad>>,
     holes: &mut Vec<Drilled>,
     contents: Vec<Content>,
 ) -> Result<(), AllocError>
-    ensures layers { OnOk result (map (λ l. l.pads) layers.new.items ≡ map (λ l. l.pads) layers.old.items ++ flat_map plain_pads_of contents.items) }
+    ensures layers { OnOk result (map (λ l. l.items) layers.new.items ≡ map (λ l. l.items) layers.old.items ++ flat_map pads_of contents.items) }
     ensures holes { OnOk result (holes.new.items ≡ holes.old.items ++ flat_map drilled_in contents.items) }
 {
     for content in contents {
-        add_content(layers, holes, content)?;
+        add_content(alloc, layers, holes, content)?;
     }
     Ok(())
 }
@@ -267,7 +269,7 @@ pub(crate) fn board_of(
     let layer_indexes = layer_indexes(alloc, &contents)?;
     let mut layers = Vec::new(alloc);
     let mut holes = Vec::with_capacity(alloc, hole_total(&contents))?;
-    add_contents(&mut layers, &mut holes, contents)?;
+    add_contents(alloc, &mut layers, &mut holes, contents)?;
     Ok(Board {
         files,
         layers,

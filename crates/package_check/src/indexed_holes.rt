@@ -20,10 +20,9 @@ use crate::contents::not_copper;
 use crate::judged::Judged;
 use crate::pad_size::{PadSize, are_unlike, likely_size, mean_size};
 use crate::readers::{PIECE, is_copper_function};
-use further_copper::FurtherPad;
 use grid_units::{Fail, Profile, Rules};
 use layer_image::{LayerReader, shown_faults};
-use pad_shapes::Pad;
+use pad_shapes::{Pad, PlacedRounded};
 use ring_rules::{Drilled, Finding, LayerSearch, RingIndex};
 use std::alloc::{AllocError, Global};
 use std::marker::Model;
@@ -244,38 +243,20 @@ impl IndexedHoles {
         }
     }
 
-    /// Tries a flash of a macro, or a contour, of a layer of this number.
+    /// Tries flashes of macros, or contours, of a layer of this number.
     fn try_further(
         &mut self,
         alloc: Global,
         layer: usize,
-        pad: &FurtherPad,
-    ) -> Result<(), AllocError>
-        ensures tried { (tried : List ThePad) → HasTriedIn self.old.holes self.old.index layer tried self.old.search → OnOk result (HasTriedIn self.new.holes self.new.index layer (tried ++ rounded pad.now ∷ []) self.new.search) }
-        ensures holes { self.new.holes ≡ self.old.holes }
-        ensures rules { self.new.rules ≡ self.old.rules }
-    {
-        let shape = [pad.on_board(alloc)?];
-        let mut search = self.take_search(alloc, layer)?;
-        search.try_pads(&self.index, &shape);
-        self.search = Some(search);
-        Ok(())
-    }
-
-    /// Tries flashes of macros, or contours, of a layer of this number.
-    fn try_all_further(
-        &mut self,
-        alloc: Global,
-        layer: usize,
-        pads: &[FurtherPad],
+        pads: &[PlacedRounded],
     ) -> Result<(), AllocError>
         ensures tried { (tried : List ThePad) → HasTriedIn self.old.holes self.old.index layer tried self.old.search → OnOk result (HasTriedIn self.new.holes self.new.index layer (tried ++ map rounded pads.now) self.new.search) }
         ensures holes { self.new.holes ≡ self.old.holes }
         ensures rules { self.new.rules ≡ self.old.rules }
     {
-        for pad in pads {
-            self.try_further(alloc, layer, pad)?;
-        }
+        let mut search = self.take_search(alloc, layer)?;
+        search.try_pads(&self.index, pads);
+        self.search = Some(search);
         Ok(())
     }
 
@@ -286,8 +267,8 @@ impl IndexedHoles {
         ensures rules { self.new.rules ≡ self.old.rules }
     {
         self.try_pads(alloc, layer, wide.pads())?;
-        self.try_all_further(alloc, layer, wide.flashed())?;
-        self.try_all_further(alloc, layer, wide.contours())
+        self.try_further(alloc, layer, wide.flashed())?;
+        self.try_further(alloc, layer, wide.contours())
     }
 
     /// The findings of rings on a layer of this number, whose pads were all tried. The search ends.

@@ -1,6 +1,6 @@
 //! What the check keeps of a file as it reads it: pads of a layer, holes of a drill file.
 
-ghost use Rattle.std.specs.Prelude.{◌≡◌, ◌++◌, ◌∷◌, [], ◌==◌, not, ℕ, List, Ok, IfErr, IfOk, OnOk, true};
+ghost use Rattle.std.specs.Prelude.{◌≡◌, ◌++◌, ◌∷◌, [], ◌==◌, not, ℕ, List, Ok, IfErr, IfOk, OnOk, map, true};
 ghost use Rattle.grid_units.specs.declared.profile.Profile.{Profile as TheProfile};
 ghost use Rattle.grid_units.specs.declared.profile.Profile.TheVariants.{Strict, Wide};
 ghost use Rattle.std.specs.List.{take_while};
@@ -15,17 +15,18 @@ ghost use Rattle.layer_image.specs.Layers.{ReadsLayerIn};
 ghost use Rattle.layer_image.specs.declared.keep.Keep.{Keep as TheKeep};
 ghost use Rattle.layer_image.specs.declared.keep.Keep.TheVariants as keep;
 ghost use Rattle.package_check.specs.FileTexts.{Draws, HasFlashes, ReadsLayer, ReadsDrill, is_copper_function};
+ghost use Rattle.package_check.specs.LayerViews.{all_pads, plain, rounded};
 ghost use Rattle.package_check.specs.OpenFiles.{keep_in};
 
 use drill_text::DrillReader;
-use further_copper::FurtherPad;
 use grid_units::numbers::len_before;
 use grid_units::{Fail, Hole, Profile};
 use layer_image::{Drawn, Flash, Keep, LayerReader, What, readings_in_profiles};
-use pad_shapes::Pad;
+use pad_shapes::{Pad, PlacedRounded};
 use std::alloc::{AllocError, Global};
 use std::marker::Model;
 use wide_layers::wide_layer;
+use wide_pads::WidePad;
 
 /// How many bytes of a layer are read at once: its commands are held for so many bytes alone, and then dropped.
 pub(crate) const PIECE: usize = 65_536;
@@ -34,8 +35,8 @@ pub(crate) const PIECE: usize = 65_536;
 #[derive(Drop)]
 pub(crate) struct Layer {
     pads: Vec<Pad>,
-    flashed: Vec<FurtherPad>,
-    contours: Vec<FurtherPad>,
+    flashed: Vec<PlacedRounded>,
+    contours: Vec<PlacedRounded>,
     other: usize,
     is_copper: bool,
 }
@@ -55,13 +56,13 @@ impl Layer {
         &self.pads
     }
 
-    pub(crate) fn flashed(&self) -> &[FurtherPad]
+    pub(crate) fn flashed(&self) -> &[PlacedRounded]
         ensures { result.now ≡ self.now.flashed }
     {
         &self.flashed
     }
 
-    pub(crate) fn contours(&self) -> &[FurtherPad]
+    pub(crate) fn contours(&self) -> &[PlacedRounded]
         ensures { result.now ≡ self.now.contours }
     {
         &self.contours
@@ -78,6 +79,37 @@ impl Layer {
     {
         self.is_copper
     }
+
+    /// All pads: those of standard apertures, the flashes of macros and the contours.
+    pub(crate) fn into_pads(self, alloc: Global) -> Result<Vec<WidePad>, AllocError>
+        ensures { IfOk result (λ all. all.items ≡ all_pads self) }
+    {
+        let mut all = plain_pads(alloc, self.pads)?;
+        add_rounded(&mut all, self.flashed)?;
+        add_rounded(&mut all, self.contours)?;
+        Ok(all)
+    }
+}
+
+/// Pads of standard apertures among all pads.
+fn plain_pads(alloc: Global, pads: Vec<Pad>) -> Result<Vec<WidePad>, AllocError>
+    ensures { IfOk result (λ all. all.items ≡ map plain pads.items) }
+{
+    let mut all = Vec::with_capacity(alloc, pads.len())?;
+    for pad in pads {
+        all.push(WidePad::Plain(pad))?;
+    }
+    Ok(all)
+}
+
+/// Adds flashes of macros, or contours, to all pads.
+fn add_rounded(all: &mut Vec<WidePad>, pads: Vec<PlacedRounded>) -> Result<(), AllocError>
+    ensures { OnOk result (all.new.items ≡ all.old.items ++ map rounded pads.items) }
+{
+    for pad in pads {
+        all.push(WidePad::Rounded(pad))?;
+    }
+    Ok(())
 }
 
 /// What the check keeps of a drill file: its holes.

@@ -12,12 +12,12 @@ in_128 z h = to_z-of_z w128 z (omega (arith, ints))
 pub factors : (a b x y : ℤ) → FitsSigned w64 x → FitsSigned w64 y → a ≡ x → b ≡ y → to_z w128 (of_z w128 a) *ℤ to_z w128 (of_z w128 b) ≡ x *ℤ y
 factors a b x y h l e f = λ i. (ap (λ z. to_z w128 (of_z w128 z)) e ∙ in_128 x h) i *ℤ (ap (λ z. to_z w128 (of_z w128 z)) f ∙ in_128 y l) i
 
-pub product_fits : (x y : ℤ) → unsigned_abs x ≤ 20000000000000 → unsigned_abs y ≤ 20000000000000 → FitsSigned w128 (x *ℤ y)
-product_fits x y h l = fits_signed_mul w128 x y 20000000000000 20000000000000 h l (lit< tt)
+pub product_fits : (x y : ℤ) → unsigned_abs x ≤ 20000000000000 → unsigned_abs y ≤ 40000000000000 → FitsSigned w128 (x *ℤ y)
+product_fits x y h l = fits_signed_mul w128 x y 20000000000000 40000000000000 h l (lit< tt)
 
-pub product_bound : (x y : ℤ) → unsigned_abs x ≤ 20000000000000 → unsigned_abs y ≤ 20000000000000 → unsigned_abs (x *ℤ y) ≤ 400000000000000000000000000
+pub product_bound : (x y : ℤ) → unsigned_abs x ≤ 20000000000000 → unsigned_abs y ≤ 40000000000000 → unsigned_abs (x *ℤ y) ≤ 800000000000000000000000000
 product_bound x y h l =
-    let p : unsigned_abs x * unsigned_abs y ≤ 20000000000000 * 20000000000000 = mul-le-mul h l in
+    let p : unsigned_abs x * unsigned_abs y ≤ 20000000000000 * 40000000000000 = mul-le-mul h l in
     rw unsigned_abs-mul (omega arith)
 
 -- a difference of coordinates, as the code forms it
@@ -28,22 +28,32 @@ difference a b p q e f h l =
     in_64 : (z : ℤ) → unsigned_abs z ≤ 10000000000000 → FitsSigned w64 z
     in_64 z k = omega (arith, ints)
 
-pub fits_difference : (r s : ℤ) → unsigned_abs r ≤ 400000000000000000000000000 → unsigned_abs s ≤ 400000000000000000000000000 → FitsSigned w128 (to_z w128 (of_z w128 r) -ℤ to_z w128 (of_z w128 s))
+-- a difference of a coordinate relative to an offset and one of a corner, as the code forms it
+pub far_difference : (a b p q : ℤ) → a ≡ p → b ≡ q → unsigned_abs a ≤ 30000000000000 → unsigned_abs b ≤ 10000000000000 → to_z w64 (of_z w64 (to_z w64 (of_z w64 a) -ℤ to_z w64 (of_z w64 b))) ≡ p -ℤ q
+far_difference a b p q e f h l =
+    (λ i. to_z w64 (of_z w64 (to_z-of_z w64 a (omega (arith, ints)) i -ℤ to_z-of_z w64 b (omega (arith, ints)) i))) ∙ to_z-of_z w64 (a -ℤ b) (omega (arith, ints)) ∙ (λ i. e i -ℤ f i)
+
+-- a coordinate less an offset, as the code forms it
+pub offset_difference : (a b p : ℤ) → a ≡ p → unsigned_abs a ≤ 10000000000000 → unsigned_abs b ≤ 20000000000000 → to_z w64 (of_z w64 (to_z w64 (of_z w64 a) -ℤ to_z w64 (of_z w64 b))) ≡ p -ℤ b
+offset_difference a b p e h l =
+    (λ i. to_z w64 (of_z w64 (to_z-of_z w64 a (omega (arith, ints)) i -ℤ to_z-of_z w64 b (omega (arith, ints)) i))) ∙ to_z-of_z w64 (a -ℤ b) (omega (arith, ints)) ∙ (λ i. e i -ℤ b)
+
+pub fits_difference : (r s : ℤ) → unsigned_abs r ≤ 800000000000000000000000000 → unsigned_abs s ≤ 800000000000000000000000000 → FitsSigned w128 (to_z w128 (of_z w128 r) -ℤ to_z w128 (of_z w128 s))
 fits_difference r s h l = omega (arith, ints)
 
-in_128_bits : (z : ℤ) → unsigned_abs z ≤ 800000000000000000000000000 → to_z w128 (of_z w128 z) ≡ z
+in_128_bits : (z : ℤ) → unsigned_abs z ≤ 1600000000000000000000000000 → to_z w128 (of_z w128 z) ≡ z
 in_128_bits z h = to_z-of_z w128 z (omega (arith, ints))
 
 -- a difference and a sum of products, as the code forms them
-pub difference_of_products : (r s : ℤ) → unsigned_abs r ≤ 400000000000000000000000000 → unsigned_abs s ≤ 400000000000000000000000000 → to_z w128 (of_z w128 (to_z w128 (of_z w128 r) -ℤ to_z w128 (of_z w128 s))) ≡ r -ℤ s
+pub difference_of_products : (r s : ℤ) → unsigned_abs r ≤ 800000000000000000000000000 → unsigned_abs s ≤ 800000000000000000000000000 → to_z w128 (of_z w128 (to_z w128 (of_z w128 r) -ℤ to_z w128 (of_z w128 s))) ≡ r -ℤ s
 difference_of_products r s h l =
     (λ i. to_z w128 (of_z w128 (in_128_bits r (omega (arith, h)) i -ℤ in_128_bits s (omega (arith, l)) i))) ∙ in_128_bits (r -ℤ s) (omega (arith, ints))
 
-pub sum_of_products : (r s : ℤ) → unsigned_abs r ≤ 400000000000000000000000000 → unsigned_abs s ≤ 400000000000000000000000000 → to_z w128 (of_z w128 (to_z w128 (of_z w128 r) +ℤ to_z w128 (of_z w128 s))) ≡ r +ℤ s
+pub sum_of_products : (r s : ℤ) → unsigned_abs r ≤ 800000000000000000000000000 → unsigned_abs s ≤ 800000000000000000000000000 → to_z w128 (of_z w128 (to_z w128 (of_z w128 r) +ℤ to_z w128 (of_z w128 s))) ≡ r +ℤ s
 sum_of_products r s h l =
     (λ i. to_z w128 (of_z w128 (in_128_bits r (omega (arith, h)) i +ℤ in_128_bits s (omega (arith, l)) i))) ∙ in_128_bits (r +ℤ s) (omega (arith, ints))
 
-pub difference_bound : (r s : ℤ) → unsigned_abs r ≤ 400000000000000000000000000 → unsigned_abs s ≤ 400000000000000000000000000 → unsigned_abs (r -ℤ s) ≤ 800000000000000000000000000
+pub difference_bound : (r s : ℤ) → unsigned_abs r ≤ 800000000000000000000000000 → unsigned_abs s ≤ 800000000000000000000000000 → unsigned_abs (r -ℤ s) ≤ 1600000000000000000000000000
 difference_bound r s h l = omega (arith, ints)
 
 -- the square of a step between two points
@@ -109,6 +119,22 @@ zone_low l k z reach radius e h p q near = omega (arith, ints)
 pub zone_high : (l k z : ℤ) (reach radius : ℕ) → l ≡ k → unsigned_abs l ≤ 10000000000000 → reach ≤ 20000000000000 → radius ≤ 5000000000000 → z ≤ℤ ((k +ℤ pos radius) -ℤ pos reach)
     → z ≤ℤ to_z w64 (of_z w64 (to_z w64 (of_z w64 l) -ℤ to_z w64 (of_z w64 (to_z w64 reach -ℤ to_z w64 radius))))
 zone_high l k z reach radius e h p q near = omega (arith, ints)
+
+-- a side of a box moved by an offset, as the code forms it
+pub low_side : (x l p : ℤ) → unsigned_abs x ≤ 20000000000000 → unsigned_abs l ≤ 40000000000000 → l ≤ℤ (p -ℤ x) → to_z w64 (of_z w64 (to_z w64 (of_z w64 x) +ℤ to_z w64 (of_z w64 l))) ≤ℤ p
+low_side x l p h k low = omega (arith, ints)
+
+pub high_side : (x l p : ℤ) → unsigned_abs x ≤ 20000000000000 → unsigned_abs l ≤ 40000000000000 → (p -ℤ x) ≤ℤ l → p ≤ℤ to_z w64 (of_z w64 (to_z w64 (of_z w64 x) +ℤ to_z w64 (of_z w64 l)))
+high_side x l p h k high = omega (arith, ints)
+
+-- the least and the greatest x of a moved shape, as the code forms them
+pub moved_least : (x l k r q : ℤ) → unsigned_abs x ≤ 20000000000000 → unsigned_abs l ≤ 10000000000000 → (pos 0 ≤ℤ r) × (r ≤ℤ pos 5000000000000) → l ≡ k → r ≡ q
+    → to_z w64 (of_z w64 (to_z w64 (of_z w64 (to_z w64 (of_z w64 x) +ℤ to_z w64 (of_z w64 l))) -ℤ to_z w64 (of_z w64 r))) ≡ (x +ℤ k) -ℤ q
+moved_least x l k r q h m n e f = omega (arith, ints, n.0, n.1)
+
+pub moved_greatest : (x l k r q : ℤ) → unsigned_abs x ≤ 20000000000000 → unsigned_abs l ≤ 10000000000000 → (pos 0 ≤ℤ r) × (r ≤ℤ pos 5000000000000) → l ≡ k → r ≡ q
+    → to_z w64 (of_z w64 (to_z w64 (of_z w64 (to_z w64 (of_z w64 x) +ℤ to_z w64 (of_z w64 l))) +ℤ to_z w64 (of_z w64 r))) ≡ (x +ℤ k) +ℤ q
+moved_greatest x l k r q h m n e f = omega (arith, ints, n.0, n.1)
 
 -- a reach above half of the width is covered nowhere
 pub beyond_half : (l g k m x : ℤ) (width radius reach : ℕ) → l ≡ k → g ≡ m → unsigned_abs l ≤ 10000000000000 → unsigned_abs g ≤ 10000000000000

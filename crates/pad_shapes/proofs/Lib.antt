@@ -1,3 +1,5 @@
 pub mod ZonesLemmas
 pub mod EdgesLemmas
 pub mod PartsLemmas
+pub mod MovedShapes
+pub mod PlacedLemmas

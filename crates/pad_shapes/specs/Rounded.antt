@@ -132,6 +132,14 @@ rounded_left r = least_corner (λ v. v.x) r -ℤ pos r.radius
 abbrev pub rounded_right : GridRounded → ℤ
 rounded_right r = greatest_corner (λ v. v.x) r +ℤ pos r.radius
 
+-- the least y of the corners, less the radius
+abbrev pub rounded_bottom : GridRounded → ℤ
+rounded_bottom r = least_corner (λ v. v.y) r -ℤ pos r.radius
+
+-- the greatest y of the corners and the radius
+abbrev pub rounded_top : GridRounded → ℤ
+rounded_top r = greatest_corner (λ v. v.y) r +ℤ pos r.radius
+
 -- the greatest reach that a shape covers round a centre, which is one that a call may have
 pub record IsGreatestReach (r : GridRounded) (c : GridPoint) (reach : ℕ) : Type 0 where
   pub covered : rounded_covers r c reach ≡ true

@@ -5,30 +5,31 @@ ghost use Rattle.std.specs.Ordering.{MatchOrdering};
 ghost use Rattle.grid_units.specs.Points.{square, square_distance};
 ghost use Rattle.pad_shapes.specs.Rounded.{cross, along, is_deep_left, is_beside};
 
+use crate::relative::RelativePoint;
 use grid_units::{Point, square_distance, square_length};
 use std::cmp::Ordering;
 
-/// The product of two differences of coordinates, in square pm.
+/// The product of a difference of corners and one of a point and a corner, in square pm.
 fn product(a: i64, b: i64) -> i128
     requires a { unsigned_abs a ≤ 20000000000000 }
-    requires b { unsigned_abs b ≤ 20000000000000 }
+    requires b { unsigned_abs b ≤ 40000000000000 }
     ensures value { result ≡ a *ℤ b }
-    ensures small { unsigned_abs result ≤ 400000000000000000000000000 }
+    ensures small { unsigned_abs result ≤ 800000000000000000000000000 }
 {
     i128::from(a) * i128::from(b)
 }
 
 /// Twice the area of the triangle of an edge and a point, in square pm: above 0 where the point lies to the left of the edge.
-pub(crate) fn cross(from: Point, to: Point, point: Point) -> i128
+pub(crate) fn cross(from: Point, to: Point, point: RelativePoint) -> i128
     ensures value { result ≡ cross (record { from = from; to = to }) point }
-    ensures small { unsigned_abs result ≤ 800000000000000000000000000 }
+    ensures small { unsigned_abs result ≤ 1600000000000000000000000000 }
 {
     product(to.x() - from.x(), point.y() - from.y())
         - product(to.y() - from.y(), point.x() - from.x())
 }
 
 /// How far a point lies along an edge from its start, times the edge's length, in square pm.
-fn along(from: Point, to: Point, point: Point) -> i128
+fn along(from: Point, to: Point, point: RelativePoint) -> i128
     ensures { result ≡ along (record { from = from; to = to }) point }
 {
     product(to.x() - from.x(), point.x() - from.x())
@@ -43,6 +44,16 @@ fn square_edge(from: Point, to: Point) -> u128
     let dx = to.x().abs_diff(from.x());
     let dy = to.y().abs_diff(from.y());
     square_length(dx, dy).unsigned_abs()
+}
+
+/// The square of the distance of a point and a corner, in square pm.
+pub(crate) fn square_distance_to(point: RelativePoint, corner: Point) -> i128
+    ensures { result ≡ pos (square_distance point corner) }
+{
+    square_length(
+        point.x().abs_diff(corner.x()),
+        point.y().abs_diff(corner.y()),
+    )
 }
 
 /// Compares the square of `rest` and `depth * loss` with `depth * gain`. None of the numbers that it meets needs more
@@ -71,9 +82,9 @@ fn compare_rests(depth: u128, rest: u128, gain: u128, loss: u128) -> Ordering
 }
 
 /// Compares an area with the product of a depth and an edge's length, by their squares, which need up to 178 bits and are
-/// never formed. The area and the square of the edge are at most 8 * 10^26 square pm, the depth 2 * 10^13 pm.
+/// never formed. The area is at most 16 * 10^26 square pm, the square of the edge 8 * 10^26, and the depth 2 * 10^13 pm.
 fn compare_areas(area: u128, depth: u128, square_edge: u128) -> Ordering
-    requires area { area ≤ 800000000000000000000000000 }
+    requires area { area ≤ 1600000000000000000000000000 }
     requires depth { depth ≤ 20000000000000 }
     requires square_edge { square_edge ≤ 800000000000000000000000000 }
     ensures { MatchOrdering result (square area < square depth * square_edge) (square area ≡ square depth * square_edge) (square depth * square_edge < square area) }
@@ -105,7 +116,7 @@ fn compare_areas(area: u128, depth: u128, square_edge: u128) -> Ordering
 
 /// Whether a point lies to the left of an edge, and no nearer to its line than the depth, which is at most
 /// 20,000,000,000,000 pm; or on it, for the depth 0.
-pub(crate) fn is_deep_left(from: Point, to: Point, depth: u64, point: Point) -> bool
+pub(crate) fn is_deep_left(from: Point, to: Point, depth: u64, point: RelativePoint) -> bool
     requires { depth ≤ 20000000000000 }
     ensures { result ≡ is_deep_left (record { from = from; to = to }) depth point }
 {
@@ -126,7 +137,7 @@ pub(crate) fn is_deep_left(from: Point, to: Point, depth: u64, point: Point) -> 
 
 /// Whether a point lies beside an edge, between its ends, no further from its line than the distance, which is at most
 /// 5,000,000,000,000 pm.
-pub(crate) fn is_beside(from: Point, to: Point, distance: u64, point: Point) -> bool
+pub(crate) fn is_beside(from: Point, to: Point, distance: u64, point: RelativePoint) -> bool
     requires { distance ≤ 5000000000000 }
     ensures { result ≡ is_beside (record { from = from; to = to }) distance point }
 {

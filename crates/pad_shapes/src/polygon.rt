@@ -4,25 +4,27 @@ ghost use Rattle.std.specs.Prelude.{◌≡◌, ◌≤◌};
 ghost use Rattle.grid_units.specs.Points.{IsCoordinate};
 ghost use Rattle.pad_shapes.specs.Rounded.{has_area, is_deep_inside, is_near_corner, is_near_rim, is_convex, is_outline, is_deep_left_of_all, is_beside_some, least_corner, greatest_corner};
 
-use crate::edges::{cross, is_beside, is_deep_left};
-use grid_units::{Point, square, square_distance};
+use crate::edges::{cross, is_beside, is_deep_left, square_distance_to};
+use crate::relative::RelativePoint;
+use grid_units::{Point, square};
 
 /// Whether the corners enclose an area: the first one lies to the left of some edge.
 fn has_area(first: Point, others: &[Point]) -> bool
     ensures { result ≡ has_area (record { first = first; others = others.now; radius = 0 }) }
 {
+    let start = RelativePoint::to_zero(first);
     let mut from = first;
     for to in others {
-        if 0 < cross(from, *to, first) {
+        if 0 < cross(from, *to, start) {
             return true;
         }
         from = *to;
     }
-    0 < cross(from, first, first)
+    0 < cross(from, first, start)
 }
 
 /// Whether a point lies to the left of each edge, no nearer to it than the depth.
-fn is_deep_left_of_all(first: Point, others: &[Point], depth: u64, point: Point) -> bool
+fn is_deep_left_of_all(first: Point, others: &[Point], depth: u64, point: RelativePoint) -> bool
     requires { depth ≤ 20000000000000 }
     ensures { result ≡ is_deep_left_of_all (record { first = first; others = others.now; radius = 0 }) depth point }
 {
@@ -37,7 +39,12 @@ fn is_deep_left_of_all(first: Point, others: &[Point], depth: u64, point: Point)
 }
 
 /// Whether a point lies inside of each edge, no nearer to it than the depth in pm, which is at most 20,000,000,000,000.
-pub(crate) fn is_deep_inside(first: Point, others: &[Point], depth: u64, point: Point) -> bool
+pub(crate) fn is_deep_inside(
+    first: Point,
+    others: &[Point],
+    depth: u64,
+    point: RelativePoint,
+) -> bool
     requires { depth ≤ 20000000000000 }
     ensures { result ≡ is_deep_inside (record { first = first; others = others.now; radius = 0 }) depth point }
 {
@@ -45,16 +52,16 @@ pub(crate) fn is_deep_inside(first: Point, others: &[Point], depth: u64, point: 
 }
 
 /// Whether a point is no further from a corner than the distance.
-fn is_near_corner(first: Point, others: &[Point], distance: u64, point: Point) -> bool
+fn is_near_corner(first: Point, others: &[Point], distance: u64, point: RelativePoint) -> bool
     requires { distance ≤ 5000000000000 }
     ensures { result ≡ is_near_corner (record { first = first; others = others.now; radius = 0 }) distance point }
 {
     let limit = square(distance);
-    if square_distance(point, first) <= limit {
+    if square_distance_to(point, first) <= limit {
         return true;
     }
     for corner in others {
-        if square_distance(point, *corner) <= limit {
+        if square_distance_to(point, *corner) <= limit {
             return true;
         }
     }
@@ -62,7 +69,7 @@ fn is_near_corner(first: Point, others: &[Point], distance: u64, point: Point) -
 }
 
 /// Whether a point lies beside an edge, no further from it than the distance.
-fn is_beside_some(first: Point, others: &[Point], distance: u64, point: Point) -> bool
+fn is_beside_some(first: Point, others: &[Point], distance: u64, point: RelativePoint) -> bool
     requires { distance ≤ 5000000000000 }
     ensures { result ≡ is_beside_some (record { first = first; others = others.now; radius = 0 }) distance point }
 {
@@ -77,7 +84,12 @@ fn is_beside_some(first: Point, others: &[Point], distance: u64, point: Point) -
 }
 
 /// Whether a point is no further from the rim than the distance in pm, which is at most 5,000,000,000,000.
-pub(crate) fn is_near_rim(first: Point, others: &[Point], distance: u64, point: Point) -> bool
+pub(crate) fn is_near_rim(
+    first: Point,
+    others: &[Point],
+    distance: u64,
+    point: RelativePoint,
+) -> bool
     requires { distance ≤ 5000000000000 }
     ensures { result ≡ is_near_rim (record { first = first; others = others.now; radius = 0 }) distance point }
 {
@@ -88,11 +100,11 @@ pub(crate) fn is_near_rim(first: Point, others: &[Point], distance: u64, point: 
 fn is_convex(first: Point, others: &[Point]) -> bool
     ensures { result ≡ is_convex (record { first = first; others = others.now; radius = 0 }) }
 {
-    if !is_deep_inside(first, others, 0, first) {
+    if !is_deep_inside(first, others, 0, RelativePoint::to_zero(first)) {
         return false;
     }
     for corner in others {
-        if !is_deep_inside(first, others, 0, *corner) {
+        if !is_deep_inside(first, others, 0, RelativePoint::to_zero(*corner)) {
             return false;
         }
     }

@@ -1,15 +1,16 @@
 //! Rounded polygons: convex polygons, and all that lies within a radius of them.
 
 ghost use Rattle.std.specs.Prelude.{◌≡◌, ℕ, pos, ◌<◌, ◌≤◌, ◌↔◌, false, IsSome, IfSome, MatchOption, unsigned_abs};
-ghost use Rattle.grid_units.specs.Points.{GridPoint};
+ghost use Rattle.grid_units.specs.Points.{GridPoint, IsCoordinate};
 ghost use Rattle.pad_shapes.specs.Shapes.{IsPadRadius, max_reach};
-ghost use Rattle.pad_shapes.specs.Zones.{BoundsCentres};
-ghost use Rattle.pad_shapes.specs.Rounded.{IsRounded, IsInRounded, IsGreatestReach, rounded_covers, rounded_left, rounded_right};
+ghost use Rattle.pad_shapes.specs.Zones.{BoundsCentres, IsWithin};
+ghost use Rattle.pad_shapes.specs.Rounded.{IsRounded, IsInRounded, IsGreatestReach, greatest_corner, least_corner, rounded_covers, rounded_left, rounded_right};
 ghost use Rattle.pad_shapes.specs.Inner.RoundedLaws.{rounded_contains_covered, rounded_contains_slots, rounded_between, rounded_extent};
 
 use crate::polygon::{
     greatest_x, greatest_y, is_deep_inside, is_near_rim, is_outline, least_x, least_y,
 };
+use crate::relative::RelativePoint;
 use crate::shape::{MAX_HALF_SIDE, PadShape};
 use crate::zone::{Zone, are_apart};
 use grid_units::Point;
@@ -19,7 +20,7 @@ use std::marker::Model;
 pub const MAX_CORNERS: usize = 256;
 
 /// The largest reach of a call in pm: twenty metres.
-const MAX_REACH: u64 = 20_000_000_000_000;
+pub(crate) const MAX_REACH: u64 = 20_000_000_000_000;
 
 /// A rounded polygon: one to 256 corners, and a radius of 0 to 5,000,000,000,000 pm. It has all points within the radius
 /// of its polygon. One corner makes a disc, two a line with round ends, and more go round a convex polygon
@@ -88,9 +89,10 @@ impl Rounded {
 
     /// The box of all centres that are covered with this reach or a greater one: that of the corners, wider by the radius
     /// and narrower by the reach.
-    fn centres(&self, reach: u64) -> Zone
+    pub(crate) fn centres(&self, reach: u64) -> Zone
         requires { reach ≤ max_reach }
-        ensures { BoundsCentres rounded_covers self.now reach result }
+        ensures bound { BoundsCentres rounded_covers self.now reach result }
+        ensures in_range { IsWithin 40000000000000 result }
     {
         let others = &self.others;
         let inset = reach as i64 - self.radius as i64;
@@ -103,15 +105,47 @@ impl Rounded {
     }
 
     /// Whether the shape covers a centre with this reach.
-    fn covers_reach(&self, hole: Point, reach: u64) -> bool
+    pub(crate) fn covers_reach(&self, centre: RelativePoint, reach: u64) -> bool
         requires { reach ≤ max_reach }
-        ensures { result ≡ rounded_covers self.now hole reach }
+        ensures { result ≡ rounded_covers self.now centre reach }
     {
         let depth = reach.saturating_sub(self.radius);
-        if is_deep_inside(self.first, &self.others, depth, hole) {
+        if is_deep_inside(self.first, &self.others, depth, centre) {
             return true;
         }
-        reach <= self.radius && is_near_rim(self.first, &self.others, self.radius - reach, hole)
+        reach <= self.radius && is_near_rim(self.first, &self.others, self.radius - reach, centre)
+    }
+
+    /// The least x of the corners, in pm.
+    pub(crate) fn least_x(&self) -> i64
+        ensures value { result ≡ least_corner (λ v. v.x) self.now }
+        ensures in_range { IsCoordinate result }
+    {
+        least_x(self.first, &self.others)
+    }
+
+    /// The greatest x of the corners, in pm.
+    pub(crate) fn greatest_x(&self) -> i64
+        ensures value { result ≡ greatest_corner (λ v. v.x) self.now }
+        ensures in_range { IsCoordinate result }
+    {
+        greatest_x(self.first, &self.others)
+    }
+
+    /// The least y of the corners, in pm.
+    pub(crate) fn least_y(&self) -> i64
+        ensures value { result ≡ least_corner (λ v. v.y) self.now }
+        ensures in_range { IsCoordinate result }
+    {
+        least_y(self.first, &self.others)
+    }
+
+    /// The greatest y of the corners, in pm.
+    pub(crate) fn greatest_y(&self) -> i64
+        ensures value { result ≡ greatest_corner (λ v. v.y) self.now }
+        ensures in_range { IsCoordinate result }
+    {
+        greatest_y(self.first, &self.others)
     }
 
     /// Half the width of the shape in pm, at most 15,000,000,000,000 pm. It covers nothing with a greater reach.
@@ -126,23 +160,31 @@ impl Rounded {
 
     /// The greatest reach in pm with which the shape covers a centre, at most 15,000,000,000,000 pm, or `None` where it
     /// does not cover the centre itself. It is found by halving: what is covered with one reach is covered with each lesser.
-    pub fn greatest_reach(&self, hole: Point) -> Option<u64>
-        ensures { MatchOption result (rounded_covers self.now hole 0 ≡ false) (IsGreatestReach self.now hole) }
+    pub(crate) fn reach_round(&self, centre: RelativePoint) -> Option<u64>
+        ensures { MatchOption result (rounded_covers self.now centre 0 ≡ false) (IsGreatestReach self.now centre) }
     {
-        if !self.covers_reach(hole, 0) {
+        if !self.covers_reach(centre, 0) {
             return None;
         }
         let mut covered = 0;
         let mut missed = self.half_width() + 1;
         while 1 < missed - covered {
             let middle = covered + (missed - covered) / 2;
-            if self.covers_reach(hole, middle) {
+            if self.covers_reach(centre, middle) {
                 covered = middle;
             } else {
                 missed = middle;
             }
         }
         Some(covered)
+    }
+
+    /// The greatest reach in pm with which the shape covers a centre, at most 15,000,000,000,000 pm, or `None` where it
+    /// does not cover the centre itself.
+    pub fn greatest_reach(&self, hole: Point) -> Option<u64>
+        ensures { MatchOption result (rounded_covers self.now hole 0 ≡ false) (IsGreatestReach self.now hole) }
+    {
+        self.reach_round(RelativePoint::to_zero(hole))
     }
 }
 
@@ -164,7 +206,7 @@ impl PadShape for Rounded {
     ghost extent = { rounded_extent };
 
     fn covers(&self, hole: Point, reach: i64) -> bool {
-        self.covers_reach(hole, reach.unsigned_abs())
+        self.covers_reach(RelativePoint::to_zero(hole), reach.unsigned_abs())
     }
 
     fn left(&self) -> i64 {

@@ -3,6 +3,8 @@ use Rattle.std.proofs.Common.{◌≤◌, ◌+◌, ◌++◌, ℕ, suc, List, [], 
 use Rattle.std.specs.Borrow.{Bor}
 use Rattle.std.specs.List.{All, enumerate_from}
 use Rattle.std.specs.Prelude.{codes, ⊤}
+use Rattle.grid_units.specs.declared.profile.Profile.{Profile}
+use Rattle.grid_units.specs.declared.profile.Profile.TheVariants.{Strict, Wide}
 use Rattle.std.proofs.lemmas.List.Elements.{All-append, All-map}
 use Rattle.json.specs.Json.{Json, max_depth}
 use Rattle.json.specs.Tree.{depth, items_depth, members_depth}
@@ -27,7 +29,7 @@ use Rattle.printing.specs.Holes.{name_of}
 use Rattle.report.specs.Acceptances.{acceptance_at}
 use Rattle.ring_rules.specs.declared.finding.Drilled.{Drilled}
 use Rattle.report.specs.Causes.{lack_of}
-use Rattle.print_json.specs.Values.{drill_value, file_value, flash_of, gap_value, hole_value, hole_at_place, array_of, or_null, items_of, members_of, layer_number, layer_value, least_gap_value, least_hole, least_ring, meets_value, met_value, picometres, place_value, point_value, ring_of, ring_value, row_value, rules_value, scale_value, span_value, whole, acceptance_value, word}
+use Rattle.print_json.specs.Values.{drill_value, file_value, flash_of, gap_value, hole_value, hole_at_place, array_of, or_null, items_of, members_of, layer_number, layer_value, least_gap_value, least_hole, least_ring, meets_value, met_value, picometres, place_value, point_value, ring_of, ring_value, row_value, rules_value, scale_value, span_value, whole, acceptance_value, word, wide_layer_value}
 use Rattle.print_json.specs.Packages.{file_values, gap_values, measure_value, ring_values, input_error_value, report_value}
 use Rattle.print_json.specs.declared.refused.InputError.{InputError}
 use Rattle.print_json.specs.declared.refused.InputError.TheVariants as stops
@@ -68,10 +70,11 @@ hole_within at = omega arith
 span_within : (span : Option LayerSpan) → depth (span_value span) ≤ 1
 span_within span = there_within 1 (λ layers. array_of (whole layers.first ∷ whole layers.last ∷ [])) (λ layers. omega arith) span
 
-file_within : (n : ℕ) (name : List ℕ) (sum : FileSum) → depth (file_value n name sum) ≤ 2
-unfolding layer_value drill_value
-file_within n name (sums.Layer pads other contours) = omega arith
-file_within n name (sums.Drill plated span round slots) = let layers = span_within span in omega (arith, layers)
+file_within : (profile : Profile) (n : ℕ) (name : List ℕ) (sum : FileSum) → depth (file_value profile n name sum) ≤ 2
+unfolding layer_value wide_layer_value drill_value
+file_within Strict n name (sums.Layer pads other contours) = omega arith
+file_within Wide n name (sums.Layer pads other contours) = omega arith
+file_within profile n name (sums.Drill plated span round slots) = let layers = span_within span in omega (arith, layers)
 
 scale_within : (line : UnitMistake) → depth (scale_value line) ≤ 1
 unfolding scale_value
@@ -119,8 +122,8 @@ unfolding least_gap_value
 least_gap_within files holes line = let first = place_within files holes line.first in let second = place_within files holes line.second in omega (arith, first, second)
 
 -- the depth of the files
-files_within : (names : List (List ℕ)) (files : List FileSum) → items_depth (items_of (file_values names files)) ≤ 2
-files_within names files = each_within (λ file. file_value (file.0 + 1) (name_of names file.0) file.1) 2 (λ file. file_within (file.0 + 1) (name_of names file.0) file.1) (enumerate_from 0 files)
+files_within : (profile : Profile) (names : List (List ℕ)) (files : List FileSum) → items_depth (items_of (file_values profile names files)) ≤ 2
+files_within profile names files = each_within (λ file. file_value profile (file.0 + 1) (name_of names file.0) file.1) 2 (λ file. file_within profile (file.0 + 1) (name_of names file.0) file.1) (enumerate_from 0 files)
 
 -- the depth of the findings
 rings_within : (layers : List LayerHead) (rings : List RingLack) (accepted : List (Option (Bor (List ℕ)))) → All (λ v. depth v ≤ 3) (ring_values layers rings accepted)
@@ -136,7 +139,7 @@ pub report_within : (names : List (List ℕ)) (files : List FileSum) (report : B
 unfolding report_value rules_value
 report_within names files report of_rings of_gaps =
     let meets = meets_within report.meets in
-    let named = files_within names files in
+    let named = files_within Strict names files in
     let scales = each_within scale_value 1 scale_within report.scales.items in
     let rings = ring_values report.layers.items report.rings.items of_rings in
     let before = length report.rings.items in
@@ -145,11 +148,18 @@ report_within names files report of_rings of_gaps =
     omega (arith, meets, named, scales, found)
 
 -- the depth of a measure
-pub measure_within : (names : List (List ℕ)) (board : BoardView) (measure : Measure) → depth (measure_value names board measure) ≤ max_depth
+pub measure_within : (profile : Profile) (names : List (List ℕ)) (board : BoardView) (measure : Measure) → depth (measure_value profile names board measure) ≤ max_depth
 unfolding measure_value
-measure_within names board measure =
+measure_within Strict names board measure =
     let meets = meets_within measure.meets in
-    let named = files_within names board.files in
+    let named = files_within Strict names board.files in
+    let scales = each_within scale_value 1 scale_within measure.scales.items in
+    let rows = each_within row_value 1 row_within measure.rings.items in
+    let gap = there_within 3 (least_gap_value board.files board.holes) (least_gap_within board.files board.holes) measure.gap in
+    omega (arith, meets, named, scales, rows, gap)
+measure_within Wide names board measure =
+    let meets = meets_within measure.meets in
+    let named = files_within Wide names board.files in
     let scales = each_within scale_value 1 scale_within measure.scales.items in
     let rows = each_within row_value 1 row_within measure.rings.items in
     let gap = there_within 3 (least_gap_value board.files board.holes) (least_gap_within board.files board.holes) measure.gap in

@@ -3,6 +3,7 @@ use Rattle.std.proofs.Common.{◌≡◌, Option, ◌<◌, ◌≤◌, ◌+◌, �
 use Rattle.std.specs.Borrow.{Bor}
 use Rattle.std.specs.List.{enumerate_from, flat_map}
 use Rattle.std.specs.Prelude.{if◌then◌else◌}
+use Rattle.grid_units.specs.declared.profile.Profile.{Profile}
 use Rattle.std.proofs.lemmas.Bool.{ne_eqb}
 use Rattle.std.proofs.lemmas.List.{get_or-map, get_or-append-add, get_or_append_left, length-map, length-take-le, take_more}
 use Rattle.std.proofs.lemmas.List.Concat.{flat_map-append}
@@ -74,12 +75,12 @@ module _ {X : Type 0} (value : ℕ × X → Json) (xs : List X) where
       none_before : 0 + i ≡ i
       none_before = omega arith
 
-module _ (names : List (List ℕ)) (files : List FileSum) where
-  pub length_files : length (file_values names files) ≡ length files
-  length_files = length_placed (λ file. file_value (file.0 + 1) (name_of names file.0) file.1) files
+module _ (profile : Profile) (names : List (List ℕ)) (files : List FileSum) where
+  pub length_files : length (file_values profile names files) ≡ length files
+  length_files = length_placed (λ file. file_value profile (file.0 + 1) (name_of names file.0) file.1) files
 
-  pub file_at : (i : ℕ) (d : FileSum) → i < length files → file_value (i + 1) (name_of names i) (get_or files i d) ≡ get_or (file_values names files) i null
-  file_at = placed (λ file. file_value (file.0 + 1) (name_of names file.0) file.1) files
+  pub file_at : (i : ℕ) (d : FileSum) → i < length files → file_value profile (i + 1) (name_of names i) (get_or files i d) ≡ get_or (file_values profile names files) i null
+  file_at = placed (λ file. file_value profile (file.0 + 1) (name_of names file.0) file.1) files
 
 module _ (layers : List LayerHead) (rings : List RingLack) (accepted : List (Option (Bor (List ℕ)))) where
   length_rings : length (ring_values layers rings accepted) ≡ length rings

@@ -1,5 +1,7 @@
 -- The JSON objects that are printed: of a measure, of a report and of a refusal (docs/FORMATS.md, JSON).
 use Rattle.std.specs.Prelude.{ℕ, ◌+◌, ◌==◌, ◌++◌, true, List, [], ◌∷◌, Option, codes, length, map, if◌then◌else◌}
+use Rattle.grid_units.specs.declared.profile.Profile.{Profile}
+use Rattle.grid_units.specs.declared.profile.Profile.TheVariants.{Strict, Wide}
 use Rattle.std.specs.Borrow.{Bor}
 use Rattle.std.specs.List.{enumerate_from}
 use Rattle.json.specs.Json.{Json, boolean}
@@ -20,13 +22,22 @@ use Rattle.print_json.specs.Values.{array_of, file_value, gap_value, or_null, le
 use Rattle.print_json.specs.declared.refused.InputError.{InputError}
 use Rattle.print_json.specs.declared.refused.InputError.TheVariants as stops
 
--- the first members of each object: `"format":"ringcheck","version":2,"result":"measured"`
+-- the member that names a profile, where it is not the strict one: `"profile":"wide"`
+abbrev pub profile_member : Profile → List (List ℕ × Json)
+profile_member Strict = []
+profile_member Wide = (codes "profile", word (codes "wide")) ∷ []
+
+-- the first members of an object about files that are read in a profile
+abbrev pub opening_in : Profile → List ℕ → List (List ℕ × Json)
+opening_in profile result = (codes "format", word (codes "ringcheck")) ∷ (codes "version", whole 2) ∷ (profile_member profile ++ (codes "result", word result) ∷ [])
+
+-- the first members of each other object: `"format":"ringcheck","version":2,"result":"refused"`
 abbrev pub opening : List ℕ → List (List ℕ × Json)
 opening result = (codes "format", word (codes "ringcheck")) ∷ (codes "version", whole 2) ∷ (codes "result", word result) ∷ []
 
--- the contents of each file, in order, with the files' numbers and names
-abbrev pub file_values : List (List ℕ) → List FileSum → List Json
-file_values names files = map (λ file. file_value (file.0 + 1) (name_of names file.0) file.1) (enumerate_from 0 files)
+-- the contents of each file in a profile, in order, with the files' numbers and names
+abbrev pub file_values : Profile → List (List ℕ) → List FileSum → List Json
+file_values profile names files = map (λ file. file_value profile (file.0 + 1) (name_of names file.0) file.1) (enumerate_from 0 files)
 
 -- the insufficient rings, each with its number and the reason at its place why it is accepted, if there is one; `layers` are those
 -- that they name
@@ -55,7 +66,7 @@ report_result report rings gaps = result_word (length report.rings.items + lengt
 unfoldable pub report_value : List (List ℕ) → List FileSum → BoardReport → List (Option (Bor (List ℕ))) → List (Option (Bor (List ℕ))) → Json
 report_value names files report rings gaps =
     object_of (opening (report_result report rings gaps) ++ ((codes "rules", rules_value report.rules) ∷ (codes "meets", meets_value report.meets)
-    ∷ (codes "files", array_of (file_values names files)) ∷ (codes "scales", array_of (map scale_value report.scales.items))
+    ∷ (codes "files", array_of (file_values Strict names files)) ∷ (codes "scales", array_of (map scale_value report.scales.items))
     ∷ (codes "findings", array_of (finding_values report rings gaps)) ∷ []))
 
 -- a report with waivers
@@ -66,10 +77,10 @@ waived_report_value names files report accepted = report_value names files repor
 abbrev pub board_report_value : List (List ℕ) → List FileSum → BoardReport → Json
 board_report_value names files report = report_value names files report [] []
 
--- a measure: the rules that are met, the files, the scales, the rows of rings, and the least gap of the board's holes
-unfoldable pub measure_value : List (List ℕ) → BoardView → Measure → Json
-measure_value names board measure =
-    object_of (opening (codes "measured") ++ ((codes "meets", meets_value measure.meets) ∷ (codes "files", array_of (file_values names board.files))
+-- a measure in a profile: the rules that are met, the files, the scales, the rows of rings, and the least gap of the board's holes
+unfoldable pub measure_value : Profile → List (List ℕ) → BoardView → Measure → Json
+measure_value profile names board measure =
+    object_of (opening_in profile (codes "measured") ++ ((codes "meets", meets_value measure.meets) ∷ (codes "files", array_of (file_values profile names board.files))
     ∷ (codes "scales", array_of (map scale_value measure.scales.items)) ∷ (codes "rings", array_of (map row_value measure.rings.items))
     ∷ (codes "gap", or_null (least_gap_value board.files board.holes) measure.gap) ∷ []))
 

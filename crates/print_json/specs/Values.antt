@@ -1,6 +1,8 @@
 -- Values of JSON, from the smallest up (docs/FORMATS.md, JSON). Lengths are whole pm. JSON numbers files and holes from 1, definitions
 -- number files from 0.
 use Rattle.std.specs.Prelude.{ℕ, ℤ, pos, ◌+◌, ◌-◌, ◌*◌, ◌++◌, Bool, List, [], ◌∷◌, codes, decimal, drop, Option, Some, None, option_map, slice_get, if◌then◌else◌}
+use Rattle.grid_units.specs.declared.profile.Profile.{Profile}
+use Rattle.grid_units.specs.declared.profile.Profile.TheVariants.{Strict, Wide}
 use Rattle.std.specs.Borrow.{Bor}
 use Rattle.std.specs.Fmt.{signed_decimal}
 use Rattle.json.specs.Json.{Json, null, number, string, array, object, Items, no_items, item, Members, no_members, member}
@@ -109,6 +111,17 @@ unfoldable pub layer_value : ℕ → List ℕ → ℕ → ℕ → Json
 layer_value n name pads other =
     object_of ((codes "number", whole n) ∷ (codes "role", word (codes "copper")) ∷ (codes "name", word name) ∷ (codes "pads", whole pads) ∷ (codes "other", whole other) ∷ [])
 
+-- a copper file in the wide profile: `{"number":1,"role":"copper","name":"top","pads":1,"other":0,"contours":2}`
+unfoldable pub wide_layer_value : ℕ → List ℕ → ℕ → ℕ → ℕ → Json
+wide_layer_value n name pads other contours =
+    object_of ((codes "number", whole n) ∷ (codes "role", word (codes "copper")) ∷ (codes "name", word name) ∷ (codes "pads", whole pads) ∷ (codes "other", whole other)
+    ∷ (codes "contours", whole contours) ∷ [])
+
+-- a copper file in a profile
+abbrev pub copper_value : Profile → ℕ → List ℕ → ℕ → ℕ → ℕ → Json
+copper_value Strict n name pads other contours = layer_value n name pads other
+copper_value Wide n name pads other contours = wide_layer_value n name pads other contours
+
 -- the first and the last layer that a drill file's holes go through, by their numbers from 1: `[1,2]`; null where no span is named
 abbrev pub span_value : Option LayerSpan → Json
 span_value span = or_null (λ layers. array_of (whole layers.first ∷ whole layers.last ∷ [])) span
@@ -119,10 +132,10 @@ drill_value n name plated span round slots =
     object_of ((codes "number", whole n) ∷ (codes "role", word (drill_role plated)) ∷ (codes "name", word name) ∷ (codes "round", whole round) ∷ (codes "slots", whole slots)
     ∷ (codes "span", span_value span) ∷ [])
 
--- a file of either kind, by its number
-abbrev pub file_value : ℕ → List ℕ → FileSum → Json
-file_value n name (sums.Layer pads other contours) = layer_value n name pads other
-file_value n name (sums.Drill plated span round slots) = drill_value n name plated span round slots
+-- a file of either kind in a profile, by its number
+abbrev pub file_value : Profile → ℕ → List ℕ → FileSum → Json
+file_value profile n name (sums.Layer pads other contours) = copper_value profile n name pads other contours
+file_value profile n name (sums.Drill plated span round slots) = drill_value n name plated span round slots
 
 -- a drill file whose coordinates seem to be off by a factor: `{"drill":2,"bare":3,"factor":"25.4","then":0}`
 unfoldable pub scale_value : UnitMistake → Json

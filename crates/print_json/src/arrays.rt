@@ -11,6 +11,7 @@ ghost use Rattle.print_json.specs.Values.{array_of, file_value, gap_value, ring_
 use crate::findings::{GapJson, RingJson};
 use crate::numbers::{file_numbers, gap_numbers, ring_numbers, row_numbers, scale_numbers};
 use crate::values::{FileJson, RowJson, ScaleJson};
+use grid_units::Profile;
 use package_check::FileSum;
 use printing::name_of;
 use report::{Acceptances, BoardReport, RingLine, UnitMistake, acceptance_of};
@@ -73,6 +74,8 @@ pub(crate) fn array_numbers<V: Values>(values: &V)
 /// The files of a package.
 #[derive(Clone, Copy)]
 pub(crate) struct Files<'a> {
+    /// The profile that they are read in.
+    pub(crate) profile: Profile,
     /// The names of the files.
     pub(crate) names: &'a [&'a str],
     /// Their contents.
@@ -83,9 +86,10 @@ impl<'a> Files<'a> {
     /// The file at a place.
     fn file_at(&self, place: usize) -> FileJson<'a>
         requires { place < length self.now.files.now }
-        ensures { file_value result.number result.name.now result.sum ≡ get_or (file_values (map (λ name. name.now) self.now.names.now) self.now.files.now) place null }
+        ensures { file_value result.profile result.number result.name.now result.sum ≡ get_or (file_values self.now.profile (map (λ name. name.now) self.now.names.now) self.now.files.now) place null }
     {
         FileJson {
+            profile: self.profile,
             number: place as u128 + 1,
             name: name_of(self.names, place),
             sum: self.files[place],
@@ -94,7 +98,7 @@ impl<'a> Files<'a> {
 }
 
 impl Values for Files<'_> {
-    ghost values = { λ all. file_values (map (λ name. name.now) all.names.now) all.files.now };
+    ghost values = { λ all. file_values all.profile (map (λ name. name.now) all.names.now) all.files.now };
 
     fn count(&self) -> u128 {
         self.files.len() as u128

@@ -14,6 +14,7 @@ use crate::arrays::{Array, Files, Findings, Scales, array_numbers};
 use crate::numbers::{meets_numbers, rules_numbers, whole_number};
 use crate::strings::Escaped;
 use crate::values::{MeetsJson, RulesJson};
+use grid_units::Profile;
 use package_check::FileSum;
 use report::{Acceptances, BoardReport, count_waived};
 use std::fmt;
@@ -83,7 +84,11 @@ impl Display for ReportRest<'_> {
     fn fmt<W: fmt::Write>(&self, f: &mut Formatter<W>) -> fmt::Result {
         let (names, files) = (self.0.names, self.0.files);
         let (report, accepted) = (self.0.report, self.0.accepted);
-        let files = Files { names, files };
+        let files = Files {
+            profile: Profile::Strict,
+            names,
+            files,
+        };
         let scales = Scales(report.scales.as_slice());
         let findings = Findings { report, accepted };
         let (files, scales, findings) = (Array(&files), Array(&scales), Array(&findings));
@@ -120,7 +125,11 @@ impl ReportJson<'_> {
         whole_number(u128::from(VERSION));
         rules_numbers(report.rules);
         meets_numbers(report.meets);
-        array_numbers(&Files { names, files });
+        array_numbers(&Files {
+            profile: Profile::Strict,
+            names,
+            files,
+        });
         array_numbers(&Scales(report.scales.as_slice()));
         array_numbers(&Findings { report, accepted });
     }

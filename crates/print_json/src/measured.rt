@@ -14,6 +14,7 @@ use crate::VERSION;
 use crate::arrays::{Array, Files, Rows, Scales, array_numbers};
 use crate::numbers::{hole_numbers, length_number, meets_numbers, whole_number};
 use crate::values::{HoleJson, MeetsJson};
+use grid_units::Profile;
 use package_check::{Board, FileSum, hole_count};
 use report::{GapLine, HolePlace, Measure, PlacedHole};
 use ring_rules::Drilled;
@@ -89,6 +90,8 @@ impl Display for LeastGapJson<'_> {
 /// The JSON of the measure of a board, by the names of its files: one line with its line end.
 #[derive(Clone, Copy)]
 pub struct MeasureJson<'a> {
+    /// The profile that the files were read in.
+    pub profile: Profile,
     /// The names of the files.
     pub names: &'a [&'a str],
     /// The board.
@@ -102,13 +105,18 @@ pub struct MeasureJson<'a> {
 struct MeasureRest<'a>(&'a MeasureJson<'a>);
 
 impl Display for MeasureRest<'_> {
-    ghost output = { λ rest. Some (more_members (members_of (measure_rest (map (λ name. name.now) rest.0.now.names.now) rest.0.now.board.now rest.0.now.measure.now))) };
+    ghost output = { λ rest. Some (more_members (members_of (measure_rest rest.0.now.profile (map (λ name. name.now) rest.0.now.names.now) rest.0.now.board.now rest.0.now.measure.now))) };
 
     #[tactic(auto, unfolding(json::specs::Print::escape_byte))]
     fn fmt<W: fmt::Write>(&self, f: &mut Formatter<W>) -> fmt::Result {
         let (names, board, measure) = (self.0.names, self.0.board, self.0.measure);
         let (files, gap) = (board.files(), measure.gap);
-        let files = Files { names, files };
+        let profile = self.0.profile;
+        let files = Files {
+            profile,
+            names,
+            files,
+        };
         let scales = Scales(measure.scales.as_slice());
         let rows = Rows(measure.rings.as_slice());
         let gap = LeastGapJson { board, gap };
@@ -120,16 +128,34 @@ impl Display for MeasureRest<'_> {
     }
 }
 
+/// The object of a measure.
+#[derive(Clone, Copy)]
+struct MeasureObject<'a>(&'a MeasureJson<'a>);
+
+impl Display for MeasureObject<'_> {
+    ghost output = { λ json. Some (value_text (measure_value json.0.now.profile (map (λ name. name.now) json.0.now.names.now) json.0.now.board.now json.0.now.measure.now)) };
+
+    #[tactic(auto, unfolding(crate::specs::Packages::measure_value, json::specs::Print::escape_byte))]
+    fn fmt<W: fmt::Write>(&self, f: &mut Formatter<W>) -> fmt::Result {
+        let (meets, rest) = (MeetsJson(self.0.measure.meets), MeasureRest(self.0));
+        match self.0.profile {
+            Profile::Strict => write!(
+                f,
+                r#"{{"format":"ringcheck","version":{VERSION},"result":"measured","meets":{meets}{rest}"#
+            ),
+            Profile::Wide => write!(
+                f,
+                r#"{{"format":"ringcheck","version":{VERSION},"profile":"wide","result":"measured","meets":{meets}{rest}"#
+            ),
+        }
+    }
+}
+
 impl Display for MeasureJson<'_> {
-    ghost output = { λ json. Some (json_text (measure_value (map (λ name. name.now) json.names.now) json.board.now json.measure.now)) };
+    ghost output = { λ json. Some (json_text (measure_value json.profile (map (λ name. name.now) json.names.now) json.board.now json.measure.now)) };
 
     fn fmt<W: fmt::Write>(&self, f: &mut Formatter<W>) -> fmt::Result {
-        let (meets, rest) = (MeetsJson(self.measure.meets), MeasureRest(self));
-        write!(
-            f,
-            r#"{{"format":"ringcheck","version":{VERSION},"result":"measured","meets":{meets}{rest}"#
-        )?;
-        f.write_str("\n")
+        write!(f, "{}\n", MeasureObject(self))
     }
 }
 
@@ -161,13 +187,17 @@ impl MeasureJson<'_> {
     /// Each number in the text is one of RFC 8259.
     #[tactic(auto, unfolding(crate::specs::Packages::measure_value))]
     fn numbers(&self)
-        ensures { HasNumbers (measure_value (map (λ name. name.now) self.now.names.now) self.now.board.now self.now.measure.now) }
+        ensures { HasNumbers (measure_value self.now.profile (map (λ name. name.now) self.now.names.now) self.now.board.now self.now.measure.now) }
     {
         let (names, board, measure) = (self.names, self.board, self.measure);
         let files = board.files();
         whole_number(u128::from(VERSION));
         meets_numbers(measure.meets);
-        array_numbers(&Files { names, files });
+        array_numbers(&Files {
+            profile: self.profile,
+            names,
+            files,
+        });
         array_numbers(&Scales(measure.scales.as_slice()));
         array_numbers(&Rows(measure.rings.as_slice()));
         least_gap_numbers(board, measure.gap);
@@ -176,8 +206,8 @@ impl MeasureJson<'_> {
     /// Before its line end the printed text is a document of RFC 8259, and its value is just the defined one, whatever the names are. A
     /// call does nothing but give this clause.
     pub fn reads_back(&self)
-        ensures { document (print (json_tokens (measure_value (map (λ name. name.now) self.now.names.now) self.now.board.now self.now.measure.now)))
-            ≡ Some (measure_value (map (λ name. name.now) self.now.names.now) self.now.board.now self.now.measure.now) }
+        ensures { document (print (json_tokens (measure_value self.now.profile (map (λ name. name.now) self.now.names.now) self.now.board.now self.now.measure.now)))
+            ≡ Some (measure_value self.now.profile (map (λ name. name.now) self.now.names.now) self.now.board.now self.now.measure.now) }
     {
         self.numbers();
     }

@@ -83,15 +83,20 @@ fn span_numbers(span: Option<Span>)
 }
 
 /// A file.
-#[tactic(auto, unfolding(crate::specs::Values::layer_value, crate::specs::Values::drill_value))]
+#[tactic(auto, unfolding(crate::specs::Values::layer_value, crate::specs::Values::wide_layer_value, crate::specs::Values::drill_value))]
 pub(crate) fn file_numbers(file: &FileJson)
-    ensures { HasNumbers (file_value file.now.number file.now.name.now file.now.sum) }
+    ensures { HasNumbers (file_value file.now.profile file.now.number file.now.name.now file.now.sum) }
 {
     whole_number(file.number);
     match file.sum {
-        FileSum::Layer { pads, other, .. } => {
+        FileSum::Layer {
+            pads,
+            other,
+            contours,
+        } => {
             whole_number(pads as u128);
             whole_number(other as u128);
+            whole_number(contours as u128);
         }
         FileSum::Drill {
             span,

@@ -2,10 +2,10 @@
 
 ghost use Rattle.std.specs.Prelude.{◌≡◌, pos, Some, option_map};
 ghost use Rattle.print_json.specs.Inner.Texts.{value_text};
-ghost use Rattle.print_json.specs.Values.{diameter_of, drill_role, file_value, hole_value, or_null, meets_value, met_value, picometres, point_value, row_value, rules_value, scale_value, span_value, whole};
+ghost use Rattle.print_json.specs.Values.{diameter_of, drill_role, file_value, hole_value, or_null, meets_value, met_value, picometres, point_value, row_value, rules_value, scale_value, span_value, whole, wide_layer_value};
 
 use crate::strings::Escaped;
-use grid_units::{Hole, Point, Rules, Span};
+use grid_units::{Hole, Point, Profile, Rules, Span};
 use package_check::FileSum;
 use report::{LeastRing, Meets, Met, PlacedHole, RingLine, UnitMistake, factor_word};
 use std::fmt;
@@ -122,26 +122,68 @@ impl Display for SpanJson {
     }
 }
 
+/// A copper file in the wide profile, by its number: `{"number":1,"role":"copper","name":"top","pads":1,"other":0,"contours":2}`.
+#[derive(Clone, Copy)]
+struct WideLayerJson<'a> {
+    number: u128,
+    name: &'a str,
+    pads: usize,
+    other: usize,
+    contours: usize,
+}
+
+impl Display for WideLayerJson<'_> {
+    ghost output = { λ json. Some (value_text (wide_layer_value json.number json.name.now json.pads json.other json.contours)) };
+
+    #[tactic(auto, unfolding(crate::specs::Values::wide_layer_value, json::specs::Print::escape_byte))]
+    fn fmt<W: fmt::Write>(&self, f: &mut Formatter<W>) -> fmt::Result {
+        let (number, name) = (self.number, Escaped(self.name));
+        let (pads, other, contours) = (self.pads, self.other, self.contours);
+        write!(
+            f,
+            r#"{{"number":{number},"role":"copper","name":"{name}","pads":{pads},"other":{other},"contours":{contours}}}"#
+        )
+    }
+}
+
 /// A file, by its number: `{"number":1,"role":"copper","name":"top","pads":1,"other":0}`,
 /// `{"number":2,"role":"plated","name":"pth","round":1,"slots":0,"span":null}`.
 #[derive(Clone, Copy)]
 pub(crate) struct FileJson<'a> {
+    pub(crate) profile: Profile,
     pub(crate) number: u128,
     pub(crate) name: &'a str,
     pub(crate) sum: FileSum,
 }
 
 impl Display for FileJson<'_> {
-    ghost output = { λ json. Some (value_text (file_value json.number json.name.now json.sum)) };
+    ghost output = { λ json. Some (value_text (file_value json.profile json.number json.name.now json.sum)) };
 
     #[tactic(auto, unfolding(crate::specs::Values::layer_value, crate::specs::Values::drill_value, json::specs::Print::escape_byte))]
     fn fmt<W: fmt::Write>(&self, f: &mut Formatter<W>) -> fmt::Result {
         let (number, name) = (self.number, Escaped(self.name));
         match self.sum {
-            FileSum::Layer { pads, other, .. } => write!(
-                f,
-                r#"{{"number":{number},"role":"copper","name":"{name}","pads":{pads},"other":{other}}}"#
-            ),
+            FileSum::Layer {
+                pads,
+                other,
+                contours,
+            } => match self.profile {
+                Profile::Strict => write!(
+                    f,
+                    r#"{{"number":{number},"role":"copper","name":"{name}","pads":{pads},"other":{other}}}"#
+                ),
+                Profile::Wide => {
+                    let name = self.name;
+                    let file = WideLayerJson {
+                        number,
+                        name,
+                        pads,
+                        other,
+                        contours,
+                    };
+                    write!(f, "{file}")
+                }
+            },
             FileSum::Drill {
                 plated,
                 span,

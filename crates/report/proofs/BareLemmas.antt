@@ -8,15 +8,16 @@ use Rattle.std.proofs.lemmas.List.Folds.{list_any_at, list_any_none}
 use Rattle.std.proofs.lemmas.List.Sums.{count_by_more_yes, count_by_more_no}
 use Rattle.grid_units.specs.Points.{GridPoint}
 use Rattle.grid_units.specs.Holes.{GridHole, is_round}
-use Rattle.pad_shapes.specs.Pads.{pad_covers}
+use Rattle.wide_pads.specs.WidePads.{wide_pad_covers}
 use Rattle.pad_shapes.specs.Shapes.{covers_both_ends}
-use Rattle.pad_shapes.specs.declared.pad.Pad.{Pad}
+use Rattle.wide_pads.specs.declared.wide_pad.WidePad.{WidePad}
 use Rattle.pad_shapes.specs.declared.pad.Pad.TheVariants.{Disc}
+use Rattle.wide_pads.specs.declared.wide_pad.WidePad.TheVariants.{Plain}
 use Rattle.ring_rules.specs.Findings.{is_oblique}
 use Rattle.ring_rules.specs.Places.{hole_at, default_hole}
 use Rattle.ring_rules.specs.declared.finding.Drilled.{Drilled}
 use Rattle.margins.specs.BestPads.{AreBestPads, AreBare, NoneCovers, IsBare, IsBestPad}
-use Rattle.margins.specs.Inner.DepthLaws.{pad_covers_less}
+use Rattle.margins.specs.Inner.DepthLaws.{wide_pad_covers_less}
 use Rattle.margins.specs.Rows.{has_no_best_pad}
 use Rattle.margins.specs.declared.best.BestPad.{BestPad}
 use Rattle.report.specs.UnitMistakes.{BareIsUncovered, is_bare, is_uncovered}
@@ -67,47 +68,47 @@ one_point h round =
     let y = equal h.from.y h.to.y e.1 in
     λ i. record { x = x i; y = y i }
 
-module _ (pads : List Pad) (h : GridHole) (round : is_round h ≡ true) where
+module _ (pads : List WidePad) (h : GridHole) (round : is_round h ≡ true) where
   -- what covers a round hole covers its centre with a reach of 0
-  covered : (p : Pad) (reach : ℕ) → covers_both_ends pad_covers p h.from h.to reach ≡ true → pad_covers p h.from 0 ≡ true
-  covered p reach e = pad_covers_less p h.from 0 reach (omega arith) (both_true (pad_covers p h.from reach) (pad_covers p h.to reach) e).0
+  covered : (p : WidePad) (reach : ℕ) → covers_both_ends wide_pad_covers p h.from h.to reach ≡ true → wide_pad_covers p h.from 0 ≡ true
+  covered p reach e = wide_pad_covers_less p h.from 0 reach (omega arith) (both_true (wide_pad_covers p h.from reach) (wide_pad_covers p h.to reach) e).0
 
-  ends : (p : Pad) → pad_covers p h.from 0 ≡ true → covers_both_ends pad_covers p h.from h.to 0 ≡ true
-  ends p e = both (pad_covers p h.from 0) (pad_covers p h.to 0) e (subst (λ (q : GridPoint). pad_covers p q 0 ≡ true) (one_point h round) e)
+  ends : (p : WidePad) → wide_pad_covers p h.from 0 ≡ true → covers_both_ends wide_pad_covers p h.from h.to 0 ≡ true
+  ends p e = both (wide_pad_covers p h.from 0) (wide_pad_covers p h.to 0) e (subst (λ (q : GridPoint). wide_pad_covers p q 0 ≡ true) (one_point h round) e)
 
   refused : (b : Bool) → (b ≡ true → ⊥) → b ≡ false
   refused true f = absurd (f refl)
   refused false f = refl
 
-  shallow : is_uncovered pads h.from ≡ true → NoneCovers pad_covers pads (length pads) h
+  shallow : is_uncovered pads h.from ≡ true → NoneCovers wide_pad_covers pads (length pads) h
   shallow none p k reach inside =
-      let nothing = not_true (list_any (λ (pad : Pad). pad_covers pad h.from 0) pads) none in
-      refused (covers_both_ends pad_covers (get_or pads k p) h.from h.to reach) (λ e.
-      either_way (list_any (λ (pad : Pad). pad_covers pad h.from 0) pads) (list_any_at (λ (pad : Pad). pad_covers pad h.from 0) pads k p inside (covered (get_or pads k p) reach e)) nothing)
+      let nothing = not_true (list_any (λ (pad : WidePad). wide_pad_covers pad h.from 0) pads) none in
+      refused (covers_both_ends wide_pad_covers (get_or pads k p) h.from h.to reach) (λ e.
+      either_way (list_any (λ (pad : WidePad). wide_pad_covers pad h.from 0) pads) (list_any_at (λ (pad : WidePad). wide_pad_covers pad h.from 0) pads k p inside (covered (get_or pads k p) reach e)) nothing)
 
-  uncovered : IsBare pad_covers pads h → is_uncovered pads h.from ≡ true
-  uncovered none = not_false (list_any (λ (pad : Pad). pad_covers pad h.from 0) pads) (list_any_none (λ (pad : Pad). pad_covers pad h.from 0) pads (λ k d inside.
-      refused (pad_covers (get_or pads k d) h.from 0) (λ e. either_way (covers_both_ends pad_covers (get_or pads k d) h.from h.to 0) (ends (get_or pads k d) e) (none d k 0 inside))))
+  uncovered : IsBare wide_pad_covers pads h → is_uncovered pads h.from ≡ true
+  uncovered none = not_false (list_any (λ (pad : WidePad). wide_pad_covers pad h.from 0) pads) (list_any_none (λ (pad : WidePad). wide_pad_covers pad h.from 0) pads (λ k d inside.
+      refused (wide_pad_covers (get_or pads k d) h.from 0) (λ e. either_way (covers_both_ends wide_pad_covers (get_or pads k d) h.from h.to 0) (ends (get_or pads k d) e) (none d k 0 inside))))
 
   -- the best pad of a round hole decides whether it is bare
-  told : (b : Option BestPad) → IsBestPad pad_covers pads h b → is_uncovered pads h.from ≡ has_no_best_pad b
+  told : (b : Option BestPad) → IsBestPad wide_pad_covers pads h b → is_uncovered pads h.from ≡ has_no_best_pad b
   told None k = uncovered k
   told (Some best) k =
-      let d : Pad = Disc (record { centre = h.from; radius = 0 }) in
-      ap not (list_any_at (λ (pad : Pad). pad_covers pad h.from 0) pads best.pad d k.inside (covered (get_or pads best.pad d) best.depth (k.covered d)))
+      let d : WidePad = Plain (Disc (record { centre = h.from; radius = 0 })) in
+      ap not (list_any_at (λ (pad : WidePad). wide_pad_covers pad h.from 0) pads best.pad d k.inside (covered (get_or pads best.pad d) best.depth (k.covered d)))
 
 pub bare_is_uncovered : BareIsUncovered
 bare_is_uncovered pads h round = (λ bare. uncovered pads h round bare, λ none. shallow pads h round none)
 
 -- so does the best pad of the hole at a place
-by_best : (pads : List Pad) (h : GridHole) (b : Option BestPad) → IsBestPad pad_covers pads h b → (is_round h && is_uncovered pads h.from) ≡ (is_round h && has_no_best_pad b)
+by_best : (pads : List WidePad) (h : GridHole) (b : Option BestPad) → IsBestPad wide_pad_covers pads h b → (is_round h && is_uncovered pads h.from) ≡ (is_round h && has_no_best_pad b)
 by_best pads h b is = by (is_round h) refl
   where
     by : (t : Bool) → is_round h ≡ t → (t && is_uncovered pads h.from) ≡ (t && has_no_best_pad b)
     by true e = told pads h e b is
     by false e = refl
 
-module _ (pads : List Pad) (holes : List Drilled) (bests : List (Option BestPad)) (all : AreBestPads pad_covers pads holes bests) (k : ℕ) (d : Drilled) (b : Option BestPad) (inside : k < length holes) where
+module _ (pads : List WidePad) (holes : List Drilled) (bests : List (Option BestPad)) (all : AreBestPads wide_pad_covers pads holes bests) (k : ℕ) (d : Drilled) (b : Option BestPad) (inside : k < length holes) where
   here : is_bare pads (get_or holes k d) ≡ (is_round (get_or holes k d).hole && has_no_best_pad (get_or bests k b))
   here =
       let size = all.size in
@@ -122,18 +123,18 @@ module _ (pads : List Pad) (holes : List Drilled) (bests : List (Option BestPad)
   bare_still bare t is e was = was ∙ sym (count_by_more_no (is_bare pads) holes k d inside (here ∙ (sym is ∙ e)))
 
 -- whether a round hole is bare
-given_bare : (pads : List Pad) (h : GridHole) (b : Bool) → is_round h ≡ true → (b ≡ true) ↔ IsBare pad_covers pads h → is_uncovered pads h.from ≡ b
+given_bare : (pads : List WidePad) (h : GridHole) (b : Bool) → is_round h ≡ true → (b ≡ true) ↔ IsBare wide_pad_covers pads h → is_uncovered pads h.from ≡ b
 given_bare pads h true round is = uncovered pads h round (is.0 refl)
 given_bare pads h false round is = refused pads h round (is_uncovered pads h.from) (λ e. either_way false (is.1 (shallow pads h round e)) refl)
 
-by_bare : (pads : List Pad) (h : GridHole) (b : Bool) → (b ≡ true) ↔ IsBare pad_covers pads h → (is_round h && is_uncovered pads h.from) ≡ (is_round h && b)
+by_bare : (pads : List WidePad) (h : GridHole) (b : Bool) → (b ≡ true) ↔ IsBare wide_pad_covers pads h → (is_round h && is_uncovered pads h.from) ≡ (is_round h && b)
 by_bare pads h b is = by (is_round h) refl
   where
     by : (t : Bool) → is_round h ≡ t → (t && is_uncovered pads h.from) ≡ (t && b)
     by true e = given_bare pads h b e is
     by false e = refl
 
-module _ (pads : List Pad) (holes : List Drilled) (bare : List Bool) (all : AreBare pad_covers pads holes bare) (k : ℕ) (d : Drilled) (b : Bool) (inside : k < length holes) where
+module _ (pads : List WidePad) (holes : List Drilled) (bare : List Bool) (all : AreBare wide_pad_covers pads holes bare) (k : ℕ) (d : Drilled) (b : Bool) (inside : k < length holes) where
   at_hole : is_bare pads (get_or holes k d) ≡ (is_round (get_or holes k d).hole && get_or bare k b)
   at_hole =
       let size = all.size in

@@ -3,7 +3,7 @@ use Rattle.std.proofs.Common.{◌≡◌, ◌↔◌, ℕ, ◌*◌, ◌<◌, ◌�
 use Rattle.std.proofs.lemmas.Bool.{cases_lt}
 use Rattle.std.proofs.lemmas.List.{get_or_append_left, length-append}
 use Rattle.std.proofs.Math.Seq.{get_or-append_seam}
-use Rattle.pad_shapes.specs.declared.pad.Pad.{Pad}
+use Rattle.wide_pads.specs.declared.wide_pad.WidePad.{WidePad}
 use Rattle.ring_rules.specs.declared.finding.Drilled.{Drilled}
 use Rattle.report.specs.declared.UnitFactor.{UnitFactor}
 use Rattle.report.specs.declared.UnitMistake.{UnitMistake}
@@ -84,7 +84,7 @@ both : (t : Bool) → t ≡ true → t ≡ false → ⊥
 both true e f = cc
 both false e f = cc
 
-module _ (pads : List Pad) (holes : List Drilled) (bare : ℕ) (is : bare ≡ bare_count pads holes) where
+module _ (pads : List WidePad) (holes : List Drilled) (bare : ℕ) (is : bare ≡ bare_count pads holes) where
   -- no line where too few are bare
   pub too_few : (t : Bool) → ((t ≡ true) ↔ (round_count holes < 2 * bare)) → t ≡ false → (line : UnitMistake) → IsUnitMistake pads holes line → ⊥
   too_few t tells f line scale = (
@@ -103,7 +103,7 @@ module _ (pads : List Pad) (holes : List Drilled) (bare : ℕ) (is : bare ≡ ba
       both t e f)
 
 -- a file has one line
-pub one_scale : (pads : List Pad) (holes : List Drilled) (a b : UnitMistake) → a.drill ≡ b.drill → IsUnitMistake pads holes a → IsUnitMistake pads holes b → a ≡ b
+pub one_scale : (pads : List WidePad) (holes : List Drilled) (a b : UnitMistake) → a.drill ≡ b.drill → IsUnitMistake pads holes a → IsUnitMistake pads holes b → a ≡ b
 one_scale pads holes a b at x y =
     let count = bare_count_with pads holes in
     let same : a.factor ≡ b.factor = one_first in

@@ -10,3 +10,4 @@ pub mod Slices
 pub mod RescaledLists
 pub mod PairedLists
 pub mod UnitMistakeLemmas
+pub mod PlainBests

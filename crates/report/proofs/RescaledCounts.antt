@@ -9,7 +9,7 @@ use Rattle.std.proofs.lemmas.List.Sums.{sum_by-append, sum_by-cons, sum_by_more}
 use Rattle.grid_units.specs.Points.{GridPoint, IsCoordinate, max_coordinate}
 use Rattle.margins.specs.Inner.DepthLaws.{both_le, le_both}
 use Rattle.grid_units.specs.Holes.{GridHole, is_round}
-use Rattle.pad_shapes.specs.declared.pad.Pad.{Pad}
+use Rattle.wide_pads.specs.declared.wide_pad.WidePad.{WidePad}
 use Rattle.ring_rules.specs.declared.finding.Drilled.{Drilled}
 use Rattle.report.specs.declared.UnitFactor.{UnitFactor}
 use Rattle.report.specs.UnitMistakes.{bare_count, bare_count_with, is_bare, is_bare_with, is_on_grid, is_uncovered, round_count, scaled, scaled_point}
@@ -48,7 +48,7 @@ as_rescaled true false u e f = absurd cc
 as_rescaled false p u e f = absurd cc
 
 module _ (factor : UnitFactor) (holes : List Drilled) (i : ℕ) (d : Drilled) (inside : i < length holes) (is : d ≡ get_or holes i d) where
-  bare_next : (pads : List Pad) → bare_count_with pads (take (i + 1) holes) factor ≡ bare_count_with pads (take i holes) factor + one_if (is_bare_with pads factor d)
+  bare_next : (pads : List WidePad) → bare_count_with pads (take (i + 1) holes) factor ≡ bare_count_with pads (take i holes) factor + one_if (is_bare_with pads factor d)
   bare_next pads =
       let more = sum_by_more (λ (e : Drilled). cond (is_bare_with pads factor e) 1 0) holes i d inside in
       let at : one_if (is_bare_with pads factor d) ≡ one_if (is_bare_with pads factor (get_or holes i d)) = ap (λ (e : Drilled). one_if (is_bare_with pads factor e)) is in
@@ -93,7 +93,7 @@ pub rescaled_all : (factor : UnitFactor) (holes : List Drilled) (i : ℕ) (resca
 rescaled_all factor holes i rescaled past is = subst (λ (hs : List Drilled). AreRescaled factor hs rescaled) (take_all i holes past) is
 
 -- the bare holes are those that are bare at their new places, and the round ones without a place
-pub all_bare : (factor : UnitFactor) (pads : List Pad) (holes rescaled : List Drilled) (round few bare : ℕ) → AreRescaled factor holes rescaled → round ≡ round_count holes → few ≡ length rescaled → bare ≡ bare_count pads rescaled
+pub all_bare : (factor : UnitFactor) (pads : List WidePad) (holes rescaled : List Drilled) (round few bare : ℕ) → AreRescaled factor holes rescaled → round ≡ round_count holes → few ≡ length rescaled → bare ≡ bare_count pads rescaled
     → round - few + bare ≡ bare_count_with pads holes factor
 all_bare factor pads holes rescaled round few bare is all size among = omega (arith, is.bare pads, is.few, all, size, among)
 

@@ -4,8 +4,8 @@ use Rattle.std.specs.List.{slice_range}
 use Rattle.std.proofs.lemmas.Bool.{cases_lt}
 use Rattle.std.proofs.lemmas.List.{get_or-take, get_or_append_left, get_or_default, length-append, length-take-le, take_all}
 use Rattle.std.proofs.Math.Seq.{get_or-append_seam}
-use Rattle.pad_shapes.specs.Pads.{pad_covers}
-use Rattle.pad_shapes.specs.declared.pad.Pad.{Pad}
+use Rattle.wide_pads.specs.WidePads.{wide_pad_covers}
+use Rattle.wide_pads.specs.declared.wide_pad.WidePad.{WidePad}
 use Rattle.margins.specs.BestPads.{AreBare}
 use Rattle.ring_rules.specs.declared.finding.Drilled.{Drilled}
 use Rattle.report.specs.declared.UnitFactor.{UnitFactor}
@@ -109,7 +109,7 @@ rescaled_part factor own all same e a b from to f t at =
     subst (λ (hs : List Drilled). AreRescaled factor own (slice_range hs a b)) (sym e)
     (subst (λ (n : ℕ). AreRescaled factor own (slice_range all a n)) (sym t) (subst (λ (n : ℕ). AreRescaled factor own (slice_range all n to)) (sym f) at.are))
 
-pub bare_part : (pads : List Pad) (all same : List Drilled) → same ≡ all → (b to : ℕ) → b ≡ to → to ≤ length all → (a : ℕ) (bare : List Bool) → AreBare pad_covers pads all bare
-    → AreBare pad_covers pads (slice_range same a b) (slice_range bare a b)
+pub bare_part : (pads : List WidePad) (all same : List Drilled) → same ≡ all → (b to : ℕ) → b ≡ to → to ≤ length all → (a : ℕ) (bare : List Bool) → AreBare wide_pad_covers pads all bare
+    → AreBare wide_pad_covers pads (slice_range same a b) (slice_range bare a b)
 bare_part pads all same e b to t inside a bare are =
-    bare_of_part pads same a b (let size = ap length e in omega (arith, size, t, inside)) bare (subst (λ (hs : List Drilled). AreBare pad_covers pads hs bare) (sym e) are)
+    bare_of_part pads same a b (let size = ap length e in omega (arith, size, t, inside)) bare (subst (λ (hs : List Drilled). AreBare wide_pad_covers pads hs bare) (sym e) are)

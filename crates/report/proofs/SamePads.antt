@@ -31,7 +31,8 @@ module _ {S : Type 0} (make : GridPoint → ℕ → ℕ → S) where
       let sides = both_true (k == l) (m == n) h.1 in
       ap (λ (r : GridPoint). make r k m) (same_points p q h.0) ∙ ap₂ (make q) ((Decides-eqb k l).0 sides.0) ((Decides-eqb m n).0 sides.1)
 
-same_pads : (a b : Pad) → impl.eq-value.it a b ≡ true → a ≡ b
+-- pads for which `==` answers true are equal
+pub same_pads : (a b : Pad) → impl.eq-value.it a b ≡ true → a ≡ b
 same_pads (pad.Disc a) (pad.Disc b) e = same_by_one (λ p r. pad.Disc (record { centre = p; radius = r })) a.centre b.centre a.radius b.radius e
 same_pads (pad.Disc a) (pad.Rect b) e = absurd (false≢true e)
 same_pads (pad.Disc a) (pad.Obround b) e = absurd (false≢true e)
@@ -41,14 +42,3 @@ same_pads (pad.Rect a) (pad.Obround b) e = absurd (false≢true e)
 same_pads (pad.Obround a) (pad.Disc b) e = absurd (false≢true e)
 same_pads (pad.Obround a) (pad.Rect b) e = absurd (false≢true e)
 same_pads (pad.Obround a) (pad.Obround b) e = same_by_two (λ p x y. pad.Obround (record { centre = p; half_x = x; half_y = y })) a.centre b.centre a.half_x b.half_x a.half_y b.half_y e
-
-module _ {S : Type 0} (E : S → S → Bool) (same : (a b : S) → E a b ≡ true → a ≡ b) where
-  same_lists : (xs ys : List S) → pointwise E xs ys ≡ true → xs ≡ ys
-  same_lists [] [] e = refl
-  same_lists [] (y ∷ ys) e = absurd (false≢true e)
-  same_lists (x ∷ xs) [] e = absurd (false≢true e)
-  same_lists (x ∷ xs) (y ∷ ys) e = let h = both_true (E x y) (pointwise E xs ys) e in ap₂ (λ (z : S) (zs : List S). z ∷ zs) (same x y h.0) (same_lists xs ys h.1)
-
--- lists of pads for which `==` answers true are equal
-pub same_pad_lists : (pads others : List Pad) → pointwise impl.eq-value.it pads others ≡ true → pads ≡ others
-same_pad_lists pads others e = same_lists impl.eq-value.it same_pads pads others e

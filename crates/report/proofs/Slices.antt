@@ -4,8 +4,8 @@ use Rattle.std.specs.List.{slice_range}
 use Rattle.std.proofs.lemmas.List.{drop-append-le, get_or-drop, get_or-take, length-append, length-drop, length-take-le, take-append-le, take_all}
 use Rattle.std.proofs.Math.Seq.{drop-append_seam}
 use Rattle.grid_units.specs.Holes.{GridHole}
-use Rattle.pad_shapes.specs.Pads.{pad_covers}
-use Rattle.pad_shapes.specs.declared.pad.Pad.{Pad}
+use Rattle.wide_pads.specs.WidePads.{wide_pad_covers}
+use Rattle.wide_pads.specs.declared.wide_pad.WidePad.{WidePad}
 use Rattle.ring_rules.specs.Places.{hole_at, default_hole}
 use Rattle.ring_rules.specs.declared.finding.Drilled.{Drilled}
 use Rattle.margins.specs.BestPads.{AreBare, AreBestPads, IsBare, IsBestPad}
@@ -32,12 +32,12 @@ module _ {X : Type 0} (xs : List X) where
     slice_back =
         ap (take (length (xs ++ ys) - length xs)) (drop-append_seam xs ys) ∙ take_all (length (xs ++ ys) - length xs) ys (let size = length-append xs ys in omega (arith, size))
 
-module _ (pads : List Pad) (holes : List Drilled) (a b : ℕ) (inside : b ≤ length holes) where
+module _ (pads : List WidePad) (holes : List Drilled) (a b : ℕ) (inside : b ≤ length holes) where
   same_hole : (k : ℕ) → k < b - a → hole_at (slice_range holes a b) k ≡ hole_at holes (a + k)
   same_hole k less = ap (λ (d : Drilled). d.hole) (slice_at holes a b k default_hole less)
 
   -- the best pads of a part of the holes
-  pub bests_of_part : (bests : List (Option BestPad)) → AreBestPads pad_covers pads holes bests → AreBestPads pad_covers pads (slice_range holes a b) (slice_range bests a b)
+  pub bests_of_part : (bests : List (Option BestPad)) → AreBestPads wide_pad_covers pads holes bests → AreBestPads wide_pad_covers pads (slice_range holes a b) (slice_range bests a b)
   bests_of_part bests all = (
       let own = slice_size holes a b inside in
       let size = all.size in
@@ -47,12 +47,12 @@ module _ (pads : List Pad) (holes : List Drilled) (a b : ℕ) (inside : b ≤ le
         each = λ k less. (
             let low : k < b - a = omega (arith, less, own) in
             let there = all.each (a + k) (omega (arith, low, inside)) in
-            subst (λ (h : GridHole). IsBestPad pad_covers pads h (get_or (slice_range bests a b) k None)) (sym (same_hole k low))
-            (subst (λ (o : Option BestPad). IsBestPad pad_covers pads (hole_at holes (a + k)) o) (sym (slice_at bests a b k None low)) there));
+            subst (λ (h : GridHole). IsBestPad wide_pad_covers pads h (get_or (slice_range bests a b) k None)) (sym (same_hole k low))
+            (subst (λ (o : Option BestPad). IsBestPad wide_pad_covers pads (hole_at holes (a + k)) o) (sym (slice_at bests a b k None low)) there));
       })
 
   -- which holes of a part are bare
-  pub bare_of_part : (bare : List Bool) → AreBare pad_covers pads holes bare → AreBare pad_covers pads (slice_range holes a b) (slice_range bare a b)
+  pub bare_of_part : (bare : List Bool) → AreBare wide_pad_covers pads holes bare → AreBare wide_pad_covers pads (slice_range holes a b) (slice_range bare a b)
   bare_of_part bare all = (
       let own = slice_size holes a b inside in
       let size = all.size in
@@ -62,6 +62,6 @@ module _ (pads : List Pad) (holes : List Drilled) (a b : ℕ) (inside : b ≤ le
         each = λ k less. (
             let low : k < b - a = omega (arith, less, own) in
             let there = all.each (a + k) (omega (arith, low, inside)) in
-            subst (λ (h : GridHole). (get_or (slice_range bare a b) k false ≡ true) ↔ IsBare pad_covers pads h) (sym (same_hole k low))
-            (subst (λ (t : Bool). (t ≡ true) ↔ IsBare pad_covers pads (hole_at holes (a + k))) (sym (slice_at bare a b k false low)) there));
+            subst (λ (h : GridHole). (get_or (slice_range bare a b) k false ≡ true) ↔ IsBare wide_pad_covers pads h) (sym (same_hole k low))
+            (subst (λ (t : Bool). (t ≡ true) ↔ IsBare wide_pad_covers pads (hole_at holes (a + k))) (sym (slice_at bare a b k false low)) there));
       })

@@ -3,7 +3,7 @@ use Rattle.std.proofs.Common.{◌≡◌, ◌↔◌, ℕ, ◌+◌, ◌*◌, ◌<�
 use Rattle.std.specs.List.{All, slice_range}
 use Rattle.std.proofs.lemmas.Bool.Decides.{Decides-eqb}
 use Rattle.std.proofs.lemmas.List.Elements.{All-map}
-use Rattle.pad_shapes.specs.declared.pad.Pad.{Pad}
+use Rattle.wide_pads.specs.declared.wide_pad.WidePad.{WidePad}
 use Rattle.ring_rules.specs.declared.finding.Drilled.{Drilled}
 use Rattle.report.specs.declared.UnitFactor.{UnitFactor}
 use Rattle.report.specs.declared.UnitMistake.{UnitMistake}
@@ -19,7 +19,7 @@ use Rattle.report.proofs.PairedLists.{PairedLists}
 
 -- ---- lists that belong to each other
 
-module _ (pads : List Pad) (holes : List Drilled) where
+module _ (pads : List WidePad) (holes : List Drilled) where
   abbrev pub IsCount : UnitFactor → HoleRange → ℕ → Type 0
   IsCount factor s n = n ≡ bare_count_with pads (holes_of holes s) factor
 

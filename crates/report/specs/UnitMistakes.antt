@@ -4,8 +4,8 @@ use Rattle.std.specs.Int.{int_div_euclid}
 use Rattle.std.specs.List.{All, list_any, slice_range}
 use Rattle.grid_units.specs.Points.{GridPoint, max_coordinate}
 use Rattle.grid_units.specs.Holes.{GridHole, is_round}
-use Rattle.pad_shapes.specs.Pads.{pad_covers}
-use Rattle.pad_shapes.specs.declared.pad.Pad.{Pad}
+use Rattle.wide_pads.specs.WidePads.{wide_pad_covers}
+use Rattle.wide_pads.specs.declared.wide_pad.WidePad.{WidePad}
 use Rattle.ring_rules.specs.declared.finding.Drilled.{Drilled}
 use Rattle.margins.specs.BestPads.{IsBare}
 use Rattle.report.specs.declared.UnitFactor.{UnitFactor}
@@ -51,19 +51,19 @@ abbrev pub is_on_grid : GridPoint → Bool
 is_on_grid p = nat_le (unsigned_abs p.x) max_coordinate && nat_le (unsigned_abs p.y) max_coordinate
 
 -- no pad covers a point with a reach of 0, and so with none
-abbrev pub is_uncovered : List Pad → GridPoint → Bool
-is_uncovered pads p = not (list_any (λ pad. pad_covers pad p 0) pads)
+abbrev pub is_uncovered : List WidePad → GridPoint → Bool
+is_uncovered pads p = not (list_any (λ pad. wide_pad_covers pad p 0) pads)
 
 -- a round hole is bare just where no pad covers its centre
 abbrev pub BareIsUncovered : Type 0
-BareIsUncovered = (pads : List Pad) (hole : GridHole) → is_round hole ≡ true → IsBare pad_covers pads hole ↔ (is_uncovered pads hole.from ≡ true)
+BareIsUncovered = (pads : List WidePad) (hole : GridHole) → is_round hole ≡ true → IsBare wide_pad_covers pads hole ↔ (is_uncovered pads hole.from ≡ true)
 
 -- a hole is round and bare
-abbrev pub is_bare : List Pad → Drilled → Bool
+abbrev pub is_bare : List WidePad → Drilled → Bool
 is_bare pads d = is_round d.hole && is_uncovered pads d.hole.from
 
 -- a hole is round and would be bare with its coordinates times a factor; it counts as bare where its place would be beyond ten metres
-abbrev pub is_bare_with : List Pad → UnitFactor → Drilled → Bool
+abbrev pub is_bare_with : List WidePad → UnitFactor → Drilled → Bool
 is_bare_with pads factor d = is_round d.hole && (not (is_on_grid (scaled_point factor d.hole.from)) || is_uncovered pads (scaled_point factor d.hole.from))
 
 -- how many of some holes are round
@@ -71,11 +71,11 @@ abbrev pub round_count : List Drilled → ℕ
 round_count holes = count_by (λ d. is_round d.hole) holes
 
 -- how many of some holes are round and bare
-abbrev pub bare_count : List Pad → List Drilled → ℕ
+abbrev pub bare_count : List WidePad → List Drilled → ℕ
 bare_count pads holes = count_by (is_bare pads) holes
 
 -- how many of some holes are round and would be bare with their coordinates times a factor
-abbrev pub bare_count_with : List Pad → List Drilled → UnitFactor → ℕ
+abbrev pub bare_count_with : List WidePad → List Drilled → UnitFactor → ℕ
 bare_count_with pads holes factor = count_by (is_bare_with pads factor) holes
 
 -- the factors in the order in which they are tried: 10, 1/10, 25.4 and 1/25.4
@@ -92,7 +92,7 @@ pub record IsFirstFewest (count : UnitFactor → ℕ) (tried : List UnitFactor) 
 
 -- The line of a drill file's holes among some pads. More than half of the round holes are bare; by the first of the factors that
 -- leave the fewest bare, less than half of these would be.
-pub record IsUnitMistake (pads : List Pad) (holes : List Drilled) (line : UnitMistake) : Type 0 where
+pub record IsUnitMistake (pads : List WidePad) (holes : List Drilled) (line : UnitMistake) : Type 0 where
   pub bare : line.bare ≡ bare_count pads holes
   pub most : round_count holes < 2 * line.bare
   pub first : IsFirstFewest (bare_count_with pads holes) factors line.factor
@@ -100,7 +100,7 @@ pub record IsUnitMistake (pads : List Pad) (holes : List Drilled) (line : UnitMi
   pub few : 2 * line.then < line.bare
 
 -- the line of a drill file, or none where its holes are not so; in the text: `scale drill=3 bare=40 factor=25.4 then=0`
-abbrev pub IsUnitMistakeOrNone : List Pad → List Drilled → ℕ → Option UnitMistake → Type 0
+abbrev pub IsUnitMistakeOrNone : List WidePad → List Drilled → ℕ → Option UnitMistake → Type 0
 IsUnitMistakeOrNone pads holes drill None = (line : UnitMistake) → IsUnitMistake pads holes line → ⊥
 IsUnitMistakeOrNone pads holes drill (Some line) = IsUnitMistake pads holes line × (line.drill ≡ drill)
 
@@ -113,6 +113,6 @@ abbrev pub AreFileRanges : List Drilled → List FileRange → Type 0
 AreFileRanges holes files = All (λ file. (file.start ≤ file.end) × (file.end ≤ length holes)) files
 
 -- the line of each of some drill files, where it has one, in their order
-pub record AreUnitMistakes (pads : List Pad) (holes : List Drilled) (files : List FileRange) (lines : List (Option UnitMistake)) : Type 0 where
+pub record AreUnitMistakes (pads : List WidePad) (holes : List Drilled) (files : List FileRange) (lines : List (Option UnitMistake)) : Type 0 where
   pub size : length lines ≡ length files
   pub each : (k : ℕ) (file : FileRange) (line : Option UnitMistake) → k < length files → IsUnitMistakeOrNone pads (holes_in holes (get_or files k file)) (get_or files k file).drill (get_or lines k line)

@@ -2,8 +2,8 @@
 
 ghost use Rattle.std.specs.Prelude.{◌≡◌, ◌&&◌, ◌≤◌, length, List, IfOk};
 ghost use Rattle.grid_units.specs.Holes.{is_round};
-ghost use Rattle.pad_shapes.specs.Pads.{pad_covers};
-ghost use Rattle.pad_shapes.specs.declared.pad.Pad.{Pad as ThePad};
+ghost use Rattle.wide_pads.specs.WidePads.{wide_pad_covers};
+ghost use Rattle.wide_pads.specs.declared.wide_pad.WidePad.{WidePad as ThePad};
 ghost use Rattle.margins.specs.BestPads.{AreBestPads, AreBare};
 ghost use Rattle.margins.specs.Rows.{has_no_best_pad};
 ghost use Rattle.report.specs.UnitMistakes.{bare_count, round_count};
@@ -36,7 +36,7 @@ fn is_bare(drilled: &Drilled, best: Option<BestPad>) -> bool
 /// How many of some holes are round and bare, by their best pads.
 pub fn bare_among(bests: &[Option<BestPad>], holes: &[Drilled]) -> usize
     requires { length bests.now ≡ length holes.now }
-    ensures exact { (pads : List ThePad) → AreBestPads pad_covers pads holes.now bests.now → result ≡ bare_count pads holes.now }
+    ensures exact { (pads : List ThePad) → AreBestPads wide_pad_covers pads holes.now bests.now → result ≡ bare_count pads holes.now }
     ensures few { result ≤ length holes.now }
 {
     let mut bare = 0;
@@ -58,7 +58,7 @@ fn is_round_and_bare(drilled: &Drilled, is_bare: bool) -> bool
 /// How many of some holes are round and bare, given of each whether it is bare.
 pub(crate) fn round_bare_count(bare: &[bool], holes: &[Drilled]) -> usize
     requires { length bare.now ≡ length holes.now }
-    ensures exact { (pads : List ThePad) → AreBare pad_covers pads holes.now bare.now → result ≡ bare_count pads holes.now }
+    ensures exact { (pads : List ThePad) → AreBare wide_pad_covers pads holes.now bare.now → result ≡ bare_count pads holes.now }
     ensures few { result ≤ length holes.now }
 {
     let mut count = 0;

@@ -2,8 +2,8 @@
 
 ghost use Rattle.std.specs.Prelude.{◌≡◌, ◌++◌, ◌∷◌, [], ◌≤◌, ℕ, List, length, IfOk, OnOk};
 ghost use Rattle.std.specs.List.{slice_range};
-ghost use Rattle.pad_shapes.specs.Pads.{pad_covers};
-ghost use Rattle.pad_shapes.specs.declared.pad.Pad.{Pad as ThePad};
+ghost use Rattle.wide_pads.specs.WidePads.{wide_pad_covers};
+ghost use Rattle.wide_pads.specs.declared.wide_pad.WidePad.{WidePad as ThePad};
 ghost use Rattle.margins.specs.BestPads.{AreBare};
 ghost use Rattle.report.specs.declared.UnitFactor.{UnitFactor as TheFactor};
 ghost use Rattle.report.specs.UnitMistakes.{bare_count_with, round_count};
@@ -12,9 +12,9 @@ ghost use Rattle.report.specs.Inner.RescaledCounts.{AreCounted, AreRescaled, Are
 use crate::UnitFactor;
 use crate::bare::{all_rescaled, round_among, round_bare_count};
 use margins::bare_holes;
-use pad_shapes::Pad;
 use ring_rules::Drilled;
 use std::alloc::{AllocError, Global};
+use wide_pads::WidePad;
 
 /// Some consecutive holes of a list.
 #[derive(Clone, Copy)]
@@ -78,8 +78,8 @@ fn rescale_ranges(
 }
 
 /// Whether each hole is bare. Where there are no holes, no pad is looked at.
-fn bare_of(alloc: Global, pads: &[Pad], holes: &[Drilled]) -> Result<Vec<bool>, AllocError>
-    ensures { IfOk result (λ bare. AreBare pad_covers pads.now holes.now bare.items) }
+fn bare_of(alloc: Global, pads: &[WidePad], holes: &[Drilled]) -> Result<Vec<bool>, AllocError>
+    ensures { IfOk result (λ bare. AreBare wide_pad_covers pads.now holes.now bare.items) }
 {
     if holes.is_empty() {
         return Ok(Vec::new(alloc));
@@ -92,7 +92,7 @@ fn bare_of(alloc: Global, pads: &[Pad], holes: &[Drilled]) -> Result<Vec<bool>, 
 fn count_of(holes: &[Drilled], rescaled: &[Drilled], bare: &[bool]) -> usize
     requires few { length rescaled.now ≤ round_count holes.now }
     requires bare { length bare.now ≡ length rescaled.now }
-    ensures { (factor : TheFactor) (pads : List ThePad) → AreRescaled factor holes.now rescaled.now → AreBare pad_covers pads rescaled.now bare.now → result ≡ bare_count_with pads holes.now factor }
+    ensures { (factor : TheFactor) (pads : List ThePad) → AreRescaled factor holes.now rescaled.now → AreBare wide_pad_covers pads rescaled.now bare.now → result ≡ bare_count_with pads holes.now factor }
 {
     round_among(holes) - rescaled.len() + round_bare_count(bare, rescaled)
 }
@@ -108,7 +108,7 @@ fn counts_in(
     requires ranges { AreHoleRanges holes.now ranges.now }
     requires gathered { (factor : TheFactor) × AreRescaledRanges factor holes.now ranges.now all.now }
     requires bare { length bare.now ≡ length all.now.holes.items }
-    ensures { (factor : TheFactor) (pads : List ThePad) → AreRescaledRanges factor holes.now ranges.now all.now → AreBare pad_covers pads all.now.holes.items bare.now
+    ensures { (factor : TheFactor) (pads : List ThePad) → AreRescaledRanges factor holes.now ranges.now all.now → AreBare wide_pad_covers pads all.now.holes.items bare.now
         → IfOk result (λ counts. AreCounted pads holes.now ranges.now factor counts.items) }
 {
     let mut counts = Vec::new(alloc);
@@ -124,7 +124,7 @@ fn counts_in(
 /// rounded down. The round holes of all stretches are looked at once, together.
 pub(crate) fn counts_by(
     alloc: Global,
-    pads: &[Pad],
+    pads: &[WidePad],
     holes: &[Drilled],
     ranges: &[HoleRange],
     factor: UnitFactor,
@@ -145,7 +145,7 @@ pub(crate) fn counts_by(
 /// Where there is no memory.
 pub fn bare_with_factor(
     alloc: Global,
-    pads: &[Pad],
+    pads: &[WidePad],
     holes: &[Drilled],
     factor: UnitFactor,
 ) -> Result<usize, AllocError>

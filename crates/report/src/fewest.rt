@@ -1,7 +1,7 @@
 //! The factor by which the fewest holes would be bare.
 
 ghost use Rattle.std.specs.Prelude.{◌≡◌, ◌++◌, ◌∷◌, [], ◌⊎◌, ℕ, List, length, map, IfOk};
-ghost use Rattle.pad_shapes.specs.declared.pad.Pad.{Pad as ThePad};
+ghost use Rattle.wide_pads.specs.declared.wide_pad.WidePad.{WidePad as ThePad};
 ghost use Rattle.ring_rules.specs.declared.finding.Drilled.{Drilled as TheDrilled};
 ghost use Rattle.report.specs.declared.UnitFactor.{UnitFactor as TheFactor};
 ghost use Rattle.report.specs.UnitMistakes.{factors};
@@ -10,9 +10,9 @@ ghost use Rattle.report.specs.declared.counts.HoleRange.{HoleRange as TheRange};
 
 use crate::UnitFactor;
 use crate::counts::{HoleRange, counts_by};
-use pad_shapes::Pad;
 use ring_rules::Drilled;
 use std::alloc::{AllocError, Global};
+use wide_pads::WidePad;
 
 /// A factor, and how many holes would be bare by it.
 #[derive(Clone, Copy)]
@@ -110,7 +110,7 @@ fn with_next(
 /// Tries one more factor at the stretches that it could still leave fewer bare of.
 fn try_next(
     alloc: Global,
-    pads: &[Pad],
+    pads: &[WidePad],
     holes: &[Drilled],
     tried: &[Tried],
     factor: UnitFactor,
@@ -127,7 +127,7 @@ fn try_next(
 /// Each stretch with the first of the factors by which the fewest of its holes would be bare.
 pub(crate) fn try_factors(
     alloc: Global,
-    pads: &[Pad],
+    pads: &[WidePad],
     holes: &[Drilled],
     ranges: &[HoleRange],
 ) -> Result<Vec<Tried>, AllocError>

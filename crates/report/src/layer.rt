@@ -1,7 +1,9 @@
 //! The data that is kept of a layer, to find why its holes lack their rings.
 
-ghost use Rattle.std.specs.Prelude.{◌≡◌, ◌<◌, ◌+◌, ◌-ℤ◌, ◌≤ℤ◌, ℕ, List, pos, neg_ℤ, false, true, IfOk, length, get_or};
+ghost use Rattle.std.specs.Prelude.{◌≡◌, ◌<◌, ◌+◌, ◌-ℤ◌, ◌≤ℤ◌, ℕ, List, pos, neg_ℤ, false, true, IfOk, length, get_or, map};
 ghost use Rattle.pad_shapes.specs.Pads.{pad_covers};
+ghost use Rattle.wide_pads.specs.WidePads.{wide_pad_covers};
+ghost use Rattle.wide_pads.specs.declared.wide_pad.WidePad.TheVariants.{Plain};
 ghost use Rattle.ring_rules.specs.Findings.{is_oblique};
 ghost use Rattle.ring_rules.specs.Places.{hole_at};
 ghost use Rattle.layer_image.specs.Flashes.{pad_in, pads_of};
@@ -18,6 +20,7 @@ use margins::{BestPad, best_pads};
 use pad_shapes::Pad;
 use ring_rules::{Drilled, is_oblique};
 use std::alloc::{AllocError, Global};
+use wide_pads::WidePad;
 
 /// The data of a layer: its pads, its other flashes, and the best pad of each hole (the one in which it lies deepest).
 #[derive(Drop)]
@@ -86,11 +89,36 @@ fn lack_of(rules: Rules, ring: i64) -> i64
     rules.ring() - ring
 }
 
-/// Whether two lists hold equal pads in the same order.
-fn are_equal(pads: &[Pad], others: &[Pad]) -> bool
-    ensures { result ≡ true → pads.now ≡ others.now }
+/// Whether a pad is this one of a standard aperture.
+fn is_just(one: &WidePad, pad: Pad) -> bool
+    ensures { result ≡ true → one.now ≡ Plain pad }
 {
-    pads == others
+    match one {
+        WidePad::Plain(own) => *own == pad,
+        WidePad::Rounded(_) => false,
+    }
+}
+
+/// Whether pads are just these of standard apertures, in the same order.
+fn are_just(all: &[WidePad], pads: &[Pad]) -> bool
+    ensures { result ≡ true → all.now ≡ map Plain pads.now }
+{
+    if all.len() != pads.len() {
+        return false;
+    }
+    for (place, pad) in pads.iter().enumerate() {
+        if !is_just(&all[place], *pad) {
+            return false;
+        }
+    }
+    true
+}
+
+/// Best pads in memory of their own.
+fn copied(alloc: Global, bests: &[Option<BestPad>]) -> Result<Vec<Option<BestPad>>, AllocError>
+    ensures { IfOk result (λ copied. copied.items ≡ bests.now) }
+{
+    bests.to_vec(alloc)
 }
 
 /// The best pads of a layer for these holes. Those given are copied if they belong to equal pads, since a search takes long.
@@ -98,13 +126,13 @@ fn bests_of(
     alloc: Global,
     pads: &[Pad],
     holes: &[Drilled],
-    known_pads: &[Pad],
+    known_pads: &[WidePad],
     known: &[Option<BestPad>],
 ) -> Result<Vec<Option<BestPad>>, AllocError>
-    ensures { AreBestPads pad_covers known_pads.now holes.now known.now → IfOk result (λ bests. AreBestPads pad_covers pads.now holes.now bests.items) }
+    ensures { AreBestPads wide_pad_covers known_pads.now holes.now known.now → IfOk result (λ bests. AreBestPads pad_covers pads.now holes.now bests.items) }
 {
-    if are_equal(pads, known_pads) {
-        return known.to_vec(alloc);
+    if are_just(known_pads, pads) {
+        return copied(alloc, known);
     }
     best_pads(alloc, pads, holes)
 }
@@ -148,7 +176,7 @@ impl CauseFinder {
     }
 
     /// The data of the layer of these flashes, for these holes. `bests` are the best of `pads` for these holes: they are taken where the
-    /// layer has just these pads, else the best pads are searched for.
+    /// flashes leave just these pads, else the best pads are searched for.
     ///
     /// # Errors
     ///
@@ -157,10 +185,10 @@ impl CauseFinder {
         alloc: Global,
         flashes: &[Flash],
         holes: &[Drilled],
-        pads: &[Pad],
+        pads: &[WidePad],
         bests: &[Option<BestPad>],
     ) -> Result<CauseFinder, AllocError>
-        ensures { AreBestPads pad_covers pads.now holes.now bests.now → IfOk result (HoldsFlashesAndBests flashes.now holes.now) }
+        ensures { AreBestPads wide_pad_covers pads.now holes.now bests.now → IfOk result (HoldsFlashesAndBests flashes.now holes.now) }
     {
         let own = pads_of(alloc, flashes)?;
         let bests = bests_of(alloc, &own, holes, pads, bests)?;

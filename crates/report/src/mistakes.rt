@@ -1,8 +1,8 @@
 //! The lines of drill files whose coordinates seem to be off by a factor.
 
 ghost use Rattle.std.specs.Prelude.{◌≡◌, ◌↔◌, ◌*◌, ◌<◌, ◌≤◌, List, length, map, IfOk, IsTrue};
-ghost use Rattle.pad_shapes.specs.Pads.{pad_covers};
-ghost use Rattle.pad_shapes.specs.declared.pad.Pad.{Pad as ThePad};
+ghost use Rattle.wide_pads.specs.WidePads.{wide_pad_covers};
+ghost use Rattle.wide_pads.specs.declared.wide_pad.WidePad.{WidePad as ThePad};
 ghost use Rattle.ring_rules.specs.declared.finding.Drilled.{Drilled as TheDrilled};
 ghost use Rattle.margins.specs.BestPads.{AreBestPads};
 ghost use Rattle.report.specs.UnitMistakes.{AreFileRanges, AreUnitMistakes, IsUnitMistakeOrNone, bare_count_with, factors, holes_in};
@@ -14,9 +14,9 @@ use crate::bare::{bare_among, round_among};
 use crate::counts::HoleRange;
 use crate::fewest::{Fewest, Tried, try_factors};
 use margins::BestPad;
-use pad_shapes::Pad;
 use ring_rules::Drilled;
 use std::alloc::{AllocError, Global};
+use wide_pads::WidePad;
 
 /// A drill file, and where its holes are in a list of holes.
 #[derive(Clone, Copy)]
@@ -56,7 +56,7 @@ fn suspect_of(holes: &[Drilled], bests: &[Option<BestPad>], file: FileRange) -> 
     requires ordered { file.start ≤ file.end }
     requires inside { file.end ≤ length holes.now }
     requires size { length bests.now ≡ length holes.now }
-    ensures { (pads : List ThePad) → AreBestPads pad_covers pads holes.now bests.now → IsSuspect pads holes.now file result }
+    ensures { (pads : List ThePad) → AreBestPads wide_pad_covers pads holes.now bests.now → IsSuspect pads holes.now file result }
 {
     let own = &holes[file.start..file.end];
     let bare = bare_among(&bests[file.start..file.end], own);
@@ -87,7 +87,7 @@ fn suspects_of(
 ) -> Result<Vec<Suspect>, AllocError>
     requires files { AreFileRanges holes.now files.now }
     requires size { length bests.now ≡ length holes.now }
-    ensures { IfOk result (λ suspects. (pads : List ThePad) → AreBestPads pad_covers pads holes.now bests.now → AreSuspects pads holes.now files.now suspects.items) }
+    ensures { IfOk result (λ suspects. (pads : List ThePad) → AreBestPads wide_pad_covers pads holes.now bests.now → AreSuspects pads holes.now files.now suspects.items) }
 {
     let mut suspects = Vec::new(alloc);
     for file in files {
@@ -150,13 +150,13 @@ fn lines_by(
 /// Where there is no memory.
 pub fn unit_mistakes(
     alloc: Global,
-    pads: &[Pad],
+    pads: &[WidePad],
     holes: &[Drilled],
     bests: &[Option<BestPad>],
     files: &[FileRange],
 ) -> Result<Vec<Option<UnitMistake>>, AllocError>
     requires files { AreFileRanges holes.now files.now }
-    requires bests { AreBestPads pad_covers pads.now holes.now bests.now }
+    requires bests { AreBestPads wide_pad_covers pads.now holes.now bests.now }
     ensures { IfOk result (λ lines. AreUnitMistakes pads.now holes.now files.now lines.items) }
 {
     let suspects = suspects_of(alloc, holes, bests, files)?;
@@ -173,11 +173,11 @@ pub fn unit_mistakes(
 pub fn unit_mistake(
     alloc: Global,
     drill: usize,
-    pads: &[Pad],
+    pads: &[WidePad],
     holes: &[Drilled],
     bests: &[Option<BestPad>],
 ) -> Result<Option<UnitMistake>, AllocError>
-    requires { AreBestPads pad_covers pads.now holes.now bests.now }
+    requires { AreBestPads wide_pad_covers pads.now holes.now bests.now }
     ensures { IfOk result (IsUnitMistakeOrNone pads.now holes.now drill) }
 {
     let file = FileRange {

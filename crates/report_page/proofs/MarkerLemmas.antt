@@ -16,12 +16,12 @@ use Rattle.grid_units.proofs.ListLemmas.{flat_map_at}
 use Rattle.ring_rules.specs.declared.finding.Drilled.{Drilled}
 use Rattle.ring_rules.specs.declared.finding.Finding.{Finding}
 use Rattle.ring_rules.specs.declared.finding.Finding.TheVariants as finding
-use Rattle.pad_shapes.specs.Pads.{pad_covers}
+use Rattle.wide_pads.specs.WidePads.{wide_pad_covers}
 use Rattle.ring_rules.specs.Findings.{gap_findings, ring_findings}
 use Rattle.ring_rules.specs.WithoutFindings.{GapsNamePlaces, NamesPlaces, RingsNamePlaces}
 use Rattle.layer_image.specs.declared.drawn.Drawn.{Drawn}
 use Rattle.package_check.specs.Boards.{BoardView, IsBoard, board_findings}
-use Rattle.package_check.specs.Package.{FileView, index_of, plain_pads_of}
+use Rattle.package_check.specs.Package.{FileView, index_of, pads_of}
 use Rattle.package_check.specs.declared.contents.Content.{Content}
 use Rattle.package_check.specs.declared.contents.Content.TheVariants as content
 use Rattle.board_report.specs.BoardReport.{is_gap}
@@ -203,25 +203,25 @@ marked_at names board edge rules drawing layers holes i (f ∷ fs) is page some 
     read_again xs k d k_lt = get_or_default xs k (get_or xs k d) d k_lt
 
 -- each copper file is one layer, and has one index
-indexed_from : (n : ℕ) (contents : List Content) → length (flat_map plain_pads_of contents) ≡ length (flat_map index_of (enumerate_from n contents))
+indexed_from : (n : ℕ) (contents : List Content) → length (flat_map pads_of contents) ≡ length (flat_map index_of (enumerate_from n contents))
 indexed_from n [] = refl
 indexed_from n (content.Layer image ∷ cs) =
-    ap length (flat_map-cons plain_pads_of (content.Layer image) cs)
+    ap length (flat_map-cons pads_of (content.Layer image) cs)
     ∙ (ap suc (indexed_from (n + 1) cs) ∙ sym (ap length (flat_map-cons index_of (n, content.Layer image) (enumerate_from (n + 1) cs))))
 indexed_from n (content.Drill plated span holes ∷ cs) =
-    ap length (flat_map-cons plain_pads_of (content.Drill plated span holes) cs)
+    ap length (flat_map-cons pads_of (content.Drill plated span holes) cs)
     ∙ (indexed_from (n + 1) cs ∙ sym (ap length (flat_map-cons index_of (n, content.Drill plated span holes) (enumerate_from (n + 1) cs))))
 
 as_many_layers : (sources : List FileView) (board : BoardView) → IsBoard sources board → length board.layers ≡ length board.layer_indexes
 as_many_layers sources board b = ap (λ (x : BoardView). length x.layers) b.is ∙ (indexed_from 0 b.contents ∙ sym (ap (λ (x : BoardView). length x.layer_indexes) b.is))
 
-pub each_row_has_its_marker : RingsNamePlaces pad_covers → GapsNamePlaces → EachRowHasItsMarker
+pub each_row_has_its_marker : RingsNamePlaces wide_pad_covers → GapsNamePlaces → EachRowHasItsMarker
 each_row_has_its_marker rings gaps sources names board outline report accepted text is_board some is_report page k d lt =
     let rules = report.rules in
     let findings = board_findings rules board in
     let numbers = numbers_each_once report in
     let count : length findings ≡ length report.rings.items + length report.gaps.items = parted _ _ findings report.rings.items report.gaps.items is_report.rings is_report.gaps in
-    let second = All-append (NamesPlaces (length board.layers) (length board.holes)) (ring_findings pad_covers rules.profile rules.ring board.layers board.holes) (gap_findings rules.gap board.holes)
+    let second = All-append (NamesPlaces (length board.layers) (length board.holes)) (ring_findings wide_pad_covers rules.profile rules.ring board.layers board.holes) (gap_findings rules.gap board.holes)
     (rings rules.profile rules.ring board.layers board.holes) (gaps rules.gap (length board.layers) board.holes) in
     let first = subst (λ (n : ℕ). All (NamesPlaces n (length board.holes)) findings) (as_many_layers sources board is_board) second in
     let drawing = page.drawn.drawing in

@@ -5,8 +5,8 @@ ghost use Rattle.report.specs.declared.BoardReport.{BoardReport};
 ghost use Rattle.report_page.specs.Markers.{EachRowHasItsMarker};
 ghost use Rattle.report_page.specs.Pages.{NumbersEachOnce};
 
-use pad_shapes::Pad;
 use ring_rules::laws::findings_name_places;
+use wide_pads::WidePad;
 
 /// The numbers of the rows of a page are 1, 2, 3 and so on, to the number of the findings.
 pub fn each_number_once()
@@ -17,5 +17,5 @@ pub fn each_number_once()
 pub fn each_row_has_its_marker()
     ensures { EachRowHasItsMarker }
 {
-    findings_name_places::<Pad>();
+    findings_name_places::<WidePad>();
 }

@@ -135,7 +135,7 @@ fn is_printed_as(alloc: Global, json: &MeasureJson, text: &str) -> bool {
 
 /// Whether the measure of a board has this JSON after its first members.
 fn is_measure(alloc: Global, board: &Board, text: &str) -> bool {
-    let Ok(measure) = measure_board(alloc, board) else {
+    let Ok(measure) = measure_board(alloc, board, Profile::Strict) else {
         return false;
     };
     let json = MeasureJson {

@@ -16,7 +16,7 @@ use Rattle.ringcheck.specs.Sentences.{below_report}
 pub check_status : (has : Relation) (r g : List ℕ) (p : Option (List ℕ)) (m : List ℕ) (request : Request) (failed_before failed_after : ℕ) (before after : Option (List ℕ)) (s : Status)
     → IsCheck r g p m request → IsRequestStatus request has failed_before failed_after before after s → IsParsedCheckStatus has m (parse_check p r g) before after s
 check_status has r g p m (Check ring gap profile manifest) failed_before failed_after before after s (er, eg, ep, em) says = rw (sym er, sym eg, sym ep, sym em) says
-check_status has r g p m (Measure format manifest) failed_before failed_after before after s h says = absurd h
+check_status has r g p m (Measure profile format manifest) failed_before failed_after before after s h says = absurd h
 check_status has r g p m (Report ring gap limit waive outline format manifest) failed_before failed_after before after s h says = absurd h
 check_status has r g p m (Draw ring gap outline manifest) failed_before failed_after before after s h says = absurd h
 check_status has r g p m (Show kind file) failed_before failed_after before after s h says = absurd h
@@ -27,7 +27,7 @@ check_status has r g p m (Explain word) failed_before failed_after before after 
 -- and of its files alone
 pub legal_status : (has : Relation) (r g : List ℕ) (p : Option (List ℕ)) (m : List ℕ) (request : Request) (s : Status) → IsCheck r g p m request → IsLegalRequest request has s → IsParsedLegalStatus has m (profile_of p) s
 legal_status has r g p m (Check ring gap profile manifest) s (er, eg, ep, em) says = rw (sym ep, sym em) says
-legal_status has r g p m (Measure format manifest) s h says = absurd h
+legal_status has r g p m (Measure profile format manifest) s h says = absurd h
 legal_status has r g p m (Report ring gap limit waive outline format manifest) s h says = absurd h
 legal_status has r g p m (Draw ring gap outline manifest) s h says = absurd h
 legal_status has r g p m (Show kind file) s h says = absurd h
@@ -41,7 +41,7 @@ pub report_status : (has : Relation) (r g : List ℕ) (n v l o : Option (List �
 report_status has r g n v l o m (Report ring gap limit waive outline format manifest) failed_before failed_after before after s (er, eg, en, ev, el, eo, em) says =
     rw (sym er, sym eg, sym en, sym ev, sym el, sym eo, sym em) says
 report_status has r g n v l o m (Check ring gap profile manifest) failed_before failed_after before after s h says = absurd h
-report_status has r g n v l o m (Measure format manifest) failed_before failed_after before after s h says = absurd h
+report_status has r g n v l o m (Measure profile format manifest) failed_before failed_after before after s h says = absurd h
 report_status has r g n v l o m (Draw ring gap outline manifest) failed_before failed_after before after s h says = absurd h
 report_status has r g n v l o m (Show kind file) failed_before failed_after before after s h says = absurd h
 report_status has r g n v l o m (Rewrite kind file) failed_before failed_after before after s h says = absurd h
@@ -54,7 +54,7 @@ pub draw_status : (has : Relation) (o : Option (List ℕ × List ℕ)) (l : Opti
     → IsParsedDrawStatus has m (parse_draw (option_map (λ both. both.0) o) (option_map (λ both. both.1) o)) l before after s
 draw_status has o l m (Draw ring gap outline manifest) failed_before failed_after before after s (er, eg, el, em) says = rw (sym er, sym eg, sym el, sym em) says
 draw_status has o l m (Check ring gap profile manifest) failed_before failed_after before after s h says = absurd h
-draw_status has o l m (Measure format manifest) failed_before failed_after before after s h says = absurd h
+draw_status has o l m (Measure profile format manifest) failed_before failed_after before after s h says = absurd h
 draw_status has o l m (Report ring gap limit waive outline format manifest) failed_before failed_after before after s h says = absurd h
 draw_status has o l m (Show kind file) failed_before failed_after before after s h says = absurd h
 draw_status has o l m (Rewrite kind file) failed_before failed_after before after s h says = absurd h

@@ -14,7 +14,7 @@ use Rattle.package_check.specs.Package.{FileView}
 use Rattle.package_check.specs.Soundness.{IsSound}
 use Rattle.ringcheck_files.specs.declared.Status.{Status}
 use Rattle.ringcheck_files.specs.declared.Status.TheVariants as status
-use Rattle.ringcheck.specs.declared.parsed_words.MeasureFormat.{MeasureFormat}
+use Rattle.ringcheck.specs.declared.parsed_words.MeasureOrder.{MeasureOrder}
 use Rattle.ringcheck.specs.declared.parsed_words.ReportFormat.{ReportFormat}
 use Rattle.ringcheck.specs.MeasureStatus.{IsParsedMeasureStatus}
 use Rattle.ringcheck_files.specs.LoaderRelation.{file_limit, within}
@@ -70,15 +70,15 @@ sound_of_three m l d (Ok rules) before after status.Usage says is = cc
 sound_of_three m l d (Ok rules) before after status.Device says is = cc
 
 -- the files that the manifest names pass under just the rules that are met
-pub met_of_three : (below : List ℕ) (m l d : List ℕ) (r : Result MeasureFormat Reason) (before after : Option (List ℕ)) (s : Status) → IsParsedMeasureStatus (has_three_files m l d) (codes "m.csv") r below before after s → s ≡ status.Pass
-    → (entries : List Entry) × (manifest m ≡ Ok entries) × (files : List (List ℕ)) × HasFiles (has_three_files m l d) entries files
-    × (measure : Measure) × PackagePasses (sources Strict entries files) measure.meets.ring measure.meets.gap
+pub met_of_three : (below : List ℕ) (m l d : List ℕ) (r : Result MeasureOrder Reason) (before after : Option (List ℕ)) (s : Status) → IsParsedMeasureStatus (has_three_files m l d) (codes "m.csv") r below before after s → s ≡ status.Pass
+    → (order : MeasureOrder) × (r ≡ Ok order) × (entries : List Entry) × (manifest m ≡ Ok entries) × (files : List (List ℕ)) × HasFiles (has_three_files m l d) entries files
+    × (measure : Measure) × PackagePasses order.profile (sources order.profile entries files) measure.meets.ring measure.meets.gap
 met_of_three below m l d (Err why) before after s says is = absurd (explained_never_passes why below before after s says is)
-met_of_three below m l d (Ok form) before after status.Pass says is = let (entries, listed, files, loaded, holds) = held m l d Strict _ says in (entries, listed, files, loaded, holds.measure, holds.met)
-met_of_three below m l d (Ok form) before after status.Findings says is = cc
-met_of_three below m l d (Ok form) before after status.Refused says is = cc
-met_of_three below m l d (Ok form) before after status.Usage says is = cc
-met_of_three below m l d (Ok form) before after status.Device says is = cc
+met_of_three below m l d (Ok order) before after status.Pass says is = let (entries, listed, files, loaded, holds) = held m l d order.profile _ says in (order, refl, entries, listed, files, loaded, holds.measure, holds.met)
+met_of_three below m l d (Ok order) before after status.Findings says is = cc
+met_of_three below m l d (Ok order) before after status.Refused says is = cc
+met_of_three below m l d (Ok order) before after status.Usage says is = cc
+met_of_three below m l d (Ok order) before after status.Device says is = cc
 
 -- the files that the manifest names are sound, where a report has no finding
 pub report_of_three : (below : List ℕ) (m l d : List ℕ) (r : Result (GridRules × Option ℕ × ReportFormat) Reason) (before after : Option (List ℕ)) (s : Status) → IsParsedReportStatus (has_three_files m l d) (codes "m.csv") r below None None before after s → s ≡ status.Pass

@@ -12,6 +12,7 @@ use Rattle.grid_units.specs.Numbers.{parse_decimal, is_digits, picometres, value
 use Rattle.grid_units.specs.Results.{◌>>=◌}
 use Rattle.ringcheck.specs.declared.parsed_words.MeasureFormat.{MeasureFormat}
 use Rattle.ringcheck.specs.declared.parsed_words.MeasureFormat.TheVariants as measures
+use Rattle.ringcheck.specs.declared.parsed_words.MeasureOrder.{MeasureOrder}
 use Rattle.ringcheck.specs.declared.parsed_words.ReportFormat.{ReportFormat}
 use Rattle.ringcheck.specs.declared.parsed_words.ReportFormat.TheVariants as format
 
@@ -74,6 +75,15 @@ unfoldable pub parse_format : Option (List ℕ) → Result MeasureFormat Reason
 parse_format None = Ok measures.Text
 parse_format (Some word) =
     if bytes_eq word (codes "text") then Ok measures.Text else if bytes_eq word (codes "json") then Ok measures.Json else Err BadRole
+
+-- what is asked of a measure in this profile; where there is no profile BadRole, whatever the word for the format is
+unfoldable pub measured_in : Option Profile → Option (List ℕ) → Result MeasureOrder Reason
+measured_in None form = Err BadRole
+measured_in (Some profile) form = parse_format form >>= λ f. Ok (record { profile = profile; format = f })
+
+-- what is asked of a measure, by the words for its profile and its format, if there are any
+abbrev pub parse_measure : Option (List ℕ) → Option (List ℕ) → Result MeasureOrder Reason
+parse_measure profile form = measured_in (profile_of profile) form
 
 -- the rules, the limit of findings and the format of a report, or the first refusal in this order; `waive` is the file of waivers and
 -- `outline` that of an outline, if there is one

@@ -15,7 +15,7 @@ use Rattle.ringcheck_files.specs.declared.file_jobs.FileJob.TheVariants as job
 use Rattle.ringcheck.specs.DrawStatus.{IsParsedDrawStatus}
 use Rattle.ringcheck_files.specs.ManifestStatus.{IsManifestStatus, IsExplainStatus}
 use Rattle.ringcheck.specs.MeasureStatus.{IsParsedMeasureStatus}
-use Rattle.ringcheck.specs.ParsedWords.{parse_check, parse_draw, parse_format, parse_report, profile_of}
+use Rattle.ringcheck.specs.ParsedWords.{parse_check, parse_draw, parse_measure, parse_report, profile_of}
 use Rattle.ringcheck_files.specs.FileStatus.{IsParsedFileStatus, parse_kind}
 use Rattle.ringcheck.specs.ReportStatus.{IsParsedReportStatus}
 use Rattle.ringcheck.specs.CheckStatus.{IsParsedCheckStatus, IsParsedLegalStatus}
@@ -30,7 +30,8 @@ word_bytes word = option_map (λ w. w.now) word
 abbrev pub IsRequestStatus : Request → Relation → ℕ → ℕ → Option (List ℕ) → Option (List ℕ) → Status → Type 0
 IsRequestStatus (Check ring gap profile manifest) has failed_before failed_after before after s =
     IsParsedCheckStatus has manifest.now (parse_check (word_bytes profile) ring.now gap.now) before after s
-IsRequestStatus (Measure format manifest) has failed_before failed_after before after s = IsParsedMeasureStatus has manifest.now (parse_format (word_bytes format)) (below_measure (word_bytes format)) before after s
+IsRequestStatus (Measure profile format manifest) has failed_before failed_after before after s =
+    IsParsedMeasureStatus has manifest.now (parse_measure (word_bytes profile) (word_bytes format)) (below_measure (word_bytes profile) (word_bytes format)) before after s
 IsRequestStatus (Report ring gap limit waive outline format manifest) has failed_before failed_after before after s =
     IsParsedReportStatus has manifest.now (parse_report ring.now gap.now (word_bytes limit) (word_bytes waive) (word_bytes outline) (word_bytes format))
     (below_report ring.now gap.now (word_bytes limit) (is_some (word_bytes outline)) (word_bytes format)) (word_bytes waive) (word_bytes outline) before after s
@@ -45,7 +46,7 @@ IsRequestStatus (Explain word) has failed_before failed_after before after s = I
 -- what a status says of the files of a request's package: of a check, that each is of the profile that it names
 abbrev pub IsLegalRequest : Request → Relation → Status → Type 0
 IsLegalRequest (Check ring gap profile manifest) has s = IsParsedLegalStatus has manifest.now (profile_of (word_bytes profile)) s
-IsLegalRequest (Measure format manifest) has s = ⊤
+IsLegalRequest (Measure profile format manifest) has s = ⊤
 IsLegalRequest (Report ring gap limit waive outline format manifest) has s = ⊤
 IsLegalRequest (Draw ring gap outline manifest) has s = ⊤
 IsLegalRequest (Show kind file) has s = ⊤

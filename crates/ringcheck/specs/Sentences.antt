@@ -1,5 +1,5 @@
 -- What is said below the line of a refusal, in words: which word or file, why, and what to write instead (docs/FORMATS.md, The program).
-use Rattle.std.specs.Prelude.{◌+◌, ◌++◌, ◌∷◌, ◌&&◌, [], ℕ, ℤ, Bool, true, not, is_ok, List, Option, Some, None, Result, Ok, Err, codes, decimal, if◌then◌else◌}
+use Rattle.std.specs.Prelude.{◌+◌, ◌++◌, ◌∷◌, ◌&&◌, [], ℕ, ℤ, Bool, true, not, is_ok, List, Option, Some, None, Result, Ok, Err, codes, decimal, if◌then◌else◌, is_some}
 use Rattle.std.specs.Str.{bytes_eq}
 use Rattle.grid_units.specs.Ascii as ascii
 use Rattle.grid_units.specs.declared.fault.Reason.{Reason}
@@ -12,7 +12,7 @@ use Rattle.ringcheck.specs.declared.refusals.RefusalStyle.{RefusalStyle}
 use Rattle.ringcheck.specs.declared.refusals.RefusalStyle.TheVariants as style
 use Rattle.ringcheck.specs.declared.refusals.Subject.{Subject}
 use Rattle.ringcheck.specs.declared.refusals.Subject.TheVariants as subject
-use Rattle.ringcheck.specs.ParsedWords.{parse_length, parse_limit, parse_rules}
+use Rattle.ringcheck.specs.ParsedWords.{parse_length, parse_limit, parse_rules, profile_of}
 
 -- ---- words
 
@@ -75,9 +75,18 @@ is_for_people (Some word) = not (bytes_eq word (codes "html")) && (not (bytes_eq
 abbrev pub below_report : List ℕ → List ℕ → Option (List ℕ) → Bool → Option (List ℕ) → List ℕ
 below_report ring gap limit outlined form = if is_for_people form then sentence_line (report_sentence ring gap limit outlined form) else []
 
--- what stands below the line of a measure whose format is refused
-abbrev pub below_measure : Option (List ℕ) → List ℕ
-below_measure form = sentence_line (measure_format_sentence form)
+-- what is said of a word that names no profile
+abbrev pub profile_sentence : Option (List ℕ) → List ℕ
+profile_sentence None = codes "--profile is strict or wide"
+profile_sentence (Some word) = codes "--profile is strict or wide, not " ++ word
+
+-- what is said of the words of a measure that are refused, by the first of them that is
+abbrev pub measure_sentence : Option (List ℕ) → Option (List ℕ) → List ℕ
+measure_sentence profile form = if is_some (profile_of profile) then measure_format_sentence form else profile_sentence profile
+
+-- what stands below the line of a measure whose words are refused
+abbrev pub below_measure : Option (List ℕ) → Option (List ℕ) → List ℕ
+below_measure profile form = sentence_line (measure_sentence profile form)
 
 -- ---- what cannot be read
 

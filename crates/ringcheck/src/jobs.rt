@@ -5,7 +5,7 @@ ghost use Rattle.ringcheck.specs.Inner.Jobs.{job_style};
 ghost use Rattle.ringcheck.specs.MeasureStatus.{measure_style};
 ghost use Rattle.ringcheck.specs.ReportStatus.{kept_for, report_style};
 
-use crate::parsed_words::{MeasureFormat, ReportFormat};
+use crate::parsed_words::{MeasureFormat, MeasureOrder, ReportFormat};
 use crate::refusals::RefusalStyle;
 use grid_units::Rules;
 use layer_image::Drawn;
@@ -40,8 +40,8 @@ pub(crate) struct PictureOrder {
 pub(crate) enum Job {
     /// It is checked under these rules.
     Check(Rules),
-    /// It is measured, and the measure is printed in this format.
-    Measure(MeasureFormat),
+    /// It is measured, and the measure is printed.
+    Measure(MeasureOrder),
     /// A report on its findings is printed.
     Report(Order),
     /// Its picture is printed.
@@ -86,7 +86,7 @@ impl Job {
     {
         match self {
             Job::Check(_) | Job::Draw(_) => RefusalStyle::Line,
-            Job::Measure(format) => measure_style(*format),
+            Job::Measure(order) => measure_style(order.format),
             Job::Report(options) => report_style(options.format),
         }
     }

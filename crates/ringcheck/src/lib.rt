@@ -20,7 +20,7 @@ pub use package_check::{
     CheckText, File, FileSum, Numbered, PackageFault, PackageReader, PiecedFile, Report, Span,
     check_bytes, check_pieces, laws, write_report,
 };
-pub use parsed_words::{MeasureFormat, ReportFormat};
+pub use parsed_words::{MeasureFormat, MeasureOrder, ReportFormat};
 pub use program::run;
 pub use ringcheck_files::{
     LoadFault, Loader, MAX_LIMIT, ReadFail, Sink, Status, read_all, read_into,

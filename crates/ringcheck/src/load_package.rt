@@ -3,7 +3,6 @@
 ghost use Rattle.std.specs.Prelude.{◌≡◌, ◌++◌, ◌≤◌, ◌↔◌, ℕ, List, length, true, IfOk, Result};
 ghost use Rattle.grid_units.specs.Results.{Answers};
 ghost use Rattle.grid_units.specs.declared.fault.Fault.{Fault as TheFault};
-ghost use Rattle.grid_units.specs.declared.profile.Profile.TheVariants.{Strict};
 ghost use Rattle.manifest.specs.Manifest.{manifest};
 ghost use Rattle.package_check.specs.Checking.{HasJudgedAll};
 ghost use Rattle.package_check.specs.Holding.{HasTakenAll, is_kind, setting_of};
@@ -201,18 +200,19 @@ fn take_kind<'a, L: Loader>(
     })
 }
 
-/// A reader that has taken the files of the entries in the strict profile, the drill files before the copper files, and keeps this of
+/// A reader that has taken the files of the entries in a profile, the drill files before the copper files, and keeps this of
 /// them. After a file that cannot be loaded only those before it are loaded, so the first that cannot be, in the order of the entries, is
 /// the answer.
 pub(crate) fn take_files<'a, L: Loader>(
     alloc: Global,
+    profile: Profile,
     keep: Keep,
     loader: &mut L,
     entries: &'a [Entry],
 ) -> Result<Result<PackageReader, Halt<'a>>, Failure>
-    ensures { IfOk result (OfFiles (L.has loader.old) Strict entries.now (HasRisen (L.failed loader.old) (L.failed loader.new)) (λ reader. HasTakenAll reader keep)) }
+    ensures { IfOk result (OfFiles (L.has loader.old) profile entries.now (HasRisen (L.failed loader.old) (L.failed loader.new)) (λ reader. HasTakenAll reader keep)) }
 {
-    let mut reader = PackageReader::keeping(alloc, layer_count(entries), Profile::Strict, keep);
+    let mut reader = PackageReader::keeping(alloc, layer_count(entries), profile, keep);
     let drills = take_kind(alloc, loader, entries, false, &mut reader)?;
     let copper = take_kind(alloc, loader, &entries[..drills.end], true, &mut reader)?;
     match copper.halt.or(drills.halt) {

@@ -1,14 +1,14 @@
 //! Measures a package: by how much it meets its rules.
 
-ghost use Rattle.std.specs.Prelude.{◌≡◌, List, IfErr, IfOk, OnOk, map};
+ghost use Rattle.std.specs.Prelude.{◌≡◌, List, Some, IfErr, IfOk, OnOk, map};
 ghost use Rattle.std.specs.Io.KnownBytes.{Appends};
 ghost use Rattle.layer_image.specs.declared.keep.Keep.TheVariants as keep;
 ghost use Rattle.package_check.specs.Holding.{HasTakenAll};
-ghost use Rattle.package_check.specs.Package.{AreStrict, FileView};
+ghost use Rattle.package_check.specs.Package.{FileView};
 ghost use Rattle.ringcheck.specs.Inner.Halting.{OfTaken};
-ghost use Rattle.ringcheck.specs.MeasureStatus.{PrintsMeasure, measure_page};
+ghost use Rattle.ringcheck.specs.MeasureStatus.{PrintsMeasure, measure_page, profile_line};
 
-use crate::parsed_words::MeasureFormat;
+use crate::parsed_words::{MeasureFormat, MeasureOrder};
 use crate::refusals::{Halt, refused};
 use crate::{PackageFault, PackageReader};
 use board_report::laws::measured_passes;
@@ -20,20 +20,37 @@ use print_text::MeasureText;
 use report::Measure;
 use ringcheck_files::Failure;
 use std::alloc::Global;
+use std::fmt;
+use std::fmt::{Display, Formatter};
 use std::io::Write;
 
-/// Prints the measure of a board, whose files have these names, in this format.
+/// The line of a profile that is not the strict one.
+#[derive(Clone, Copy)]
+struct ProfileLine(Profile);
+
+impl Display for ProfileLine {
+    ghost output = { λ line. Some (profile_line line.0) };
+
+    fn fmt<W: fmt::Write>(&self, f: &mut Formatter<W>) -> fmt::Result {
+        match self.0 {
+            Profile::Strict => Ok(()),
+            Profile::Wide => f.write_str("profile wide\n"),
+        }
+    }
+}
+
+/// Prints the measure of a board, whose files have these names, in the format that is asked for.
 fn print<W: Write>(
     names: &[&str],
     board: &Board,
     measure: &Measure,
-    format: MeasureFormat,
+    order: MeasureOrder,
     out: &mut W,
 ) -> Result<(), Failure>
-    ensures { OnOk result (Appends (W.contents out.old) (W.contents out.new) (measure_page format (map (λ name. name.now) names.now) board.now measure.now)) }
+    ensures { OnOk result (Appends (W.contents out.old) (W.contents out.new) (measure_page order (map (λ name. name.now) names.now) board.now measure.now)) }
 {
     let files = FileLines {
-        profile: Profile::Strict,
+        profile: order.profile,
         names,
         files: board.files(),
     };
@@ -44,27 +61,28 @@ fn print<W: Write>(
         meets: measure.meets,
     };
     let json = MeasureJson {
+        profile: order.profile,
         names,
         board,
         measure,
     };
-    match format {
-        MeasureFormat::Text => write!(out, "{files}{lines}")?,
+    match order.format {
+        MeasureFormat::Text => write!(out, "{}{files}{lines}", ProfileLine(order.profile))?,
         MeasureFormat::Json => write!(out, "{json}")?,
     }
     Ok(())
 }
 
-/// Measures the files of these names, which a reader has taken, and prints the measure in this format.
+/// Measures the files of these names, which a reader has taken in the profile that is asked for, and prints the measure.
 pub(crate) fn measure<'a, W: Write>(
     alloc: Global,
     reader: PackageReader,
     names: &[&'a str],
-    format: MeasureFormat,
+    order: MeasureOrder,
     out: &mut W,
 ) -> Result<Result<bool, Halt<'a>>, Failure>
-    ensures answers { (all : List FileView) → map (λ name. name.now) names.now ≡ map (λ source. source.name) all → AreStrict all → HasTakenAll reader keep.Pads all
-        → IfOk result (OfTaken (PrintsMeasure format (W.contents out.old) (W.contents out.new)) all) }
+    ensures answers { (all : List FileView) → map (λ name. name.now) names.now ≡ map (λ source. source.name) all → HasTakenAll reader keep.Pads all
+        → IfOk result (OfTaken (PrintsMeasure order (W.contents out.old) (W.contents out.new)) all) }
     ensures silent { IfOk result (λ done. IfErr done (λ halt. W.contents out.new ≡ W.contents out.old)) }
 {
     measured_passes();
@@ -75,7 +93,7 @@ pub(crate) fn measure<'a, W: Write>(
             return Ok(Err(refused(names, index, fault)));
         }
     };
-    let measure = measure_board(alloc, &board)?;
-    print(names, &board, &measure, format, out)?;
+    let measure = measure_board(alloc, &board, order.profile)?;
+    print(names, &board, &measure, order, out)?;
     Ok(Ok(true))
 }

@@ -18,12 +18,12 @@ use crate::jobs::{Job, Order, PictureOrder, kept_for, report_style};
 use crate::load_package::{check_files, load_table, take_files};
 use crate::outlines::{load_outline, print_no_outline};
 use crate::parsed_words::{
-    ReportFormat, ReportWords, parse_check, parse_draw, parse_format, parse_report,
+    ReportFormat, ReportWords, parse_check, parse_draw, parse_measure, parse_report,
 };
 use crate::refusals::{Halt, Subject, print_halt};
-use crate::sentences::{NoMeasureFormat, NoReport, is_for_people};
+use crate::sentences::{NoMeasure, NoReport, is_for_people};
 use crate::{Entry, Loader, checks, drawings, measures, reports};
-use grid_units::{Reason, Rules};
+use grid_units::{Profile, Reason, Rules};
 use package_check::Keep;
 use ringcheck_files::{Failure, Status, refuse_word};
 use std::alloc::{AllocError, Global};
@@ -59,21 +59,25 @@ fn answer<'a, L: Loader, W: Write>(
             Ok(check) => checks::check(check, names, out),
             Err(halt) => Ok(Err(halt)),
         },
-        Job::Measure(format) => match take_files(alloc, Keep::Pads, loader, entries)? {
-            Ok(reader) => measures::measure(alloc, reader, names, *format, out),
-            Err(halt) => Ok(Err(halt)),
-        },
+        Job::Measure(order) => {
+            match take_files(alloc, order.profile, Keep::Pads, loader, entries)? {
+                Ok(reader) => measures::measure(alloc, reader, names, *order, out),
+                Err(halt) => Ok(Err(halt)),
+            }
+        }
         Job::Report(options) => {
             let keep = kept_for(options.format);
-            match take_files(alloc, keep, loader, entries)? {
+            match take_files(alloc, Profile::Strict, keep, loader, entries)? {
                 Ok(reader) => reports::report(alloc, reader, names, options, out),
                 Err(halt) => Ok(Err(halt)),
             }
         }
-        Job::Draw(order) => match take_files(alloc, Keep::All, loader, entries)? {
-            Ok(reader) => drawings::draw(alloc, reader, names, order, out),
-            Err(halt) => Ok(Err(halt)),
-        },
+        Job::Draw(order) => {
+            match take_files(alloc, Profile::Strict, Keep::All, loader, entries)? {
+                Ok(reader) => drawings::draw(alloc, reader, names, order, out),
+                Err(halt) => Ok(Err(halt)),
+            }
+        }
     }
 }
 
@@ -141,16 +145,17 @@ fn run_job<L: Loader, W: Write>(
     }
 }
 
-/// Prints the line of a word that is no format of a measure, and below it what is said of the word.
+/// Prints the line of the words of a measure that are refused, and below it what is said of them.
 fn refuse_measure<W: Write>(
     out: &mut W,
     reason: Reason,
+    profile: Option<&str>,
     format: Option<&str>,
 ) -> Result<(), Failure>
-    ensures { OnOk result (Appends (W.contents out.old) (W.contents out.new) (usage_line reason ++ below_measure (option_map (λ w. w.now) format.entry))) }
+    ensures { OnOk result (Appends (W.contents out.old) (W.contents out.new) (usage_line reason ++ below_measure (option_map (λ w. w.now) profile.entry) (option_map (λ w. w.now) format.entry))) }
 {
     refuse_word(out, reason)?;
-    write!(out, "  {}\n", NoMeasureFormat(format))?;
+    write!(out, "  {}\n", NoMeasure { profile, format })?;
     Ok(())
 }
 
@@ -192,21 +197,22 @@ pub(crate) fn check<L: Loader, W: Write>(
     }
 }
 
-/// Measures the package of a manifest, and prints the measure in the format that a word names.
+/// Measures the package of a manifest in the profile that a word names, and prints the measure in the format that another one names.
 pub(crate) fn measure<L: Loader, W: Write>(
     alloc: Global,
+    profile: Option<&str>,
     format: Option<&str>,
     name: &str,
     loader: &mut L,
     out: &mut W,
 ) -> Result<Status, Failure>
-    ensures says { IfOk result (IsParsedMeasureStatus (L.has loader.old) name.now (named.parse_format (option_map (λ w. w.now) format.entry)) (below_measure (option_map (λ w. w.now) format.entry)) (W.contents out.old) (W.contents out.new)) }
+    ensures says { IfOk result (IsParsedMeasureStatus (L.has loader.old) name.now (named.parse_measure (option_map (λ w. w.now) profile.entry) (option_map (λ w. w.now) format.entry)) (below_measure (option_map (λ w. w.now) profile.entry) (option_map (λ w. w.now) format.entry)) (W.contents out.old) (W.contents out.new)) }
     ensures cause { IfOk result (HasCause (L.failed loader.old) (L.failed loader.new)) }
 {
-    match parse_format(format) {
-        Ok(format) => run_job(alloc, &Job::Measure(format), name, loader, out),
+    match parse_measure(profile, format) {
+        Ok(order) => run_job(alloc, &Job::Measure(order), name, loader, out),
         Err(reason) => {
-            refuse_measure(out, reason, format)?;
+            refuse_measure(out, reason, profile, format)?;
             Ok(Status::Usage)
         }
     }

@@ -33,7 +33,7 @@ pub(crate) fn parse_rules(ring: &str, gap: &str) -> Result<Rules, Reason>
 
 /// The profile that a word names, `strict` or `wide`; the strict one where there is no word, and none for any other.
 #[tactic(auto, unfolding(crate::specs::ParsedWords::profile_of))]
-fn profile_of(word: Option<&str>) -> Option<Profile>
+pub(crate) fn profile_of(word: Option<&str>) -> Option<Profile>
     ensures { result ≡ words.profile_of (option_map (λ w. w.now) word.entry) }
 {
     match word {
@@ -61,6 +61,14 @@ pub enum MeasureFormat {
     Text,
     /// One object of JSON on one line.
     Json,
+}
+
+/// What a measure is asked for.
+#[derive(Clone, Copy, Debug, PartialEq, Eq)]
+pub struct MeasureOrder {
+    /// The profile in which the files are read.
+    pub profile: Profile,
+    pub format: MeasureFormat,
 }
 
 /// How a report is printed.
@@ -98,13 +106,30 @@ fn parse_report_format(
 
 /// The format of a measure that a word names, `text` or `json`; text where there is no word.
 #[tactic(auto, unfolding(crate::specs::ParsedWords::parse_format))]
-pub(crate) fn parse_format(word: Option<&str>) -> Result<MeasureFormat, Reason>
+fn parse_format(word: Option<&str>) -> Result<MeasureFormat, Reason>
     ensures { result ≡ words.parse_format (option_map (λ w. w.now) word.entry) }
 {
     match word {
         None | Some("text") => Ok(MeasureFormat::Text),
         Some("json") => Ok(MeasureFormat::Json),
         Some(_) => Err(Reason::BadRole),
+    }
+}
+
+/// What a measure is asked for, by the words for its profile and its format. The profile is read first.
+#[tactic(auto, unfolding(crate::specs::ParsedWords::measured_in))]
+pub(crate) fn parse_measure(
+    profile: Option<&str>,
+    format: Option<&str>,
+) -> Result<MeasureOrder, Reason>
+    ensures { result ≡ words.parse_measure (option_map (λ w. w.now) profile.entry) (option_map (λ w. w.now) format.entry) }
+{
+    match profile_of(profile) {
+        Some(profile) => Ok(MeasureOrder {
+            profile,
+            format: parse_format(format)?,
+        }),
+        None => Err(Reason::BadRole),
     }
 }
 

@@ -75,7 +75,11 @@ fn carry_out<L: Loader, W: Write>(
             let unparsed = report_words(ring, gap, *limit, *waive, *outline, *format);
             report(alloc, &unparsed, manifest, loader, out)
         }
-        Request::Measure { format, manifest } => measure(alloc, *format, manifest, loader, out),
+        Request::Measure {
+            profile,
+            format,
+            manifest,
+        } => measure(alloc, *profile, *format, manifest, loader, out),
         Request::Draw {
             ring,
             gap,
@@ -145,8 +149,8 @@ pub fn run<L: Loader, W: Write>(
     ensures report { (r g : List ℕ) (limit waive outline format : Option (List ℕ)) (m : List ℕ) → map (λ w. w.now) words.now ≡ report_words r g limit waive outline format m → is_plain_word r ≡ true → is_plain_word g ≡ true
         → is_plain_if_some limit ≡ true → is_plain_if_some waive ≡ true → is_plain_if_some outline ≡ true → is_plain_if_some format ≡ true → is_plain_word m ≡ true
         → IsParsedReportStatus (L.has loader.old) m (named.parse_report r g limit waive outline format) (below_report r g limit (is_some outline) format) waive outline (W.contents out.old) (W.contents out.new) result }
-    ensures measure { (format : Option (List ℕ)) (m : List ℕ) → map (λ w. w.now) words.now ≡ measure_words format m → is_plain_if_some format ≡ true → is_plain_word m ≡ true
-        → IsParsedMeasureStatus (L.has loader.old) m (named.parse_format format) (below_measure format) (W.contents out.old) (W.contents out.new) result }
+    ensures measure { (profile format : Option (List ℕ)) (m : List ℕ) → map (λ w. w.now) words.now ≡ measure_words profile format m → is_plain_if_some profile ≡ true → is_plain_if_some format ≡ true
+        → is_plain_word m ≡ true → IsParsedMeasureStatus (L.has loader.old) m (named.parse_measure profile format) (below_measure profile format) (W.contents out.old) (W.contents out.new) result }
     ensures draw { (rules : Option (List ℕ × List ℕ)) (outline : Option (List ℕ)) (m : List ℕ) → map (λ w. w.now) words.now ≡ draw_words rules outline m → are_plain_rules rules ≡ true
         → is_plain_if_some outline ≡ true → is_plain_word m ≡ true → IsParsedDrawStatus (L.has loader.old) m (named.parse_draw (option_map (λ both. both.0) rules) (option_map (λ both. both.1) rules)) outline (W.contents out.old) (W.contents out.new) result }
     ensures show { (k f : List ℕ) → map (λ w. w.now) words.now ≡ file_words (codes "show") k f → is_plain_word k ≡ true → is_plain_word f ≡ true

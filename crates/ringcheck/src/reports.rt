@@ -2,7 +2,7 @@
 
 ghost use Rattle.std.specs.Prelude.{◌≡◌, ◌==◌, ◌&&◌, Bool, List, IfErr, IfOk, OnOk, length, map};
 ghost use Rattle.package_check.specs.Holding.{HasTakenAll};
-ghost use Rattle.package_check.specs.Package.{AreStrict, FileView};
+ghost use Rattle.package_check.specs.Package.{FileView};
 ghost use Rattle.report.specs.declared.Acceptances.{Acceptances as TheAcceptances};
 ghost use Rattle.ringcheck.specs.Inner.Halting.{OfTaken};
 ghost use Rattle.ringcheck.specs.Inner.Jobs.{given};
@@ -154,7 +154,7 @@ pub(crate) fn report<'a, W: Write>(
     options: &Order,
     out: &mut W,
 ) -> Result<Result<bool, Halt<'a>>, Failure>
-    ensures answers { (all : List FileView) → map (λ name. name.now) names.now ≡ map (λ source. source.name) all → AreStrict all → HasTakenAll reader (kept_for options.now.format) all
+    ensures answers { (all : List FileView) → map (λ name. name.now) names.now ≡ map (λ source. source.name) all → HasTakenAll reader (kept_for options.now.format) all
         → IfOk result (OfTaken (Reports options.now.rules options.now.limit options.now.format (given options.now.waivers) options.now.outline.items (W.contents out.old) (W.contents out.new)) all) }
     ensures silent { IfOk result (λ done. IfErr done (λ halt. W.contents out.new ≡ W.contents out.old)) }
 {

@@ -3,7 +3,7 @@
 ghost use Rattle.std.specs.Prelude.{◌≡◌, Some, is_some, option_map};
 ghost use Rattle.ringcheck.specs.Sentences as sentences;
 
-use crate::parsed_words::{ReportWords, parse_length, parse_limit, parse_rules};
+use crate::parsed_words::{ReportWords, parse_length, parse_limit, parse_rules, profile_of};
 use grid_units::Reason;
 use std::fmt;
 use std::fmt::{Display, Formatter};
@@ -109,7 +109,7 @@ impl Display for NoReportFormat<'_> {
 
 /// What is said of a word that is no format of a measure.
 #[derive(Clone, Copy)]
-pub(crate) struct NoMeasureFormat<'a>(pub(crate) Option<&'a str>);
+struct NoMeasureFormat<'a>(Option<&'a str>);
 
 impl Display for NoMeasureFormat<'_> {
     ghost output = { λ it. Some (sentences.measure_format_sentence (option_map (λ w. w.now) it.0)) };
@@ -119,6 +119,39 @@ impl Display for NoMeasureFormat<'_> {
             Some(word) => write!(f, "--format is text or json, not {word}"),
             None => f.write_str("--format is text or json"),
         }
+    }
+}
+
+/// What is said of a word that names no profile.
+#[derive(Clone, Copy)]
+struct NoProfile<'a>(Option<&'a str>);
+
+impl Display for NoProfile<'_> {
+    ghost output = { λ it. Some (sentences.profile_sentence (option_map (λ w. w.now) it.0)) };
+
+    fn fmt<W: fmt::Write>(&self, f: &mut Formatter<W>) -> fmt::Result {
+        match self.0 {
+            Some(word) => write!(f, "--profile is strict or wide, not {word}"),
+            None => f.write_str("--profile is strict or wide"),
+        }
+    }
+}
+
+/// What is said of the words of a measure that are refused, by the first of them that is.
+#[derive(Clone, Copy)]
+pub(crate) struct NoMeasure<'a> {
+    pub(crate) profile: Option<&'a str>,
+    pub(crate) format: Option<&'a str>,
+}
+
+impl Display for NoMeasure<'_> {
+    ghost output = { λ it. Some (sentences.measure_sentence (option_map (λ w. w.now) it.profile) (option_map (λ w. w.now) it.format)) };
+
+    fn fmt<W: fmt::Write>(&self, f: &mut Formatter<W>) -> fmt::Result {
+        if profile_of(self.profile).is_none() {
+            return write!(f, "{}", NoProfile(self.profile));
+        }
+        write!(f, "{}", NoMeasureFormat(self.format))
     }
 }
 

@@ -31,7 +31,8 @@ use Rattle.layer_image.specs.Lookback.{aperture_of, aperture_selected, current_a
 use Rattle.layer_image.specs.Numbers.{dec_length}
 use Rattle.layer_image.proofs.CopyGrids.{count_copies}
 use Rattle.further_copper.specs.Clearing.{uncleared}
-use Rattle.further_copper.specs.Placing.{copies_from, oriented_shape, shape_at, shapes_at}
+use Rattle.pad_shapes.specs.Placed.{shape_at}
+use Rattle.further_copper.specs.Placing.{copies_from, oriented_shape, shapes_at}
 use Rattle.further_copper.specs.FurtherPads.{CopperState, copper_state_after, flash_shape, flashed, flashed_after, pads_at, placed}
 use Rattle.wide_layers.specs.WideLayers.{FlashesAreCounted, flashes_left}
 use Rattle.wide_layers.proofs.LastFlashes.{added_at, flashes_end}

@@ -8,10 +8,10 @@ ghost use Rattle.layer_image.specs.Layers.{ReadsLayerIn};
 ghost use Rattle.wide_layers.specs.WideLayers.{wide_image_of};
 
 use crate::pads::last_pads;
-use further_copper::{FurtherPad, further_pads};
+use further_copper::further_pads;
 use grid_units::Text;
 use layer_image::Layer;
-use pad_shapes::Pad;
+use pad_shapes::{Pad, PlacedRounded};
 use std::alloc::{AllocError, Global};
 use std::marker::Model;
 
@@ -19,8 +19,8 @@ use std::marker::Model;
 #[derive(Debug, Drop)]
 pub struct WideLayer {
     pads: Vec<Pad>,
-    flashed: Vec<FurtherPad>,
-    contours: Vec<FurtherPad>,
+    flashed: Vec<PlacedRounded>,
+    contours: Vec<PlacedRounded>,
     other: usize,
     file_function: Option<Text>,
 }
@@ -39,9 +39,9 @@ pub struct WidePads {
     /// The pads of standard apertures, in order.
     pub pads: Vec<Pad>,
     /// The flashes of macros that count as pads, in order.
-    pub flashed: Vec<FurtherPad>,
+    pub flashed: Vec<PlacedRounded>,
     /// The contours of regions that count as pads, in order.
-    pub contours: Vec<FurtherPad>,
+    pub contours: Vec<PlacedRounded>,
 }
 
 impl WideLayer {
@@ -53,14 +53,14 @@ impl WideLayer {
     }
 
     /// The flashes of macros that count as pads, in order, one for each copy in a step and repeat block.
-    pub fn flashed(&self) -> &[FurtherPad]
+    pub fn flashed(&self) -> &[PlacedRounded]
         ensures { result.now ≡ self.now.flashed }
     {
         &self.flashed
     }
 
     /// The contours of regions that count as pads, in order, one for each copy in a step and repeat block.
-    pub fn contours(&self) -> &[FurtherPad]
+    pub fn contours(&self) -> &[PlacedRounded]
         ensures { result.now ≡ self.now.contours }
     {
         &self.contours

@@ -5,7 +5,7 @@ ghost use Rattle.wide_pads.specs.Holding.{covers_hole, HoldsCoveredHoles};
 ghost use Rattle.wide_pads.specs.Inner.HoldingLaws.{disc_holds, rect_holds, obround_holds, pad_holds, rounded_holds};
 
 use grid_units::{Hole, Rules};
-use pad_shapes::{Disc, Obround, Pad, PadShape, Rect, Rounded};
+use pad_shapes::{Disc, Obround, Pad, PadShape, PlacedRounded, Rect, Rounded};
 
 /// A shape that holds each hole that it covers, at whatever angle the hole lies: each grid point that is no further than the
 /// radius and the ring from the hole's centre line is a point of the shape.
@@ -31,6 +31,10 @@ impl SlotShape for Pad {
 }
 
 impl SlotShape for Rounded {
+    ghost holds_holes = { rounded_holds };
+}
+
+impl SlotShape for PlacedRounded {
     ghost holds_holes = { rounded_holds };
 }
 

@@ -6,15 +6,15 @@ ghost use Rattle.wide_pads.specs.Inner.WidePadLaws.{wide_pad_contains_covered, w
 
 use crate::holding::SlotShape;
 use grid_units::Point;
-use pad_shapes::{Pad, PadShape, Rounded, Zone};
+use pad_shapes::{Pad, PadShape, PlacedRounded, Zone};
 
 /// A pad of the wide profile.
 #[derive(Debug, Drop)]
 pub enum WidePad {
     /// A disc, a rectangle or an obround, as the strict profile judges them.
     Plain(Pad),
-    /// A rounded polygon, such as the shape of a macro.
-    Rounded(Rounded),
+    /// A rounded polygon, such as the flash of a macro.
+    Rounded(PlacedRounded),
 }
 
 impl PadShape for WidePad {

@@ -2,6 +2,7 @@
 
 use super::{file, passes};
 use board_report::measure_bytes;
+use grid_units::Profile;
 use margins::Met;
 use package_check::{File, Role, Span};
 use report::Meets;
@@ -193,7 +194,9 @@ fn is_told(meets: Meets) -> bool {
 
 /// The rules that some files meet, and whether their check agrees.
 fn judged_files(alloc: Global, files: &[File]) -> Result<(Meets, bool), Failure> {
-    let measure = measure_bytes(alloc, files).ok().ok_or("no measure")?;
+    let measure = measure_bytes(alloc, Profile::Strict, files)
+        .ok()
+        .ok_or("no measure")?;
     Ok((measure.meets, agrees(alloc, files, measure.meets)))
 }
 

@@ -1,5 +1,7 @@
 -- The last members of objects that are printed in two parts.
 use Rattle.std.specs.Prelude.{ℕ, List, [], ◌∷◌, codes, map, Option}
+use Rattle.grid_units.specs.declared.profile.Profile.{Profile}
+use Rattle.grid_units.specs.declared.profile.Profile.TheVariants.{Strict}
 use Rattle.std.specs.Borrow.{Bor}
 use Rattle.json.specs.Json.{Json}
 use Rattle.report.specs.declared.Measure.{Measure}
@@ -18,14 +20,14 @@ ring_rest cause why =
     (codes "has_pm", or_null picometres (ring_of cause)) ∷ (codes "lacks_pm", or_null picometres (lack_of cause)) ∷ (codes "cause", word (cause_word cause))
     ∷ (codes "flash", or_null whole (flash_of cause)) ∷ (codes "waived", acceptance_value why) ∷ []
 
--- those of a measure
-abbrev pub measure_rest : List (List ℕ) → BoardView → Measure → List (List ℕ × Json)
-measure_rest names board measure =
-    (codes "files", array_of (file_values names board.files)) ∷ (codes "scales", array_of (map scale_value measure.scales.items))
+-- those of a measure in a profile
+abbrev pub measure_rest : Profile → List (List ℕ) → BoardView → Measure → List (List ℕ × Json)
+measure_rest profile names board measure =
+    (codes "files", array_of (file_values profile names board.files)) ∷ (codes "scales", array_of (map scale_value measure.scales.items))
     ∷ (codes "rings", array_of (map row_value measure.rings.items)) ∷ (codes "gap", or_null (least_gap_value board.files board.holes) measure.gap) ∷ []
 
 -- those of a report with waivers
 abbrev pub report_rest : List (List ℕ) → List FileSum → BoardReport → Acceptances → List (List ℕ × Json)
 report_rest names files report accepted =
-    (codes "files", array_of (file_values names files)) ∷ (codes "scales", array_of (map scale_value report.scales.items))
+    (codes "files", array_of (file_values Strict names files)) ∷ (codes "scales", array_of (map scale_value report.scales.items))
     ∷ (codes "findings", array_of (finding_values report accepted.rings.now accepted.gaps.now)) ∷ []

@@ -3,7 +3,7 @@ use Rattle.std.specs.Prelude.{◌≡◌, ℕ, ◌+◌, ◌*◌, ◌<◌, ◌≤�
 use Rattle.std.specs.List.{All, slice_range}
 use Rattle.grid_units.specs.Points.{GridPoint}
 use Rattle.grid_units.specs.Holes.{is_round}
-use Rattle.pad_shapes.specs.declared.pad.Pad.{Pad}
+use Rattle.wide_pads.specs.declared.wide_pad.WidePad.{WidePad}
 use Rattle.ring_rules.specs.declared.finding.Drilled.{Drilled}
 use Rattle.report.specs.declared.UnitFactor.{UnitFactor}
 use Rattle.report.specs.declared.UnitMistake.{UnitMistake}
@@ -28,7 +28,7 @@ IsRescaled factor d (Some x) = (is_round d.hole ≡ true) × (is_on_grid (scaled
 -- The round holes of a list that have a place by a factor, at these places. The bare ones among them and the round holes without
 -- a place are those that would be bare.
 pub record AreRescaled (factor : UnitFactor) (holes rescaled : List Drilled) : Type 0 where
-  pub bare : (pads : List Pad) → bare_count pads rescaled + round_count holes ≡ bare_count_with pads holes factor + length rescaled
+  pub bare : (pads : List WidePad) → bare_count pads rescaled + round_count holes ≡ bare_count_with pads holes factor + length rescaled
   pub few : length rescaled ≤ round_count holes
 
 -- the first of some factors with the fewest bare holes, and how many these are
@@ -64,7 +64,7 @@ pub record AreRescaledRanges (factor : UnitFactor) (holes : List Drilled) (range
   pub each : (k : ℕ) (d : HoleRange) → k < length ranges → IsRescaledRange factor (holes_of holes (get_or ranges k d)) all.holes.items (get_or all.bounds.items k 0) (get_or all.bounds.items (k + 1) 0)
 
 -- how many holes of each stretch are round and would be bare by a factor
-pub record AreCounted (pads : List Pad) (holes : List Drilled) (ranges : List HoleRange) (factor : UnitFactor) (counts : List ℕ) : Type 0 where
+pub record AreCounted (pads : List WidePad) (holes : List Drilled) (ranges : List HoleRange) (factor : UnitFactor) (counts : List ℕ) : Type 0 where
   pub size : length counts ≡ length ranges
   pub each : (k : ℕ) (s : HoleRange) (n : ℕ) → k < length ranges → get_or counts k n ≡ bare_count_with pads (holes_of holes (get_or ranges k s)) factor
 
@@ -73,34 +73,34 @@ abbrev pub open_part : Tried → HoleRange
 open_part tried = record { start = tried.range.start; end = if tried.fewest.bare == 0 then tried.range.start else tried.range.end }
 
 -- a stretch with the first of some factors by which the fewest of its holes would be bare
-pub record IsTried (pads : List Pad) (holes : List Drilled) (factors : List UnitFactor) (stretch : HoleRange) (tried : Tried) : Type 0 where
+pub record IsTried (pads : List WidePad) (holes : List Drilled) (factors : List UnitFactor) (stretch : HoleRange) (tried : Tried) : Type 0 where
   pub range : tried.range ≡ stretch
   pub fewest : IsFewest (bare_count_with pads (holes_of holes stretch)) factors tried.fewest
 
 -- the same of each stretch, in their order
-pub record AreTried (pads : List Pad) (holes : List Drilled) (ranges : List HoleRange) (factors : List UnitFactor) (tried : List Tried) : Type 0 where
+pub record AreTried (pads : List WidePad) (holes : List Drilled) (ranges : List HoleRange) (factors : List UnitFactor) (tried : List Tried) : Type 0 where
   pub size : length tried ≡ length ranges
   pub each : (k : ℕ) (s : HoleRange) (t : Tried) → k < length ranges → IsTried pads holes factors (get_or ranges k s) (get_or tried k t)
 
 -- more than half of the round holes of a file are bare, so all its holes are to be tried at other places
-pub record IsSuspected (pads : List Pad) (own : List Drilled) (file : FileRange) (suspect : Suspect) : Type 0 where
+pub record IsSuspected (pads : List WidePad) (own : List Drilled) (file : FileRange) (suspect : Suspect) : Type 0 where
   pub start : suspect.range.start ≡ file.start
   pub end : suspect.range.end ≡ file.end
   pub bare : suspect.bare ≡ bare_count pads own
   pub most : round_count own < 2 * suspect.bare
 
 -- a file has no line, so none of its holes is to be tried at other places
-pub record IsUnsuspected (pads : List Pad) (own : List Drilled) (suspect : Suspect) : Type 0 where
+pub record IsUnsuspected (pads : List WidePad) (own : List Drilled) (suspect : Suspect) : Type 0 where
   pub bare : suspect.bare ≡ 0
   pub none : (line : UnitMistake) → IsUnitMistake pads own line → ⊥
 
 -- which holes of a file are to be tried at other places, as a stretch of the list: all of them, or none where the file has no line
-pub record IsSuspect (pads : List Pad) (holes : List Drilled) (file : FileRange) (suspect : Suspect) : Type 0 where
+pub record IsSuspect (pads : List WidePad) (holes : List Drilled) (file : FileRange) (suspect : Suspect) : Type 0 where
   pub ordered : suspect.range.start ≤ suspect.range.end
   pub inside : suspect.range.end ≤ length holes
   pub either : IsSuspected pads (holes_in holes file) file suspect ⊎ IsUnsuspected pads (holes_in holes file) suspect
 
 -- which holes of each file are to be tried at other places
-pub record AreSuspects (pads : List Pad) (holes : List Drilled) (files : List FileRange) (suspects : List Suspect) : Type 0 where
+pub record AreSuspects (pads : List WidePad) (holes : List Drilled) (files : List FileRange) (suspects : List Suspect) : Type 0 where
   pub size : length suspects ≡ length files
   pub each : (k : ℕ) (f : FileRange) (d : Suspect) → k < length files → IsSuspect pads holes (get_or files k f) (get_or suspects k d)

@@ -23,21 +23,21 @@ given waivers = option_map (λ all. all.items) waivers
 -- how a refusal is printed in place of a job's result
 abbrev pub job_style : Job → RefusalStyle
 job_style (job.Check rules) = style.Line
-job_style (job.Measure form) = measure_style form
+job_style (job.Measure order) = measure_style order.format
 job_style (job.Report options) = report_style options.format
 job_style (job.Draw order) = style.Line
 
--- the profile in which a job reads the files: that of the rules of a check, and else the strict one
+-- the profile in which a job reads the files: that of the rules of a check, that of a measure, and else the strict one
 abbrev pub job_profile : Job → Profile
 job_profile (job.Check rules) = rules.profile
-job_profile (job.Measure form) = Strict
+job_profile (job.Measure order) = order.profile
 job_profile (job.Report options) = Strict
 job_profile (job.Draw order) = Strict
 
 -- what is said of files where a job on them passes, or does not
 abbrev pub Holds : Job → Option (List ℕ) → Option (List ℕ) → Bool → List FileView → Type 0
 Holds (job.Check rules) before after = Checks rules before after
-Holds (job.Measure form) before after = PrintsMeasure form before after
+Holds (job.Measure order) before after = PrintsMeasure order before after
 Holds (job.Report options) before after = Reports options.rules options.limit options.format (given options.waivers) options.outline.items before after
 Holds (job.Draw order) before after = PrintsPicture order.rules order.outline.items before after
 

@@ -4,7 +4,7 @@ use Rattle.std.specs.List.{All}
 use Rattle.std.proofs.lemmas.List.Elements.{All-append}
 use Rattle.std.proofs.lemmas.Result.{IfOk-weaker}
 use Rattle.grid_units.specs.declared.profile.Profile.TheVariants.{Strict}
-use Rattle.pad_shapes.specs.Pads.{pad_covers}
+use Rattle.wide_pads.specs.WidePads.{wide_pad_covers}
 use Rattle.ring_rules.specs.Findings.{gap_findings, ring_findings}
 use Rattle.ring_rules.specs.WithoutFindings.{NamesPlaces}
 use Rattle.ring_rules.specs.declared.finding.Finding.{Finding}
@@ -16,7 +16,7 @@ pub returns-clause-places : goal.returns-clause-places
 returns-clause-places c =
     let board = c.args.board.now in
     let rules = in_strict c.args.rules in
-    let named = All-append (NamesPlaces (length board.layers) (length board.holes)) (ring_findings pad_covers Strict rules.ring board.layers board.holes) (gap_findings rules.gap board.holes)
+    let named = All-append (NamesPlaces (length board.layers) (length board.holes)) (ring_findings wide_pad_covers Strict rules.ring board.layers board.holes) (gap_findings rules.gap board.holes)
     (c.findings_name_places.ensures.rings Strict rules.ring board.layers board.holes) (c.findings_name_places.ensures.gaps rules.gap (length board.layers) board.holes) in
     IfOk-weaker c.rings_and_gaps.result (λ (found : Vec Finding). found.items ≡ board_findings rules board) (λ (found : Vec Finding). All (NamesPlaces (length board.layers) (length board.holes)) found.items)
     (λ found e. subst (λ (xs : List Finding). All (NamesPlaces (length board.layers) (length board.holes)) xs) (sym e) named) c.rings_and_gaps.ensures

@@ -2,8 +2,8 @@ use Rattle.std.proofs.Common.{Bor, ◌≡◌, ◌+◌, ◌<◌, ◌≤◌, ℕ, 
 use Rattle.std.specs.Prelude.{Option}
 use Rattle.std.specs.Global.{Vec}
 use Rattle.std.proofs.lemmas.List.{get_or-map, length-map}
-use Rattle.pad_shapes.specs.Pads.{pad_covers}
-use Rattle.pad_shapes.specs.declared.pad.Pad.{Pad}
+use Rattle.wide_pads.specs.WidePads.{wide_pad_covers}
+use Rattle.wide_pads.specs.declared.wide_pad.WidePad.{WidePad}
 use Rattle.ring_rules.specs.declared.finding.Drilled.{Drilled}
 use Rattle.margins.specs.BestPads.{AreBestPads}
 use Rattle.margins.specs.Meets.{MeetsOnLayers}
@@ -15,12 +15,11 @@ use Rattle.board_report.proofs.LayerBestsLemmas.{all_kept, none_kept, one_more}
 use Rattle.board_report.proofs.UnitMistakeLinesLemmas.{ScalesAt, all_layers, first_layer, later_layer, no_layer_yet}
 use Rattle.board_report.proofs.measure.rings_on.Goals as goal
 use Rattle.board_report.proofs.measure.rings_on.Goals.{then-layer-eq0+in_ok-scales, else-layer-eq0}
-use Rattle.grid_units.specs.declared.profile.Profile.TheVariants.{Strict}
 
 pub loop-layer-init : goal.loop-layer-init
 loop-layer-init c = record {
-  met = subst (λ (layers : List (Bor (List Pad))). MeetsOnLayers pad_covers Strict (map (λ pads. pads.now) layers) c.holes-holes.result.now 0 c.met_without_layers-met.result) c.deref.ensures.value (c.met_without_layers-met.ensures Strict);
-  lines = subst (AreRowLines c.args.board.now (λ key. key.layer < 0)) (sym c.new-lines.ensures.items) (none c.args.board.now (λ key. key.layer < 0) (λ key less some. omega (arith, less)));
+  met = subst (λ (layers : List (Bor (List WidePad))). MeetsOnLayers wide_pad_covers c.args.profile (map (λ pads. pads.now) layers) c.holes-holes.result.now 0 c.met_without_layers-met.result) c.deref.ensures.value (c.met_without_layers-met.ensures c.args.profile);
+  lines = subst (AreRowLines c.args.profile c.args.board.now (λ key. key.layer < 0)) (sym c.new-lines.ensures.items) (none c.args.profile c.args.board.now (λ key. key.layer < 0) (λ key less some. omega (arith, less)));
   scales = subst (ScalesAt c.args.board.now 0) (sym c.new-scales.ensures.items) (no_layer_yet c.args.board.now);
   bests = λ keeps. subst (λ (kept : List (Vec (Option BestPad))). AreLayerBests c.args.board.now 0 (map (λ bests. bests.items) kept)) (sym c.new-kept.ensures.items) (none_kept c.args.board.now);
 }
@@ -37,11 +36,11 @@ loop-layer-preserved c = record {
         (later_layer c.args.board.now c.loop-layer.layer c.loop-layer.scales.items w.if-layer-eq0.false c.loop-layer.invariant.scales)
   ];
   bests = λ keeps. one_more c.args.board.now c.loop-layer.layer c.loop-layer.kept.items c.keep.new.kept.items c.in_ok-bests.bests (c.in_ok-keep.ensures keeps) (c.loop-layer.invariant.bests keeps)
-      (subst (λ (holes : List Drilled). AreBestPads pad_covers (get_or c.args.board.now.layers c.loop-layer.layer []) holes c.in_ok-bests.bests.items) c.holes-holes.ensures
-      (subst (λ (pads : List Pad). AreBestPads pad_covers pads c.holes-holes.result.now c.in_ok-bests.bests.items)
+      (subst (λ (holes : List Drilled). AreBestPads wide_pad_covers (get_or c.args.board.now.layers c.loop-layer.layer []) holes c.in_ok-bests.bests.items) c.holes-holes.ensures
+      (subst (λ (pads : List WidePad). AreBestPads wide_pad_covers pads c.holes-holes.result.now c.in_ok-bests.bests.items)
       (ap (λ pads. pads.now) c.index.ensures
       ∙ sym (get_or-map (λ pads. pads.now) c.in_ok-layers.layers.items c.loop-layer.layer c.index.result.now [] (search rules))
-      ∙ ap (λ (layers : List (List Pad)). get_or layers c.loop-layer.layer []) c.in_ok-layers.ensures) c.in_ok-bests.ensures));
+      ∙ ap (λ (layers : List (List WidePad)). get_or layers c.loop-layer.layer []) c.in_ok-layers.ensures) c.in_ok-bests.ensures));
 }
 
 all_layers_seen : (c : goal.After-drop-files-2) → c.loop-layer.layer ≡ length c.args.board.now.layers
@@ -62,9 +61,9 @@ returns-clause-scales c =
 pub returns-clause-met : goal.returns-clause-met
 returns-clause-met c =
     let board = c.args.board.now in
-    subst (λ (holes : List Drilled). MeetsOnLayers pad_covers Strict board.layers holes (length board.layers) c.loop-layer.met) c.holes-holes.ensures
-    (subst (λ (layers : List (List Pad)). MeetsOnLayers pad_covers Strict layers c.holes-holes.result.now (length board.layers) c.loop-layer.met) c.in_ok-layers.ensures
-    (subst (λ (n : ℕ). MeetsOnLayers pad_covers Strict (map (λ pads. pads.now) c.in_ok-layers.layers.items) c.holes-holes.result.now n c.loop-layer.met) (all_layers_seen c) c.loop-layer.invariant.met))
+    subst (λ (holes : List Drilled). MeetsOnLayers wide_pad_covers c.args.profile board.layers holes (length board.layers) c.loop-layer.met) c.holes-holes.ensures
+    (subst (λ (layers : List (List WidePad)). MeetsOnLayers wide_pad_covers c.args.profile layers c.holes-holes.result.now (length board.layers) c.loop-layer.met) c.in_ok-layers.ensures
+    (subst (λ (n : ℕ). MeetsOnLayers wide_pad_covers c.args.profile (map (λ pads. pads.now) c.in_ok-layers.layers.items) c.holes-holes.result.now n c.loop-layer.met) (all_layers_seen c) c.loop-layer.invariant.met))
 
 pub returns-clause-bests : goal.returns-clause-bests
 returns-clause-bests c = λ keeps. all_kept c.args.board.now c.loop-layer.layer (length c.args.board.now.layers) (map (λ bests. bests.items) c.loop-layer.kept.items) (all_layers_seen c) (c.loop-layer.invariant.bests keeps)

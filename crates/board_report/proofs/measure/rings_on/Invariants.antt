@@ -1,16 +1,15 @@
 use Rattle.std.proofs.Common.{◌≡◌, ◌<◌, true, map}
-use Rattle.pad_shapes.specs.Pads.{pad_covers}
+use Rattle.wide_pads.specs.WidePads.{wide_pad_covers}
 use Rattle.margins.specs.Meets.{MeetsOnLayers}
 use Rattle.board_report.specs.Measures.{AreLayerBests}
 use Rattle.board_report.specs.Rows.{AreRowLines}
 use Rattle.board_report.proofs.UnitMistakeLinesLemmas.{ScalesAt}
 use Rattle.board_report.proofs.measure.rings_on.Given as goal
-use Rattle.grid_units.specs.declared.profile.Profile.TheVariants.{Strict}
 
 abbrev pub invariant-loop-layer : goal.invariant-loop-layer
 invariant-loop-layer l = record {
-  met : MeetsOnLayers pad_covers Strict (map (λ pads. pads.now) l.layers.items) l.holes l.layer l.met;
-  lines : AreRowLines l.board (λ key. key.layer < l.layer) l.lines.items;
+  met : MeetsOnLayers wide_pad_covers l.profile (map (λ pads. pads.now) l.layers.items) l.holes l.layer l.met;
+  lines : AreRowLines l.profile l.board (λ key. key.layer < l.layer) l.lines.items;
   scales : ScalesAt l.board l.layer l.scales.items;
   bests : l.keeps ≡ true → AreLayerBests l.board l.layer (map (λ bests. bests.items) l.kept.items);
 }

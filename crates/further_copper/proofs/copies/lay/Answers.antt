@@ -2,7 +2,8 @@
 use Rattle.std.proofs.Common.{◌≡◌, ◌∙◌, ◌++◌, ℕ, map, ap, arith}
 use Rattle.std.specs.List.{filter_map, flat_map}
 use Rattle.layer_image.specs.Flashes.{numbers_below}
-use Rattle.further_copper.specs.Placing.{copy_in, shape_at}
+use Rattle.pad_shapes.specs.Placed.{shape_at}
+use Rattle.further_copper.specs.Placing.{copy_in}
 use Rattle.further_copper.proofs.CopiesLemmas.{added, next_list}
 use Rattle.further_copper.proofs.copies.lay.Goals as goal
 

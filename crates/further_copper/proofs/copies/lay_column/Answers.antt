@@ -1,6 +1,7 @@
 -- One copy more.
 use Rattle.std.proofs.Common.{◌∙◌}
-use Rattle.further_copper.specs.Placing.{copy_in, shape_at}
+use Rattle.pad_shapes.specs.Placed.{shape_at}
+use Rattle.further_copper.specs.Placing.{copy_in}
 use Rattle.further_copper.proofs.CopiesLemmas.{added, next_copy}
 use Rattle.further_copper.proofs.copies.lay_column.Goals as goal
 

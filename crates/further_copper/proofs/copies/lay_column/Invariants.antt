@@ -1,7 +1,8 @@
 use Rattle.std.proofs.Common.{◌≡◌, ◌++◌, map}
 use Rattle.std.specs.List.{filter_map}
 use Rattle.layer_image.specs.Flashes.{numbers_below}
-use Rattle.further_copper.specs.Placing.{copy_in, shape_at}
+use Rattle.pad_shapes.specs.Placed.{shape_at}
+use Rattle.further_copper.specs.Placing.{copy_in}
 use Rattle.further_copper.proofs.copies.lay_column.Given as goal
 
 abbrev pub invariant-loop-v : goal.invariant-loop-v

@@ -1,11 +1,11 @@
 use Rattle.std.proofs.Common.{◌≡◌, ◌++◌, map}
 use Rattle.std.specs.List.{flat_map}
-use Rattle.package_check.specs.Package.{plain_pads_of}
+use Rattle.package_check.specs.Package.{pads_of}
 use Rattle.package_check.specs.SoundnessAsRead.{drilled_in}
 use Rattle.package_check.proofs.board.add_contents.Given as goal
 
 abbrev pub invariant-loop-content : goal.invariant-loop-content
 invariant-loop-content l = record {
-  layers : map (λ layer. layer.pads) l.layers.items ≡ map (λ layer. layer.pads) l.fn.layers.items ++ flat_map plain_pads_of l.yielded;
+  layers : map (λ layer. layer.items) l.layers.items ≡ map (λ layer. layer.items) l.fn.layers.items ++ flat_map pads_of l.yielded;
   holes : l.holes.items ≡ l.fn.holes.items ++ flat_map drilled_in l.yielded;
 }

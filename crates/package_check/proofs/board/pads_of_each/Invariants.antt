@@ -2,4 +2,4 @@ use Rattle.std.proofs.Common.{◌≡◌, map, take}
 use Rattle.package_check.proofs.board.pads_of_each.Given as goal
 
 abbrev pub invariant-loop-layer : goal.invariant-loop-layer
-invariant-loop-layer l = map (λ pads. pads.now) l.all.items ≡ map (λ layer. layer.pads) (take l.layer-index l.layers)
+invariant-loop-layer l = map (λ pads. pads.now) l.all.items ≡ map (λ layer. layer.items) (take l.layer-index l.layers)

@@ -1,12 +1,12 @@
 use Rattle.std.proofs.Common.{◌∙◌, ◌+ℤ◌, ◌*ℤ◌}
-use Rattle.pad_shapes.proofs.EdgesLemmas.{difference, sum_of_products}
+use Rattle.pad_shapes.proofs.EdgesLemmas.{difference, far_difference, sum_of_products}
 use Rattle.pad_shapes.proofs.edges.along.Goals as goal
 
 pub returns : goal.returns
 returns c =
     let to_x = difference c.x.result c.x-2.result _ _ c.x.ensures.value c.x-2.ensures.value c.x.ensures.in_range c.x-2.ensures.in_range in
-    let point_x = difference c.x-3.result c.x-4.result _ _ c.x-3.ensures.value c.x-4.ensures.value c.x-3.ensures.in_range c.x-4.ensures.in_range in
+    let point_x = far_difference c.x-3.result c.x-4.result _ _ c.x-3.ensures.value c.x-4.ensures.value c.x-3.ensures.in_range c.x-4.ensures.in_range in
     let to_y = difference c.y.result c.y-2.result _ _ c.y.ensures.value c.y-2.ensures.value c.y.ensures.in_range c.y-2.ensures.in_range in
-    let point_y = difference c.y-3.result c.y-4.result _ _ c.y-3.ensures.value c.y-4.ensures.value c.y-3.ensures.in_range c.y-4.ensures.in_range in
+    let point_y = far_difference c.y-3.result c.y-4.result _ _ c.y-3.ensures.value c.y-4.ensures.value c.y-3.ensures.in_range c.y-4.ensures.in_range in
     sum_of_products c.product.result c.product-2.result c.product.ensures.small c.product-2.ensures.small
     ∙ (λ i. (c.product.ensures.value ∙ (λ j. to_x j *ℤ point_x j)) i +ℤ (c.product-2.ensures.value ∙ (λ j. to_y j *ℤ point_y j)) i)

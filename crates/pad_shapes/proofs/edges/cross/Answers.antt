@@ -1,5 +1,5 @@
 use Rattle.std.proofs.Common.{◌≤◌, ◌∙◌, sym, subst, ℤ, ◌-ℤ◌, ◌*ℤ◌, unsigned_abs}
-use Rattle.pad_shapes.proofs.EdgesLemmas.{difference, fits_difference, difference_of_products, difference_bound}
+use Rattle.pad_shapes.proofs.EdgesLemmas.{difference, far_difference, fits_difference, difference_of_products, difference_bound}
 use Rattle.pad_shapes.proofs.edges.cross.Goals as goal
 
 pub overflow_sub-result : goal.overflow_sub-result
@@ -8,13 +8,13 @@ overflow_sub-result c = fits_difference c.product.result c.product-2.result c.pr
 pub returns-clause-value : goal.returns-clause-value
 returns-clause-value c =
     let to_x = difference c.x.result c.x-2.result _ _ c.x.ensures.value c.x-2.ensures.value c.x.ensures.in_range c.x-2.ensures.in_range in
-    let point_y = difference c.y.result c.y-2.result _ _ c.y.ensures.value c.y-2.ensures.value c.y.ensures.in_range c.y-2.ensures.in_range in
+    let point_y = far_difference c.y.result c.y-2.result _ _ c.y.ensures.value c.y-2.ensures.value c.y.ensures.in_range c.y-2.ensures.in_range in
     let to_y = difference c.y-3.result c.y-4.result _ _ c.y-3.ensures.value c.y-4.ensures.value c.y-3.ensures.in_range c.y-4.ensures.in_range in
-    let point_x = difference c.x-3.result c.x-4.result _ _ c.x-3.ensures.value c.x-4.ensures.value c.x-3.ensures.in_range c.x-4.ensures.in_range in
+    let point_x = far_difference c.x-3.result c.x-4.result _ _ c.x-3.ensures.value c.x-4.ensures.value c.x-3.ensures.in_range c.x-4.ensures.in_range in
     difference_of_products c.product.result c.product-2.result c.product.ensures.small c.product-2.ensures.small
     ∙ (λ i. (c.product.ensures.value ∙ (λ j. to_x j *ℤ point_y j)) i -ℤ (c.product-2.ensures.value ∙ (λ j. to_y j *ℤ point_x j)) i)
 
 pub returns-clause-small : goal.returns-clause-small
 returns-clause-small c =
-    subst (λ (z : ℤ). unsigned_abs z ≤ 800000000000000000000000000) (sym (difference_of_products c.product.result c.product-2.result c.product.ensures.small c.product-2.ensures.small))
+    subst (λ (z : ℤ). unsigned_abs z ≤ 1600000000000000000000000000) (sym (difference_of_products c.product.result c.product-2.result c.product.ensures.small c.product-2.ensures.small))
     (difference_bound c.product.result c.product-2.result c.product.ensures.small c.product-2.ensures.small)

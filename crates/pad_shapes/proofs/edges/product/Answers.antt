@@ -14,4 +14,4 @@ pub returns-clause-value : goal.returns-clause-value
 returns-clause-value c = stored c
 
 pub returns-clause-small : goal.returns-clause-small
-returns-clause-small c = subst (λ (z : ℤ). unsigned_abs z ≤ 400000000000000000000000000) (sym (stored c)) (product_bound c.args.a c.args.b c.requires.a c.requires.b)
+returns-clause-small c = subst (λ (z : ℤ). unsigned_abs z ≤ 800000000000000000000000000) (sym (stored c)) (product_bound c.args.a c.args.b c.requires.a c.requires.b)

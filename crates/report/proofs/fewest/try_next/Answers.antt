@@ -1,7 +1,7 @@
 use Rattle.std.proofs.Common.{◌≡◌, ℕ, List, [], ◌∷◌, ◌++◌, length, map, ap, sym, subst, ◌∙◌}
 use Rattle.std.proofs.lemmas.List.{length-map}
 use Rattle.std.proofs.lemmas.Result.{IfOk-weaker}
-use Rattle.pad_shapes.specs.declared.pad.Pad.{Pad}
+use Rattle.wide_pads.specs.declared.wide_pad.WidePad.{WidePad}
 use Rattle.ring_rules.specs.declared.finding.Drilled.{Drilled}
 use Rattle.report.specs.declared.UnitFactor.{UnitFactor}
 use Rattle.report.specs.declared.counts.HoleRange.{HoleRange}
@@ -26,7 +26,7 @@ returns c =
     let counted = subst (λ (ns : List ℕ). AreCounted c.args.pads.now c.args.holes.now (map open_part c.args.tried.now) c.args.factor ns) (sym c.deref-2.ensures.value)
     (subst (λ (ss : List HoleRange). AreCounted c.args.pads.now c.args.holes.now ss c.args.factor c.in_ok-counts.counts.items) same c.in_ok-counts.ensures) in
     IfOk-weaker c.with_next.result
-    (λ all. (pads : List Pad) (holes : List Drilled) (ranges : List HoleRange) (earlier : List UnitFactor) → AreTried pads holes ranges earlier c.args.tried.now
+    (λ all. (pads : List WidePad) (holes : List Drilled) (ranges : List HoleRange) (earlier : List UnitFactor) → AreTried pads holes ranges earlier c.args.tried.now
     → AreCounted pads holes (map open_part c.args.tried.now) c.args.factor c.deref-2.result.now → AreTried pads holes ranges (earlier ++ c.args.factor ∷ []) all.items)
     (λ all. (ranges : List HoleRange) (earlier : List UnitFactor) → AreTried c.args.pads.now c.args.holes.now ranges earlier c.args.tried.now → AreTried c.args.pads.now c.args.holes.now ranges (earlier ++ c.args.factor ∷ []) all.items)
     (λ all is. λ ranges earlier are. is c.args.pads.now c.args.holes.now ranges earlier are counted) c.with_next.ensures

@@ -1,5 +1,5 @@
 use Rattle.std.proofs.Common.{List, [], ◌∷◌, ◌++◌, map, take}
-use Rattle.pad_shapes.specs.declared.pad.Pad.{Pad}
+use Rattle.wide_pads.specs.declared.wide_pad.WidePad.{WidePad}
 use Rattle.ring_rules.specs.declared.finding.Drilled.{Drilled}
 use Rattle.report.specs.declared.UnitFactor.{UnitFactor}
 use Rattle.report.specs.declared.counts.HoleRange.{HoleRange}
@@ -8,5 +8,5 @@ use Rattle.report.proofs.fewest.with_next.Given as goal
 
 abbrev pub invariant-loop-place : goal.invariant-loop-place
 invariant-loop-place l =
-    (pads : List Pad) (holes : List Drilled) (ranges : List HoleRange) (earlier : List UnitFactor) → AreTried pads holes ranges earlier l.tried → AreCounted pads holes (map open_part l.tried) l.factor l.counts
+    (pads : List WidePad) (holes : List Drilled) (ranges : List HoleRange) (earlier : List UnitFactor) → AreTried pads holes ranges earlier l.tried → AreCounted pads holes (map open_part l.tried) l.factor l.counts
     → AreTried pads holes (take l.place ranges) (earlier ++ l.factor ∷ []) l.all.items

@@ -7,7 +7,7 @@ use Rattle.package_check.proofs.BoardsLemmas.{reported_on}
 use Rattle.ringcheck.proofs.drawings.draw.Goals as goal
 
 pub returns-clause-answers : goal.returns-clause-answers
-returns-clause-answers g c all named strict stands =
+returns-clause-answers g c all named stands =
     let order = c.args.order.now in
     let board = c.in-Ok.board in
     let text = drawing_text c.in_ok-drawing.drawing in
@@ -18,9 +18,9 @@ returns-clause-answers g c all named strict stands =
       text = text;
       is = subst (λ (ns : List (List ℕ)). IsDrawn ns board order.outline.items order.rules text) named (rw c.as_slice-outline.ensures.value at c.in_ok-drawing.ensures);
       written = c.in_ok-write.ensures.bytes;
-      sound = λ required under none. c.passing_is_sound.ensures all required (reported required board) (reported_on all required board (reported required board) strict read.is.is refl) none;
+      sound = λ required under none. c.passing_is_sound.ensures all required (reported required board) (reported_on all required board (reported required board) read.is.is refl) none;
       passed = refl;
     }
 
 pub returns-in-Err-File-clause-answers : goal.returns-in-Err-File-clause-answers
-returns-in-Err-File-clause-answers g c all named strict stands = c.refused.ensures all named (rw c.in-Err-File.field-0-is (subst (λ (f : PackageFault). ReturnsBoard all (Err f)) c.in-Err-File.field-0-is (c.in-Err-File.ensures.exact keep.All all stands)))
+returns-in-Err-File-clause-answers g c all named stands = c.refused.ensures all named (rw c.in-Err-File.field-0-is (subst (λ (f : PackageFault). ReturnsBoard all (Err f)) c.in-Err-File.field-0-is (c.in-Err-File.ensures.exact keep.All all stands)))

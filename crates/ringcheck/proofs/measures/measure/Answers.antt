@@ -7,7 +7,7 @@ use Rattle.ringcheck.specs.MeasureStatus.{measure_page}
 use Rattle.ringcheck.proofs.measures.measure.Goals as goal
 
 pub returns-clause-answers : goal.returns-clause-answers
-returns-clause-answers g c all named strict stands =
+returns-clause-answers g c all named stands =
     let board = c.in-Ok.board in
     let measure = c.in_ok-measure.measure in
     let contents = g.W.Write.contents in
@@ -18,10 +18,10 @@ returns-clause-answers g c all named strict stands =
       read = read;
       measure = measure;
       is = is;
-      written = subst (λ (ns : List (List ℕ)). Appends (contents c.args.out.now) (contents c.print.new.out) (measure_page c.args.format ns board measure)) named c.in_ok-print.ensures;
-      met = c.measured_passes.ensures all board measure.meets.ring measure.meets.gap strict read is.rings is.gaps;
+      written = subst (λ (ns : List (List ℕ)). Appends (contents c.args.out.now) (contents c.print.new.out) (measure_page c.args.order ns board measure)) named c.in_ok-print.ensures;
+      met = c.measured_passes.ensures c.args.order.profile all board measure.meets.ring measure.meets.gap read is.rings is.gaps;
       passed = refl;
     }
 
 pub returns-in-Err-File-clause-answers : goal.returns-in-Err-File-clause-answers
-returns-in-Err-File-clause-answers g c all named strict stands = c.refused.ensures all named (rw c.in-Err-File.field-0-is (subst (λ (f : PackageFault). ReturnsBoard all (Err f)) c.in-Err-File.field-0-is (c.in-Err-File.ensures.exact keep.Pads all stands)))
+returns-in-Err-File-clause-answers g c all named stands = c.refused.ensures all named (rw c.in-Err-File.field-0-is (subst (λ (f : PackageFault). ReturnsBoard all (Err f)) c.in-Err-File.field-0-is (c.in-Err-File.ensures.exact keep.Pads all stands)))

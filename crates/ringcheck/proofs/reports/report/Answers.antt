@@ -18,14 +18,14 @@ has_flashes format.Json = refl
 has_flashes format.Waivers = refl
 
 pub returns-clause-answers : goal.returns-clause-answers
-returns-clause-answers g c all named strict stands =
+returns-clause-answers g c all named stands =
     let options = c.args.options.now in
     let board = c.in-Ok.board in
     let report = c.in_ok-report.report in
     let contents = g.W.Write.contents in
     let kept = kept_for options.format in
     let is : IsBoardReportOf all (in_strict options.rules) report = record { board = board; read = c.in-Ok.ensures.flashes kept all stands (has_flashes options.format); is = c.in_ok-report.ensures } in
-    let as_check = c.report_agrees_with_check.ensures all (in_strict options.rules) report strict is in
+    let as_check = c.report_agrees_with_check.ensures all (in_strict options.rules) report is in
     let (accepted, judged, written) = c.in_ok-passes.ensures in
     record {
       report = report;
@@ -39,4 +39,4 @@ returns-clause-answers g c all named strict stands =
     }
 
 pub returns-in-Err-File-clause-answers : goal.returns-in-Err-File-clause-answers
-returns-in-Err-File-clause-answers g c all named strict stands = c.refused.ensures all named (rw c.in-Err-File.field-0-is (subst (λ (f : PackageFault). ReturnsBoard all (Err f)) c.in-Err-File.field-0-is (c.in-Err-File.ensures.exact (kept_for c.args.options.now.format) all stands)))
+returns-in-Err-File-clause-answers g c all named stands = c.refused.ensures all named (rw c.in-Err-File.field-0-is (subst (λ (f : PackageFault). ReturnsBoard all (Err f)) c.in-Err-File.field-0-is (c.in-Err-File.ensures.exact (kept_for c.args.options.now.format) all stands)))

@@ -2,7 +2,7 @@
 use Rattle.std.proofs.Common.{◌≡◌, ◌∙◌, Option, IfOk, sym, subst}
 use Rattle.gerber_commands.specs.declared.command.Command.{Command}
 use Rattle.gerber_commands.specs.declared.command.Command.TheVariants.{Operate}
-use Rattle.further_copper.specs.declared.pad.PlacedShape.{PlacedShape}
+use Rattle.further_copper.specs.declared.copies.PlacedShape.{PlacedShape}
 use Rattle.further_copper.specs.FurtherPads.{flashed_by}
 use Rattle.further_copper.specs.Inner.States.{copper_state}
 use Rattle.further_copper.proofs.copper.FurtherCopper.flashed_by.Goals as goal

@@ -1,8 +1,8 @@
-use Rattle.std.proofs.Common.{◌++◌, List, [], ◌∷◌, map, refl, ap, subst, sym, ◌∙◌}
-use Rattle.pad_shapes.specs.Rounded.{GridRounded, rounded_covers}
+use Rattle.std.proofs.Common.{◌++◌, List, refl, ap, subst, sym, ◌∙◌, map}
+use Rattle.pad_shapes.specs.Rounded.{rounded_covers}
 use Rattle.wide_pads.specs.WidePads.{wide_pad_covers}
 use Rattle.ring_rules.proofs.TriedPads.{tried_more_by_map}
-use Rattle.ring_rules.specs.Search.{HasTried, HasTriedCoverings}
+use Rattle.ring_rules.specs.Search.{HasTried}
 use Rattle.ring_rules.specs.declared.finding.Drilled.{Drilled}
 use Rattle.ring_rules.specs.declared.ring_index.RingIndex.{RingIndex}
 use Rattle.package_check.specs.HoleViews.{HolesView}
@@ -16,8 +16,7 @@ returns-clause-tried c = λ tried h.
     let search = c.in_ok-search.search in
     let same_holes = ap (λ (v : HolesView). v.holes) c.self.view_is ∙ c.in_ok-search.ensures.holes in
     let same_index = ap (λ (v : HolesView). v.index) c.self.view_is ∙ c.in_ok-search.ensures.index in
-    tried_more_by_map rounded_covers wide_pad_covers rounded (λ s p r. refl) c.self.inside.holes.items layer tried (c.args.pad.now ∷ []) c.self.inside.index c.try_pads.new.self
-    (subst (λ (shape : GridRounded). HasTriedCoverings c.self.inside.holes.items layer (map wide_pad_covers tried ++ rounded_covers shape ∷ []) c.self.inside.index c.try_pads.new.self) c.in_ok-on_board.ensures
+    tried_more_by_map rounded_covers wide_pad_covers rounded (λ s p r. refl) c.self.inside.holes.items layer tried c.args.pads.now c.self.inside.index c.try_pads.new.self
     (c.try_pads.ensures.tried c.self.inside.holes.items layer (map wide_pad_covers tried)
     (subst (λ (hs : List Drilled). HasTried wide_pad_covers hs layer tried c.self.inside.index search) (sym same_holes)
-    (subst (λ (ix : RingIndex). HasTried wide_pad_covers old.holes layer tried ix search) (sym same_index) (c.in_ok-search.ensures.tried tried h)))))
+    (subst (λ (ix : RingIndex). HasTried wide_pad_covers old.holes layer tried ix search) (sym same_index) (c.in_ok-search.ensures.tried tried h))))

@@ -9,10 +9,10 @@ pub returns-clause-tried : goal.returns-clause-tried
 returns-clause-tried c = λ none.
     let old = c.args.self.now in
     let wide = c.args.wide.now in
-    let new = c.try_all_further-2.new.self in
+    let new = c.try_further-2.new.self in
     let pads = map plain c.pads.result.now in
     let flashed = map rounded c.flashed.result.now in
     let start = subst (HasTriedIn old.holes old.index c.args.layer []) (sym none) refl in
-    let last = c.try_all_further-2.ensures.tried (([] ++ pads) ++ flashed) (c.in_ok-try_all_further.ensures.tried ([] ++ pads) (c.in_ok-try_pads.ensures.tried [] start)) in
-    subst (λ (ps : List WidePad). OnOk c.try_all_further-2.result (HasTriedIn new.holes new.index c.args.layer ps new.search))
+    let last = c.try_further-2.ensures.tried (([] ++ pads) ++ flashed) (c.in_ok-try_further.ensures.tried ([] ++ pads) (c.in_ok-try_pads.ensures.tried [] start)) in
+    subst (λ (ps : List WidePad). OnOk c.try_further-2.result (HasTriedIn new.holes new.index c.args.layer ps new.search))
     ((λ j. (([] ++ map plain (c.pads.ensures j)) ++ map rounded (c.flashed.ensures j)) ++ map rounded (c.contours.ensures j)) ∙ kinds_joined wide.pads wide.flashed wide.contours) last

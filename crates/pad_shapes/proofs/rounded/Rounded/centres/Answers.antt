@@ -6,8 +6,8 @@ use Rattle.pad_shapes.specs.Inner.RoundedLaws.{rounded_bounds}
 use Rattle.pad_shapes.proofs.EdgesLemmas.{zone_low, zone_high}
 use Rattle.pad_shapes.proofs.rounded.Rounded.centres.Goals as goal
 
-pub returns : goal.returns
-returns c = λ p r less e.
+pub returns-clause-bound : goal.returns-clause-bound
+returns-clause-bound c = λ p r less e.
     let inside = c.self.inside in
     let b = rounded_bounds (record { first = inside.first; others = inside.others.items; radius = inside.radius }) p c.args.reach r less (subst (λ (s : GridRounded). rounded_covers s p r ≡ true) (sym c.self.view_is) e) in
     record {

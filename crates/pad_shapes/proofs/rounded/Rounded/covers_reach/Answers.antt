@@ -12,6 +12,6 @@ covered_inside r c reach depth e h =
 pub returns-then-is_deep_inside : goal.returns-then-is_deep_inside
 returns-then-is_deep_inside c =
     let inside = c.self.inside in
-    subst (λ (s : GridRounded). true ≡ rounded_covers s c.args.hole c.args.reach) c.self.view_is
-    (covered_inside (record { first = inside.first; others = inside.others.items; radius = inside.radius }) c.args.hole c.args.reach c.saturating_sub-depth.result c.saturating_sub-depth.ensures
-    (ap (λ os. is_deep_inside (record { first = inside.first; others = os; radius = 0 }) c.saturating_sub-depth.result c.args.hole) (sym c.deref.ensures.value) ∙ sym c.is_deep_inside.ensures ∙ c.if-is_deep_inside.true))
+    subst (λ (s : GridRounded). true ≡ rounded_covers s c.args.centre c.args.reach) c.self.view_is
+    (covered_inside (record { first = inside.first; others = inside.others.items; radius = inside.radius }) c.args.centre c.args.reach c.saturating_sub-depth.result c.saturating_sub-depth.ensures
+    (ap (λ os. is_deep_inside (record { first = inside.first; others = os; radius = 0 }) c.saturating_sub-depth.result c.args.centre) (sym c.deref.ensures.value) ∙ sym c.is_deep_inside.ensures ∙ c.if-is_deep_inside.true))

@@ -3,4 +3,4 @@ use Rattle.print_json.proofs.Lists.{length_files}
 use Rattle.print_json.proofs.arrays.FilesValues.count.Goals as goal
 
 pub returns : goal.returns
-returns c = sym (length_files _ _)
+returns c = sym (length_files _ _ _)

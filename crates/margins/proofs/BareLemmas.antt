@@ -1,0 +1,70 @@
+-- Which holes are bare, by their best pads or where no pad is near.
+use Rattle.std.proofs.Common.{◌≡◌, ◌↔◌, ℕ, ◌<◌, ◌+◌, inl, inr, Bool, true, false, Option, Some, None, List, [], ◌∷◌, length, map, get_or, replicate, refl, sym, subst, ap, ◌∙◌, arith}
+use Rattle.std.proofs.lemmas.Bool.{cases_lt}
+use Rattle.std.proofs.lemmas.List.{get_or-map, length-map, get_or-replicate, length-replicate}
+use Rattle.grid_units.specs.Points.{GridPoint}
+use Rattle.grid_units.specs.Holes.{GridHole}
+use Rattle.grid_units.proofs.BoolLemmas.{both_true}
+use Rattle.pad_shapes.specs.Shapes.{covers_both_ends}
+use Rattle.pad_shapes.specs.Zones.{IsInZone, CoversNone}
+use Rattle.pad_shapes.specs.declared.zone.Zone.{Zone}
+use Rattle.ring_rules.specs.Places.{hole_at, entry_at}
+use Rattle.ring_rules.specs.declared.finding.Drilled.{Drilled}
+use Rattle.margins.specs.BestPads.{IsBare, IsBestPad, AreBestPads, AreBare}
+use Rattle.margins.specs.Inner.Zones.{CoversNothing}
+use Rattle.margins.specs.Rows.{has_no_best_pad}
+use Rattle.margins.specs.declared.best.BestPad.{BestPad}
+
+refused : (b : Bool) → (b ≡ true → b ≡ false) → b ≡ false
+refused true f = f refl
+refused false f = refl
+
+never : {P : Type 0} (b : Bool) → b ≡ true → b ≡ false → P
+never b e f = absurd (let g : true ≡ false = sym e ∙ f in cc)
+
+some_of : {S : Type 0} (xs : List S) (k : ℕ) → k < length xs → S
+some_of [] k h = absurd (omega (arith, h))
+some_of (x ∷ xs) k h = x
+
+module _ {S : Type 0} (covers : S → GridPoint → ℕ → Bool) where
+  told : (pads : List S) (h : GridHole) (b : Option BestPad) → IsBestPad covers pads h b → (has_no_best_pad b ≡ true) ↔ IsBare covers pads h
+  told pads h None bare = (λ e. bare, λ e. refl)
+  told pads h (Some best) is = (λ e. absurd cc, λ bare. held bare) where
+    held : IsBare covers pads h → has_no_best_pad (Some best) ≡ true
+    held none =
+        let p : S = some_of pads best.pad is.inside in
+        never (covers_both_ends covers (get_or pads best.pad p) h.from h.to best.depth) (is.covered p) (none p best.pad best.depth is.inside)
+
+  -- which of some holes are bare
+  pub bare_by_bests : (pads : List S) (holes : List Drilled) (bests : List (Option BestPad)) → AreBestPads covers pads holes bests → AreBare covers pads holes (map has_no_best_pad bests)
+  bare_by_bests pads holes bests all = record {
+    size = length-map bests has_no_best_pad ∙ all.size;
+    each = λ k h.
+        let size = all.size in
+        let is : get_or (map has_no_best_pad bests) k false ≡ has_no_best_pad (get_or bests k None) = get_or-map has_no_best_pad bests k None false (omega (arith, h, size)) in
+        let tells = told pads (hole_at holes k) (get_or bests k None) (all.each k h) in
+        (λ e. tells.0 (sym is ∙ e), λ bare. is ∙ tells.1 bare);
+  }
+
+-- one more pad that covers nothing of a zone
+pub none_more : {S : Type 0} (covers : S → GridPoint → ℕ → Bool) (pads : List S) (count : ℕ) (pad : S) (zone : Zone) → ((s : S) → get_or pads count s ≡ pad) → CoversNothing covers pads count zone → CoversNone covers pad 0 zone → CoversNothing covers pads (count + 1) zone
+none_more covers pads count pad zone is none next s k h = elim (cases_lt k count) [
+  | inl less ↦ none s k less
+  | inr more ↦
+      let last : k ≡ count = omega (arith, h, more) in
+      subst (λ x. CoversNone covers x 0 zone) (sym (ap (λ (n : ℕ). get_or pads n s) last ∙ is s)) next
+]
+
+-- no pad covers a point of the zone, so its holes are bare
+pub bare_none : {S : Type 0} (covers : S → GridPoint → ℕ → Bool) (pads : List S) (holes : List Drilled) (zone : Zone) (bare : List Bool) → ((k : ℕ) → k < length holes → IsInZone zone (entry_at holes k)) → CoversNothing covers pads (length pads) zone
+    → bare ≡ replicate (length holes) true → AreBare covers pads holes bare
+bare_none covers pads holes zone bare within none is = record {
+  size = ap length is ∙ length-replicate (length holes) true;
+  each = λ k h. (
+    λ e p j reach inside. refused (covers_both_ends covers (get_or pads j p) (hole_at holes k).from (hole_at holes k).to reach) (λ t.
+        never (covers (get_or pads j p) (entry_at holes k) reach)
+        (both_true (covers (get_or pads j p) (hole_at holes k).from reach) (covers (get_or pads j p) (hole_at holes k).to reach) t).0
+        (none p j inside (entry_at holes k) reach (omega arith) (within k h))),
+    λ lacks. ap (λ (bs : List Bool). get_or bs k false) is ∙ get_or-replicate (length holes) k true false h,
+  );
+}

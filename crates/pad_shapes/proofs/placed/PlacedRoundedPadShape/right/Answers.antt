@@ -1,0 +1,12 @@
+use Rattle.std.proofs.Common.{rules, ◌≡◌, ◌∙◌, FitsSigned, w64, arith, ap, subst}
+use Rattle.std.proofs.lemmas.Int.{ints, to_z-of_z}
+use Rattle.pad_shapes.specs.Placed.{moved_shape}
+use Rattle.pad_shapes.specs.Rounded.{GridRounded, rounded_right}
+use Rattle.pad_shapes.proofs.placed.PlacedRoundedPadShape.right.Goals as goal
+
+pub returns : goal.returns
+returns c =
+    let inside = c.self.inside in
+    let fits : FitsSigned w64 inside.x = omega (arith, ints, c.self.invariant.0) in
+    let fits_result : FitsSigned w64 c.right_at.result = search rules in
+    to_z-of_z w64 c.right_at.result fits_result ∙ c.right_at.ensures inside.y ∙ (λ i. rounded_right (moved_shape (record { x = to_z-of_z w64 inside.x fits i; y = inside.y }) (c.get.ensures i))) ∙ ap rounded_right c.self.view_is
