@@ -182,7 +182,7 @@ fn a_table_and_a_canonical_text_are_asked_for(rt: HostRuntime) {
     }
 }
 
-const REFUSED: [&str; 52] = [
+const REFUSED: [&str; 54] = [
     "check --ring -1 --gap 0.2 m.csv",
     // other words
     "",
@@ -205,7 +205,7 @@ const REFUSED: [&str; 52] = [
     "check --ring=0.125 --ring=0.125 --gap=0.2 m.csv",
     "check --ring=0.125 --gap=0.2 m.csv n.csv",
     "check --ring=0.125 --gap=0.2 --fast m.csv",
-    // a profile is named once, with its value, and of a check alone
+    // a profile is named once, with its value, and of two commands
     "check --ring=0.125 --gap=0.2 m.csv --profile",
     "check --ring=0.125 --gap=0.2 --profile m.csv",
     "check --ring=0.125 --gap=0.2 --profile -wide m.csv",
@@ -213,7 +213,9 @@ const REFUSED: [&str; 52] = [
     "check --profile=strict --ring=0.125 --gap=0.2 --profile=wide m.csv",
     "check --profile wide m.csv",
     "report --profile wide --ring=0.125 --gap=0.2 m.csv",
-    "measure --profile wide m.csv",
+    "measure m.csv --profile",
+    "measure --profile m.csv",
+    "measure --profile wide --profile wide m.csv",
     "draw --profile wide m.csv",
     "manifest --profile wide top.gbr",
     "show --profile wide --kind layer top.gbr",
@@ -286,7 +288,9 @@ const HELP: [(&str, Parts); 10] = [
     (
         "measure --help",
         &[
-            "ringcheck measure [--format <text|json>] <MANIFEST>",
+            "ringcheck measure [--profile <strict|wide>] [--format <text|json>]\n",
+            " <MANIFEST>",
+            "--profile <NAME>      strict, the default: ",
             "--format <text|json>  Lines for people, or one object of JSON;\n",
             "Example:  ringcheck measure ",
         ],
@@ -365,34 +369,51 @@ fn a_manifest_is_asked_for(rt: HostRuntime) {
     }
 }
 
-const MEASURES: [(&str, &str); 7] = [
+const MEASURES: [(&str, &str); 11] = [
     (
         "measure m.csv",
-        "Measure { format: None, manifest: \"m.csv\" }",
+        "Measure { profile: None, format: None, manifest: \"m.csv\" }",
     ),
     (
         "measure --format json m.csv",
-        "Measure { format: Some(\"json\"), manifest: \"m.csv\" }",
+        "Measure { profile: None, format: Some(\"json\"), manifest: \"m.csv\" }",
     ),
     (
         "measure m.csv --format json",
-        "Measure { format: Some(\"json\"), manifest: \"m.csv\" }",
+        "Measure { profile: None, format: Some(\"json\"), manifest: \"m.csv\" }",
     ),
     (
         "measure --format=json m.csv",
-        "Measure { format: Some(\"json\"), manifest: \"m.csv\" }",
+        "Measure { profile: None, format: Some(\"json\"), manifest: \"m.csv\" }",
     ),
     (
         "measure --format=json -- m.csv",
-        "Measure { format: Some(\"json\"), manifest: \"m.csv\" }",
+        "Measure { profile: None, format: Some(\"json\"), manifest: \"m.csv\" }",
     ),
     (
         "measure --format xml m.csv",
-        "Measure { format: Some(\"xml\"), manifest: \"m.csv\" }",
+        "Measure { profile: None, format: Some(\"xml\"), manifest: \"m.csv\" }",
     ),
     (
         "measure --format= m.csv",
-        "Measure { format: Some(\"\"), manifest: \"m.csv\" }",
+        "Measure { profile: None, format: Some(\"\"), manifest: \"m.csv\" }",
+    ),
+    // in a profile, which is kept as it is written
+    (
+        "measure --profile wide m.csv",
+        "Measure { profile: Some(\"wide\"), format: None, manifest: \"m.csv\" }",
+    ),
+    (
+        "measure m.csv --format json --profile=strict",
+        "Measure { profile: Some(\"strict\"), format: Some(\"json\"), manifest: \"m.csv\" }",
+    ),
+    (
+        "measure --profile loose m.csv",
+        "Measure { profile: Some(\"loose\"), format: None, manifest: \"m.csv\" }",
+    ),
+    (
+        "measure --profile= m.csv",
+        "Measure { profile: Some(\"\"), format: None, manifest: \"m.csv\" }",
     ),
 ];
 
