@@ -124,21 +124,33 @@ fn file<'a>(role: Role, name: &'a str, bytes: &'a [u8]) -> File<'a> {
     }
 }
 
-const MEASURED: &str = "{\"format\":\"ringcheck\",\"version\":2,\"result\":\"measured\",";
+/// What stands first in a measure: in the wide profile its name too.
+fn measured_start(profile: Profile) -> &'static str {
+    match profile {
+        Profile::Strict => "{\"format\":\"ringcheck\",\"version\":2,\"result\":\"measured\",",
+        Profile::Wide => {
+            "{\"format\":\"ringcheck\",\"version\":2,\"profile\":\"wide\",\"result\":\"measured\","
+        }
+    }
+}
 
 fn is_printed_as(alloc: Global, json: &MeasureJson, text: &str) -> bool {
     match format!(in alloc; "{json}") {
-        Ok(written) => after(written.as_str(), &[MEASURED, text]) == Some("}\n"),
+        Ok(written) => {
+            let parts = &[measured_start(json.profile), text];
+            after(written.as_str(), parts) == Some("}\n")
+        }
         Err(_) => false,
     }
 }
 
-/// Whether the measure of a board has this JSON after its first members.
-fn is_measure(alloc: Global, board: &Board, text: &str) -> bool {
-    let Ok(measure) = measure_board(alloc, board, Profile::Strict) else {
+/// Whether the measure of a board in a profile has this JSON after its first members.
+fn is_measure(alloc: Global, profile: Profile, board: &Board, text: &str) -> bool {
+    let Ok(measure) = measure_board(alloc, board, profile) else {
         return false;
     };
     let json = MeasureJson {
+        profile,
         names: &["top", "pth"],
         board,
         measure: &measure,
@@ -146,19 +158,24 @@ fn is_measure(alloc: Global, board: &Board, text: &str) -> bool {
     is_printed_as(alloc, &json, text)
 }
 
-/// Whether the measure of a layer and a plated drill file has this JSON after its first members.
-fn is_measured(alloc: Global, layer: &[u8], holes: &[u8], text: &str) -> bool {
+/// Whether the measure of a layer and a plated drill file in a profile has this JSON after its first members.
+fn is_measured(
+    alloc: Global,
+    profile: Profile,
+    (layer, holes): (&[u8], &[u8]),
+    text: &str,
+) -> bool {
     let files = [
         file(Role::Copper, "top", layer),
         file(Role::Plated, "pth", holes),
     ];
-    match read_package(alloc, Profile::Strict, &files, Keep::Pads) {
-        Ok(board) => is_measure(alloc, &board, text),
+    match read_package(alloc, profile, &files, Keep::Pads) {
+        Ok(board) => is_measure(alloc, profile, &board, text),
         Err(_) => false,
     }
 }
 
-/// A layer, a plated drill file, and the JSON of their measure after its first members.
+/// A layer, a plated drill file, and the JSON of their measure in the strict profile after its first members.
 const MEASURES: [(&[u8], &[u8], &str); 5] = [
     (
         SQUARE,
@@ -190,7 +207,41 @@ const MEASURES: [(&[u8], &[u8], &str); 5] = [
 #[test]
 fn measures_are_printed(rt: HostRuntime) {
     for &(layer, holes, text) in &MEASURES {
-        assert!(rt; is_measured(rt.alloc(), layer, holes, text), "{text}");
+        let files = (layer, holes);
+        assert!(rt;
+            is_measured(rt.alloc(), Profile::Strict, files, text),
+            "{text}"
+        );
+    }
+}
+
+/// A square of 2 mm as a contour.
+const CONTOUR: &[u8] =
+    b"%FSLAX46Y46*%\n%MOMM*%\nG01*\nG36*\nX-1000000Y-1000000D02*\nX1000000D01*\nY1000000D01*\nX-1000000D01*\nY-1000000D01*\nG37*\nM02*\n";
+
+/// The same of the wide profile, where a copper file has its contours too.
+const WIDE_MEASURES: [(&[u8], &[u8], &str); 2] = [
+    (
+        SQUARE,
+        HIT,
+        "\"meets\":{\"ring_pm\":125000000,\"gap_pm\":\"any\",\"held_pm\":125000000},\"files\":[{\"number\":1,\"role\":\"copper\",\"name\":\"top\",\"pads\":1,\"other\":0,\"contours\":0},{\"number\":2,\"role\":\"plated\",\"name\":\"pth\",\"round\":1,\"slots\":0,\"span\":null}],\"scales\":[],\"rings\":[{\"layer\":1,\"drill\":2,\"diameter_pm\":400000000,\"holes\":1,\"bare\":0,\"least_pm\":125000000,\"hole\":1}],\"gap\":null",
+    ),
+    // 1 - 0.2
+    (
+        CONTOUR,
+        HIT,
+        "\"meets\":{\"ring_pm\":800000000,\"gap_pm\":\"any\",\"held_pm\":800000000},\"files\":[{\"number\":1,\"role\":\"copper\",\"name\":\"top\",\"pads\":0,\"other\":0,\"contours\":1},{\"number\":2,\"role\":\"plated\",\"name\":\"pth\",\"round\":1,\"slots\":0,\"span\":null}],\"scales\":[],\"rings\":[{\"layer\":1,\"drill\":2,\"diameter_pm\":400000000,\"holes\":1,\"bare\":0,\"least_pm\":800000000,\"hole\":1}],\"gap\":null",
+    ),
+];
+
+#[test]
+fn measures_in_the_wide_profile_are_printed(rt: HostRuntime) {
+    for &(layer, holes, text) in &WIDE_MEASURES {
+        let files = (layer, holes);
+        assert!(rt;
+            is_measured(rt.alloc(), Profile::Wide, files, text),
+            "{text}"
+        );
     }
 }
 
