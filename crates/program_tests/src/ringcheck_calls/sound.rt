@@ -10,8 +10,9 @@ ghost use Rattle.board_report.specs.BoardReport.{in_strict};
 ghost use Rattle.board_report.specs.Measures.{PackagePasses};
 ghost use Rattle.report.specs.declared.Measure.{Measure};
 ghost use Rattle.package_check.specs.Soundness.{IsSound};
-ghost use Rattle.ringcheck.specs.ParsedWords.{parse_check, parse_report};
+ghost use Rattle.ringcheck.specs.ParsedWords.{parse_check, parse_measure, parse_report};
 ghost use Rattle.ringcheck.specs.CheckStatus.{HasFiles, sources};
+ghost use Rattle.ringcheck.specs.declared.parsed_words.MeasureOrder.{MeasureOrder as TheOrder};
 ghost use Rattle.ringcheck.specs.declared.parsed_words.ReportFormat.{ReportFormat as TheFormat};
 
 use super::*;
@@ -79,9 +80,9 @@ fn what_passes_in_a_profile_is_sound_in_it(rt: HostRuntime) {
 /// Whether a package of three files at hand is measured. Then the files that its manifest names, as they stand, pass under
 /// exactly the rules of a measure.
 fn is_measured<'x>(alloc: Global, records: &'x str, layer: &'x str, drill: &'x str) -> bool
-    ensures { IsTrue result → (entries : List TheEntry) × (manifest records.now ≡ Ok entries) × (files : List (List ℕ))
+    ensures { IsTrue result → (order : TheOrder) × (parse_measure None None ≡ Ok order) × (entries : List TheEntry) × (manifest records.now ≡ Ok entries) × (files : List (List ℕ))
         × HasFiles (λ n b. Contains {X = List ℕ × List ℕ} ((codes "m.csv", records.now) ∷ (codes "top.gbr", layer.now) ∷ (codes "pth.drl", drill.now) ∷ []) (n, b)) entries files
-        × (measure : Measure) × PackagePasses (sources Strict entries files) measure.meets.ring measure.meets.gap }
+        × (measure : Measure) × PackagePasses order.profile (sources order.profile entries files) measure.meets.ring measure.meets.gap }
 {
     let files = [("m.csv", records), ("top.gbr", layer), ("pth.drl", drill)];
     let mut out: Vec<u8> = Vec::new(alloc);
