@@ -4,10 +4,10 @@ use crate::rows::{Form, RowFail, pad_at, what_at};
 use grid_units::{Hole, Point, Rules};
 use layer_image::{Flash, Why};
 use margins::best_pads;
-use pad_shapes::Pad;
 use report::{RingCause, *};
 use ring_rules::Drilled;
 use std::alloc::Global;
+use wide_pads::WidePad;
 
 /// What is flashed, and where.
 type FlashRow = (Form, i64, i64);
@@ -252,7 +252,7 @@ fn cause_by_pads(
     alloc: Global,
     flashes: &[Flash],
     holes: &[Drilled; 1],
-    pads: &[Pad],
+    pads: &[WidePad],
 ) -> Result<CauseRow, RowFail> {
     let rules = Rules::new(125_000_000, 1)?;
     let bests = best_pads(alloc, pads, holes)?;
@@ -265,7 +265,7 @@ fn cause_by_best(alloc: Global, form: Form, centre: (i64, i64)) -> Result<CauseR
     let pad = pad_at(form, centre).ok_or(RowFail::Figures)?;
     let hole = drilled(((0, 0), (0, 0), 200_000_000)).ok_or(RowFail::Figures)?;
     let flashes = flashes_of(alloc, &[MOVED])?;
-    cause_by_pads(alloc, &flashes, &[hole], &[pad])
+    cause_by_pads(alloc, &flashes, &[hole], &[WidePad::Plain(pad)])
 }
 
 /// The best pad is that of the layer, or of another.
