@@ -2,18 +2,19 @@
 
 use crate::rows::{add_round, disc, drilled, point};
 use margins::best_pads;
-use pad_shapes::Pad;
 use report::{UnitFactor, UnitMistake, *};
 use ring_rules::Drilled;
 use std::alloc::Global;
 use std::test::Fail;
+use wide_pads::WidePad;
 
 /// A millimetre, in pm.
 const MM: i64 = 1_000_000_000;
 
 /// A disc of 0.6 mm diameter at a place in millimetres.
-fn disc_at(x: i64, y: i64) -> Result<Pad, Fail> {
-    disc(x.saturating_mul(MM), y.saturating_mul(MM), 300_000_000)
+fn disc_at(x: i64, y: i64) -> Result<WidePad, Fail> {
+    let disc = disc(x.saturating_mul(MM), y.saturating_mul(MM), 300_000_000)?;
+    Ok(WidePad::Plain(disc))
 }
 
 /// A hole of 0.4 mm between two points, in pm.
@@ -28,7 +29,7 @@ fn hit(x: i64, y: i64) -> Result<Drilled, Fail> {
 }
 
 /// The line of a drill file with the index 1, if it has one.
-fn line(alloc: Global, pads: &[Pad], holes: &[Drilled]) -> Result<Option<UnitMistake>, Fail> {
+fn line(alloc: Global, pads: &[WidePad], holes: &[Drilled]) -> Result<Option<UnitMistake>, Fail> {
     let bests = best_pads(alloc, pads, holes)?;
     Ok(unit_mistake(alloc, 1, pads, holes, &bests)?)
 }
@@ -49,7 +50,7 @@ type LineRow = (usize, UnitFactor, usize);
 type Places = &'static [(i64, i64)];
 
 /// Discs of 0.6 mm diameter at places in millimetres.
-fn discs_at(alloc: Global, places: Places) -> Result<Vec<Pad>, Fail> {
+fn discs_at(alloc: Global, places: Places) -> Result<Vec<WidePad>, Fail> {
     let mut pads = Vec::new(alloc);
     for &(x, y) in places {
         pads.push(disc_at(x, y)?)?;
