@@ -136,10 +136,10 @@ fn measured_start(profile: Profile) -> &'static str {
 
 fn is_printed_as(alloc: Global, json: &MeasureJson, text: &str) -> bool {
     match format!(in alloc; "{json}") {
-        Ok(written) => {
-            let parts = &[measured_start(json.profile), text];
-            after(written.as_str(), parts) == Some("}\n")
-        }
+        Ok(written) => match after(written.as_str(), &[measured_start(json.profile)]) {
+            Some(rest) => after(rest, &[text]) == Some("}\n"),
+            None => false,
+        },
         Err(_) => false,
     }
 }
