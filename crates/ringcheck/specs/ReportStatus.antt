@@ -2,7 +2,6 @@
 use Rattle.std.specs.Prelude.{◌≡◌, ◌⊎◌, ◌==◌, ◌&&◌, ℕ, Bool, true, List, [], Option, Some, None, Result, Ok, Err, length, map}
 use Rattle.std.specs.Io.KnownBytes.{Appends}
 use Rattle.grid_units.specs.Holes.{GridRules}
-use Rattle.grid_units.specs.declared.profile.Profile.TheVariants.{Strict}
 use Rattle.grid_units.specs.declared.fault.Reason.{Reason}
 use Rattle.layer_image.specs.declared.drawn.Drawn.{Drawn}
 use Rattle.package_check.specs.Package.{FileView}
@@ -15,7 +14,7 @@ use Rattle.print_json.specs.Values.{json_text}
 use Rattle.print_text.specs.Texts.{waived_report_text}
 use Rattle.report.specs.declared.BoardReport.{BoardReport}
 use Rattle.report.specs.declared.Acceptances.{Acceptances}
-use Rattle.board_report.specs.BoardReport.{AgreesWithCheck, IsBoardReportOf, in_strict}
+use Rattle.board_report.specs.BoardReport.{AgreesWithCheck, IsBoardReportOf}
 use Rattle.ringcheck_files.specs.declared.Status.{Status}
 use Rattle.ringcheck_files.specs.declared.Status.TheVariants as status
 use Rattle.report_page.specs.Pages.{IsHtmlPage}
@@ -63,15 +62,15 @@ kept_for format.Html = keep.All
 kept_for format.Json = keep.Flashes
 kept_for format.Waivers = keep.Flashes
 
--- the writer got just the report of the files under the rules, in the strict profile, in a format, judged with the waivers of a file, if there is one; its findings
+-- the writer got just the report of the files under the rules, in a format, judged with the waivers of a file, if there is one; its findings
 -- are those of the check of them, one for one, and without a finding they are sound; a page shows what the copper files draw, and an outline
 -- of these parts
 pub record Reports (rules : GridRules) (limit : Option ℕ) (form : ReportFormat) (waivers : Option (List Waiver)) (outline : List Drawn) (before after : Option (List ℕ)) (passes : Bool) (all : List FileView) : Type 0 where
   pub report : BoardReport
-  pub is : IsBoardReportOf all (in_strict rules) report
+  pub is : IsBoardReportOf all rules report
   pub drawn : form ≡ format.Html → IsDrawnBoard all is.board
-  pub as_check : AgreesWithCheck all (in_strict rules) report
-  pub sound : has_none report ≡ true → IsSound all (in_strict rules)
+  pub as_check : AgreesWithCheck all rules report
+  pub sound : has_none report ≡ true → IsSound all rules
   pub accepted : Acceptances
   pub judged : Judges waivers (map (λ source. source.name) all) report passes accepted
   pub written : PrintsReport form (map (λ source. source.name) all) is.board outline report limit accepted before after
@@ -87,9 +86,9 @@ report_style format.Waivers = style.Line
 abbrev pub PrintsWaiversRefusal : Relation → List ℕ → RefusalStyle → Option (List ℕ) → Option (List ℕ) → Type 0
 PrintsWaiversRefusal has file refusal_style before after = (why : Refusal) × RefusedWaivers has file why × PrintsRefusal refusal_style why before after
 
--- what a status says of the report on a package, read in the strict profile
+-- what a status says of the report on a package, read in the profile of the rules
 abbrev pub IsReportStatus : Relation → List ℕ → GridRules → Option ℕ → ReportFormat → Option (List Waiver) → List Drawn → Option (List ℕ) → Option (List ℕ) → Status → Type 0
-IsReportStatus has name rules limit form waivers outline before after s = SaysPackage has Strict name (Reports rules limit form waivers outline before after) (report_style form) before after s
+IsReportStatus has name rules limit form waivers outline before after s = SaysPackage has rules.profile name (Reports rules limit form waivers outline before after) (report_style form) before after s
 
 -- what a status says of a report for which the file of an outline may be named: that file is refused, or the status is Device, or the file
 -- has an outline and the report is made with it

@@ -14,6 +14,7 @@ mod refusals;
 mod reports;
 pub mod rewritten_packages;
 mod sentences;
+mod tables;
 
 pub use manifest::{Entry, Name, Role, read_manifest};
 pub use package_check::{

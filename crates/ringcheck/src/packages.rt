@@ -18,7 +18,7 @@ use crate::jobs::{Job, Order, PictureOrder, kept_for, report_style};
 use crate::load_package::{check_files, load_table, take_files};
 use crate::outlines::{load_outline, print_no_outline};
 use crate::parsed_words::{
-    ReportFormat, ReportWords, parse_check, parse_draw, parse_measure, parse_report,
+    PictureWords, ReportFormat, ReportWords, parse_check, parse_draw, parse_measure, parse_report,
 };
 use crate::refusals::{Halt, Subject, print_halt};
 use crate::sentences::{NoMeasure, NoReport, is_for_people};
@@ -67,13 +67,13 @@ fn answer<'a, L: Loader, W: Write>(
         }
         Job::Report(options) => {
             let keep = kept_for(options.format);
-            match take_files(alloc, Profile::Strict, keep, loader, entries)? {
+            match take_files(alloc, options.rules.profile(), keep, loader, entries)? {
                 Ok(reader) => reports::report(alloc, reader, names, options, out),
                 Err(halt) => Ok(Err(halt)),
             }
         }
         Job::Draw(order) => {
-            match take_files(alloc, Profile::Strict, Keep::All, loader, entries)? {
+            match take_files(alloc, order.profile, Keep::All, loader, entries)? {
                 Ok(reader) => drawings::draw(alloc, reader, names, order, out),
                 Err(halt) => Ok(Err(halt)),
             }
@@ -165,7 +165,7 @@ fn refuse_report<W: Write>(
     reason: Reason,
     unparsed: &ReportWords,
 ) -> Result<(), Failure>
-    ensures { OnOk result (Appends (W.contents out.old) (W.contents out.new) (usage_line reason ++ below_report unparsed.now.ring.now unparsed.now.gap.now (option_map (λ w. w.now) unparsed.now.limit) (is_some (option_map (λ w. w.now) unparsed.now.outline)) (option_map (λ w. w.now) unparsed.now.format))) }
+    ensures { OnOk result (Appends (W.contents out.old) (W.contents out.new) (usage_line reason ++ below_report (option_map (λ w. w.now) unparsed.now.profile) unparsed.now.ring.now unparsed.now.gap.now (option_map (λ w. w.now) unparsed.now.limit) (is_some (option_map (λ w. w.now) unparsed.now.outline)) (option_map (λ w. w.now) unparsed.now.format))) }
 {
     refuse_word(out, reason)?;
     if is_for_people(unparsed.format) {
@@ -221,15 +221,17 @@ pub(crate) fn measure<L: Loader, W: Write>(
 /// Prints the picture of the package of a manifest, without an outline.
 fn draw_plain<L: Loader, W: Write>(
     alloc: Global,
-    rules: Option<Rules>,
+    named: (Profile, Option<Rules>),
     name: &str,
     loader: &mut L,
     out: &mut W,
 ) -> Result<Status, Failure>
-    ensures says { IfOk result (IsDrawStatus (L.has loader.old) name.now rules [] (W.contents out.old) (W.contents out.new)) }
+    ensures says { IfOk result (IsDrawStatus (L.has loader.old) name.now named.0 named.1 [] (W.contents out.old) (W.contents out.new)) }
     ensures cause { IfOk result (HasCause (L.failed loader.old) (L.failed loader.new)) }
 {
+    let (profile, rules) = named;
     let order = PictureOrder {
+        profile,
         rules,
         outline: Vec::new(alloc),
     };
@@ -239,18 +241,23 @@ fn draw_plain<L: Loader, W: Write>(
 /// Prints the picture of the package of a manifest, with the outline of a file, which is loaded first.
 fn draw_outlined<L: Loader, W: Write>(
     alloc: Global,
-    rules: Option<Rules>,
+    named: (Profile, Option<Rules>),
     file: &str,
     name: &str,
     loader: &mut L,
     out: &mut W,
 ) -> Result<Status, Failure>
-    ensures says { IfOk result (IsOutlinedDrawStatus (L.has loader.old) name.now rules (Some file.now) (W.contents out.old) (W.contents out.new)) }
+    ensures says { IfOk result (IsOutlinedDrawStatus (L.has loader.old) name.now named.0 named.1 (Some file.now) (W.contents out.old) (W.contents out.new)) }
     ensures cause { IfOk result (HasCause (L.failed loader.old) (L.failed loader.new)) }
 {
+    let (profile, rules) = named;
     match load_outline(alloc, loader, file)? {
         Ok(outline) => {
-            let order = PictureOrder { rules, outline };
+            let order = PictureOrder {
+                profile,
+                rules,
+                outline,
+            };
             run_job(alloc, &Job::Draw(order), name, loader, out)
         }
         Err(why) => print_no_outline(out, why),
@@ -260,18 +267,18 @@ fn draw_outlined<L: Loader, W: Write>(
 /// Prints the picture of the package of a manifest, with the outline of a file, if one is named.
 fn draw_under<L: Loader, W: Write>(
     alloc: Global,
-    rules: Option<Rules>,
+    named: (Profile, Option<Rules>),
     outline: Option<&str>,
     name: &str,
     loader: &mut L,
     out: &mut W,
 ) -> Result<Status, Failure>
-    ensures says { IfOk result (IsOutlinedDrawStatus (L.has loader.old) name.now rules (option_map (λ w. w.now) outline.entry) (W.contents out.old) (W.contents out.new)) }
+    ensures says { IfOk result (IsOutlinedDrawStatus (L.has loader.old) name.now named.0 named.1 (option_map (λ w. w.now) outline.entry) (W.contents out.old) (W.contents out.new)) }
     ensures cause { IfOk result (HasCause (L.failed loader.old) (L.failed loader.new)) }
 {
     match outline {
-        Some(file) => draw_outlined(alloc, rules, file, name, loader, out),
-        None => draw_plain(alloc, rules, name, loader, out),
+        Some(file) => draw_outlined(alloc, named, file, name, loader, out),
+        None => draw_plain(alloc, named, name, loader, out),
     }
 }
 
@@ -279,18 +286,16 @@ fn draw_under<L: Loader, W: Write>(
 /// outline of a file, if one is named.
 pub(crate) fn draw<L: Loader, W: Write>(
     alloc: Global,
-    ring: Option<&str>,
-    gap: Option<&str>,
-    outline: Option<&str>,
+    unparsed: &PictureWords,
     name: &str,
     loader: &mut L,
     out: &mut W,
 ) -> Result<Status, Failure>
-    ensures says { IfOk result (IsParsedDrawStatus (L.has loader.old) name.now (named.parse_draw (option_map (λ w. w.now) ring.entry) (option_map (λ w. w.now) gap.entry)) (option_map (λ w. w.now) outline.entry) (W.contents out.old) (W.contents out.new)) }
+    ensures says { IfOk result (IsParsedDrawStatus (L.has loader.old) name.now (named.parse_draw (option_map (λ w. w.now) unparsed.now.profile) (option_map (λ w. w.now) unparsed.now.ring) (option_map (λ w. w.now) unparsed.now.gap)) (option_map (λ w. w.now) unparsed.now.outline) (W.contents out.old) (W.contents out.new)) }
     ensures cause { IfOk result (HasCause (L.failed loader.old) (L.failed loader.new)) }
 {
-    match parse_draw(ring, gap) {
-        Ok(rules) => draw_under(alloc, rules, outline, name, loader, out),
+    match parse_draw(unparsed) {
+        Ok(named) => draw_under(alloc, named, unparsed.outline, name, loader, out),
         Err(reason) => {
             refuse_word(out, reason)?;
             Ok(Status::Usage)
@@ -349,7 +354,7 @@ pub(crate) fn report<L: Loader, W: Write>(
     loader: &mut L,
     out: &mut W,
 ) -> Result<Status, Failure>
-    ensures says { IfOk result (IsParsedReportStatus (L.has loader.old) name.now (named.parse_report unparsed.now.ring.now unparsed.now.gap.now (option_map (λ w. w.now) unparsed.now.limit) (option_map (λ w. w.now) unparsed.now.waive) (option_map (λ w. w.now) unparsed.now.outline) (option_map (λ w. w.now) unparsed.now.format)) (below_report unparsed.now.ring.now unparsed.now.gap.now (option_map (λ w. w.now) unparsed.now.limit) (is_some (option_map (λ w. w.now) unparsed.now.outline)) (option_map (λ w. w.now) unparsed.now.format)) (option_map (λ w. w.now) unparsed.now.waive) (option_map (λ w. w.now) unparsed.now.outline) (W.contents out.old) (W.contents out.new)) }
+    ensures says { IfOk result (IsParsedReportStatus (L.has loader.old) name.now (named.parse_report (option_map (λ w. w.now) unparsed.now.profile) unparsed.now.ring.now unparsed.now.gap.now (option_map (λ w. w.now) unparsed.now.limit) (option_map (λ w. w.now) unparsed.now.waive) (option_map (λ w. w.now) unparsed.now.outline) (option_map (λ w. w.now) unparsed.now.format)) (below_report (option_map (λ w. w.now) unparsed.now.profile) unparsed.now.ring.now unparsed.now.gap.now (option_map (λ w. w.now) unparsed.now.limit) (is_some (option_map (λ w. w.now) unparsed.now.outline)) (option_map (λ w. w.now) unparsed.now.format)) (option_map (λ w. w.now) unparsed.now.waive) (option_map (λ w. w.now) unparsed.now.outline) (W.contents out.old) (W.contents out.new)) }
     ensures cause { IfOk result (HasCause (L.failed loader.old) (L.failed loader.new)) }
 {
     let named = match parse_report(unparsed) {

@@ -1,4 +1,3 @@
-use Rattle.grid_units.specs.declared.profile.Profile.TheVariants.{Strict}
 use Rattle.layer_image.specs.declared.keep.Keep.TheVariants as keep
 use Rattle.ringcheck_files.specs.Outcomes.{HasRisen}
 use Rattle.package_check.specs.Checking.{HasJudgedAll}
@@ -26,13 +25,13 @@ returns-in-Ok-2-clause-answers g c =
 pub returns-in-Ok-3-clause-answers : goal.returns-in-Ok-3-clause-answers
 returns-in-Ok-3-clause-answers g c =
     let contents = g.W.Write.contents in
-    rw c.in-Report.is (done_with (g.L.Loader.has c.args.loader.now) Strict c.args.entries.now (HasRisen (g.L.Loader.failed c.args.loader.now) (g.L.Loader.failed c.take_files-in-Report.new.loader))
+    rw c.in-Report.is (done_with (g.L.Loader.has c.args.loader.now) c.in-Report.options.rules.profile c.args.entries.now (HasRisen (g.L.Loader.failed c.args.loader.now) (g.L.Loader.failed c.take_files-in-Report.new.loader))
     (Holds (job.Report c.in-Report.options) (contents c.args.out.now) (contents c.report.new.out)) (λ reader. HasTakenAll reader (kept_for c.in-Report.options.format)) c.in-Ok-3.reader c.as_slice-names.result.now
-    (rw c.as_slice-names.ensures.value c.in_ok-names.ensures) (rw (c.in-Ok-3.is, c.kept_for-keep.ensures) at c.in_ok-reader-in-Report.ensures) c.report.result (λ all names read_in. c.report.ensures.answers all names))
+    (rw c.as_slice-names.ensures.value c.in_ok-names.ensures) (rw (c.in-Ok-3.is, c.kept_for-keep.ensures, c.profile.ensures) at c.in_ok-reader-in-Report.ensures) c.report.result (λ all names read_in. c.report.ensures.answers all names))
 
 pub returns-in-Ok-4-clause-answers : goal.returns-in-Ok-4-clause-answers
 returns-in-Ok-4-clause-answers g c =
     let contents = g.W.Write.contents in
-    rw c.in-Draw.is (done_with (g.L.Loader.has c.args.loader.now) Strict c.args.entries.now (HasRisen (g.L.Loader.failed c.args.loader.now) (g.L.Loader.failed c.take_files-in-Draw.new.loader))
+    rw c.in-Draw.is (done_with (g.L.Loader.has c.args.loader.now) c.in-Draw.order.profile c.args.entries.now (HasRisen (g.L.Loader.failed c.args.loader.now) (g.L.Loader.failed c.take_files-in-Draw.new.loader))
     (Holds (job.Draw c.in-Draw.order) (contents c.args.out.now) (contents c.draw.new.out)) (λ reader. HasTakenAll reader keep.All) c.in-Ok-4.reader c.as_slice-names.result.now
     (rw c.as_slice-names.ensures.value c.in_ok-names.ensures) (rw c.in-Ok-4.is at c.in_ok-reader-in-Draw.ensures) c.draw.result (λ all names read_in. c.draw.ensures.answers all names))

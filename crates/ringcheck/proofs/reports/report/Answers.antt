@@ -2,7 +2,7 @@ use Rattle.std.proofs.Common.{◌≡◌, true, Err, List, ℕ, refl, subst}
 use Rattle.package_check.specs.Boards.{ReturnsBoard}
 use Rattle.package_check.specs.declared.PackageFault.{PackageFault}
 use Rattle.layer_image.specs.KeptFlashes.{keeps_flashes}
-use Rattle.board_report.specs.BoardReport.{IsBoardReportOf, in_strict}
+use Rattle.board_report.specs.BoardReport.{IsBoardReportOf}
 use Rattle.ringcheck.specs.Inner.Jobs.{given}
 use Rattle.ringcheck.specs.ReportStatus.{Judges, PrintsReport, kept_for}
 use Rattle.ringcheck.specs.declared.parsed_words.ReportFormat.{ReportFormat}
@@ -24,8 +24,8 @@ returns-clause-answers g c all named stands =
     let report = c.in_ok-report.report in
     let contents = g.W.Write.contents in
     let kept = kept_for options.format in
-    let is : IsBoardReportOf all (in_strict options.rules) report = record { board = board; read = c.in-Ok.ensures.flashes kept all stands (has_flashes options.format); is = c.in_ok-report.ensures } in
-    let as_check = c.report_agrees_with_check.ensures all (in_strict options.rules) report is in
+    let is : IsBoardReportOf all options.rules report = record { board = board; read = c.in-Ok.ensures.flashes kept all stands (has_flashes options.format); is = c.in_ok-report.ensures } in
+    let as_check = c.report_agrees_with_check.ensures all options.rules report is in
     let (accepted, judged, written) = c.in_ok-passes.ensures in
     record {
       report = report;
