@@ -14,7 +14,9 @@ ghost use Rattle.layer_image.specs.KeptFlashes.{keeps_commands, keeps_flashes};
 ghost use Rattle.layer_image.specs.Layers.{ReadsLayerIn};
 ghost use Rattle.layer_image.specs.declared.keep.Keep.{Keep as TheKeep};
 ghost use Rattle.layer_image.specs.declared.keep.Keep.TheVariants as keep;
-ghost use Rattle.further_copper.specs.Features.{strict_row};
+ghost use Rattle.further_copper.specs.Features.{rows_of, strict_row};
+ghost use Rattle.gerber_text.specs.Writing.{without_places};
+ghost use Rattle.layer_image.specs.Drawn.{drawn_of};
 ghost use Rattle.package_check.specs.FileTexts.{Draws, HasRows, ReadsLayer, ReadsDrill, is_copper_function, wide_view};
 ghost use Rattle.package_check.specs.LayerViews.{plain};
 ghost use Rattle.package_check.specs.OpenFiles.{keep_in};
@@ -289,17 +291,43 @@ fn wide_view(alloc: Global, wide: WideLayer) -> Result<Layer, AllocError>
     })
 }
 
-/// What the check keeps of the copper file whose text the reader has read in the wide profile, or its fault. Its rows, and what its
-/// commands draw, are put into `shown`.
-fn read_wide(alloc: Global, shown: &mut Shown, reader: LayerReader) -> Result<Layer, Fail>
-    ensures image { (text : List ℕ) → LayerStandsIn reader Wide keep.All text → Answers (λ x. x) (ReadsLayer Wide text) result }
-    ensures flashes { (text : List ℕ) → LayerStandsIn reader Wide keep.All text → OnOk result (HasRows Wide text shown.new.rows.items) }
-    ensures drawn { (text : List ℕ) → LayerStandsIn reader Wide keep.All text → OnOk result (Draws Wide text shown.new.drawn.items) }
+/// Puts the rows of a layer in the wide profile, and what its commands draw, into `shown`, each where it is kept.
+fn show_wide(
+    alloc: Global,
+    keep: Keep,
+    shown: &mut Shown,
+    layer: &layer_image::Layer,
+    wide: &WideLayer,
+) -> Result<(), AllocError>
+    ensures rows { keeps_flashes keep ≡ true → OnOk result (shown.new.rows.items ≡ rows_of wide.now.features) }
+    ensures drawn { keeps_commands keep ≡ true → OnOk result (shown.new.drawn.items ≡ drawn_of (without_places layer.now.commands)) }
+{
+    match keep {
+        Keep::Pads => {}
+        Keep::Flashes => shown.rows = wide.rows(alloc)?,
+        Keep::All => {
+            shown.rows = wide.rows(alloc)?;
+            shown.drawn = layer.drawn(alloc)?;
+        }
+    }
+    Ok(())
+}
+
+/// What the check keeps of the copper file whose text the reader has read in the wide profile, or its fault. What is kept to be shown is
+/// put into `shown`.
+fn read_wide(
+    alloc: Global,
+    keep: Keep,
+    shown: &mut Shown,
+    reader: LayerReader,
+) -> Result<Layer, Fail>
+    ensures image { (text : List ℕ) → LayerStandsIn reader Wide (keep_in Wide keep) text → Answers (λ x. x) (ReadsLayer Wide text) result }
+    ensures flashes { (text : List ℕ) → LayerStandsIn reader Wide (keep_in Wide keep) text → keeps_flashes keep ≡ true → OnOk result (HasRows Wide text shown.new.rows.items) }
+    ensures drawn { (text : List ℕ) → LayerStandsIn reader Wide (keep_in Wide keep) text → keeps_commands keep ≡ true → OnOk result (Draws Wide text shown.new.drawn.items) }
 {
     let layer = reader.finish()?;
     let wide = wide_layer(alloc, &layer)?;
-    shown.rows = wide.rows(alloc)?;
-    shown.drawn = layer.drawn(alloc)?;
+    show_wide(alloc, keep, shown, &layer, &wide)?;
     let view = wide_view(alloc, wide)?;
     Ok(view)
 }
@@ -319,7 +347,7 @@ pub(crate) fn read_layer_view(
 {
     match profile {
         Profile::Strict => read_strict(alloc, keep, shown, reader),
-        Profile::Wide => read_wide(alloc, shown, reader),
+        Profile::Wide => read_wide(alloc, keep, shown, reader),
     }
 }
 

@@ -30,9 +30,9 @@ returns-in-Wide-clause-image c = λ text stands.
 pub returns-in-Wide-clause-flashes : goal.returns-in-Wide-clause-flashes
 returns-in-Wide-clause-flashes c = λ text stands keeps.
     subst (λ (p : Profile). OnOk c.read_wide.result (HasRows p text c.read_wide.new.shown.rows.items)) (sym c.in-Wide.is)
-    (c.read_wide.ensures.flashes text (subst (λ (p : Profile). LayerStandsIn c.args.reader p (keep_in p c.args.keep) text) c.in-Wide.is stands))
+    (c.read_wide.ensures.flashes text (subst (λ (p : Profile). LayerStandsIn c.args.reader p (keep_in p c.args.keep) text) c.in-Wide.is stands) keeps)
 
 pub returns-in-Wide-clause-drawn : goal.returns-in-Wide-clause-drawn
 returns-in-Wide-clause-drawn c = λ text stands keeps.
     subst (λ (p : Profile). OnOk c.read_wide.result (Draws p text c.read_wide.new.shown.drawn.items)) (sym c.in-Wide.is)
-    (c.read_wide.ensures.drawn text (subst (λ (p : Profile). LayerStandsIn c.args.reader p (keep_in p c.args.keep) text) c.in-Wide.is stands))
+    (c.read_wide.ensures.drawn text (subst (λ (p : Profile). LayerStandsIn c.args.reader p (keep_in p c.args.keep) text) c.in-Wide.is stands) keeps)

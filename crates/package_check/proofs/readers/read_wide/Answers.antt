@@ -20,11 +20,11 @@ returns-clause-image c = λ text stands.
     (c.in_ok-wide.wide, (c.in_ok-layer.layer, read, c.in_ok-wide.ensures text read), c.in_ok-view.ensures)
 
 pub returns-clause-flashes : goal.returns-clause-flashes
-returns-clause-flashes c = λ text stands.
+returns-clause-flashes c = λ text stands keeps.
     let read = whole_read text c.in_ok-layer.layer (c.in_ok-layer.ensures.exact_in Wide keep.All text stands) in
-    (c.in_ok-wide.wide, (c.in_ok-layer.layer, read, c.in_ok-wide.ensures text read), c.in_ok-shown.ensures)
+    (c.in_ok-wide.wide, (c.in_ok-layer.layer, read, c.in_ok-wide.ensures text read), c.in_ok-show_wide.ensures.rows keeps)
 
 pub returns-clause-drawn : goal.returns-clause-drawn
-returns-clause-drawn c = λ text stands.
+returns-clause-drawn c = λ text stands keeps.
     let read = c.in_ok-layer.ensures.exact_in Wide keep.All text stands in
-    (read.0, read.1, c.in_ok-shown-2.ensures ∙ ap (λ commands. drawn_of (without_places commands)) (commands_kept keep.All read.0 _ refl read.2))
+    (read.0, read.1, c.in_ok-show_wide.ensures.drawn keeps ∙ ap (λ commands. drawn_of (without_places commands)) (commands_kept keep.All read.0 _ refl read.2))
