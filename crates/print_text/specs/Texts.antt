@@ -384,20 +384,31 @@ findings_text names report limit rings gaps =
 abbrev pub causes_text : BoardReport → List ℕ
 causes_text report = flat_map (kind_line report.rings.items) all_kinds ++ smallest_lines report.rules report.rings.items report.gaps.items
 
--- the last part: the rules that the package meets, the waivers that waive nothing, and the last line
-abbrev pub last_lines : BoardReport → List (Option (Bor (List ℕ))) → List (Option (Bor (List ℕ))) → List ℕ → List ℕ
-last_lines report rings gaps idle =
-    meets_line report.meets ++ (flat_map idle_line idle ++ last_line (length report.rings.items + length report.gaps.items) (waived_in report rings gaps))
+-- how many findings are not there in the wide profile: `3 of these are not there with --profile wide`; no line for none
+abbrev pub fewer_line : ℕ → List ℕ
+fewer_line fewer =
+    if fewer == 0 then []
+    else if fewer == 1 then codes "1 of these is not there with --profile wide" ++ ascii.line_feed ∷ []
+    else decimal fewer ++ (codes " of these are not there with --profile wide" ++ ascii.line_feed ∷ [])
 
--- the text of a report, by the reasons of its rings and gaps, and the numbers of the waivers that waive nothing
-abbrev pub full_text : List (List ℕ) → BoardReport → Option ℕ → List (Option (Bor (List ℕ))) → List (Option (Bor (List ℕ))) → List ℕ → List ℕ
-full_text names report limit rings gaps idle =
-    (head_text names report ++ findings_text names report limit rings gaps) ++ (causes_text report ++ last_lines report rings gaps idle)
+-- the last part: the rules that the package meets, the waivers that waive nothing, how many findings the wide profile does not have, and the
+-- last line
+abbrev pub last_lines : BoardReport → ℕ → List (Option (Bor (List ℕ))) → List (Option (Bor (List ℕ))) → List ℕ → List ℕ
+last_lines report fewer rings gaps idle =
+    meets_line report.meets
+    ++ (flat_map idle_line idle ++ (fewer_line fewer ++ last_line (length report.rings.items + length report.gaps.items) (waived_in report rings gaps)))
 
--- the text of a report with waivers; `names` are those of the files, `limit` is how many findings are shown at most
-abbrev pub waived_report_text : List (List ℕ) → BoardReport → Option ℕ → Acceptances → List ℕ
-waived_report_text names report limit accepted = full_text names report limit accepted.rings.now accepted.gaps.now accepted.idle.now
+-- the text of a report, by how many findings the wide profile does not have, the reasons of its rings and gaps, and the numbers of the waivers
+-- that waive nothing
+abbrev pub full_text : List (List ℕ) → BoardReport → ℕ → Option ℕ → List (Option (Bor (List ℕ))) → List (Option (Bor (List ℕ))) → List ℕ → List ℕ
+full_text names report fewer limit rings gaps idle =
+    (head_text names report ++ findings_text names report limit rings gaps) ++ (causes_text report ++ last_lines report fewer rings gaps idle)
+
+-- the text of a report with waivers; `names` are those of the files, `fewer` is how many findings the wide profile does not have, `limit` how many
+-- are shown at most
+abbrev pub waived_report_text : List (List ℕ) → BoardReport → ℕ → Option ℕ → Acceptances → List ℕ
+waived_report_text names report fewer limit accepted = full_text names report fewer limit accepted.rings.now accepted.gaps.now accepted.idle.now
 
 -- the text of a report without waivers
-abbrev pub board_report_text : List (List ℕ) → BoardReport → Option ℕ → List ℕ
-board_report_text names report limit = full_text names report limit [] [] []
+abbrev pub board_report_text : List (List ℕ) → BoardReport → ℕ → Option ℕ → List ℕ
+board_report_text names report fewer limit = full_text names report fewer limit [] [] []

@@ -28,7 +28,7 @@ fn text_of(
     limit: Option<usize>,
     accepted: &Acceptances,
 ) -> Result<String, AllocError> {
-    let text = ReportText::new(alloc, names, report, limit, accepted)?;
+    let text = ReportText::new(alloc, names, report, 0, limit, accepted)?;
     format!(in alloc; "{text}")
 }
 
@@ -705,7 +705,7 @@ fn is_text_cut_at(text: &ReportText, fails_at: usize) -> bool {
 
 /// Whether the text of a report is so.
 fn is_cut_at(alloc: Global, report: &BoardReport, fails_at: usize) -> bool {
-    match ReportText::new(alloc, &HOLED, report, None, &ALL) {
+    match ReportText::new(alloc, &HOLED, report, 1, None, &ALL) {
         Ok(text) => is_text_cut_at(&text, fails_at),
         Err(_) => false,
     }
@@ -716,6 +716,46 @@ fn nothing_is_printed_after_a_write_that_fails(rt: HostRuntime) -> Result<(), Ro
     let report = report_of(rt.alloc(), &THREE_OF_EACH)?;
     for fails_at in 1..=100 {
         assert!(rt; is_cut_at(rt.alloc(), &report, fails_at), "at {fails_at}");
+    }
+    Ok(())
+}
+
+/// The last lines of a report with six findings, by how many of these the wide profile does not have.
+const FEWER: [(u128, &str); 3] = [
+    (0, "\nFINDINGS 6\n"),
+    (
+        1,
+        "\n1 of these is not there with --profile wide\nFINDINGS 6\n",
+    ),
+    (
+        4,
+        "\n4 of these are not there with --profile wide\nFINDINGS 6\n",
+    ),
+];
+
+/// Whether the text of a report ends so where the wide profile does not have this many of its findings.
+fn ends_with(alloc: Global, report: &BoardReport, fewer: u128, end: &str) -> bool {
+    match ReportText::new(alloc, &HOLED, report, fewer, None, &no_acceptances()) {
+        Ok(text) => is_ended_so(alloc, &text, end),
+        Err(_) => false,
+    }
+}
+
+/// Whether a text ends so.
+fn is_ended_so(alloc: Global, text: &ReportText, end: &str) -> bool {
+    match format!(in alloc; "{text}") {
+        Ok(written) => written.as_str().ends_with(end),
+        Err(_) => false,
+    }
+}
+
+#[test]
+fn findings_that_the_wide_profile_does_not_have_are_counted(
+    rt: HostRuntime,
+) -> Result<(), RowFail> {
+    let report = report_of(rt.alloc(), &THREE_OF_EACH)?;
+    for (fewer, end) in FEWER {
+        assert!(rt; ends_with(rt.alloc(), &report, fewer, end), "{fewer}");
     }
     Ok(())
 }

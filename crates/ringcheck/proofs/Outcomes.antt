@@ -115,10 +115,10 @@ module _ (later has : List ℕ → List ℕ → Type 0) (to : (n b : List ℕ) �
     listed_along : (entries : List Entry) → HasTable manifest later name entries → HasTable manifest has name entries
     listed_along entries h = (h.0, to name h.0 h.1, h.2, h.3)
 
-    package_along : (Holds : List FileView → Type 0) → HoldsForPackage later profile name Holds → HoldsForPackage has profile name Holds
+    pub package_along : (Holds : List FileView → Type 0) → HoldsForPackage later profile name Holds → HoldsForPackage has profile name Holds
     package_along Holds h = record { entries = h.entries; listed = listed_along h.entries h.listed; files = h.files; loaded = files_along h.entries h.files h.loaded; holds = h.holds }
 
-    refused_along : (why : Refusal) → IsPackageRefusal later profile name why → IsPackageRefusal has profile name why
+    pub refused_along : (why : Refusal) → IsPackageRefusal later profile name why → IsPackageRefusal has profile name why
     refused_along why (refused_manifest h) = refused_manifest (h.0, to name h.0 h.1, h.2)
     refused_along why (refused_file entries listed file) = refused_file entries (listed_along entries listed) (file_along profile entries why file)
 
@@ -138,8 +138,17 @@ worked has profile name Holds refusal_style before after entries files listed lo
 worked has profile name Holds refusal_style before after entries files listed loaded false h = record { entries = entries; listed = listed; files = files; loaded = loaded; holds = h }
 
 -- what holds of all files of which something else holds, holds of a package
-package_weaker : (has : List ℕ → List ℕ → Type 0) (profile : Profile) (name : List ℕ) (P Q : List FileView → Type 0) → ((all : List FileView) → P all → Q all) → HoldsForPackage has profile name P → HoldsForPackage has profile name Q
+pub package_weaker : (has : List ℕ → List ℕ → Type 0) (profile : Profile) (name : List ℕ) (P Q : List FileView → Type 0) → ((all : List FileView) → P all → Q all) → HoldsForPackage has profile name P → HoldsForPackage has profile name Q
 package_weaker has profile name P Q weaker h = record { entries = h.entries; listed = h.listed; files = h.files; loaded = h.loaded; holds = weaker (sources profile h.entries h.files) h.holds }
+
+-- what is said of a package by what holds of its files, is said by what then holds of them too
+pub says_weaker : (has : List ℕ → List ℕ → Type 0) (profile : Profile) (name : List ℕ) (P Q : Bool → List FileView → Type 0) → ((passes : Bool) (all : List FileView) → P passes all → Q passes all) → (refusal_style : RefusalStyle) (before after : Option (List ℕ)) (s : Status)
+    → SaysPackage has profile name P refusal_style before after s → SaysPackage has profile name Q refusal_style before after s
+says_weaker has profile name P Q weaker refusal_style before after status.Pass h = package_weaker has profile name (P true) (Q true) (weaker true) h
+says_weaker has profile name P Q weaker refusal_style before after status.Findings h = package_weaker has profile name (P false) (Q false) (weaker false) h
+says_weaker has profile name P Q weaker refusal_style before after status.Refused h = h
+says_weaker has profile name P Q weaker refusal_style before after status.Usage h = h
+says_weaker has profile name P Q weaker refusal_style before after status.Device h = h
 
 -- of a package that was checked each file is of the profile
 pub checked_is_legal : (has : List ℕ → List ℕ → Type 0) (name : List ℕ) (rules : GridRules) (before after : Option (List ℕ)) (s : Status) → IsCheckStatus has name rules before after s → IsLegalStatus has rules.profile name s

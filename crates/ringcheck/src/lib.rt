@@ -3,6 +3,7 @@
 
 mod checks;
 mod drawings;
+mod fewer;
 mod jobs;
 mod load_package;
 mod measures;

@@ -210,7 +210,9 @@ pub(crate) fn take_files<'a, L: Loader>(
     loader: &mut L,
     entries: &'a [Entry],
 ) -> Result<Result<PackageReader, Halt<'a>>, Failure>
-    ensures { IfOk result (OfFiles (L.has loader.old) profile entries.now (HasRisen (L.failed loader.old) (L.failed loader.new)) (λ reader. HasTakenAll reader keep)) }
+    ensures keeps { (n b : List ℕ) → L.has loader.new n b → L.has loader.old n b }
+    ensures counts { L.failed loader.old ≤ L.failed loader.new }
+    ensures loaded { IfOk result (OfFiles (L.has loader.old) profile entries.now (HasRisen (L.failed loader.old) (L.failed loader.new)) (λ reader. HasTakenAll reader keep)) }
 {
     let mut reader = PackageReader::keeping(alloc, layer_count(entries), profile, keep);
     let drills = take_kind(alloc, loader, entries, false, &mut reader)?;

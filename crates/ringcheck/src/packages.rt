@@ -1,12 +1,15 @@
 //! The commands on the package of a manifest: each does a job on it, or prints why it cannot be done.
 
-ghost use Rattle.std.specs.Prelude.{◌≡◌, ◌++◌, [], ℕ, IfErr, IfOk, OnOk, Some, is_some, map, option_map, slice_get};
+ghost use Rattle.std.specs.Prelude.{◌≡◌, ◌++◌, [], ℕ, List, IfErr, IfOk, OnOk, Some, is_some, map, option_map, slice_get};
 ghost use Rattle.std.specs.Io.KnownBytes.{Appends};
 ghost use Rattle.manifest.specs.declared.Entry.{Entry as TheEntry};
+ghost use Rattle.ringcheck_files.specs.LoaderRelation.{Relation};
 ghost use Rattle.ringcheck_files.specs.Outcomes.{HasCause, HasRisen};
 ghost use Rattle.ringcheck.specs.DrawStatus.{IsDrawStatus, IsOutlinedDrawStatus, IsParsedDrawStatus};
 ghost use Rattle.ringcheck.specs.Inner.Halting.{IsUnreadAt, OfFiles};
 ghost use Rattle.ringcheck.specs.Inner.Jobs.{Holds, SaysJob, given, job_profile};
+ghost use Rattle.ringcheck.specs.Inner.Reporting.{HasListed};
+ghost use Rattle.ringcheck.specs.declared.jobs.Job.TheVariants as jobs;
 ghost use Rattle.ringcheck.specs.MeasureStatus.{IsParsedMeasureStatus};
 ghost use Rattle.ringcheck.specs.ParsedWords as named;
 ghost use Rattle.ringcheck.specs.ReportStatus.{IsOutlinedReportStatus, IsParsedReportStatus};
@@ -14,6 +17,7 @@ ghost use Rattle.ringcheck.specs.CheckStatus.{IsParsedCheckStatus, IsParsedLegal
 ghost use Rattle.ringcheck.specs.Sentences.{below_measure, below_report};
 ghost use Rattle.ringcheck_files.specs.Words.{usage_line};
 
+use crate::fewer::fewer_findings;
 use crate::jobs::{Job, Order, PictureOrder, kept_for, report_style};
 use crate::load_package::{check_files, load_table, take_files};
 use crate::outlines::{load_outline, print_no_outline};
@@ -21,8 +25,9 @@ use crate::parsed_words::{
     PictureWords, ReportFormat, ReportWords, parse_check, parse_draw, parse_measure, parse_report,
 };
 use crate::refusals::{Halt, Subject, print_halt};
+use crate::reports::{Reported, print_judged, report_on_taken};
 use crate::sentences::{NoMeasure, NoReport, is_for_people};
-use crate::{Entry, Loader, checks, drawings, measures, reports};
+use crate::{Entry, Loader, checks, drawings, measures};
 use grid_units::{Profile, Reason, Rules};
 use package_check::Keep;
 use ringcheck_files::{Failure, Status, refuse_word};
@@ -41,6 +46,42 @@ fn names_of<'a>(alloc: Global, entries: &'a [Entry]) -> Result<Vec<&'a str>, All
     Ok(names)
 }
 
+/// Loads the files of these entries, which have these names, prints the report on them, and returns whether it passes.
+fn report_files<'a, L: Loader, W: Write>(
+    alloc: Global,
+    options: &Order,
+    entries: &'a [Entry],
+    names: &[&'a str],
+    loader: &mut L,
+    out: &mut W,
+) -> Result<Result<bool, Halt<'a>>, Failure>
+    ensures answers { (has : Relation) (name : List ℕ) → HasListed has (L.has loader.old) name entries.now → map (λ name. name.now) names.now ≡ map (λ entry. entry.name) entries.now
+        → IfOk result (OfFiles (L.has loader.old) options.now.rules.profile entries.now (HasRisen (L.failed loader.old) (L.failed loader.new)) (Holds (jobs.Report options.now) has name (W.contents out.old) (W.contents out.new))) }
+    ensures silent { IfOk result (λ done. IfErr done (λ halt. W.contents out.new ≡ W.contents out.old)) }
+{
+    let keep = kept_for(options.format);
+    let reader = match take_files(alloc, options.rules.profile(), keep, loader, entries)? {
+        Ok(reader) => reader,
+        Err(halt) => return Ok(Err(halt)),
+    };
+    let (board, report) = match report_on_taken(alloc, reader, names, options)? {
+        Ok(found) => found,
+        Err(halt) => return Ok(Err(halt)),
+    };
+    let fewer = match fewer_findings(alloc, options, &report, loader, entries)? {
+        Ok(fewer) => fewer,
+        Err(halt) => return Ok(Err(halt)),
+    };
+    let reported = Reported {
+        names,
+        board: &board,
+        report: &report,
+        fewer,
+    };
+    let passes = print_judged(alloc, &reported, options, out)?;
+    Ok(Ok(passes))
+}
+
 /// Loads the files of these entries, does a job on them, and returns whether it passes.
 fn answer<'a, L: Loader, W: Write>(
     alloc: Global,
@@ -49,7 +90,7 @@ fn answer<'a, L: Loader, W: Write>(
     loader: &mut L,
     out: &mut W,
 ) -> Result<Result<bool, Halt<'a>>, Failure>
-    ensures answers { IfOk result (OfFiles (L.has loader.old) (job_profile job.now) entries.now (HasRisen (L.failed loader.old) (L.failed loader.new)) (Holds job.now (W.contents out.old) (W.contents out.new))) }
+    ensures answers { (has : Relation) (name : List ℕ) → HasListed has (L.has loader.old) name entries.now → IfOk result (OfFiles (L.has loader.old) (job_profile job.now) entries.now (HasRisen (L.failed loader.old) (L.failed loader.new)) (Holds job.now has name (W.contents out.old) (W.contents out.new))) }
     ensures silent { IfOk result (λ done. IfErr done (λ halt. W.contents out.new ≡ W.contents out.old)) }
 {
     let names = names_of(alloc, entries)?;
@@ -65,13 +106,7 @@ fn answer<'a, L: Loader, W: Write>(
                 Err(halt) => Ok(Err(halt)),
             }
         }
-        Job::Report(options) => {
-            let keep = kept_for(options.format);
-            match take_files(alloc, options.rules.profile(), keep, loader, entries)? {
-                Ok(reader) => reports::report(alloc, reader, names, options, out),
-                Err(halt) => Ok(Err(halt)),
-            }
-        }
+        Job::Report(options) => report_files(alloc, options, entries, names, loader, out),
         Job::Draw(order) => {
             match take_files(alloc, order.profile, Keep::All, loader, entries)? {
                 Ok(reader) => drawings::draw(alloc, reader, names, order, out),

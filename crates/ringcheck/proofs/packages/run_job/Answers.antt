@@ -28,9 +28,10 @@ returns-in-Ok-2-clause-says g c =
     let after = g.W.Write.contents c.answer.new.out in
     let entries = c.in-Ok.entries.items in
     let listed = rw c.in-Ok.is at c.in_ok-entries.ensures.loaded in
-    let (files, held, holds) = rw (c.in-Ok-2.is, c.as_slice.ensures.value) at c.in_ok-passes.ensures.answers in
+    let known = (c.in_ok-entries.ensures.keeps, rw c.as_slice.ensures.value listed) in
+    let (files, held, holds) = rw (c.in-Ok-2.is, c.as_slice.ensures.value) at c.in_ok-passes.ensures.answers has c.args.name.now known in
     let has_files_along = files_along later has c.in_ok-entries.ensures.keeps entries files held in
-    rw c.status_of.ensures (worked has (job_profile job) c.args.name.now (Holds job before after) (job_style job) before after entries files listed has_files_along c.in-Ok-2.passes holds)
+    rw c.status_of.ensures (worked has (job_profile job) c.args.name.now (Holds job has c.args.name.now before after) (job_style job) before after entries files listed has_files_along c.in-Ok-2.passes holds)
 
 pub returns-clause-says : goal.returns-clause-says
 returns-clause-says g c =
@@ -46,4 +47,4 @@ returns-clause-says g c =
     halted (RefusedFile later (job_profile job) entries) (HasRisen (failed c.load_table.new.loader) (failed c.answer.new.loader)) (job_style job) c.path_of-path.result.now c.is_unread_folder-is_folder-in-Err-2.result before after
     (SaysJob job has c.args.name.now before after) (λ risen. tt)
     (λ why is printed. record { why = why; refused = refused_file entries listed (file_along later has c.in_ok-entries.ensures.keeps (job_profile job) entries why is); printed = printed })
-    c.in-Err-2.halt (rw (c.in-Err-2.is, c.as_slice.ensures.value) at c.in_ok-passes.ensures.answers) c.print_halt-in-Err-2.result (rw (c.style-in-Err-2.ensures, silent) at c.print_halt-in-Err-2.ensures)
+    c.in-Err-2.halt (rw (c.in-Err-2.is, c.as_slice.ensures.value) at c.in_ok-passes.ensures.answers has c.args.name.now (c.in_ok-entries.ensures.keeps, rw c.as_slice.ensures.value listed)) c.print_halt-in-Err-2.result (rw (c.style-in-Err-2.ensures, silent) at c.print_halt-in-Err-2.ensures)
