@@ -8,8 +8,8 @@ ghost use Rattle.print_text.specs.Texts.{causes_text, gaps_text, groups_text, he
 
 use crate::kind::CAUSE_KINDS;
 use crate::lines::{
-    FewerLine, FileNames, GapLine, GapsLine, LastLine, LayerLine, MeetsLine, MoreLine, RingLine, RulesLine,
-    SmallestLine, WaiverFile,
+    FewerLine, FileNames, GapLine, GapsLine, LastLine, LayerLine, MeetsLine, MoreLine, RingLine,
+    RulesLine, SmallestLine, WaiverFile,
 };
 use crate::runs::{Run, runs_of};
 use crate::summary::write_groups;

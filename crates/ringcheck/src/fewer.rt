@@ -1,12 +1,14 @@
 //! How many findings of a report the wide profile does not have.
 
-ghost use Rattle.std.specs.Prelude.{◌≡◌, ℕ, List, IfOk};
+ghost use Rattle.std.specs.Prelude.{◌≡◌, ◌≢◌, ℕ, List, IfOk};
 ghost use Rattle.grid_units.specs.Holes.{GridRules};
 ghost use Rattle.package_check.specs.Checking.{HasJudgedAll};
 ghost use Rattle.package_check.specs.Package.{FileView};
-ghost use Rattle.ringcheck.specs.Inner.Reporting.{HasListed, OfFewer};
+ghost use Rattle.manifest.specs.Manifest.{manifest};
+ghost use Rattle.package_check.specs.declared.PackageFault.TheVariants as stop;
+ghost use Rattle.ringcheck.specs.CheckStatus.{HasTable};
+ghost use Rattle.ringcheck.specs.Inner.Reporting.{OfFewer, is_unread};
 ghost use Rattle.ringcheck.specs.ReportStatus.{FindsFewer, asks_wide, finding_count, in_wide, is_strict_text};
-ghost use Rattle.ringcheck_files.specs.LoaderRelation.{Relation};
 ghost use Rattle.ringcheck_files.specs.Outcomes.{HasRisen};
 
 use crate::jobs::Order;
@@ -45,15 +47,31 @@ fn finding_count(report: &BoardReport) -> u128
     report.rings.len() as u128 + report.gaps.len() as u128
 }
 
+/// How many findings count as fewer where a check in the wide profile came to no report: none where it refuses a file.
+fn fewer_after(fault: PackageFault) -> Result<u128, Failure>
+    ensures { IfOk result (λ fewer. (fewer ≡ 0) × (fault ≢ stop.Memory)) }
+{
+    match fault {
+        PackageFault::Memory => Err(Failure::Memory),
+        PackageFault::File { .. } => Ok(0),
+    }
+}
+
 /// How many findings a check in the wide profile, which has taken all files, has fewer than a report; 0 where it refuses a file.
 fn fewer_than(report: &BoardReport, check: PackageCheck) -> Result<u128, Failure>
     ensures { (all : List FileView) (rules : GridRules) → HasJudgedAll check all (in_wide rules) → IfOk result (λ fewer. FindsFewer rules report.now fewer all) }
 {
     match check.finish() {
         Ok(wide) => Ok(finding_count(report).saturating_sub(wide.findings().len() as u128)),
-        Err(PackageFault::Memory) => Err(Failure::Memory),
-        Err(PackageFault::File { .. }) => Ok(0),
+        Err(fault) => fewer_after(fault),
     }
+}
+
+/// Whether nothing is done since something cannot be read.
+fn is_unread(halt: Halt) -> bool
+    ensures { result ≡ is_unread halt.entry }
+{
+    matches!(halt, Halt::Unread(_))
 }
 
 /// How many of the findings of a report on the files of these entries a check in the wide profile does not have, for which the files are
@@ -65,15 +83,22 @@ pub(crate) fn fewer_findings<'a, L: Loader>(
     loader: &mut L,
     entries: &'a [Entry],
 ) -> Result<Result<u128, Halt<'a>>, Failure>
-    ensures { (has : Relation) (name : List ℕ) → HasListed has (L.has loader.old) name entries.now → IfOk result (OfFewer has name (HasRisen (L.failed loader.old) (L.failed loader.new)) options.now.format options.now.rules report.now) }
+    ensures { (name : List ℕ) → HasTable manifest (L.has loader.old) name entries.now → IfOk result (OfFewer (L.has loader.old) name (HasRisen (L.failed loader.old) (L.failed loader.new)) options.now.format options.now.rules report.now) }
 {
     if !asks_wide(options, report) {
         return Ok(Ok(0));
     }
     let rules = options.rules.in_profile(Profile::Wide);
     match check_files(alloc, rules, loader, entries)? {
-        Ok(check) => Ok(Ok(fewer_than(report, check)?)),
-        Err(Halt::Unread(subject)) => Ok(Err(Halt::Unread(subject))),
-        Err(_) => Ok(Ok(0)),
+        Ok(check) => {
+            let fewer = fewer_than(report, check)?;
+            Ok(Ok(fewer))
+        }
+        Err(halt) => {
+            if is_unread(halt) {
+                return Ok(Err(halt));
+            }
+            Ok(Ok(0))
+        }
     }
 }

@@ -3,17 +3,16 @@
 ghost use Rattle.std.specs.Prelude.{◌≡◌, ◌++◌, [], ℕ, List, IfErr, IfOk, OnOk, Some, is_some, map, option_map, slice_get};
 ghost use Rattle.std.specs.Io.KnownBytes.{Appends};
 ghost use Rattle.manifest.specs.declared.Entry.{Entry as TheEntry};
-ghost use Rattle.ringcheck_files.specs.LoaderRelation.{Relation};
 ghost use Rattle.ringcheck_files.specs.Outcomes.{HasCause, HasRisen};
 ghost use Rattle.ringcheck.specs.DrawStatus.{IsDrawStatus, IsOutlinedDrawStatus, IsParsedDrawStatus};
 ghost use Rattle.ringcheck.specs.Inner.Halting.{IsUnreadAt, OfFiles};
 ghost use Rattle.ringcheck.specs.Inner.Jobs.{Holds, SaysJob, given, job_profile};
-ghost use Rattle.ringcheck.specs.Inner.Reporting.{HasListed};
+ghost use Rattle.manifest.specs.Manifest.{manifest};
 ghost use Rattle.ringcheck.specs.declared.jobs.Job.TheVariants as jobs;
 ghost use Rattle.ringcheck.specs.MeasureStatus.{IsParsedMeasureStatus};
 ghost use Rattle.ringcheck.specs.ParsedWords as named;
 ghost use Rattle.ringcheck.specs.ReportStatus.{IsOutlinedReportStatus, IsParsedReportStatus};
-ghost use Rattle.ringcheck.specs.CheckStatus.{IsParsedCheckStatus, IsParsedLegalStatus, status_of};
+ghost use Rattle.ringcheck.specs.CheckStatus.{HasTable, IsParsedCheckStatus, IsParsedLegalStatus, status_of};
 ghost use Rattle.ringcheck.specs.Sentences.{below_measure, below_report};
 ghost use Rattle.ringcheck_files.specs.Words.{usage_line};
 
@@ -55,8 +54,8 @@ fn report_files<'a, L: Loader, W: Write>(
     loader: &mut L,
     out: &mut W,
 ) -> Result<Result<bool, Halt<'a>>, Failure>
-    ensures answers { (has : Relation) (name : List ℕ) → HasListed has (L.has loader.old) name entries.now → map (λ name. name.now) names.now ≡ map (λ entry. entry.name) entries.now
-        → IfOk result (OfFiles (L.has loader.old) options.now.rules.profile entries.now (HasRisen (L.failed loader.old) (L.failed loader.new)) (Holds (jobs.Report options.now) has name (W.contents out.old) (W.contents out.new))) }
+    ensures answers { (name : List ℕ) → HasTable manifest (L.has loader.old) name entries.now → map (λ name. name.now) names.now ≡ map (λ entry. entry.name) entries.now
+        → IfOk result (OfFiles (L.has loader.old) options.now.rules.profile entries.now (HasRisen (L.failed loader.old) (L.failed loader.new)) (Holds (jobs.Report options.now) (L.has loader.old) name (W.contents out.old) (W.contents out.new))) }
     ensures silent { IfOk result (λ done. IfErr done (λ halt. W.contents out.new ≡ W.contents out.old)) }
 {
     let keep = kept_for(options.format);
@@ -90,7 +89,7 @@ fn answer<'a, L: Loader, W: Write>(
     loader: &mut L,
     out: &mut W,
 ) -> Result<Result<bool, Halt<'a>>, Failure>
-    ensures answers { (has : Relation) (name : List ℕ) → HasListed has (L.has loader.old) name entries.now → IfOk result (OfFiles (L.has loader.old) (job_profile job.now) entries.now (HasRisen (L.failed loader.old) (L.failed loader.new)) (Holds job.now has name (W.contents out.old) (W.contents out.new))) }
+    ensures answers { (name : List ℕ) → HasTable manifest (L.has loader.old) name entries.now → IfOk result (OfFiles (L.has loader.old) (job_profile job.now) entries.now (HasRisen (L.failed loader.old) (L.failed loader.new)) (Holds job.now (L.has loader.old) name (W.contents out.old) (W.contents out.new))) }
     ensures silent { IfOk result (λ done. IfErr done (λ halt. W.contents out.new ≡ W.contents out.old)) }
 {
     let names = names_of(alloc, entries)?;

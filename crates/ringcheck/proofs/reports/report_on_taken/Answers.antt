@@ -25,8 +25,8 @@ returns c all named stands =
     let is : IsBoardReportOf all options.rules report = record { board = board; read = c.in-Ok.ensures.flashes kept all stands (has_flashes options.format); is = c.in_ok-report.ensures } in
     let as_check = c.report_agrees_with_check.ensures all options.rules report is in
     record {
-      is = is;
-      same = refl;
+      read = is.read;
+      made = is.is;
       drawn = λ page. c.in-Ok.ensures.drawn kept all stands (rw page refl);
       as_check = as_check;
       sound = λ none. let (rings, gaps) = neither_left report.rings.items report.gaps.items none in as_check.sound rings gaps;
