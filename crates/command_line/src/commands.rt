@@ -65,8 +65,7 @@ const REPORT_USAGE: &str = "ringcheck report --ring <MM> --gap <MM> [--max <N>] 
                         [--profile <strict|wide>] <MANIFEST>";
 
 const REPORT: &str = "The findings are those of check, in its order, with its status where none is
-waived. Below stand the causes, each with what to set, and the rules that the
-package meets.
+waived. Below stand the causes, and the rules that the package meets.
 Example:  ringcheck report --ring 0.125 --gap 0.25 board.csv";
 
 // After `Usage: ` it stands on two lines.
