@@ -36,11 +36,12 @@ _ringcheck() {
   esac
   case $command in
     check) options='--ring --gap --profile --help' ;;
-    draw) options='--ring --gap --outline --help' ;;
-    report) options='--ring --gap --max --waive --outline --format --help' ;;
+    draw) options='--ring --gap --profile --outline --help' ;;
+    report) options='--ring --gap --profile --max --waive --outline --format --help' ;;
     measure) options='--profile --format --help' ;;
     manifest) options='--why --help' ;;
-    show | rewrite) options='--kind --help' ;;
+    show) options='--kind --profile --help' ;;
+    rewrite) options='--kind --help' ;;
     explain)
       mapfile -t COMPREPLY < <(compgen -W "$(ringcheck explain 2>/dev/null | cut -d: -f1)" -- "$word")
       return

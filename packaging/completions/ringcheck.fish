@@ -17,7 +17,7 @@ complete -c ringcheck -n '__fish_seen_subcommand_from explain' -a '(ringcheck ex
 complete -c ringcheck -n '__fish_seen_subcommand_from help' -a 'check report measure draw manifest explain show rewrite'
 complete -c ringcheck -n '__fish_seen_subcommand_from check report draw' -l ring -x -d 'copper round a plated hole, in mm'
 complete -c ringcheck -n '__fish_seen_subcommand_from check report draw' -l gap -x -d 'gap between two holes, in mm'
-complete -c ringcheck -n '__fish_seen_subcommand_from check measure' -l profile -x -a 'strict wide' -d 'which shapes are pads, and which files are read'
+complete -c ringcheck -n '__fish_seen_subcommand_from check report measure draw show' -l profile -x -a 'strict wide' -d 'which shapes are pads, and which files are read'
 complete -c ringcheck -n '__fish_seen_subcommand_from report' -l max -x -d 'most findings to show'
 complete -c ringcheck -n '__fish_seen_subcommand_from report' -l waive -r -F -d 'the findings that are accepted'
 complete -c ringcheck -n '__fish_seen_subcommand_from report draw' -l outline -r -F -d "the board's edge"

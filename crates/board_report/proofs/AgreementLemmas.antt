@@ -4,6 +4,7 @@ use Rattle.std.specs.List.{AllZip, filter}
 use Rattle.std.proofs.lemmas.List.Filters.{length-filter_both}
 use Rattle.std.proofs.lemmas.Slice.Zip.{AllZip-long}
 use Rattle.std.specs.Prelude.{Result, Ok}
+use Rattle.grid_units.specs.Holes.{GridRules}
 use Rattle.grid_units.specs.declared.fault.Fault.{Fault}
 use Rattle.ring_rules.specs.declared.finding.Finding.{Finding}
 use Rattle.ring_rules.specs.declared.finding.Finding.TheVariants.{Gap, Oblique, Ring}
@@ -35,10 +36,10 @@ weaker R S to [] (t ∷ ts) h = h
 weaker R S to (x ∷ xs) [] h = h
 weaker R S to (x ∷ xs) (t ∷ ts) h = (to x t h.0, weaker R S to xs ts h.1)
 
-of_ring : (board : BoardView) (ring : ℕ) (finding : Finding) (output : RingLack) → IsRingEntry board ring finding output → MatchesRing board.files finding output
-of_ring board ring (Ring layer hole) output h = (h.layer_is, h.at.stands)
-of_ring board ring (Oblique layer hole) output h = (h.layer_is, h.at.stands)
-of_ring board ring (Gap first second) output h = h
+of_ring : (board : BoardView) (required : GridRules) (finding : Finding) (output : RingLack) → IsRingEntry board required finding output → MatchesRing board.files finding output
+of_ring board required (Ring layer hole) output h = (h.layer_is, h.at.stands)
+of_ring board required (Oblique layer hole) output h = (h.layer_is, h.at.stands)
+of_ring board required (Gap first second) output h = h
 
 of_gap : (board : BoardView) (gap : ℕ) (finding : Finding) (output : GapLack) → IsGapEntry board gap finding output → MatchesGap board.files finding output
 of_gap board gap (Ring layer hole) output h = h
@@ -65,7 +66,7 @@ report_agrees_with_check one sound sources required output h =
     record {
       reported = (its, is);
       rings = λ report k. subst (λ (r : ReportView). AllZip (MatchesRing r.files) (filter (λ finding. not (is_gap finding)) r.findings) output.rings.items) (sym (same report k))
-          (weaker (IsRingEntry h.board required.ring) (MatchesRing board.files) (of_ring h.board required.ring) (filter (λ finding. not (is_gap finding)) (board_findings required board)) output.rings.items h.is.rings);
+          (weaker (IsRingEntry h.board required) (MatchesRing board.files) (of_ring h.board required) (filter (λ finding. not (is_gap finding)) (board_findings required board)) output.rings.items h.is.rings);
       gaps = λ report k. subst (λ (r : ReportView). AllZip (MatchesGap r.files) (filter is_gap r.findings) output.gaps.items) (sym (same report k))
           (weaker (IsGapEntry board required.gap) (MatchesGap board.files) (of_gap board required.gap) (filter is_gap (board_findings required board)) output.gaps.items h.is.gaps);
       count = λ report k. ap (λ (r : ReportView). length r.findings) (same report k) ∙ count;

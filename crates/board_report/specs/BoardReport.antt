@@ -2,8 +2,8 @@
 use Rattle.std.specs.Prelude.{◌≡◌, ℕ, pos, ◌+◌, ◌-ℤ◌, Bool, true, false, not, List, [], length, get_or, map, count_by, Result, Ok, Err, ⊤}
 use Rattle.std.specs.List.{AllZip, enumerate_from, filter}
 use Rattle.grid_units.specs.Holes.{GridRules}
-use Rattle.grid_units.specs.declared.profile.Profile.TheVariants.{Strict}
-use Rattle.layer_image.specs.declared.flash.Flash.{Flash}
+use Rattle.wide_pads.specs.declared.wide_pad.WidePad.{WidePad}
+use Rattle.further_copper.specs.declared.feature.FeatureRow.{FeatureRow}
 use Rattle.ring_rules.specs.Places.{hole_at}
 use Rattle.ring_rules.specs.declared.finding.Drilled.{Drilled}
 use Rattle.ring_rules.specs.declared.finding.Finding.{Finding}
@@ -27,19 +27,19 @@ use Rattle.report.specs.declared.LayerHead.{LayerHead}
 use Rattle.report.specs.declared.RingLack.{RingLack}
 use Rattle.report.specs.declared.BoardReport.{BoardReport}
 
--- the same ring and gap in the strict profile
-abbrev pub in_strict : GridRules → GridRules
-in_strict rules = record { ring = rules.ring; gap = rules.gap; profile = Strict }
-
 -- a finding of a gap, not of a ring
 abbrev pub is_gap : Finding → Bool
 is_gap (Ring layer hole) = false
 is_gap (Oblique layer hole) = false
 is_gap (Gap first second) = true
 
--- the flashes of a layer, by its place among the copper files, from 0
-abbrev pub layer_flashes : BoardView → ℕ → List Flash
-layer_flashes board layer = get_or board.flashes (get_or board.layer_indexes layer 0) []
+-- the rows of a layer, by its place among the copper files, from 0
+abbrev pub layer_rows : BoardView → ℕ → List FeatureRow
+layer_rows board layer = get_or board.rows (get_or board.layer_indexes layer 0) []
+
+-- the pads of a layer
+abbrev pub layer_pads : BoardView → ℕ → List WidePad
+layer_pads board layer = get_or board.layers layer []
 
 -- a hole of a board, by its place in the list of all holes: the index of its drill file, its number there from 1, and the hole itself
 pub record IsPlacedHole (board : BoardView) (place : ℕ) (at : PlacedHole) : Type 0 where
@@ -47,16 +47,16 @@ pub record IsPlacedHole (board : BoardView) (place : ℕ) (at : PlacedHole) : Ty
   pub hole : at.hole ≡ hole_at board.holes place
 
 -- the entry of a hole that lacks its ring on a layer: the layer, the hole's place in the package, and the cause
-pub record IsRingEntryAt (board : BoardView) (ring layer hole : ℕ) (output : RingLack) : Type 0 where
+pub record IsRingEntryAt (board : BoardView) (required : GridRules) (layer hole : ℕ) (output : RingLack) : Type 0 where
   pub layer_is : output.layer ≡ layer
   pub at : IsPlacedHole board hole output.at
-  pub cause : IsCause (layer_flashes board layer) ring (hole_at board.holes hole) output.cause
+  pub cause : IsCause required.profile (layer_rows board layer) (layer_pads board layer) required.ring (hole_at board.holes hole) output.cause
 
 -- the entry of a finding of a ring
-abbrev pub IsRingEntry : BoardView → ℕ → Finding → RingLack → Type 0
-IsRingEntry board ring (Ring layer hole) output = IsRingEntryAt board ring layer hole output
-IsRingEntry board ring (Oblique layer hole) output = IsRingEntryAt board ring layer hole output
-IsRingEntry board ring (Gap first second) output = ⊥
+abbrev pub IsRingEntry : BoardView → GridRules → Finding → RingLack → Type 0
+IsRingEntry board required (Ring layer hole) output = IsRingEntryAt board required layer hole output
+IsRingEntry board required (Oblique layer hole) output = IsRingEntryAt board required layer hole output
+IsRingEntry board required (Gap first second) output = ⊥
 
 -- the entry of two holes that lack their gap: their places, the gap between them, and the required gap less this one
 pub record IsGapEntryOf (board : BoardView) (required first second : ℕ) (output : GapLack) : Type 0 where
@@ -79,14 +79,14 @@ head_of holes (layer, file) = record { file = file; needed = count_by (needs_rin
 pub record IsBoardReport (required : GridRules) (board : BoardView) (output : BoardReport) : Type 0 where
   pub rules : output.rules ≡ required
   pub layers : output.layers.items ≡ map (head_of board.holes) (enumerate_from 0 board.layer_indexes)
-  pub rings : AllZip (IsRingEntry board required.ring) (filter (λ finding. not (is_gap finding)) (board_findings required board)) output.rings.items
+  pub rings : AllZip (IsRingEntry board required) (filter (λ finding. not (is_gap finding)) (board_findings required board)) output.rings.items
   pub gaps : AllZip (IsGapEntry board required.gap) (filter is_gap (board_findings required board)) output.gaps.items
   pub measure : Measure
   pub measured : IsMeasure required.profile board measure
   pub scales : output.scales.items ≡ measure.scales.items
   pub meets : output.meets ≡ measure.meets
 
--- the report on a package: that on the board of its files, with their flashes
+-- the report on a package: that on the board of its files, with their rows
 pub record IsBoardReportOf (sources : List FileView) (required : GridRules) (output : BoardReport) : Type 0 where
   pub board : BoardView
   pub read : IsFlashedBoard sources board

@@ -4,14 +4,14 @@ ghost use Rattle.std.specs.Prelude.{◌≡◌, ◌<◌, ◌++◌, ◌∷◌, [],
 ghost use Rattle.std.specs.List.{All, AllZip, filter};
 ghost use Rattle.ring_rules.specs.WithoutFindings.{NamesPlaces};
 ghost use Rattle.board_report.specs.Rows.{AreFilesWithHoles};
-ghost use Rattle.report.specs.Causes.{HoldsFlashesAndBests};
+ghost use Rattle.report.specs.Causes.{HoldsRowsAndBests};
 ghost use Rattle.board_report.specs.Inner.EntriesSoFar.{AddsEntry, AreBoardBests, IsCurrentLayer, IsBoardData};
-ghost use Rattle.board_report.specs.BoardReport.{IsRingEntry, IsRingEntryAt, is_gap, layer_flashes};
+ghost use Rattle.board_report.specs.BoardReport.{IsRingEntry, IsRingEntryAt, is_gap, layer_pads, layer_rows};
 
 use crate::FileHoles;
 use crate::hole_places::hole_at;
+use further_copper::FeatureRow;
 use grid_units::Rules;
-use layer_image::Flash;
 use margins::BestPad;
 use package_check::Board;
 use report::{CauseFinder, RingLack};
@@ -40,18 +40,18 @@ pub(crate) struct CurrentLayer {
     pub(crate) causes: CauseFinder,
 }
 
-/// The flashes of a layer, by its place among the copper files.
-fn layer_flashes(board: &Board, layer: usize) -> &[Flash]
-    ensures { result.now ≡ layer_flashes board.now layer }
+/// The rows of a layer, by its place among the copper files.
+fn layer_rows(board: &Board, layer: usize) -> &[FeatureRow]
+    ensures { result.now ≡ layer_rows board.now layer }
 {
     let file = match board.layer_indexes().get(layer) {
         Some(file) => *file,
         None => 0,
     };
-    board.flashes_of(file)
+    board.rows_of(file)
 }
 
-/// The data of a layer for its causes, by its pads and the best of them for each hole.
+/// The data of a layer for its causes, by its rows, its pads and the best of them for each hole.
 fn cause_finder_on(
     alloc: Global,
     board: &Board,
@@ -59,13 +59,12 @@ fn cause_finder_on(
     layer: usize,
 ) -> Result<CauseFinder, AllocError>
     requires { IsBoardData board.now board_data.now }
-    ensures { IfOk result (HoldsFlashesAndBests (layer_flashes board.now layer) board.now.holes) }
+    ensures { IfOk result (HoldsRowsAndBests (layer_rows board.now layer) (layer_pads board.now layer) board.now.holes) }
 {
-    let flashes = layer_flashes(board, layer);
-    let holes = board.holes();
-    match (board_data.layers.get(layer), board_data.bests.get(layer)) {
-        (Some(pads), Some(bests)) => CauseFinder::with_bests(alloc, flashes, holes, pads, bests),
-        _ => CauseFinder::new(alloc, flashes, holes),
+    let rows = layer_rows(board, layer);
+    match board_data.bests.get(layer) {
+        Some(bests) => CauseFinder::with_bests(alloc, rows, bests),
+        None => CauseFinder::new(alloc, rows, board.pads_of(layer), board.holes()),
     }
 }
 
@@ -110,23 +109,20 @@ fn switch_layer(
 }
 
 /// The entry of a hole that lacks its ring, by the data of the layer.
-fn ring_lack(
-    board: &Board,
-    files: &[FileHoles],
-    current: &CurrentLayer,
-    hole: usize,
-    rules: Rules,
-) -> RingLack
-    requires files { AreFilesWithHoles board.now files.now }
+fn ring_lack(board: &Board, board_data: &BoardData, current: &CurrentLayer, hole: usize) -> RingLack
+    requires board_data { IsBoardData board.now board_data.now }
     requires current { IsCurrentLayer board.now current.now }
     requires hole { hole < length board.now.holes }
-    ensures { IsRingEntryAt board.now rules.ring current.now.layer hole result }
+    ensures { IsRingEntryAt board.now board_data.now.rules current.now.layer hole result }
 {
-    let flashes = layer_flashes(board, current.layer);
+    let rows = layer_rows(board, current.layer);
+    let pads = board.pads_of(current.layer);
     RingLack {
         layer: current.layer,
-        at: hole_at(board, files, hole),
-        cause: current.causes.cause(flashes, board.holes(), hole, rules),
+        at: hole_at(board, board_data.files, hole),
+        cause: current
+            .causes
+            .cause(rows, pads, board.holes(), hole, board_data.rules),
     }
 }
 
@@ -140,18 +136,17 @@ fn add<T: Copy>(all: &mut Vec<T>, item: T) -> Result<(), AllocError>
 /// Appends the entry of a hole that lacks its ring, by the data of the layer.
 fn push_on_layer(
     board: &Board,
-    files: &[FileHoles],
+    board_data: &BoardData,
     current: &CurrentLayer,
     hole: usize,
-    rules: Rules,
     output: &mut Vec<RingLack>,
 ) -> Result<(), AllocError>
-    requires files { AreFilesWithHoles board.now files.now }
+    requires board_data { IsBoardData board.now board_data.now }
     requires current { IsCurrentLayer board.now current.now }
     requires hole { hole < length board.now.holes }
-    ensures { OnOk result ((lack : RingLack) × IsRingEntryAt board.now rules.ring current.now.layer hole lack × (output.new.items ≡ output.old.items ++ lack ∷ [])) }
+    ensures { OnOk result ((lack : RingLack) × IsRingEntryAt board.now board_data.now.rules current.now.layer hole lack × (output.new.items ≡ output.old.items ++ lack ∷ [])) }
 {
-    add(output, ring_lack(board, files, current, hole, rules))
+    add(output, ring_lack(board, board_data, current, hole))
 }
 
 /// Appends the entry of a hole that lacks its ring on a layer.
@@ -168,17 +163,10 @@ fn push_at(
     requires current { IfSome current (IsCurrentLayer board.now) }
     requires hole { hole < length board.now.holes }
     ensures current { IfOk result (λ some. IfSome some (IsCurrentLayer board.now)) }
-    ensures adds { OnOk result ((lack : RingLack) × IsRingEntryAt board.now board_data.now.rules.ring layer hole lack × (output.new.items ≡ output.old.items ++ lack ∷ [])) }
+    ensures adds { OnOk result ((lack : RingLack) × IsRingEntryAt board.now board_data.now.rules layer hole lack × (output.new.items ≡ output.old.items ++ lack ∷ [])) }
 {
     let current = switch_layer(alloc, board, board_data, current, layer)?;
-    push_on_layer(
-        board,
-        board_data.files,
-        &current,
-        hole,
-        board_data.rules,
-        output,
-    )?;
+    push_on_layer(board, board_data, &current, hole, output)?;
     Ok(Some(current))
 }
 
@@ -195,7 +183,7 @@ fn push(
     requires current { IfSome current (IsCurrentLayer board.now) }
     requires places { NamesPlaces (length board.now.layers) (length board.now.holes) finding }
     ensures current { IfOk result (λ some. IfSome some (IsCurrentLayer board.now)) }
-    ensures adds { OnOk result (AddsEntry (not (is_gap finding)) (IsRingEntry board.now board_data.now.rules.ring) finding output.old.items output.new.items) }
+    ensures adds { OnOk result (AddsEntry (not (is_gap finding)) (IsRingEntry board.now board_data.now.rules) finding output.old.items output.new.items) }
 {
     match finding {
         Finding::Ring { layer, hole } | Finding::Oblique { layer, hole } => {
@@ -214,7 +202,7 @@ fn ring_lacks_of(
 ) -> Result<Vec<RingLack>, AllocError>
     requires board_data { IsBoardData board.now board_data.now }
     requires places { All (NamesPlaces (length board.now.layers) (length board.now.holes)) findings.now }
-    ensures { IfOk result (λ output. AllZip (IsRingEntry board.now board_data.now.rules.ring) (filter (λ finding. not (is_gap finding)) findings.now) output.items) }
+    ensures { IfOk result (λ output. AllZip (IsRingEntry board.now board_data.now.rules) (filter (λ finding. not (is_gap finding)) findings.now) output.items) }
 {
     let mut output = Vec::new(alloc);
     let mut current = None;
@@ -236,7 +224,7 @@ pub(crate) fn ring_lacks(
     requires bests { AreBoardBests board.now bests.now }
     requires files { AreFilesWithHoles board.now files.now }
     requires places { All (NamesPlaces (length board.now.layers) (length board.now.holes)) findings.now }
-    ensures { IfOk result (λ output. AllZip (IsRingEntry board.now rules.ring) (filter (λ finding. not (is_gap finding)) findings.now) output.items) }
+    ensures { IfOk result (λ output. AllZip (IsRingEntry board.now rules) (filter (λ finding. not (is_gap finding)) findings.now) output.items) }
 {
     let layers = board.layers(alloc)?;
     let board_data = BoardData {

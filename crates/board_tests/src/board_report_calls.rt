@@ -50,7 +50,10 @@ fn cause_words(cause: RingCause) -> (&'static str, usize, i64, i64) {
     match cause {
         RingCause::TooSmall(pad) => ("small", pad.flash, pad.ring, pad.lack),
         RingCause::OffCentre(pad) => ("off", pad.flash, pad.ring, pad.lack),
+        RingCause::Edge(pad) => ("edge", pad.flash, pad.ring, pad.lack),
         RingCause::Other { flash, .. } => ("other", flash, 0, 0),
+        RingCause::Clear { flash } => ("clear", flash, 0, 0),
+        RingCause::Cleared { flash } => ("cleared", flash, 0, 0),
         RingCause::NoFlash => ("nothing", 0, 0, 0),
         RingCause::Oblique => ("oblique", 0, 0, 0),
     }

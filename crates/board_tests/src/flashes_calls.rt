@@ -24,7 +24,7 @@ fn flashes_stand_in_the_order_of_the_files(rt: HostRuntime) -> Result<(), Failur
     let board = read_package(rt.alloc(), Profile::Strict, &files, Keep::Flashes)
         .ok()
         .ok_or("no board")?;
-    let counts = [0, 1, 2].map(|file| board.flashes_of(file).len());
+    let counts = [0, 1, 2].map(|file| board.rows_of(file).len());
     let layers = board.layers(rt.alloc())?.len();
     assert!(rt; counts == [0, 2, 0] && layers == 1);
     Ok(())

@@ -4,7 +4,7 @@ use Rattle.clap.proofs.OnLiterals.{clap_on_literals}
 use Rattle.clap.proofs.WalkLemmas.{both}
 use Rattle.clap.specs.Words.{Text, fault_of, is_simple, is_simple_and_free}
 use Rattle.clap.specs.declared.error.kind.ErrorKind.TheVariants.{DisplayVersion}
-use Rattle.command_line.specs.ProgramArgs.{are_plain_rules, check_words, draw_words, explain_words, file_words, is_plain_if_some, is_plain_word, measure_words, report_words, ringcheck_app}
+use Rattle.command_line.specs.ProgramArgs.{are_plain_rules, check_words, draw_words, explain_words, is_plain_if_some, is_plain_word, measure_words, report_words, rewrite_words, ringcheck_app, show_words}
 use Rattle.command_line.proofs.GivenOptions.{Options, rows_of}
 use Rattle.command_line.proofs.NamedCommand.{IsCommand, answer, command_answer}
 
@@ -34,15 +34,15 @@ check_answer r g f m p q t s =
 
 -- ---- `report`
 
-abbrev pub report_options : Text → Text → Option Text → Option Text → Option Text → Option Text → Text → Options
-report_options r g n v l o m = (codes "ring", Some r) ∷ (codes "gap", Some g) ∷ (codes "max", n) ∷ (codes "waive", v) ∷ (codes "outline", l) ∷ (codes "format", o) ∷ (codes "manifest", Some m) ∷ []
+abbrev pub report_options : Text → Text → Option Text → Option Text → Option Text → Option Text → Option Text → Text → Options
+report_options r g f n v l o m = (codes "ring", Some r) ∷ (codes "gap", Some g) ∷ (codes "profile", f) ∷ (codes "max", n) ∷ (codes "waive", v) ∷ (codes "outline", l) ∷ (codes "format", o) ∷ (codes "manifest", Some m) ∷ []
 
-pub report_answer : (r g : Text) (n v l o : Option Text) (m : Text) → is_plain_word r ≡ true → is_plain_word g ≡ true → is_plain_if_some n ≡ true → is_plain_if_some v ≡ true
-    → is_plain_if_some l ≡ true → is_plain_if_some o ≡ true → is_plain_word m ≡ true → answer (report_words r g n v l o m) ≡ (true, Some (codes "report", rows_of (report_options r g n v l o m)))
+pub report_answer : (r g : Text) (f n v l o : Option Text) (m : Text) → is_plain_word r ≡ true → is_plain_word g ≡ true → is_plain_if_some f ≡ true → is_plain_if_some n ≡ true → is_plain_if_some v ≡ true
+    → is_plain_if_some l ≡ true → is_plain_if_some o ≡ true → is_plain_word m ≡ true → answer (report_words r g f n v l o m) ≡ (true, Some (codes "report", rows_of (report_options r g f n v l o m)))
 unfolding clap_on_literals
-report_answer r g n v l o m p q t w x u s =
-    command_answer (codes "report") ((codes "ring", Some r) ∷ (codes "gap", Some g) ∷ (codes "max", n) ∷ (codes "waive", v) ∷ (codes "outline", l) ∷ (codes "format", o) ∷ []) (codes "manifest") m
-    (record { named = (λ rest. refl, λ rest. refl); options = (refl, (refl, (refl, (refl, (refl, (refl, tt)))))); end = refl }) (p, (q, (t, (w, (x, (u, tt)))))) s
+report_answer r g f n v l o m p q y t w x u s =
+    command_answer (codes "report") ((codes "ring", Some r) ∷ (codes "gap", Some g) ∷ (codes "profile", f) ∷ (codes "max", n) ∷ (codes "waive", v) ∷ (codes "outline", l) ∷ (codes "format", o) ∷ []) (codes "manifest") m
+    (record { named = (λ rest. refl, λ rest. refl); options = (refl, (refl, (refl, (refl, (refl, (refl, (refl, tt))))))); end = refl }) (p, (q, (y, (t, (w, (x, (u, tt))))))) s
 
 -- ---- `measure`
 
@@ -58,34 +58,39 @@ measure_answer p o m q t s =
 
 -- ---- `draw`
 
-abbrev given : Option (Text × Text) → Option Text → Options
-given o l = (codes "ring", option_map (λ rules. rules.0) o) ∷ (codes "gap", option_map (λ rules. rules.1) o) ∷ (codes "outline", l) ∷ []
+abbrev given : Option (Text × Text) → Option Text → Option Text → Options
+given o f l = (codes "ring", option_map (λ rules. rules.0) o) ∷ (codes "gap", option_map (λ rules. rules.1) o) ∷ (codes "profile", f) ∷ (codes "outline", l) ∷ []
 
-abbrev pub draw_options : Option (Text × Text) → Option Text → Text → Options
-draw_options o l m = (codes "ring", option_map (λ rules. rules.0) o) ∷ (codes "gap", option_map (λ rules. rules.1) o) ∷ (codes "outline", l) ∷ (codes "manifest", Some m) ∷ []
+abbrev pub draw_options : Option (Text × Text) → Option Text → Option Text → Text → Options
+draw_options o f l m = (codes "ring", option_map (λ rules. rules.0) o) ∷ (codes "gap", option_map (λ rules. rules.1) o) ∷ (codes "profile", f) ∷ (codes "outline", l) ∷ (codes "manifest", Some m) ∷ []
 
-is_draw : (o : Option (Text × Text)) (l : Option Text) (m : Text) → IsCommand (codes "draw") (given o l) (codes "manifest") m
+is_draw : (o : Option (Text × Text)) (f l : Option Text) (m : Text) → IsCommand (codes "draw") (given o f l) (codes "manifest") m
 unfolding clap_on_literals
-is_draw o l m = record { named = (λ rest. refl, λ rest. refl); options = (refl, (refl, (refl, tt))); end = refl }
+is_draw o f l m = record { named = (λ rest. refl, λ rest. refl); options = (refl, (refl, (refl, (refl, tt)))); end = refl }
 
-pub draw_answer : (o : Option (Text × Text)) (l : Option Text) (m : Text) → are_plain_rules o ≡ true → is_plain_if_some l ≡ true → is_plain_word m ≡ true
-    → answer (draw_words o l m) ≡ (true, Some (codes "draw", rows_of (draw_options o l m)))
-draw_answer None l m p t s = command_answer (codes "draw") (given None l) (codes "manifest") m (is_draw None l m) (refl, (refl, (t, tt))) s
-draw_answer (Some (r, g)) l m p t s =
+pub draw_answer : (o : Option (Text × Text)) (f l : Option Text) (m : Text) → are_plain_rules o ≡ true → is_plain_if_some f ≡ true → is_plain_if_some l ≡ true → is_plain_word m ≡ true
+    → answer (draw_words o f l m) ≡ (true, Some (codes "draw", rows_of (draw_options o f l m)))
+draw_answer None f l m p y t s = command_answer (codes "draw") (given None f l) (codes "manifest") m (is_draw None f l m) (refl, (refl, (y, (t, tt)))) s
+draw_answer (Some (r, g)) f l m p y t s =
     let k = both (is_plain_word r) (is_plain_word g) p in
-    command_answer (codes "draw") (given (Some (r, g)) l) (codes "manifest") m (is_draw (Some (r, g)) l m) (k.0, (k.1, (t, tt))) s
+    command_answer (codes "draw") (given (Some (r, g)) f l) (codes "manifest") m (is_draw (Some (r, g)) f l m) (k.0, (k.1, (y, (t, tt)))) s
 
 -- ---- `show` and `rewrite`
 
-abbrev pub file_options : Text → Text → Options
-file_options k f = (codes "kind", Some k) ∷ (codes "file", Some f) ∷ []
+abbrev pub show_options : Text → Option Text → Text → Options
+show_options k p f = (codes "kind", Some k) ∷ (codes "profile", p) ∷ (codes "file", Some f) ∷ []
 
-pub show_answer : (k f : Text) → is_plain_word k ≡ true → is_plain_word f ≡ true → answer (file_words (codes "show") k f) ≡ (true, Some (codes "show", rows_of (file_options k f)))
+pub show_answer : (k : Text) (p : Option Text) (f : Text) → is_plain_word k ≡ true → is_plain_if_some p ≡ true → is_plain_word f ≡ true
+    → answer (show_words k p f) ≡ (true, Some (codes "show", rows_of (show_options k p f)))
 unfolding clap_on_literals
-show_answer k f p q =
-    command_answer (codes "show") ((codes "kind", Some k) ∷ []) (codes "file") f (record { named = (λ rest. refl, λ rest. refl); options = (refl, tt); end = refl }) (p, tt) q
+show_answer k p f q t s =
+    command_answer (codes "show") ((codes "kind", Some k) ∷ (codes "profile", p) ∷ []) (codes "file") f
+    (record { named = (λ rest. refl, λ rest. refl); options = (refl, (refl, tt)); end = refl }) (q, (t, tt)) s
 
-pub rewrite_answer : (k f : Text) → is_plain_word k ≡ true → is_plain_word f ≡ true → answer (file_words (codes "rewrite") k f) ≡ (true, Some (codes "rewrite", rows_of (file_options k f)))
+abbrev pub rewrite_options : Text → Text → Options
+rewrite_options k f = (codes "kind", Some k) ∷ (codes "file", Some f) ∷ []
+
+pub rewrite_answer : (k f : Text) → is_plain_word k ≡ true → is_plain_word f ≡ true → answer (rewrite_words k f) ≡ (true, Some (codes "rewrite", rows_of (rewrite_options k f)))
 unfolding clap_on_literals
 rewrite_answer k f p q =
     command_answer (codes "rewrite") ((codes "kind", Some k) ∷ []) (codes "file") f (record { named = (λ rest. refl, λ rest. refl); options = (refl, tt); end = refl }) (p, tt) q

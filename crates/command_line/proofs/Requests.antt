@@ -7,7 +7,7 @@ use Rattle.clap.specs.Words.{Text}
 use Rattle.command_line.specs.declared.Request.{Request}
 use Rattle.command_line.specs.declared.Request.TheVariants.{Measure, Report, Draw, Show, Rewrite, Manifest, Explain}
 use Rattle.command_line.specs.ProgramArgs.{IsRequestOf, IsDraw, IsExplain, IsManifest, IsMeasure, IsReport, IsRewrite, IsShow}
-use Rattle.command_line.proofs.CommandWords.{draw_options, file_options, measure_options, report_options, word_options}
+use Rattle.command_line.proofs.CommandWords.{draw_options, measure_options, report_options, rewrite_options, show_options, word_options}
 use Rattle.command_line.proofs.GivenOptions.{first_is, rows_of}
 use Rattle.command_line.proofs.ManifestWords.{rows_of_manifest}
 
@@ -24,37 +24,41 @@ is_measure p o m (Measure profile format manifest) a =
     (sym a.1 ∙ first_is (codes "profile") all, sym a.2 ∙ first_is (codes "format") all, some_is manifest.now m (sym a.3 ∙ first_is (codes "manifest") all))
 is_measure p o m request a = absurd (differ (codes "measure") a.0 refl)
 
-pub is_report : (r g : Text) (n v l o : Option Text) (m : Text) (request : Request) → IsRequestOf (Some (codes "report", rows_of (report_options r g n v l o m))) request → IsReport r g n v l o m request
-is_report r g n v l o m (Report ring gap limit waive outline format manifest) a =
-    let all = report_options r g n v l o m in (
+pub is_report : (r g : Text) (f n v l o : Option Text) (m : Text) (request : Request) → IsRequestOf (Some (codes "report", rows_of (report_options r g f n v l o m))) request → IsReport r g f n v l o m request
+is_report r g f n v l o m (Report ring gap profile limit waive outline format manifest) a =
+    let all = report_options r g f n v l o m in (
       some_is ring.now r (sym a.1 ∙ first_is (codes "ring") all),
       some_is gap.now g (sym a.2 ∙ first_is (codes "gap") all),
-      sym a.3 ∙ first_is (codes "max") all,
-      sym a.4 ∙ first_is (codes "waive") all,
-      sym a.5 ∙ first_is (codes "outline") all,
-      sym a.6 ∙ first_is (codes "format") all,
-      some_is manifest.now m (sym a.7 ∙ first_is (codes "manifest") all),
+      sym a.3 ∙ first_is (codes "profile") all,
+      sym a.4 ∙ first_is (codes "max") all,
+      sym a.5 ∙ first_is (codes "waive") all,
+      sym a.6 ∙ first_is (codes "outline") all,
+      sym a.7 ∙ first_is (codes "format") all,
+      some_is manifest.now m (sym a.8 ∙ first_is (codes "manifest") all),
     )
-is_report r g n v l o m request a = absurd (differ (codes "report") a.0 refl)
+is_report r g f n v l o m request a = absurd (differ (codes "report") a.0 refl)
 
-pub is_draw : (o : Option (Text × Text)) (l : Option Text) (m : Text) (request : Request) → IsRequestOf (Some (codes "draw", rows_of (draw_options o l m))) request → IsDraw o l m request
-is_draw o l m (Draw ring gap outline manifest) a =
-    let all = draw_options o l m in (
+pub is_draw : (o : Option (Text × Text)) (f l : Option Text) (m : Text) (request : Request) → IsRequestOf (Some (codes "draw", rows_of (draw_options o f l m))) request → IsDraw o f l m request
+is_draw o f l m (Draw ring gap profile outline manifest) a =
+    let all = draw_options o f l m in (
       sym a.1 ∙ first_is (codes "ring") all,
       sym a.2 ∙ first_is (codes "gap") all,
-      sym a.3 ∙ first_is (codes "outline") all,
-      some_is manifest.now m (sym a.4 ∙ first_is (codes "manifest") all),
+      sym a.3 ∙ first_is (codes "profile") all,
+      sym a.4 ∙ first_is (codes "outline") all,
+      some_is manifest.now m (sym a.5 ∙ first_is (codes "manifest") all),
     )
-is_draw o l m request a = absurd (differ (codes "draw") a.0 refl)
+is_draw o f l m request a = absurd (differ (codes "draw") a.0 refl)
 
-pub is_show : (k f : Text) (request : Request) → IsRequestOf (Some (codes "show", rows_of (file_options k f))) request → IsShow k f request
-is_show k f (Show kind file) a =
-    (some_is kind.now k (sym a.1 ∙ first_is (codes "kind") (file_options k f)), some_is file.now f (sym a.2 ∙ first_is (codes "file") (file_options k f)))
-is_show k f request a = absurd (differ (codes "show") a.0 refl)
+pub is_show : (k : Text) (p : Option Text) (f : Text) (request : Request) → IsRequestOf (Some (codes "show", rows_of (show_options k p f))) request → IsShow k p f request
+is_show k p f (Show kind profile file) a =
+    let all = show_options k p f in
+    (some_is kind.now k (sym a.1 ∙ first_is (codes "kind") all), sym a.2 ∙ first_is (codes "profile") all, some_is file.now f (sym a.3 ∙ first_is (codes "file") all))
+is_show k p f request a = absurd (differ (codes "show") a.0 refl)
 
-pub is_rewrite : (k f : Text) (request : Request) → IsRequestOf (Some (codes "rewrite", rows_of (file_options k f))) request → IsRewrite k f request
+pub is_rewrite : (k f : Text) (request : Request) → IsRequestOf (Some (codes "rewrite", rows_of (rewrite_options k f))) request → IsRewrite k f request
 is_rewrite k f (Rewrite kind file) a =
-    (some_is kind.now k (sym a.1 ∙ first_is (codes "kind") (file_options k f)), some_is file.now f (sym a.2 ∙ first_is (codes "file") (file_options k f)))
+    let all = rewrite_options k f in
+    (some_is kind.now k (sym a.1 ∙ first_is (codes "kind") all), some_is file.now f (sym a.2 ∙ first_is (codes "file") all))
 is_rewrite k f request a = absurd (differ (codes "rewrite") a.0 refl)
 
 pub is_manifest : (why : Bool) (fs : List Text) (request : Request) → IsRequestOf (Some (codes "manifest", rows_of_manifest why fs)) request → IsManifest why fs request

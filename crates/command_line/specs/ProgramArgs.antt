@@ -48,21 +48,25 @@ check_app =
 abbrev pub measure_app : App
 measure_app = with_rule (with_rule (with_rule (new_app (codes "measure")) (optional_option (codes "profile"))) (optional_option (codes "format"))) (positional (codes "manifest"))
 
--- `report --ring MM --gap MM [--max N] [--waive FILE] [--outline FILE] [--format text|html|json|waivers] MANIFEST`
+-- `report --ring MM --gap MM [--profile strict|wide] [--max N] [--waive FILE] [--outline FILE] [--format text|html|json|waivers] MANIFEST`
 abbrev pub report_app : App
 report_app =
-    with_rule (with_rule (with_rule (with_rule (with_rule (with_rule (with_rule (new_app (codes "report")) (option (codes "ring"))) (option (codes "gap"))) (optional_option (codes "max")))
+    with_rule (with_rule (with_rule (with_rule (with_rule (with_rule (with_rule (with_rule (new_app (codes "report")) (option (codes "ring"))) (option (codes "gap"))) (optional_option (codes "profile"))) (optional_option (codes "max")))
     (optional_option (codes "waive"))) (optional_option (codes "outline"))) (optional_option (codes "format"))) (positional (codes "manifest"))
 
--- `draw [--ring MM --gap MM] [--outline FILE] MANIFEST`
+-- `draw [--ring MM --gap MM] [--profile strict|wide] [--outline FILE] MANIFEST`
 abbrev pub draw_app : App
 draw_app =
-    with_rule (with_rule (with_rule (with_rule (new_app (codes "draw")) (optional_option (codes "ring"))) (optional_option (codes "gap"))) (optional_option (codes "outline")))
+    with_rule (with_rule (with_rule (with_rule (with_rule (new_app (codes "draw")) (optional_option (codes "ring"))) (optional_option (codes "gap"))) (optional_option (codes "profile"))) (optional_option (codes "outline")))
     (positional (codes "manifest"))
 
--- `show --kind layer|drill FILE` and `rewrite --kind layer|drill FILE`
-abbrev pub file_app : Text → App
-file_app name = with_rule (with_rule (new_app name) (option (codes "kind"))) (positional (codes "file"))
+-- `show --kind layer|drill [--profile strict|wide] FILE`
+abbrev pub show_app : App
+show_app = with_rule (with_rule (with_rule (new_app (codes "show")) (option (codes "kind"))) (optional_option (codes "profile"))) (positional (codes "file"))
+
+-- `rewrite --kind layer|drill FILE`
+abbrev pub rewrite_app : App
+rewrite_app = with_rule (with_rule (new_app (codes "rewrite")) (option (codes "kind"))) (positional (codes "file"))
 
 -- `manifest [--why] FILE..`
 abbrev pub manifest_app : App
@@ -81,7 +85,7 @@ abbrev pub ringcheck_app : App
 ringcheck_app =
     with_subcommand (with_subcommand (with_subcommand (with_subcommand (with_subcommand (with_subcommand (with_subcommand (with_subcommand program_app
     check_app.top) report_app.top) measure_app.top) draw_app.top) manifest_app.top) explain_app.top)
-    (file_app (codes "show")).top) (file_app (codes "rewrite")).top
+    show_app.top) rewrite_app.top
 
 -- ---- what any words ask for
 
@@ -100,15 +104,17 @@ IsRequestOf (Some (name, rows)) (Check ring gap profile manifest) =
 IsRequestOf (Some (name, rows)) (Measure profile format manifest) =
     (name ≡ codes "measure") × (first_of (codes "profile") rows ≡ option_map (λ p. p.now) profile)
     × (first_of (codes "format") rows ≡ option_map (λ f. f.now) format) × (first_of (codes "manifest") rows ≡ Some manifest.now)
-IsRequestOf (Some (name, rows)) (Report ring gap limit waive outline format manifest) =
+IsRequestOf (Some (name, rows)) (Report ring gap profile limit waive outline format manifest) =
     (name ≡ codes "report") × (first_of (codes "ring") rows ≡ Some ring.now) × (first_of (codes "gap") rows ≡ Some gap.now)
-    × (first_of (codes "max") rows ≡ option_map (λ n. n.now) limit) × (first_of (codes "waive") rows ≡ option_map (λ w. w.now) waive)
+    × (first_of (codes "profile") rows ≡ option_map (λ p. p.now) profile) × (first_of (codes "max") rows ≡ option_map (λ n. n.now) limit) × (first_of (codes "waive") rows ≡ option_map (λ w. w.now) waive)
     × (first_of (codes "outline") rows ≡ option_map (λ o. o.now) outline) × (first_of (codes "format") rows ≡ option_map (λ f. f.now) format)
     × (first_of (codes "manifest") rows ≡ Some manifest.now)
-IsRequestOf (Some (name, rows)) (Draw ring gap outline manifest) =
+IsRequestOf (Some (name, rows)) (Draw ring gap profile outline manifest) =
     (name ≡ codes "draw") × (first_of (codes "ring") rows ≡ option_map (λ r. r.now) ring) × (first_of (codes "gap") rows ≡ option_map (λ g. g.now) gap)
-    × (first_of (codes "outline") rows ≡ option_map (λ o. o.now) outline) × (first_of (codes "manifest") rows ≡ Some manifest.now)
-IsRequestOf (Some (name, rows)) (Show kind file) = (name ≡ codes "show") × (first_of (codes "kind") rows ≡ Some kind.now) × (first_of (codes "file") rows ≡ Some file.now)
+    × (first_of (codes "profile") rows ≡ option_map (λ p. p.now) profile) × (first_of (codes "outline") rows ≡ option_map (λ o. o.now) outline) × (first_of (codes "manifest") rows ≡ Some manifest.now)
+IsRequestOf (Some (name, rows)) (Show kind profile file) =
+    (name ≡ codes "show") × (first_of (codes "kind") rows ≡ Some kind.now) × (first_of (codes "profile") rows ≡ option_map (λ p. p.now) profile)
+    × (first_of (codes "file") rows ≡ Some file.now)
 IsRequestOf (Some (name, rows)) (Rewrite kind file) =
     (name ≡ codes "rewrite") × (first_of (codes "kind") rows ≡ Some kind.now) × (first_of (codes "file") rows ≡ Some file.now)
 IsRequestOf (Some (name, rows)) (Manifest why files) =
@@ -149,9 +155,9 @@ check_words ring gap profile manifest = codes "check" ∷ codes "--ring" ∷ rin
 abbrev pub IsCheck : Text → Text → Option Text → Text → Request → Type 0
 IsCheck r g p m (Check ring gap profile manifest) = (ring.now ≡ r) × (gap.now ≡ g) × (option_map (λ w. w.now) profile ≡ p) × (manifest.now ≡ m)
 IsCheck r g p m (Measure profile format manifest) = ⊥
-IsCheck r g p m (Report ring gap limit waive outline format manifest) = ⊥
-IsCheck r g p m (Draw ring gap outline manifest) = ⊥
-IsCheck r g p m (Show kind file) = ⊥
+IsCheck r g p m (Report ring gap profile limit waive outline format manifest) = ⊥
+IsCheck r g p m (Draw ring gap profile outline manifest) = ⊥
+IsCheck r g p m (Show kind profile file) = ⊥
 IsCheck r g p m (Rewrite kind file) = ⊥
 IsCheck r g p m (Manifest why files) = ⊥
 IsCheck r g p m (Explain word) = ⊥
@@ -166,28 +172,32 @@ ParsesAsCheck r g p m (Err (Usage text)) = ⊥
 
 -- ---- what the words of a command on one file ask for
 
--- the words `show --kind K F` or `rewrite --kind K F`
-abbrev pub file_words : Text → Text → Text → List Text
-file_words name kind file = name ∷ codes "--kind" ∷ kind ∷ file ∷ []
+-- the words `show --kind K [--profile P] F`
+abbrev pub show_words : Text → Option Text → Text → List Text
+show_words kind profile file = codes "show" ∷ codes "--kind" ∷ kind ∷ (option_words (codes "--profile") profile ++ file ∷ [])
 
--- the request is to show this file as one of this kind
-abbrev pub IsShow : Text → Text → Request → Type 0
-IsShow k f (Check ring gap profile manifest) = ⊥
-IsShow k f (Measure profile format manifest) = ⊥
-IsShow k f (Report ring gap limit waive outline format manifest) = ⊥
-IsShow k f (Draw ring gap outline manifest) = ⊥
-IsShow k f (Show kind file) = (kind.now ≡ k) × (file.now ≡ f)
-IsShow k f (Rewrite kind file) = ⊥
-IsShow k f (Manifest why files) = ⊥
-IsShow k f (Explain word) = ⊥
+-- the request is to show this file as one of this kind, with just this word for a profile or none
+abbrev pub IsShow : Text → Option Text → Text → Request → Type 0
+IsShow k p f (Check ring gap profile manifest) = ⊥
+IsShow k p f (Measure profile format manifest) = ⊥
+IsShow k p f (Report ring gap profile limit waive outline format manifest) = ⊥
+IsShow k p f (Draw ring gap profile outline manifest) = ⊥
+IsShow k p f (Show kind profile file) = (kind.now ≡ k) × (option_map (λ w. w.now) profile ≡ p) × (file.now ≡ f)
+IsShow k p f (Rewrite kind file) = ⊥
+IsShow k p f (Manifest why files) = ⊥
+IsShow k p f (Explain word) = ⊥
+
+-- the words `rewrite --kind K F`
+abbrev pub rewrite_words : Text → Text → List Text
+rewrite_words kind file = codes "rewrite" ∷ codes "--kind" ∷ kind ∷ file ∷ []
 
 -- the request is to rewrite this file as one of this kind
 abbrev pub IsRewrite : Text → Text → Request → Type 0
 IsRewrite k f (Check ring gap profile manifest) = ⊥
 IsRewrite k f (Measure profile format manifest) = ⊥
-IsRewrite k f (Report ring gap limit waive outline format manifest) = ⊥
-IsRewrite k f (Draw ring gap outline manifest) = ⊥
-IsRewrite k f (Show kind file) = ⊥
+IsRewrite k f (Report ring gap profile limit waive outline format manifest) = ⊥
+IsRewrite k f (Draw ring gap profile outline manifest) = ⊥
+IsRewrite k f (Show kind profile file) = ⊥
 IsRewrite k f (Rewrite kind file) = (kind.now ≡ k) × (file.now ≡ f)
 IsRewrite k f (Manifest why files) = ⊥
 IsRewrite k f (Explain word) = ⊥
@@ -214,9 +224,9 @@ manifest_words why files = codes "manifest" ∷ (if why then codes "--why" ∷ f
 abbrev pub IsManifest : Bool → List Text → Request → Type 0
 IsManifest w fs (Check ring gap profile manifest) = ⊥
 IsManifest w fs (Measure profile format manifest) = ⊥
-IsManifest w fs (Report ring gap limit waive outline format manifest) = ⊥
-IsManifest w fs (Draw ring gap outline manifest) = ⊥
-IsManifest w fs (Show kind file) = ⊥
+IsManifest w fs (Report ring gap profile limit waive outline format manifest) = ⊥
+IsManifest w fs (Draw ring gap profile outline manifest) = ⊥
+IsManifest w fs (Show kind profile file) = ⊥
 IsManifest w fs (Rewrite kind file) = ⊥
 IsManifest w fs (Manifest why files) = (why ≡ w) × (map (λ file. file.now) files.items ≡ fs)
 IsManifest w fs (Explain word) = ⊥
@@ -229,54 +239,55 @@ measure_words profile format manifest = codes "measure" ∷ (option_words (codes
 abbrev pub IsMeasure : Option Text → Option Text → Text → Request → Type 0
 IsMeasure p o m (Check ring gap profile manifest) = ⊥
 IsMeasure p o m (Measure profile format manifest) = (option_map (λ w. w.now) profile ≡ p) × (option_map (λ f. f.now) format ≡ o) × (manifest.now ≡ m)
-IsMeasure p o m (Report ring gap limit waive outline format manifest) = ⊥
-IsMeasure p o m (Draw ring gap outline manifest) = ⊥
-IsMeasure p o m (Show kind file) = ⊥
+IsMeasure p o m (Report ring gap profile limit waive outline format manifest) = ⊥
+IsMeasure p o m (Draw ring gap profile outline manifest) = ⊥
+IsMeasure p o m (Show kind profile file) = ⊥
 IsMeasure p o m (Rewrite kind file) = ⊥
 IsMeasure p o m (Manifest why files) = ⊥
 IsMeasure p o m (Explain word) = ⊥
 
--- the words `report --ring R --gap G [--max N] [--waive V] [--outline O] [--format F] M`
-abbrev pub report_words : Text → Text → Option Text → Option Text → Option Text → Option Text → Text → List Text
-report_words ring gap limit waive outline format manifest =
+-- the words `report --ring R --gap G [--profile P] [--max N] [--waive V] [--outline O] [--format F] M`
+abbrev pub report_words : Text → Text → Option Text → Option Text → Option Text → Option Text → Option Text → Text → List Text
+report_words ring gap profile limit waive outline format manifest =
     codes "report" ∷ codes "--ring" ∷ ring ∷ codes "--gap" ∷ gap
-    ∷ (option_words (codes "--max") limit ++ (option_words (codes "--waive") waive ++ (option_words (codes "--outline") outline ++ (option_words (codes "--format") format ++ manifest ∷ []))))
+    ∷ (option_words (codes "--profile") profile
+    ++ (option_words (codes "--max") limit ++ (option_words (codes "--waive") waive ++ (option_words (codes "--outline") outline ++ (option_words (codes "--format") format ++ manifest ∷ [])))))
 
--- the request is a report with just this ring, gap and manifest, and just these of a limit of findings, a file of waivers, a file of an outline and a format
-abbrev pub IsReport : Text → Text → Option Text → Option Text → Option Text → Option Text → Text → Request → Type 0
-IsReport r g n v l o m (Check ring gap profile manifest) = ⊥
-IsReport r g n v l o m (Measure profile format manifest) = ⊥
-IsReport r g n v l o m (Report ring gap limit waive outline format manifest) =
-    (ring.now ≡ r) × (gap.now ≡ g) × (option_map (λ t. t.now) limit ≡ n) × (option_map (λ w. w.now) waive ≡ v) × (option_map (λ f. f.now) outline ≡ l) × (option_map (λ f. f.now) format ≡ o) × (manifest.now ≡ m)
-IsReport r g n v l o m (Draw ring gap outline manifest) = ⊥
-IsReport r g n v l o m (Show kind file) = ⊥
-IsReport r g n v l o m (Rewrite kind file) = ⊥
-IsReport r g n v l o m (Manifest why files) = ⊥
-IsReport r g n v l o m (Explain word) = ⊥
+-- the request is a report with just this ring, gap and manifest, and just these of a profile, a limit of findings, a file of waivers, a file of an outline and a format
+abbrev pub IsReport : Text → Text → Option Text → Option Text → Option Text → Option Text → Option Text → Text → Request → Type 0
+IsReport r g p n v l o m (Check ring gap profile manifest) = ⊥
+IsReport r g p n v l o m (Measure profile format manifest) = ⊥
+IsReport r g p n v l o m (Report ring gap profile limit waive outline format manifest) =
+    (ring.now ≡ r) × (gap.now ≡ g) × (option_map (λ w. w.now) profile ≡ p) × (option_map (λ t. t.now) limit ≡ n) × (option_map (λ w. w.now) waive ≡ v) × (option_map (λ f. f.now) outline ≡ l) × (option_map (λ f. f.now) format ≡ o) × (manifest.now ≡ m)
+IsReport r g p n v l o m (Draw ring gap profile outline manifest) = ⊥
+IsReport r g p n v l o m (Show kind profile file) = ⊥
+IsReport r g p n v l o m (Rewrite kind file) = ⊥
+IsReport r g p n v l o m (Manifest why files) = ⊥
+IsReport r g p n v l o m (Explain word) = ⊥
 
--- the words `draw [--outline O] M` or `draw --ring R --gap G [--outline O] M`
-abbrev pub draw_words : Option (Text × Text) → Option Text → Text → List Text
-draw_words None outline manifest = codes "draw" ∷ (option_words (codes "--outline") outline ++ manifest ∷ [])
-draw_words (Some (ring, gap)) outline manifest =
-    codes "draw" ∷ codes "--ring" ∷ ring ∷ codes "--gap" ∷ gap ∷ (option_words (codes "--outline") outline ++ manifest ∷ [])
+-- the words `draw [--profile P] [--outline O] M` or `draw --ring R --gap G [--profile P] [--outline O] M`
+abbrev pub draw_words : Option (Text × Text) → Option Text → Option Text → Text → List Text
+draw_words None profile outline manifest = codes "draw" ∷ (option_words (codes "--profile") profile ++ (option_words (codes "--outline") outline ++ manifest ∷ []))
+draw_words (Some (ring, gap)) profile outline manifest =
+    codes "draw" ∷ codes "--ring" ∷ ring ∷ codes "--gap" ∷ gap ∷ (option_words (codes "--profile") profile ++ (option_words (codes "--outline") outline ++ manifest ∷ []))
 
 -- whether a ring and a gap that may be left out are plain where they are there
 abbrev pub are_plain_rules : Option (Text × Text) → Bool
 are_plain_rules None = true
 are_plain_rules (Some (ring, gap)) = is_plain_word ring && is_plain_word gap
 
--- the request is to draw the package of this manifest, with just this ring and gap or with neither, and just this file of an outline or none
-abbrev pub IsDraw : Option (Text × Text) → Option Text → Text → Request → Type 0
-IsDraw o l m (Check ring gap profile manifest) = ⊥
-IsDraw o l m (Measure profile format manifest) = ⊥
-IsDraw o l m (Report ring gap limit waive outline format manifest) = ⊥
-IsDraw o l m (Draw ring gap outline manifest) =
+-- the request is to draw the package of this manifest, with just this ring and gap or with neither, and just these of a profile and a file of an outline
+abbrev pub IsDraw : Option (Text × Text) → Option Text → Option Text → Text → Request → Type 0
+IsDraw o p l m (Check ring gap profile manifest) = ⊥
+IsDraw o p l m (Measure profile format manifest) = ⊥
+IsDraw o p l m (Report ring gap profile limit waive outline format manifest) = ⊥
+IsDraw o p l m (Draw ring gap profile outline manifest) =
     (option_map (λ r. r.now) ring ≡ option_map (λ rules. rules.0) o) × (option_map (λ g. g.now) gap ≡ option_map (λ rules. rules.1) o)
-    × (option_map (λ f. f.now) outline ≡ l) × (manifest.now ≡ m)
-IsDraw o l m (Show kind file) = ⊥
-IsDraw o l m (Rewrite kind file) = ⊥
-IsDraw o l m (Manifest why files) = ⊥
-IsDraw o l m (Explain word) = ⊥
+    × (option_map (λ w. w.now) profile ≡ p) × (option_map (λ f. f.now) outline ≡ l) × (manifest.now ≡ m)
+IsDraw o p l m (Show kind profile file) = ⊥
+IsDraw o p l m (Rewrite kind file) = ⊥
+IsDraw o p l m (Manifest why files) = ⊥
+IsDraw o p l m (Explain word) = ⊥
 
 -- the words `explain` or `explain W`
 abbrev pub explain_words : Option Text → List Text
@@ -287,9 +298,9 @@ explain_words (Some word) = codes "explain" ∷ word ∷ []
 abbrev pub IsExplain : Option Text → Request → Type 0
 IsExplain o (Check ring gap profile manifest) = ⊥
 IsExplain o (Measure profile format manifest) = ⊥
-IsExplain o (Report ring gap limit waive outline format manifest) = ⊥
-IsExplain o (Draw ring gap outline manifest) = ⊥
-IsExplain o (Show kind file) = ⊥
+IsExplain o (Report ring gap profile limit waive outline format manifest) = ⊥
+IsExplain o (Draw ring gap profile outline manifest) = ⊥
+IsExplain o (Show kind profile file) = ⊥
 IsExplain o (Rewrite kind file) = ⊥
 IsExplain o (Manifest why files) = ⊥
 IsExplain o (Explain word) = option_map (λ w. w.now) word ≡ o

@@ -2,7 +2,7 @@
 
 ghost use Rattle.std.specs.Prelude.{◌≡◌, IfOk, codes, false, true};
 ghost use Rattle.clap.specs.Words.{App, app_of, new_app, rule_of, with_subcommand};
-ghost use Rattle.command_line.specs.ProgramArgs.{check_app, draw_app, explain_app, file_app, manifest_app, optional, optional_option, measure_app, option, positional, program_app, report_app, ringcheck_app, one_or_more, flag};
+ghost use Rattle.command_line.specs.ProgramArgs.{check_app, draw_app, explain_app, manifest_app, optional, optional_option, measure_app, option, positional, program_app, report_app, rewrite_app, ringcheck_app, show_app, one_or_more, flag};
 ghost use Rattle.command_line.specs.Inner.AppParts.{file_commands_of, package_commands_of, report_args_of};
 
 use clap::{Arg, ArgAction, Command};
@@ -57,15 +57,20 @@ ring where holes without a pad are left out. Lengths are in mm, or any, or
 none. A line ring tells the least ring of the holes of one diameter.
 Example:  ringcheck measure board.csv";
 
+const REPORT_PROFILE: &str = "strict, the default, or wide: see check --help";
+
 // After `Usage: ` it stands on three lines, the others below the options of the first.
 const REPORT_USAGE: &str = "ringcheck report --ring <MM> --gap <MM> [--max <N>] [--waive <FILE>]
                         [--outline <FILE>] [--format <text|html|json|waivers>]
-                        <MANIFEST>";
+                        [--profile <strict|wide>] <MANIFEST>";
 
 const REPORT: &str = "The findings are those of check, in its order, with its status where none is
-waived; files have their names, lengths are in mm. Below stand the causes that
-occur, each with what to set, and the rules that the package meets.
+waived. Below stand the causes, and the rules that the package meets.
 Example:  ringcheck report --ring 0.125 --gap 0.25 board.csv";
+
+// After `Usage: ` it stands on two lines.
+const DRAW_USAGE: &str = "ringcheck draw [--ring <MM> --gap <MM>] [--profile <strict|wide>]
+                      [--outline <FILE>] <MANIFEST>";
 
 const DRAW: &str = "Each copper layer has a panel, seen from above, with its pads and its holes.
 With a ring and a gap the findings are drawn too: give both, or neither.
@@ -185,7 +190,7 @@ fn measure<'a>(alloc: Global) -> Result<Command<'a>, AllocError>
     ))
 }
 
-/// `report --ring MM --gap MM [--max N] [--waive FILE] [--outline FILE] [--format text|html|json|waivers] MANIFEST`
+/// `report --ring MM --gap MM [--profile strict|wide] [--max N] [--waive FILE] [--outline FILE] [--format text|html|json|waivers] MANIFEST`
 fn report<'a>(alloc: Global) -> Result<Command<'a>, AllocError>
     ensures { IfOk result (λ c. app_of c ≡ report_app) }
 {
@@ -197,7 +202,8 @@ fn report<'a>(alloc: Global) -> Result<Command<'a>, AllocError>
         REPORT,
     )
     .arg(ring_arg(alloc))?
-    .arg(gap_arg(alloc))?;
+    .arg(gap_arg(alloc))?
+    .arg(optional_option_arg(alloc, "profile", "NAME", REPORT_PROFILE))?;
     with_report_args(alloc, under_rules)
 }
 
@@ -228,7 +234,7 @@ fn with_report_args<'a>(alloc: Global, command: Command<'a>) -> Result<Command<'
         ))
 }
 
-/// `draw [--ring MM --gap MM] [--outline FILE] MANIFEST`
+/// `draw [--ring MM --gap MM] [--profile strict|wide] [--outline FILE] MANIFEST`
 fn draw<'a>(alloc: Global) -> Result<Command<'a>, AllocError>
     ensures { IfOk result (λ c. app_of c ≡ draw_app) }
 {
@@ -236,11 +242,12 @@ fn draw<'a>(alloc: Global) -> Result<Command<'a>, AllocError>
         alloc,
         "draw",
         "Draw a package as an SVG picture",
-        "ringcheck draw [--ring <MM> --gap <MM>] [--outline <FILE>] <MANIFEST>",
+        DRAW_USAGE,
         DRAW,
     )
     .arg(optional_option_arg(alloc, "ring", "MM", RING))?
     .arg(optional_option_arg(alloc, "gap", "MM", GAP))?
+    .arg(profile_arg(alloc))?
     .arg(optional_option_arg(alloc, "outline", "FILE", OUTLINE))?
     .arg(required_arg(
         alloc,
@@ -284,50 +291,35 @@ fn explain<'a>(alloc: Global) -> Result<Command<'a>, AllocError>
     ))
 }
 
-/// `show --kind layer|drill FILE`
+/// `show --kind layer|drill [--profile strict|wide] FILE`
 fn show<'a>(alloc: Global) -> Result<Command<'a>, AllocError>
-    ensures { IfOk result (λ c. app_of c ≡ file_app (codes "show")) }
+    ensures { IfOk result (λ c. app_of c ≡ show_app) }
 {
-    file_command(
+    new_command(
         alloc,
         "show",
         "Print the table of a layer's flashes or of a drill file's holes",
-        "ringcheck show --kind <layer|drill> <FILE>",
+        "ringcheck show --kind <layer|drill> [--profile <strict|wide>] <FILE>",
         SHOW,
     )
+    .arg(kind_arg(alloc))?
+    .arg(profile_arg(alloc))?
+    .arg(required_arg(alloc, "file", "FILE", "File to read"))
 }
 
 /// `rewrite --kind layer|drill FILE`
 fn rewrite<'a>(alloc: Global) -> Result<Command<'a>, AllocError>
-    ensures { IfOk result (λ c. app_of c ≡ file_app (codes "rewrite")) }
+    ensures { IfOk result (λ c. app_of c ≡ rewrite_app) }
 {
-    file_command(
+    new_command(
         alloc,
         "rewrite",
         "Print the canonical text of a layer or a drill file",
         "ringcheck rewrite --kind <layer|drill> <FILE>",
         REWRITE,
     )
-}
-
-/// `NAME --kind layer|drill FILE`
-fn file_command<'a>(
-    alloc: Global,
-    name: &'a str,
-    about: &'a str,
-    usage: &'a str,
-    below: &'a str,
-) -> Result<Command<'a>, AllocError>
-    ensures { IfOk result (λ c. app_of c ≡ file_app name.entry.now) }
-{
-    new_command(alloc, name, about, usage, below)
-        .arg(required_option_arg(
-            alloc,
-            "kind",
-            "layer|drill",
-            "A Gerber layer, or an Excellon drill file",
-        ))?
-        .arg(required_arg(alloc, "file", "FILE", "File to read"))
+    .arg(kind_arg(alloc))?
+    .arg(required_arg(alloc, "file", "FILE", "File to read"))
 }
 
 /// A command with its texts for help: what it does, its usage, and what is printed below.
@@ -387,6 +379,19 @@ fn gap_arg<'a>(alloc: Global) -> Arg<'a>
     ensures global { result.global ≡ false }
 {
     required_option_arg(alloc, "gap", "MM", GAP)
+}
+
+/// `--kind layer|drill`
+fn kind_arg<'a>(alloc: Global) -> Arg<'a>
+    ensures rule { rule_of result ≡ option (codes "kind") }
+    ensures global { result.global ≡ false }
+{
+    required_option_arg(
+        alloc,
+        "kind",
+        "layer|drill",
+        "A Gerber layer, or an Excellon drill file",
+    )
 }
 
 /// `[--profile strict|wide]`

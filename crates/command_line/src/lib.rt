@@ -2,12 +2,12 @@
 //!
 //! ```text
 //! ringcheck check --ring MM --gap MM [--profile strict|wide] MANIFEST
-//! ringcheck report --ring MM --gap MM [--max N] [--waive FILE] [--outline FILE] [--format text|html|json|waivers] MANIFEST
+//! ringcheck report --ring MM --gap MM [--profile strict|wide] [--max N] [--waive FILE] [--outline FILE] [--format text|html|json|waivers] MANIFEST
 //! ringcheck measure [--profile strict|wide] [--format text|json] MANIFEST
-//! ringcheck draw [--ring MM --gap MM] [--outline FILE] MANIFEST
+//! ringcheck draw [--ring MM --gap MM] [--profile strict|wide] [--outline FILE] MANIFEST
 //! ringcheck manifest [--why] FILE..
 //! ringcheck explain [WORD]
-//! ringcheck show --kind layer|drill FILE
+//! ringcheck show --kind layer|drill [--profile strict|wide] FILE
 //! ringcheck rewrite --kind layer|drill FILE
 //! ```
 #![tactic(auto)]
@@ -15,7 +15,7 @@
 ghost use Rattle.std.specs.Prelude.{◌≡◌, ◌∷◌, [], Bool, IfOk, IfSome, Some, None, List, Option, true, codes, length, map, option_map, string_bytes};
 ghost use Rattle.std.specs.List.{list_any};
 ghost use Rattle.clap.specs.Words.{Row, Text, first_of, found_of, kind_of, one_of, rows_of, subcommand_rows_of};
-ghost use Rattle.command_line.specs.ProgramArgs.{ParsesAs, ParsesAsCheck, ParsesLine, ParsesAsVersion, IsRequestOf, IsDraw, IsExplain, IsManifest, IsMeasure, IsReport, IsRewrite, IsShow, IsFlagValue, are_plain_rules, are_plain_words, check_words, draw_words, explain_words, file_words, is_plain_if_some, is_plain_word, manifest_words, measure_words, report_words};
+ghost use Rattle.command_line.specs.ProgramArgs.{ParsesAs, ParsesAsCheck, ParsesLine, ParsesAsVersion, IsRequestOf, IsDraw, IsExplain, IsManifest, IsMeasure, IsReport, IsRewrite, IsShow, IsFlagValue, are_plain_rules, are_plain_words, check_words, draw_words, explain_words, is_plain_if_some, is_plain_word, manifest_words, measure_words, report_words, rewrite_words, show_words};
 ghost use Rattle.command_line.specs.RefusalTexts as texts;
 ghost use Rattle.command_line.specs.RefusalTexts.{EndsUsageWith, EndsWith, TellsFault};
 ghost use Rattle.command_line.specs.Inner.RequestSteps.{HasCheckRows, IsCheckIfSome, IsRefusalFor};
@@ -45,12 +45,14 @@ pub enum Request<'a> {
         format: Option<&'a str>,
         manifest: &'a str,
     },
-    /// Print each finding under the ring and the gap, by how much it lacks, and why. The ring and the gap are texts in mm. `limit`
-    /// is the limit of findings, also a text: without it all of them are shown. `waive` is the name of a file of waivers, `outline`
-    /// that of a file with the board's edge, and `format` the word for a format, where they are given.
+    /// Print each finding under the ring and the gap, by how much it lacks, and why. The ring and the gap are texts in mm. `profile` is the
+    /// word for the profile that the files are read in, where one is given, and `limit` is the limit of findings, also a text: without it
+    /// all of them are shown. `waive` is the name of a file of waivers, `outline` that of a file with the board's edge, and `format` the
+    /// word for a format, where they are given.
     Report {
         ring: &'a str,
         gap: &'a str,
+        profile: Option<&'a str>,
         limit: Option<&'a str>,
         waive: Option<&'a str>,
         outline: Option<&'a str>,
@@ -58,16 +60,20 @@ pub enum Request<'a> {
         manifest: &'a str,
     },
     /// Draw the package of a manifest, with the findings under a ring and a gap where they are given. Both are texts in mm;
-    /// one of them may be there without the other. `outline` is the name of a file with the board's edge, where one is given.
+    /// one of them may be there without the other. `profile` is the word for the profile that the files are read in, and `outline` the
+    /// name of a file with the board's edge, where they are given.
     Draw {
         ring: Option<&'a str>,
         gap: Option<&'a str>,
+        profile: Option<&'a str>,
         outline: Option<&'a str>,
         manifest: &'a str,
     },
-    /// Print the table of a file, read as a layer or as a drill file.
+    /// Print the table of a file, read as a layer or as a drill file. `profile` is the word for the profile that it is read in, where one
+    /// is given.
     Show {
         kind: &'a str,
+        profile: Option<&'a str>,
         file: &'a str,
     },
     /// Print the canonical text of a file, read as a layer or as a drill file.
@@ -114,14 +120,14 @@ pub fn parse<'a>(alloc: Global, words: &'a [&'a str]) -> Result<Request<'a>, Ref
         → is_plain_word g ≡ true → is_plain_if_some profile ≡ true → is_plain_word m ≡ true → ParsesAsCheck r g profile m result }
     ensures measure { (profile format : Option Text) (m : Text) → map (λ w. w.now) words.entry.now ≡ measure_words profile format m → is_plain_if_some profile ≡ true
         → is_plain_if_some format ≡ true → is_plain_word m ≡ true → ParsesAs (IsMeasure profile format m) result }
-    ensures report { (r g : Text) (limit waive outline format : Option Text) (m : Text) → map (λ w. w.now) words.entry.now ≡ report_words r g limit waive outline format m
-        → is_plain_word r ≡ true → is_plain_word g ≡ true → is_plain_if_some limit ≡ true → is_plain_if_some waive ≡ true → is_plain_if_some outline ≡ true
-        → is_plain_if_some format ≡ true → is_plain_word m ≡ true → ParsesAs (IsReport r g limit waive outline format m) result }
-    ensures draw { (rules : Option (Text × Text)) (outline : Option Text) (m : Text) → map (λ w. w.now) words.entry.now ≡ draw_words rules outline m
-        → are_plain_rules rules ≡ true → is_plain_if_some outline ≡ true → is_plain_word m ≡ true → ParsesAs (IsDraw rules outline m) result }
-    ensures show { (k f : Text) → map (λ w. w.now) words.entry.now ≡ file_words (codes "show") k f → is_plain_word k ≡ true
-        → is_plain_word f ≡ true → ParsesAs (IsShow k f) result }
-    ensures rewrite { (k f : Text) → map (λ w. w.now) words.entry.now ≡ file_words (codes "rewrite") k f → is_plain_word k ≡ true
+    ensures report { (r g : Text) (profile limit waive outline format : Option Text) (m : Text) → map (λ w. w.now) words.entry.now ≡ report_words r g profile limit waive outline format m
+        → is_plain_word r ≡ true → is_plain_word g ≡ true → is_plain_if_some profile ≡ true → is_plain_if_some limit ≡ true → is_plain_if_some waive ≡ true → is_plain_if_some outline ≡ true
+        → is_plain_if_some format ≡ true → is_plain_word m ≡ true → ParsesAs (IsReport r g profile limit waive outline format m) result }
+    ensures draw { (rules : Option (Text × Text)) (profile outline : Option Text) (m : Text) → map (λ w. w.now) words.entry.now ≡ draw_words rules profile outline m
+        → are_plain_rules rules ≡ true → is_plain_if_some profile ≡ true → is_plain_if_some outline ≡ true → is_plain_word m ≡ true → ParsesAs (IsDraw rules profile outline m) result }
+    ensures show { (k : Text) (profile : Option Text) (f : Text) → map (λ w. w.now) words.entry.now ≡ show_words k profile f → is_plain_word k ≡ true
+        → is_plain_if_some profile ≡ true → is_plain_word f ≡ true → ParsesAs (IsShow k profile f) result }
+    ensures rewrite { (k f : Text) → map (λ w. w.now) words.entry.now ≡ rewrite_words k f → is_plain_word k ≡ true
         → is_plain_word f ≡ true → ParsesAs (IsRewrite k f) result }
     ensures manifest { (why : Bool) (fs : List Text) → map (λ w. w.now) words.entry.now ≡ manifest_words why fs → are_plain_words fs ≡ true
         → ParsesAs (IsManifest why fs) result }
@@ -203,10 +209,11 @@ fn report_request<'a>(values: &ArgMatches<'a>) -> Option<Request<'a>>
     let ring = value(values, "ring")?;
     let gap = value(values, "gap")?;
     let package = value(values, "manifest")?;
-    let outline = value(values, "outline");
+    let (profile, outline) = (value(values, "profile"), value(values, "outline"));
     Some(Request::Report {
         ring,
         gap,
+        profile,
         limit: value(values, "max"),
         waive: value(values, "waive"),
         outline,
@@ -219,9 +226,11 @@ fn draw_request<'a>(values: &ArgMatches<'a>) -> Option<Request<'a>>
     ensures { IfSome result (λ request. IsRequestOf (Some (codes "draw", rows_of (found_of values.now))) request) }
 {
     let package = value(values, "manifest")?;
+    let (gap, profile) = (value(values, "gap"), value(values, "profile"));
     Some(Request::Draw {
         ring: value(values, "ring"),
-        gap: value(values, "gap"),
+        gap,
+        profile,
         outline: value(values, "outline"),
         manifest: package,
     })
@@ -230,8 +239,10 @@ fn draw_request<'a>(values: &ArgMatches<'a>) -> Option<Request<'a>>
 fn show_request<'a>(values: &ArgMatches<'a>) -> Option<Request<'a>>
     ensures { IfSome result (λ request. IsRequestOf (Some (codes "show", rows_of (found_of values.now))) request) }
 {
+    let profile = value(values, "profile");
     Some(Request::Show {
         kind: value(values, "kind")?,
+        profile,
         file: value(values, "file")?,
     })
 }

@@ -6,7 +6,7 @@ use Rattle.grid_units.specs.Holes.{GridHole}
 use Rattle.grid_units.specs.Points.{GridPoint}
 use Rattle.layer_image.specs.declared.drawn.Drawn.{Drawn}
 use Rattle.layer_image.specs.declared.drawn.Drawn.TheVariants as drawn
-use Rattle.layer_image.specs.declared.flash.Flash.{Flash}
+use Rattle.further_copper.specs.declared.feature.FeatureRow.{FeatureRow}
 use Rattle.pad_shapes.specs.declared.pad.Pad.{Pad}
 use Rattle.pad_shapes.specs.declared.pad.Pad.TheVariants as pads
 use Rattle.pad_shapes.specs.Rounded.{GridRounded, rounded_bottom, rounded_left, rounded_right, rounded_top}
@@ -67,17 +67,17 @@ extents layers holes = flat_map (λ layer. map pad_extent layer) layers ++ map (
 abbrev pub whole_extent : List GridExtent → Option GridExtent
 whole_extent all = fold joined_to None all
 
--- the extent of a flash that is no pad: half a millimetre round its point; none for a pad
-abbrev pub cross_extent : Flash → List GridExtent
-cross_extent flash = map (λ point. extent_round point (5 * 10 ^ 8) (5 * 10 ^ 8)) (cross_of flash)
+-- the extent of a row that is no pad: half a millimetre round its point; none for a pad
+abbrev pub cross_extent : FeatureRow → List GridExtent
+cross_extent row = map (λ point. extent_round point (5 * 10 ^ 8) (5 * 10 ^ 8)) (cross_of row)
 
--- the extents of those flashes of some files that are no pads; `flashes` has a list for each file
-abbrev pub cross_extents : List (List Flash) → List ℕ → List GridExtent
-cross_extents flashes files = flat_map (λ file. flat_map cross_extent (get_or flashes file [])) files
+-- the extents of those rows of some files that are no pads; `rows` has a list for each file
+abbrev pub cross_extents : List (List FeatureRow) → List ℕ → List GridExtent
+cross_extents rows files = flat_map (λ file. flat_map cross_extent (get_or rows file [])) files
 
 -- the extent of a board: of all its pads, holes and other flashes
 abbrev pub board_extent : BoardView → Option GridExtent
-board_extent board = whole_extent (extents board.layers board.holes ++ cross_extents board.flashes board.layer_indexes)
+board_extent board = whole_extent (extents board.layers board.holes ++ cross_extents board.rows board.layer_indexes)
 
 -- the extent of an end: its point
 abbrev pub end_extent : GridPoint → GridExtent

@@ -2,13 +2,13 @@
 use Rattle.std.specs.Prelude.{◌≡◌, ◌==◌, ◌+◌, ◌-◌, ◌^◌, ◌+ℤ◌, ◌-ℤ◌, ◌++◌, ℕ, pos, min, List, [], codes, length, get_or, Option, None, Some, IsPermutation}
 use Rattle.std.specs.List.{AllZip, enumerate_from}
 use Rattle.grid_units.specs.Holes.{GridRules}
-use Rattle.layer_image.specs.Flashes.{pads_of}
 use Rattle.layer_image.specs.declared.drawn.Drawn.{Drawn}
-use Rattle.layer_image.specs.declared.flash.Flash.{Flash}
+use Rattle.wide_pads.specs.declared.wide_pad.WidePad.{WidePad}
+use Rattle.further_copper.specs.declared.feature.FeatureRow.{FeatureRow}
 use Rattle.ring_rules.specs.declared.finding.Drilled.{Drilled}
 use Rattle.ring_rules.specs.declared.finding.Finding.{Finding}
 use Rattle.package_check.specs.Boards.{BoardView, board_findings}
-use Rattle.picture.specs.Scenes.{AreSortedBySize, crosses_of, is_crowded, drawn_findings, shown_copper, unless_crowded}
+use Rattle.picture.specs.Scenes.{AreSortedBySize, crosses_of, is_crowded, drawn_findings, plain_pads, rounded_pads, shown_copper, unless_crowded}
 use Rattle.picture.specs.declared.scene.Scene.{Scene}
 use Rattle.picture.specs.Outlines.{shown_outline}
 use Rattle.drawing.specs.Boxes.{board_extent, outlined_extent}
@@ -24,13 +24,14 @@ findings_under None board = []
 findings_under (Some rules) board = board_findings rules board
 
 -- the contents of a layer's panel, by the layer's place among the copper files, from 0; `edge` are the parts of the board's outline
-pub record IsScene (layer : ℕ) (flashes : List Flash) (copper edge : List Drawn) (drilled : List Drilled) (findings : List Finding) (scene : Scene) : Type 0 where
-  pub crowded : scene.crowded ≡ is_crowded flashes drilled
+pub record IsScene (layer : ℕ) (rows : List FeatureRow) (pads : List WidePad) (copper edge : List Drawn) (drilled : List Drilled) (findings : List Finding) (scene : Scene) : Type 0 where
+  pub crowded : scene.crowded ≡ is_crowded rows drilled
   pub drawn : scene.drawn.now ≡ shown_copper scene.crowded copper
   pub outline : scene.outline.now ≡ edge
-  pub pads : IsPermutation (pads_of (unless_crowded scene.crowded flashes)) scene.pads.items
+  pub plain : IsPermutation (plain_pads (unless_crowded scene.crowded pads)) scene.pads.items
   pub order : AreSortedBySize scene.pads.items
-  pub crosses : scene.crosses.items ≡ crosses_of (unless_crowded scene.crowded flashes)
+  pub rounded : scene.rounded.items ≡ rounded_pads (unless_crowded scene.crowded pads)
+  pub crosses : scene.crosses.items ≡ crosses_of (unless_crowded scene.crowded rows)
   pub holes : scene.holes.now ≡ unless_crowded scene.crowded drilled
   pub lacks : scene.lacks.items ≡ drawn_findings layer drilled findings
 
@@ -45,7 +46,7 @@ pub record IsPanel (names : List (List ℕ)) (board : BoardView) (edge : List Dr
   pub first : panel.place.first ≡ (at.0 == 0)
   pub x : panel.place.x ≡ pos (box_left l at.0) -ℤ l.frame.left
   pub y : panel.place.y ≡ pos (box_top l at.0) +ℤ l.frame.top
-  pub scene : IsScene at.0 (get_or board.flashes at.1 []) (get_or board.drawn at.1 []) edge board.holes findings panel.scene
+  pub scene : IsScene at.0 (get_or board.rows at.1 []) (get_or board.layers at.0 []) (get_or board.drawn at.1 []) edge board.holes findings panel.scene
 
 -- the contents of a board's page, with these parts of its outline, under rules if there are any; `names` are those of its files, in order
 pub record IsPage (names : List (List ℕ)) (board : BoardView) (edge : List Drawn) (given_rules : Option GridRules) (drawing : Drawing) : Type 0 where

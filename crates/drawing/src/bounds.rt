@@ -5,7 +5,7 @@ ghost use Rattle.std.specs.List.{flat_map, fold};
 ghost use Rattle.drawing.specs.Boxes.{cross_extent, cross_extents, extents, hole_extent, joined_to, pad_extent, whole_extent};
 
 use crate::extent::{Extent, hole_extent, joined_to, pad_extent, point_extent};
-use layer_image::{Flash, What};
+use further_copper::FeatureRow;
 use package_check::Board;
 use ring_rules::Drilled;
 use wide_pads::WidePad;
@@ -43,41 +43,42 @@ fn with_holes(before: Option<Extent>, holes: &[Drilled]) -> Option<Extent>
     all
 }
 
-/// The extent so far, joined with that of a flash that is no pad.
-fn with_flash(before: Option<Extent>, flash: &Flash) -> Option<Extent>
-    ensures { result ≡ fold joined_to before (cross_extent flash.now) }
+/// The extent so far, joined with that of a row that is no pad.
+fn with_row(before: Option<Extent>, row: &FeatureRow) -> Option<Extent>
+    ensures { result ≡ fold joined_to before (cross_extent row.now) }
 {
-    match flash.what {
-        What::Pad(_) => before,
-        What::Other(_) => joined_to(before, point_extent(flash.at)),
+    if row.what.is_pad() {
+        before
+    } else {
+        joined_to(before, point_extent(row.at))
     }
 }
 
-/// The extent so far, joined with those of the flashes of a file that are no pads.
-fn with_flashes(before: Option<Extent>, flashes: &[Flash]) -> Option<Extent>
-    ensures { result ≡ fold joined_to before (flat_map cross_extent flashes.now) }
+/// The extent so far, joined with those of the rows of a file that are no pads.
+fn with_rows(before: Option<Extent>, rows: &[FeatureRow]) -> Option<Extent>
+    ensures { result ≡ fold joined_to before (flat_map cross_extent rows.now) }
 {
     let mut all = before;
-    for flash in flashes {
-        all = with_flash(all, flash);
+    for row in rows {
+        all = with_row(all, row);
     }
     all
 }
 
-/// The extent so far, joined with those of the flashes of some files that are no pads.
+/// The extent so far, joined with those of the rows of some files that are no pads.
 fn with_crosses(before: Option<Extent>, board: &Board, files: &[usize]) -> Option<Extent>
-    ensures { result ≡ fold joined_to before (cross_extents board.now.flashes files.now) }
+    ensures { result ≡ fold joined_to before (cross_extents board.now.rows files.now) }
 {
     let mut all = before;
     for file in files {
-        all = with_flashes(all, board.flashes_of(*file));
+        all = with_rows(all, board.rows_of(*file));
     }
     all
 }
 
 /// The extent of a board: of the pads of its layers, of its holes and of its other flashes, if it has any of these.
 pub(crate) fn board_extent(layers: &[&[WidePad]], board: &Board) -> Option<Extent>
-    ensures { result ≡ whole_extent (extents (map (λ layer. layer.now) layers.now) board.now.holes ++ cross_extents board.now.flashes board.now.layer_indexes) }
+    ensures { result ≡ whole_extent (extents (map (λ layer. layer.now) layers.now) board.now.holes ++ cross_extents board.now.rows board.now.layer_indexes) }
 {
     let pads_and_holes = with_holes(with_layers(None, layers), board.holes());
     with_crosses(pads_and_holes, board, board.layer_indexes())

@@ -7,9 +7,9 @@ ghost use Rattle.drawing.specs.Layouts.{box_left, box_top};
 ghost use Rattle.drawing.specs.Pages.{text_of_panel};
 
 use crate::layout::Layout;
-use layer_image::{Drawn, Flash};
+use layer_image::Drawn;
 use package_check::Board;
-use picture::{Place, Scene, scene_of};
+use picture::{LayerCopper, Place, Scene, scene_of};
 use printing::Line;
 use ring_rules::{Drilled, Finding};
 use std::alloc::{AllocError, Global};
@@ -71,15 +71,14 @@ fn place_of<'a>(layout: &Layout, names: &[&'a str], layer: usize, file: usize) -
 fn scene_on<'a>(
     alloc: Global,
     layer: usize,
-    flashes: &[Flash],
-    drawn: &'a [Drawn],
+    copper: LayerCopper<'a>,
     edge: &'a [Drawn],
     holes: &'a [Drilled],
     findings: &[Finding],
 ) -> Result<Scene<'a>, AllocError>
-    ensures { IfOk result (IsScene layer flashes.now drawn.now edge.now holes.now findings.now) }
+    ensures { IfOk result (IsScene layer copper.entry.rows.now copper.entry.pads.now copper.entry.drawn.now edge.now holes.now findings.now) }
 {
-    scene_of(alloc, layer, flashes, drawn, edge, holes, findings)
+    scene_of(alloc, layer, copper, edge, holes, findings)
 }
 
 /// The panel of a layer, by its place among the copper files and the index of its file, with the parts of the board's outline.
@@ -95,15 +94,12 @@ fn panel_of<'a>(
     ensures { IfOk result (IsPanel (map (λ name. name.now) names.now) board.now edge.now findings.now layout.now at) }
 {
     let (layer, file) = at;
-    let scene = scene_on(
-        alloc,
-        layer,
-        board.flashes_of(file),
-        board.drawn_of(file),
-        edge,
-        board.holes(),
-        findings,
-    )?;
+    let copper = LayerCopper {
+        rows: board.rows_of(file),
+        pads: board.pads_of(layer),
+        drawn: board.drawn_of(file),
+    };
+    let scene = scene_on(alloc, layer, copper, edge, board.holes(), findings)?;
     Ok(Panel {
         place: place_of(layout, names, layer, file),
         scene,

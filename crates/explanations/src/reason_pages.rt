@@ -36,7 +36,8 @@ Sizes are then rounded to 0.1 mil, and attributes are lost.
 const CLEAR_POLARITY: &str = "\
 ClearPolarity: %LPC*% takes copper away, and the check cannot follow it.
 VeroRoute: ground fill off. Planes: plot them positive, or without cut-outs
-by clear polarity.
+by clear polarity. Or check with --profile wide: it counts what is flashed
+after the last clear object.
 ";
 
 const BLOCK_APERTURE: &str = "\
@@ -77,7 +78,8 @@ const OLD_FORMAT: &str = "\
 OldFormat: no M48 stands first in the drill file, or it names an older format
 (FMAT,1 or G93).
 A drill file as Gerber X2: choose Excellon in its place.
-pcb-rnd writes M30 alone where there is no hole: leave that file out.
+pcb-rnd writes M30 alone where there is no hole: leave that file out, or
+check with --profile wide.
 OrCAD:
   gerbv -x drill -o OUT IN
 Diameters are then rounded to 1 mil, and routed slots are dropped.
@@ -90,6 +92,7 @@ pcb-rnd: -c plugins/export_excellon/plated_g85_slot=1
          -c plugins/export_excellon/unplated_g85_slot=1
 Altium (known setting, not tried): NC Drill Setup, use drilled slot command
 (G85).
+Or check with --profile wide: it reads slots routed by G00, M15, G01, M16.
 ";
 
 const REPEAT: &str = "\

@@ -62,7 +62,8 @@ none: no pad reaches the centre of the hole, and no flash stands in the hole.
 What may be the cause:
 - an unused pad that was removed (KiCad: keep pads on all layers);
 - a pad drawn as a region (gEDA pcb and pcb-rnd: square and octagon pins; use
-  round ones), or flashed from beside the hole in a shape that is not judged:
+  round ones, or check with --profile wide, which counts a convex contour),
+  or flashed from beside the hole in a shape that is not judged:
   its copper may be there (see ringcheck explain macro);
 - a plane in which the hole stands without a pad;
 - an unplated hole in a plated drill file;
@@ -77,6 +78,7 @@ judged.
 KiCad: rounded rectangle and custom pads are macros; choose circle, oval or
 rectangle.
 EAGLE and Altium (known, not tried): octagons and rounded rectangles too.
+Or check with --profile wide: it counts such a pad where its shape is known.
 ";
 
 const POLYGON: &str = "\
@@ -103,7 +105,8 @@ const OBLIQUE: &str = "\
 oblique: the ends of a plated slot differ in both directions (a line OBLIQUE
 of the report). Rings are judged of slots along an axis only, so that such a
 slot is a finding on each copper layer that it goes through. Turn it to an
-axis, or drill round holes in its place.
+axis, or drill round holes in its place; or check with --profile wide, where
+one pad that covers both ends holds the slot.
 ";
 
 const PLANE: &str = "\

@@ -1,19 +1,18 @@
--- What one more command changes of the positions that count.
-use Rattle.std.proofs.Common.{◌≡◌, ◌∙◌, ℕ, ◌+◌, ◌&&◌, ◌||◌, Bool, true, false, not, List, [], ◌∷◌, ◌++◌, cond, reverse, refl, ap, sym, append-nil, append_assoc}
+-- What one more command changes of the positions that count and of those that do not.
+use Rattle.std.proofs.Common.{◌≡◌, ◌∙◌, ℕ, suc, ◌+◌, ◌&&◌, ◌||◌, Bool, true, false, not, List, [], ◌∷◌, ◌++◌, cond, drop, reverse, refl, ap, sym, length, arith, append-nil, append_assoc, length-append}
 use Rattle.std.specs.Prelude.{if◌then◌else◌, unwrap_or}
-use Rattle.std.specs.List.{flat_map, list_any, sum_by, take_while}
-use Rattle.std.proofs.lemmas.Grind.{flat_map-append}
-use Rattle.std.proofs.lemmas.List.{reverse-append}
-use Rattle.std.proofs.lemmas.List.Sums.{sum_by_push, take_while-cons}
+use Rattle.std.specs.List.{list_any, prefix_len, take_while}
+use Rattle.std.proofs.lemmas.List.{reverse-append, reverse-reverse}
+use Rattle.std.proofs.lemmas.List.Sums.{take_while-cons}
 use Rattle.grid_units.specs.Lists.{with_prefixes, with_prefixes_from}
 use Rattle.grid_units.proofs.BoolLemmas.{and_false, or_is_false}
 use Rattle.grid_units.proofs.LookbackLemmas.{last_or-more, list_any-more, with_prefixes-append}
 use Rattle.gerber_commands.specs.declared.command.Command.{Command}
 use Rattle.gerber_commands.specs.declared.command.Command.TheVariants as command
 use Rattle.further_copper.specs.declared.clearing.Clearing.{Clearing}
-use Rattle.further_copper.specs.AfterLast.{after_last}
+use Rattle.further_copper.specs.AfterLast.{after_last, up_to_last}
 use Rattle.further_copper.specs.Blocks.{block_after, changes_block, in_open_block, is_repeated}
-use Rattle.further_copper.specs.Clearing.{clears_all, draws, is_clearing, polarity_set, uncleared}
+use Rattle.further_copper.specs.Clearing.{cleared, clears_all, draws, is_clear_after, is_clearing, polarity_set, uncleared}
 use Rattle.further_copper.specs.FurtherPads.{clearing_after}
 use Rattle.further_copper.specs.Inner.States.{clearing_with}
 
@@ -27,29 +26,44 @@ after_last-more {A} test xs x =
     by l true = refl
     by l false = reverse-append (x ∷ []) l
 
--- the positions that count with one more command
-uncleared-more : (before : List Command) (c : Command) → uncleared (before ++ c ∷ []) ≡ (if clears_all (before, c) then [] else uncleared before ++ (before, c) ∷ [])
-uncleared-more before c = ap (after_last clears_all) (with_prefixes-append before (c ∷ [])) ∙ after_last-more clears_all (with_prefixes before) (before, c)
+one_more : (n : ℕ) → 1 + n ≡ suc n
+one_more n = omega arith
 
--- what the positions that count give with one more command
-pub flat_uncleared-more : {A : Type 0} (gives : List Command → Command → List A) (before : List Command) (c : Command)
-    → flat_map (λ p. gives p.0 p.1) (uncleared (before ++ c ∷ [])) ≡ (if clears_all (before, c) then [] else flat_map (λ p. gives p.0 p.1) (uncleared before) ++ gives before c)
-flat_uncleared-more {A} gives before c =
-    let given : List Command × Command → List A = λ p. gives p.0 p.1 in
-    ap (flat_map given) (uncleared-more before c) ∙ by (clears_all (before, c))
+-- the elements up to the last one that passes, with one more: all where it passes, else the same
+up_to_last-more : {A : Type 0} (test : A → Bool) (xs : List A) (x : A) → up_to_last test (xs ++ x ∷ []) ≡ (if test x then xs ++ x ∷ [] else up_to_last test xs)
+up_to_last-more {A} test xs x =
+    let goes_on : A → Bool = λ y. not (test y) in
+    ap (λ (l : List A). reverse (drop (prefix_len goes_on l) l)) (reverse-append xs (x ∷ [])) ∙ by (test x) refl
   where
-    by : (b : Bool) → flat_map (λ p. gives p.0 p.1) (if b then [] else uncleared before ++ (before, c) ∷ []) ≡ (if b then [] else flat_map (λ p. gives p.0 p.1) (uncleared before) ++ gives before c)
-    by true = refl
-    by false = flat_map-append (λ p. gives p.0 p.1) (uncleared before) ((before, c) ∷ []) ∙ ap (λ (l : List A). flat_map (λ p. gives p.0 p.1) (uncleared before) ++ l) (append-nil (gives before c))
+    by : (b : Bool) → test x ≡ b → reverse (drop (prefix_len (λ y. not (test y)) (x ∷ reverse xs)) (x ∷ reverse xs)) ≡ (if b then xs ++ x ∷ [] else up_to_last test xs)
+    by true e = ap (λ (c : Bool). reverse (drop (cond (not c) (1 + prefix_len (λ y. not (test y)) (reverse xs)) 0) (x ∷ reverse xs))) e ∙ reverse-append (x ∷ []) (reverse xs) ∙ ap (λ (l : List A). l ++ x ∷ []) (reverse-reverse xs)
+    by false e =
+        ap (λ (c : Bool). reverse (drop (cond (not c) (1 + prefix_len (λ y. not (test y)) (reverse xs)) 0) (x ∷ reverse xs))) e
+        ∙ ap (λ (n : ℕ). reverse (drop n (x ∷ reverse xs))) (one_more (prefix_len (λ y. not (test y)) (reverse xs)))
 
--- the sum over the positions that count with one more command
-pub sum_uncleared-more : (gives : List Command × Command → ℕ) (before : List Command) (c : Command)
-    → sum_by gives (uncleared (before ++ c ∷ [])) ≡ (if clears_all (before, c) then 0 else sum_by gives (uncleared before) + gives (before, c))
-sum_uncleared-more gives before c = ap (sum_by gives) (uncleared-more before c) ∙ by (clears_all (before, c))
+-- the positions that do not count with one more command
+pub cleared-more : (before : List Command) (c : Command) → cleared (before ++ c ∷ []) ≡ (if clears_all (before, c) then with_prefixes before ++ (before, c) ∷ [] else cleared before)
+cleared-more before c = ap (up_to_last clears_all) (with_prefixes-append before (c ∷ [])) ∙ up_to_last-more clears_all (with_prefixes before) (before, c)
+
+split_run : {A : Type 0} (f : A → Bool) (l : List A) → l ≡ take_while f l ++ drop (prefix_len f l) l
+split_run f [] = refl
+split_run {A} f (x ∷ l) = by (f x) refl (split_run f l) ∙ ap (λ (run : List A). run ++ drop (prefix_len f (x ∷ l)) (x ∷ l)) (sym (take_while-cons f x l))
   where
-    by : (b : Bool) → sum_by gives (if b then [] else uncleared before ++ (before, c) ∷ []) ≡ (if b then 0 else sum_by gives (uncleared before) + gives (before, c))
-    by true = refl
-    by false = sum_by_push gives (uncleared before) (before, c)
+    by : (b : Bool) → f x ≡ b → l ≡ take_while f l ++ drop (prefix_len f l) l → x ∷ l ≡ cond (f x) (x ∷ take_while f l) [] ++ drop (prefix_len f (x ∷ l)) (x ∷ l)
+    by true h rest =
+        ap (λ (r : List A). x ∷ r) rest ∙ ap (λ (n : ℕ). (x ∷ take_while f l) ++ drop n (x ∷ l)) (sym (one_more (prefix_len f l)))
+        ∙ ap (λ (c : Bool). cond c (x ∷ take_while f l) [] ++ drop (cond c (1 + prefix_len f l) 0) (x ∷ l)) (sym h)
+    by false h rest = ap (λ (c : Bool). cond c (x ∷ take_while f l) [] ++ drop (cond c (1 + prefix_len f l) 0) (x ∷ l)) (sym h)
+
+-- a list is the elements up to the last one that passes, and those after it
+cut : {A : Type 0} (test : A → Bool) (xs : List A) → xs ≡ up_to_last test xs ++ after_last test xs
+cut {A} test xs =
+    let goes_on : A → Bool = λ x. not (test x) in
+    sym (reverse-reverse xs) ∙ ap reverse (split_run goes_on (reverse xs)) ∙ reverse-append (take_while goes_on (reverse xs)) (drop (prefix_len goes_on (reverse xs)) (reverse xs))
+
+-- each position counts or does not
+pub all_positions : (commands : List Command) → with_prefixes commands ≡ cleared commands ++ uncleared commands
+all_positions commands = cut clears_all (with_prefixes commands)
 
 -- whether something of the open block was drawn in clear polarity, with one more command
 in_block-more : (before : List Command) (c : Command) → list_any is_clearing (in_open_block (with_prefixes (before ++ c ∷ []))) ≡ (clearing_with c (clearing_after before)).in_block
@@ -111,3 +125,17 @@ after_last-append {A} test xs (y ∷ ys) h =
 -- without clear polarity all positions count
 pub all_uncleared : (commands : List Command) → list_any is_clear commands ≡ false → uncleared commands ≡ with_prefixes commands
 all_uncleared commands h = after_last-append clears_all [] (with_prefixes commands) (none_from [] commands refl h)
+
+-- polarity stays dark where a command is not `%LPC*%`
+pub stays_dark_after : (before : List Command) (c : Command) → is_clear_after before ≡ false → is_clear c ≡ false → is_clear_after (before ++ c ∷ []) ≡ false
+stays_dark_after before c dark h = last_or-more polarity_set false before c ∙ ap (unwrap_or (polarity_set c)) dark ∙ stays_dark c h
+
+nothing_before : {A : Type 0} (xs ys : List A) → xs ≡ ys ++ xs → ys ≡ []
+nothing_before xs [] e = refl
+nothing_before xs (y ∷ ys) e =
+    let long : length xs ≡ length (y ∷ ys) + length xs = ap length e ∙ length-append (y ∷ ys) xs in
+    absurd (omega (arith, long))
+
+-- without clear polarity no position is taken away
+pub none_cleared : (commands : List Command) → list_any is_clear commands ≡ false → cleared commands ≡ []
+none_cleared commands h = nothing_before (with_prefixes commands) (cleared commands) (all_positions commands ∙ ap (λ (l : List (List Command × Command)). cleared commands ++ l) (all_uncleared commands h))

@@ -1,5 +1,5 @@
 -- One copy more, and one column more.
-use Rattle.std.proofs.Common.{◌≡◌, ◌∙◌, ℕ, ℤ, pos, ◌+◌, ◌*◌, ◌^◌, ◌<◌, ◌≤◌, ◌+ℤ◌, ◌*ℤ◌, List, [], ◌∷◌, ◌++◌, map, Option, unsigned_abs, FitsSigned, to_z, of_z, ap, sym, arith, add-one, append-nil, append_assoc, mul-le-mul}
+use Rattle.std.proofs.Common.{◌≡◌, ◌∙◌, ℕ, ℤ, pos, ◌+◌, ◌*◌, ◌^◌, ◌<◌, ◌≤◌, ◌*ℤ◌, List, [], ◌∷◌, ◌++◌, map, Option, unsigned_abs, FitsSigned, to_z, of_z, ap, sym, arith, add-one, append-nil, append_assoc, mul-le-mul}
 use Rattle.std.specs.List.{cons_option, filter_map, flat_map}
 use mir.Syntax.{w128}
 use Rattle.std.proofs.lemmas.Int.{ints, to_z-of_z, unsigned_abs-mul}
@@ -25,18 +25,19 @@ next_list gives column n =
 pub added : {B : Type 0} (start kept more now all : List B) → kept ≡ start ++ now → all ≡ now ++ more → kept ++ more ≡ start ++ all
 added start kept more now all is sums = ap (λ l. l ++ more) is ∙ append_assoc start now more ∙ ap (λ l. start ++ l) (sym sums)
 
+-- what is mapped of one list after another
+pub mapped : {A B : Type 0} (f : A → B) (all now more : List A) → all ≡ now ++ more → map f all ≡ map f now ++ map f more
+mapped f all now more sums = ap (map f) sums ∙ map-append f now more
+
 product_bound : (s : ℤ) (k : ℕ) → unsigned_abs s ≤ 2 ^ 71 → k < 2 ^ 32 → unsigned_abs (pos k *ℤ s) ≤ 2 ^ 103
 product_bound s k b l =
     let q : k ≤ 2 ^ 32 = omega arith in
     let p : k * unsigned_abs s ≤ 2 ^ 32 * 2 ^ 71 = mul-le-mul q b in
     rw unsigned_abs-mul (omega arith)
 
--- a start and some steps are bounded
-pub steps_bound : (x s : ℤ) (k : ℕ) → unsigned_abs x ≤ 2 ^ 98 → unsigned_abs s ≤ 2 ^ 71 → k < 2 ^ 32 → unsigned_abs (x +ℤ pos k *ℤ s) ≤ 2 ^ 104
-steps_bound x s k a b l = sum_bound x (pos k *ℤ s) a (product_bound s k b l)
-  where
-    sum_bound : (x y : ℤ) → unsigned_abs x ≤ 2 ^ 98 → unsigned_abs y ≤ 2 ^ 103 → unsigned_abs (x +ℤ y) ≤ 2 ^ 104
-    sum_bound x y c d = omega (arith, ints)
+-- some steps are bounded
+pub steps_bound : (s : ℤ) (k : ℕ) → unsigned_abs s ≤ 2 ^ 71 → k < 2 ^ 32 → unsigned_abs (pos k *ℤ s) ≤ 2 ^ 104
+steps_bound s k b l = omega (arith, product_bound s k b l)
 
 back : (z : ℤ) → unsigned_abs z ≤ 2 ^ 104 → to_z w128 (of_z w128 z) ≡ z
 back z h = to_z-of_z w128 z (fits z h)
@@ -44,12 +45,9 @@ back z h = to_z-of_z w128 z (fits z h)
     fits : (y : ℤ) → unsigned_abs y ≤ 2 ^ 104 → FitsSigned w128 y
     fits y l = omega (arith, ints)
 
--- a start and some steps, as they come back from 128 bits
-pub stepped_is : (x s f n : ℤ) (k : ℕ) → f ≡ x → n ≡ pos k → unsigned_abs x ≤ 2 ^ 98 → unsigned_abs s ≤ 2 ^ 71 → k < 2 ^ 32
-    → to_z w128 (of_z w128 (to_z w128 (of_z w128 f) +ℤ to_z w128 (of_z w128 (to_z w128 (of_z w128 n) *ℤ to_z w128 (of_z w128 s))))) ≡ x +ℤ pos k *ℤ s
-stepped_is x s f n k e h a b l =
-    let first : to_z w128 (of_z w128 f) ≡ x = ap (λ (z : ℤ). to_z w128 (of_z w128 z)) e ∙ back x (omega (arith, a)) in
+-- some steps, as they come back from 128 bits
+pub stepped_is : (s n : ℤ) (k : ℕ) → n ≡ pos k → unsigned_abs s ≤ 2 ^ 71 → k < 2 ^ 32 → to_z w128 (of_z w128 (to_z w128 (of_z w128 n) *ℤ to_z w128 (of_z w128 s))) ≡ pos k *ℤ s
+stepped_is s n k h b l =
     let count : to_z w128 (of_z w128 n) ≡ pos k = ap (λ (z : ℤ). to_z w128 (of_z w128 z)) h ∙ back (pos k) (omega (arith, l)) in
     let step : to_z w128 (of_z w128 s) ≡ s = back s (omega (arith, b)) in
-    let product : to_z w128 (of_z w128 (to_z w128 (of_z w128 n) *ℤ to_z w128 (of_z w128 s))) ≡ pos k *ℤ s = (λ i. to_z w128 (of_z w128 (count i *ℤ step i))) ∙ back (pos k *ℤ s) (omega (arith, product_bound s k b l)) in
-    (λ i. to_z w128 (of_z w128 (first i +ℤ product i))) ∙ back (x +ℤ pos k *ℤ s) (steps_bound x s k a b l)
+    (λ i. to_z w128 (of_z w128 (count i *ℤ step i))) ∙ back (pos k *ℤ s) (steps_bound s k b l)

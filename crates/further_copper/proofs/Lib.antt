@@ -5,3 +5,5 @@ pub mod PointsLemmas
 pub mod CopiesLemmas
 pub mod ContourLemmas
 pub mod OrientLemmas
+pub mod OwnFlashes
+pub mod DarkLayers

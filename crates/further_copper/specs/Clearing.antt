@@ -7,7 +7,7 @@ use Rattle.gerber_commands.specs.declared.command.Action.{Action}
 use Rattle.gerber_commands.specs.declared.command.Action.TheVariants as action
 use Rattle.gerber_commands.specs.declared.command.Command.{Command}
 use Rattle.gerber_commands.specs.declared.command.Command.TheVariants as command
-use Rattle.further_copper.specs.AfterLast.{after_last}
+use Rattle.further_copper.specs.AfterLast.{after_last, up_to_last}
 use Rattle.further_copper.specs.Blocks.{block_after, in_open_block, is_repeated}
 
 -- polarity is clear from `%LPC*%` on, and dark again from `%LPD*%` on (Gerber format, Load polarity LP)
@@ -47,3 +47,7 @@ clears_all p = is_clearing p || is_cleared_by_copies p.0
 -- The positions that count, each command with all commands before it: those after the last one at which all is taken away.
 abbrev pub uncleared : List Command → List (List Command × Command)
 uncleared commands = after_last clears_all (with_prefixes commands)
+
+-- The positions that do not count: those up to the last one at which all is taken away.
+abbrev pub cleared : List Command → List (List Command × Command)
+cleared commands = up_to_last clears_all (with_prefixes commands)

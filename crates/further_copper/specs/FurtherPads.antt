@@ -1,26 +1,24 @@
--- The further copper of a layer that counts as pads: the flashes of macros that have a shape, and the contours of regions that are
--- convex polygons (docs/FORMATS.md, Further copper).
-use Rattle.std.specs.Prelude.{ℕ, suc, min, ◌+◌, ℤ, pos, Bool, not, ◌&&◌, ◌||◌, nat_le, List, [], Option, None, Some, unwrap_or, option_and_then, if◌then◌else◌}
+-- The further copper that counts as pads: the flashes of macros that have a shape, and the contours of regions that are convex polygons,
+-- each by the state that its command meets (docs/FORMATS.md, Further copper).
+use Rattle.std.specs.Prelude.{ℕ, ◌+◌, Bool, not, ◌&&◌, ◌||◌, nat_le, List, [], Option, None, Some, unwrap_or, option_and_then, if◌then◌else◌}
 use Rattle.std.specs.Ordering.{int_eq}
 use Rattle.std.specs.Option.{option_map_or}
-use Rattle.std.specs.List.{flat_map, list_any, sum_by}
+use Rattle.std.specs.List.{list_any, sum_by}
 use Rattle.grid_units.specs.Points.{GridPoint}
 use Rattle.grid_units.specs.Lists.{last_set, with_prefixes}
 use Rattle.pad_shapes.specs.Rounded.{GridRounded}
 use Rattle.macro_shapes.specs.Primitives.{quarter_turns}
-use Rattle.gerber_commands.specs.declared.command.Action.TheVariants as action
 use Rattle.gerber_commands.specs.declared.command.StepRepeat.{StepRepeat}
 use Rattle.gerber_commands.specs.declared.command.Command.{Command}
 use Rattle.gerber_commands.specs.declared.command.Command.TheVariants as command
 use Rattle.gerber_extended.specs.Pieces.{unit_scale}
-use Rattle.layer_image.specs.Drawn.{DrawState, draw_state_after, draw_unit, operation_point, selected_aperture, shape_in}
-use Rattle.layer_image.specs.Flashes.{flash_copies}
+use Rattle.layer_image.specs.Drawn.{DrawState, draw_state_after, draw_unit, selected_aperture, shape_in}
+use Rattle.pad_shapes.specs.Placed.{shape_at}
 use Rattle.further_copper.specs.declared.clearing.Clearing.{Clearing}
 use Rattle.further_copper.specs.declared.mirroring.Mirroring.{Mirroring}
 use Rattle.further_copper.specs.declared.part.Part.{Part}
-use Rattle.further_copper.specs.declared.copies.PlacedShape.{PlacedShape}
 use Rattle.further_copper.specs.Blocks.{block_after, copy_count, in_open_block, is_repeated}
-use Rattle.further_copper.specs.Clearing.{draws, is_clear_after, is_clearing, uncleared}
+use Rattle.further_copper.specs.Clearing.{draws, is_clear_after, is_clearing}
 use Rattle.further_copper.specs.Placing.{no_mirroring, oriented_shape, shapes_at}
 use Rattle.further_copper.specs.Contours.{contour_of, region_parts}
 
@@ -36,7 +34,7 @@ abbrev pub ended_copies : StepRepeat → Command → ℕ
 ended_copies block command.RegionEnd = copy_count block
 ended_copies block _ = 0
 
--- the most regions of a layer whose contours count as pads, each copy counted
+-- the most regions of a layer, of any kind and each copy counted: only the contours of the first ones count as pads
 abbrev pub max_regions : ℕ
 max_regions = 4194304
 
@@ -48,9 +46,9 @@ mirroring_after before = unwrap_or (last_set mirroring_set before) no_mirroring
 abbrev pub clearing_after : List Command → Clearing
 clearing_after before = record { clear = is_clear_after before; in_block = list_any is_clearing (in_open_block (with_prefixes before)) }
 
--- how many regions ended, each copy counted; one more than the most stands for each greater number
+-- how many regions ended, each copy counted
 abbrev pub ended_regions : List Command → ℕ
-ended_regions before = min (sum_by (λ p. ended_copies (block_after p.0) p.1) (with_prefixes before)) (suc max_regions)
+ended_regions before = sum_by (λ p. ended_copies (block_after p.0) p.1) (with_prefixes before)
 
 -- the state that a command meets: what draws need, the axes that are mirrored, the block, the parts of the last region, how many
 -- regions ended, and polarity
@@ -75,11 +73,6 @@ copper_state_after before = record {
 
 -- ---- what a command adds
 
--- a shape about a point, where there are both
-abbrev pub placed : Option GridPoint → Option GridRounded → Option PlacedShape
-placed (Some at) (Some shape) = Some (record { at = at; shape = shape })
-placed _ _ = None
-
 -- the shape that the selected aperture flashes, about the point of the flash: that of a macro, while flashes keep their size and are
 -- turned by quarters (Gerber format, Aperture transformations LP, LM, LR, LS)
 abbrev pub flash_shape : CopperState → Option GridRounded
@@ -87,13 +80,9 @@ flash_shape s =
     if int_eq s.draw.scale unit_scale
     then option_and_then (λ turns. option_and_then (oriented_shape s.mirroring turns) (option_and_then shape_in (selected_aperture s.draw))) (quarter_turns s.draw.turn) else None
 
--- the shape of a flash and its point, outside of regions (Gerber format, Operations D01, D02, D03)
-abbrev pub flashed : CopperState → Option ℤ → Option ℤ → Option PlacedShape
-flashed s x y = if s.draw.in_region then None else placed (operation_point s.draw x y) (flash_shape s)
-
--- zero, about which the points of a contour lie
-abbrev pub origin : GridPoint
-origin = record { x = pos 0; y = pos 0 }
+-- the pad of the selected macro's flash at a point, where its shape may lie there
+abbrev pub flashed_pad : CopperState → GridPoint → Option GridRounded
+flashed_pad s at = option_and_then (λ shape. shape_at shape at) (flash_shape s)
 
 -- the regions that ended and the copies of one more are no more than the most
 abbrev pub has_room : CopperState → Bool
@@ -103,54 +92,15 @@ has_room s = nat_le (s.regions + copy_count s.block) max_regions
 abbrev pub region_contour : CopperState → Option GridRounded
 region_contour s = if s.draw.in_region && (not s.clearing.clear && has_room s) then contour_of s.parts else None
 
--- the shape that a command flashes, and the point that it lies about
-abbrev pub flashed_by : CopperState → Command → Option PlacedShape
-flashed_by s (command.Operate action.Flash x y i j) = flashed s x y
-flashed_by s _ = None
-
--- the contour that a command ends, and the point that it lies about
-abbrev pub contour_by : CopperState → Command → Option PlacedShape
-contour_by s command.RegionEnd = placed (Some origin) (region_contour s)
+-- the contour that a command ends, where it counts as a pad
+abbrev pub contour_by : CopperState → Command → Option GridRounded
+contour_by s command.RegionEnd = region_contour s
 contour_by s _ = None
 
--- the pads of a shape: it lies at each copy of its point (Gerber format, Step and repeat SR)
-abbrev pub pads_at : CopperState → PlacedShape → List GridRounded
-pads_at s p = shapes_at (draw_unit s.draw) s.block p.at p.shape
-
--- the pads of a command that flashes a macro
-abbrev pub flashed_in : CopperState → Command → List GridRounded
-flashed_in s c = option_map_or (pads_at s) (flashed_by s c) []
-
--- the pads of a command that ends a region
+-- the pads of a command that ends a region: its contour at each copy (Gerber format, Step and repeat SR)
 abbrev pub contours_in : CopperState → Command → List GridRounded
-contours_in s c = option_map_or (pads_at s) (contour_by s c) []
-
--- the pads of a command that flashes a macro after others
-abbrev pub flashed_after : List Command → Command → List GridRounded
-flashed_after before c = flashed_in (copper_state_after before) c
-
--- the pads of a command that ends a region after others
-abbrev pub contours_after : List Command → Command → List GridRounded
-contours_after before c = contours_in (copper_state_after before) c
-
--- ---- over a whole list
+contours_in s c = option_map_or (shapes_at (draw_unit s.draw) s.block) (contour_by s c) []
 
 -- at this command all is taken away that was drawn before it
 abbrev pub clears_in : CopperState → Command → Bool
 clears_in s c = (draws c && s.clearing.clear) || (is_repeated s.block && s.clearing.in_block)
-
--- the flashes of macros that count as pads, in order: those that no clear polarity takes away
-abbrev pub flashed_pads_of : List Command → List GridRounded
-flashed_pads_of commands = flat_map (λ p. flashed_after p.0 p.1) (uncleared commands)
-
--- the contours that count as pads, in order: those that no clear polarity takes away
-abbrev pub contours_of : List Command → List GridRounded
-contours_of commands = flat_map (λ p. contours_after p.0 p.1) (uncleared commands)
-
--- the greatest number of 64 bits
-abbrev pub max_count : ℕ
-max_count = 18446744073709551615
-
--- How many flashes of every kind no clear polarity takes away, each copy counted. The greatest number of 64 bits stands for each above it.
-abbrev pub uncleared_flashes : List Command → ℕ
-uncleared_flashes commands = min (sum_by (λ p. flash_copies (block_after p.0) p.1) (uncleared commands)) max_count

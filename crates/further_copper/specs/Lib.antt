@@ -4,5 +4,6 @@ pub mod Clearing
 pub mod Placing
 pub mod Contours
 pub mod FurtherPads
+pub mod Features
 pub mod Laws
 pub mod Inner

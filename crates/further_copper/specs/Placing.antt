@@ -1,5 +1,5 @@
 -- How the shape of an aperture lies on the board: mirrored, turned and copied (Gerber format, Aperture transformations LP, LM, LR, LS).
-use Rattle.std.specs.Prelude.{ℕ, ℤ, ◌+ℤ◌, ◌*ℤ◌, neg_ℤ, pos, Bool, false, not, ◌&&◌, List, map, reverse, Option, None, Some, if◌then◌else◌}
+use Rattle.std.specs.Prelude.{ℕ, ℤ, ◌*ℤ◌, neg_ℤ, pos, Bool, false, not, ◌&&◌, List, map, reverse, Option, None, Some, if◌then◌else◌}
 use Rattle.std.specs.List.{filter_map, flat_map}
 use Rattle.grid_units.specs.Points.{GridPoint}
 use Rattle.grid_units.specs.declared.lengths.Unit.{Unit as Units}
@@ -51,14 +51,14 @@ oriented_shape m turns s = rounded_by (oriented_point m turns s.first) (in_order
 
 -- ---- copies
 
--- the copy of a point in a column and a row, both from 0 (Gerber format, Step and repeat SR)
-abbrev pub copy_in : Units → StepRepeat → GridPoint → ℕ → ℕ → GridPoint
-copy_in unit block p u v = record { x = p.x +ℤ pos u *ℤ dec_length unit block.step_x; y = p.y +ℤ pos v *ℤ dec_length unit block.step_y }
+-- by how much the copy in a column and a row, both from 0, is moved (Gerber format, Step and repeat SR)
+abbrev pub copy_in : Units → StepRepeat → ℕ → ℕ → GridPoint
+copy_in unit block u v = record { x = pos u *ℤ dec_length unit block.step_x; y = pos v *ℤ dec_length unit block.step_y }
 
--- the copies of a point in a step and repeat block: column by column, and in each column row by row
-abbrev pub copies_from : Units → StepRepeat → GridPoint → List GridPoint
-copies_from unit block p = flat_map (λ u. map (copy_in unit block p u) (numbers_below block.rows)) (numbers_below block.columns)
+-- the copies of a step and repeat block: column by column, and in each column row by row
+abbrev pub copies_of : Units → StepRepeat → List GridPoint
+copies_of unit block = flat_map (λ u. map (copy_in unit block u) (numbers_below block.rows)) (numbers_below block.columns)
 
--- a shape at each copy of a point where it may lie there
-abbrev pub shapes_at : Units → StepRepeat → GridPoint → GridRounded → List GridRounded
-shapes_at unit block p s = filter_map (shape_at s) (copies_from unit block p)
+-- a shape at each copy, where it may lie there
+abbrev pub shapes_at : Units → StepRepeat → GridRounded → List GridRounded
+shapes_at unit block s = filter_map (shape_at s) (copies_of unit block)

@@ -1,28 +1,35 @@
-//! The further copper of a layer, command by command.
+//! The flashes and contours of a layer, command by command.
 
-ghost use Rattle.std.specs.Prelude.{◌≡◌, ◌++◌, ◌∷◌, [], List, ℤ, Option, OnOk, IfOk, min, suc, ◌+◌, unwrap_or, option_and_then, if◌then◌else◌};
+ghost use Rattle.std.specs.Prelude.{◌≡◌, ◌++◌, ◌∷◌, ◌≤◌, [], List, OnOk, IfOk, min, suc, ◌+◌, drop, length, map, take, unwrap_or, option_and_then, if◌then◌else◌};
 ghost use Rattle.std.specs.Option.{option_copied};
+ghost use Rattle.std.specs.List.{filter_map};
+ghost use Rattle.grid_units.specs.Lists.{IsLegal};
+ghost use Rattle.pad_shapes.specs.Placed.{shape_at};
 ghost use Rattle.gerber_text.specs.Writing.{without_places};
 ghost use Rattle.gerber_commands.specs.declared.command.Command.{Command as TheCommand};
-ghost use Rattle.gerber_commands.specs.declared.command.Command.TheVariants as command;
-ghost use Rattle.layer_image.specs.Flashes.{flash_copies};
+ghost use Rattle.layer_image.specs.declared.flash.Flash.{Flash as TheFlash};
+ghost use Rattle.layer_image.specs.Flashes.{flash_copies, flashes_of};
 ghost use Rattle.layer_image.specs.Lookback.{block_set};
+ghost use Rattle.layer_image.specs.Rules.{broken_rule};
 ghost use Rattle.layer_image.specs.Drawn.{selected_aperture, shape_in};
 ghost use Rattle.layer_image.specs.Inner.Pencils.{draw_state};
 ghost use Rattle.further_copper.specs.Blocks.{copy_count, is_repeated};
-ghost use Rattle.further_copper.specs.FurtherPads.{clears_in, contour_by, contours_in, contours_of, ended_copies, flash_shape, flashed, flashed_by, flashed_in, flashed_pads_of, has_room, max_count, max_regions, mirroring_set, origin, placed, region_contour, uncleared_flashes};
+ghost use Rattle.further_copper.specs.FurtherPads.{CopperState, clears_in, contour_by, contours_in, ended_copies, flash_shape, has_room, max_regions, mirroring_set, region_contour};
+ghost use Rattle.further_copper.specs.Features.{added_features, contour_feature, dark_kind, features_of, flash_feature, taken_away};
 ghost use Rattle.further_copper.specs.Inner.States.{HasMet, after, copper_state};
 
 use crate::clearing::Clearing;
 use crate::contour::contour_of;
-use crate::copies::{PlacedShape, lay, no_repeat};
+use crate::copies::{lay, no_repeat};
+use crate::feature::{Feature, FeatureKind};
 use crate::mirroring::{Mirroring, oriented, quarter_turns};
 use crate::part::{Part, add_parts};
 use gerber_text::{Action, Command, Placed, StepRepeat};
 use grid_units::Point;
-use layer_image::Pencil;
+use layer_image::{Flash, Pencil, What};
 use pad_shapes::{PlacedRounded, SharedRounded};
 use std::alloc::{AllocError, Global};
+use wide_pads::WidePad;
 
 /// One, in units of 10^-8.
 const ONE: i64 = 100_000_000;
@@ -30,10 +37,10 @@ const ONE: i64 = 100_000_000;
 /// The most regions of a layer whose contours count as pads, each copy counted.
 const MAX_REGIONS: u64 = 4_194_304;
 
-/// The further copper of the commands so far. It keeps their pads, the shapes and macros that they define, and the operations of the
-/// last region.
+/// The flashes and contours of the commands so far, whatever clear polarity takes away of them. It keeps the shapes and macros that the
+/// commands define, and the operations of the last region.
 #[derive(Drop)]
-pub struct FurtherCopper {
+struct Copper<'a> {
     alloc: Global,
     pencil: Pencil,
     mirroring: Mirroring,
@@ -41,29 +48,19 @@ pub struct FurtherCopper {
     parts: Vec<Part>,
     regions: u64,
     clearing: Clearing,
-    flashed: Vec<PlacedRounded>,
-    contours: Vec<PlacedRounded>,
-    flashes: u64,
+    /// The flashes of the commands to come, as the strict profile reads them.
+    left: &'a [Flash],
+    features: Vec<Feature>,
+    /// How many of the flashes and contours stood there when the last ones were taken away.
+    cleared: usize,
 }
 
-/// The further pads of some commands: those that no clear polarity takes away.
-#[derive(Debug, Drop)]
-pub struct FurtherPads {
-    /// The flashes of macros that count as pads, in order.
-    pub flashed: Vec<PlacedRounded>,
-    /// The contours of regions that count as pads, in order.
-    pub contours: Vec<PlacedRounded>,
-    /// How many flashes of every kind no clear polarity takes away, each copy counted. The greatest number of 64 bits stands for
-    /// each above it.
-    pub flashes: u64,
-}
-
-impl FurtherCopper {
-    /// No command was met.
-    pub fn new(alloc: Global) -> FurtherCopper
-        ensures { HasMet result [] }
+impl<'a> Copper<'a> {
+    /// No command was met. These are the flashes of all commands.
+    fn new(alloc: Global, flashes: &'a [Flash]) -> Copper<'a>
+        ensures { HasMet flashes.now result [] }
     {
-        FurtherCopper {
+        Copper {
             alloc,
             pencil: Pencil::new(alloc),
             mirroring: Mirroring::none(),
@@ -71,35 +68,88 @@ impl FurtherCopper {
             parts: Vec::new(alloc),
             regions: 0,
             clearing: Clearing::none(),
-            flashed: Vec::new(alloc),
-            contours: Vec::new(alloc),
-            flashes: 0,
+            left: flashes,
+            features: Vec::new(alloc),
+            cleared: 0,
         }
     }
 
-    /// Takes in one more command, and adds its pads.
-    ///
-    /// # Errors
-    ///
-    /// An `AllocError` where there is no memory for a pad, an aperture or a macro.
-    pub fn take(&mut self, command: &Command) -> Result<(), AllocError>
-        ensures { (commands : List TheCommand) → HasMet self.old commands → OnOk result (HasMet self.new (commands ++ command.now ∷ [])) }
+    /// Takes in one more command, and adds its flashes and contours.
+    fn take(&mut self, command: &Command) -> Result<(), AllocError>
+        ensures { (all : List TheFlash) (commands : List TheCommand) → HasMet all self.old commands → OnOk result (HasMet all self.new (commands ++ command.now ∷ [])) }
     {
-        self.lay_pads(command)?;
+        let own = self.next_flashes(command);
+        self.add(command, own)?;
+        self.clear_where(command);
         self.advance(command)?;
         Ok(())
     }
 
-    /// The pads of the commands so far.
-    pub fn into_pads(self) -> FurtherPads
-        ensures flashed { (commands : List TheCommand) → HasMet self commands → result.flashed.items ≡ flashed_pads_of commands }
-        ensures contours { (commands : List TheCommand) → HasMet self commands → result.contours.items ≡ contours_of commands }
-        ensures flashes { (commands : List TheCommand) → HasMet self commands → result.flashes ≡ uncleared_flashes commands }
+    /// The flashes of the next command, which are no longer left then.
+    fn next_flashes(&mut self, command: &Command) -> &'a [Flash]
+        ensures flashes { result.now ≡ take (flash_copies self.old.block command.now) self.old.left.now }
+        ensures left { self.new.left.now ≡ drop (flash_copies self.old.block command.now) self.old.left.now }
+        ensures state { copper_state self.new ≡ copper_state self.old }
+        ensures features { self.new.features.items ≡ self.old.features.items }
+        ensures cleared { self.new.cleared ≡ self.old.cleared }
     {
-        FurtherPads {
-            flashed: self.flashed,
-            contours: self.contours,
-            flashes: self.flashes,
+        let count = self.flash_copies(command).min(self.left.len() as u64);
+        let (own, left) = self.left.split_at(count as usize);
+        self.left = left;
+        own
+    }
+
+    /// Adds the flashes and contours of a command.
+    fn add(&mut self, command: &Command, flashes: &[Flash]) -> Result<(), AllocError>
+        ensures features { OnOk result (self.new.features.items ≡ self.old.features.items ++ added_features (copper_state self.old) flashes.now command.now) }
+        ensures left { self.new.left.now ≡ self.old.left.now }
+        ensures state { copper_state self.new ≡ copper_state self.old }
+        ensures cleared { self.new.cleared ≡ self.old.cleared }
+    {
+        if !flashes.is_empty() {
+            self.add_flashes(flashes)?;
+        }
+        self.add_contours(command)
+    }
+
+    /// Adds the flashes of a command.
+    fn add_flashes(&mut self, flashes: &[Flash]) -> Result<(), AllocError>
+        ensures features { OnOk result (self.new.features.items ≡ self.old.features.items ++ map (flash_feature (copper_state self.old)) flashes.now) }
+        ensures left { self.new.left.now ≡ self.old.left.now }
+        ensures state { copper_state self.new ≡ copper_state self.old }
+        ensures cleared { self.new.cleared ≡ self.old.cleared }
+    {
+        let shape = self.flash_shape()?;
+        add_flashes(&mut self.features, self.clearing.clear, &shape, flashes)
+    }
+
+    /// Adds the contours of a command.
+    fn add_contours(&mut self, command: &Command) -> Result<(), AllocError>
+        ensures features { OnOk result (self.new.features.items ≡ self.old.features.items ++ map contour_feature (contours_in (copper_state self.old) command.now)) }
+        ensures left { self.new.left.now ≡ self.old.left.now }
+        ensures state { copper_state self.new ≡ copper_state self.old }
+        ensures cleared { self.new.cleared ≡ self.old.cleared }
+    {
+        match self.contour_by(command)? {
+            Some(contour) => lay(
+                &mut self.features,
+                &contour,
+                self.pencil.unit(),
+                &self.block,
+            ),
+            None => Ok(()),
+        }
+    }
+
+    /// Takes away all flashes and contours where a command does.
+    fn clear_where(&mut self, command: &Command)
+        ensures cleared { self.new.cleared ≡ (if clears_in (copper_state self.old) command.now then length self.old.features.items else self.old.cleared) }
+        ensures features { self.new.features.items ≡ self.old.features.items }
+        ensures left { self.new.left.now ≡ self.old.left.now }
+        ensures state { copper_state self.new ≡ copper_state self.old }
+    {
+        if self.clears(command) {
+            self.cleared = self.features.len();
         }
     }
 
@@ -110,95 +160,14 @@ impl FurtherCopper {
         self.clearing.is_clearing(command) || (self.is_repeated() && self.clearing.in_block)
     }
 
-    /// Adds the pads of a command, or drops all pads where it takes them away.
-    fn lay_pads(&mut self, command: &Command) -> Result<(), AllocError>
-        ensures state { copper_state self.new ≡ copper_state self.old }
-        ensures flashed { OnOk result (self.new.flashed.items ≡ (if clears_in (copper_state self.old) command.now then [] else self.old.flashed.items ++ flashed_in (copper_state self.old) command.now)) }
-        ensures contours { OnOk result (self.new.contours.items ≡ (if clears_in (copper_state self.old) command.now then [] else self.old.contours.items ++ contours_in (copper_state self.old) command.now)) }
-        ensures flashes { OnOk result (self.new.flashes ≡ (if clears_in (copper_state self.old) command.now then 0 else min (self.old.flashes + flash_copies self.old.block command.now) max_count)) }
-    {
-        if self.clears(command) {
-            self.flashed.clear();
-            self.contours.clear();
-            self.flashes = 0;
-            return Ok(());
-        }
-        self.lay_flash(command)?;
-        self.lay_contour(command)?;
-        self.flashes = self.flashes.saturating_add(self.flash_copies(command));
-        Ok(())
-    }
-
-    /// Adds the pads of a flash.
-    fn lay_flash(&mut self, command: &Command) -> Result<(), AllocError>
-        ensures state { copper_state self.new ≡ copper_state self.old }
-        ensures flashed { OnOk result (self.new.flashed.items ≡ self.old.flashed.items ++ flashed_in (copper_state self.old) command.now) }
-        ensures contours { self.new.contours.items ≡ self.old.contours.items }
-        ensures flashes { self.new.flashes ≡ self.old.flashes }
-    {
-        match self.flashed_by(command)? {
-            Some(placed) => lay(&mut self.flashed, &placed, self.pencil.unit(), &self.block),
-            None => Ok(()),
-        }
-    }
-
-    /// Adds the pads of a contour.
-    fn lay_contour(&mut self, command: &Command) -> Result<(), AllocError>
-        ensures state { copper_state self.new ≡ copper_state self.old }
-        ensures flashed { self.new.flashed.items ≡ self.old.flashed.items }
-        ensures contours { OnOk result (self.new.contours.items ≡ self.old.contours.items ++ contours_in (copper_state self.old) command.now) }
-        ensures flashes { self.new.flashes ≡ self.old.flashes }
-    {
-        match self.contour_by(command)? {
-            Some(placed) => lay(&mut self.contours, &placed, self.pencil.unit(), &self.block),
-            None => Ok(()),
-        }
-    }
-
-    /// The contour that a command ends, and the point that it lies about.
-    fn contour_by(&self, command: &Command) -> Result<Option<PlacedShape>, AllocError>
+    /// The contour that a command ends, where it counts as a pad.
+    fn contour_by(&self, command: &Command) -> Result<Option<SharedRounded>, AllocError>
         ensures { IfOk result (λ answer. answer ≡ contour_by (copper_state self.now) command.now) }
     {
         match command {
-            Command::RegionEnd => Ok(placed(Some(origin()), self.region_contour()?)),
+            Command::RegionEnd => self.region_contour(),
             _ => Ok(None),
         }
-    }
-
-    /// The shape that a command flashes, and the point that it lies about.
-    fn flashed_by(&self, command: &Command) -> Result<Option<PlacedShape>, AllocError>
-        ensures { IfOk result (λ answer. answer ≡ flashed_by (copper_state self.now) command.now) }
-    {
-        match command {
-            Command::Operate { action, x, y, .. } => self.operated(*action, x.get(), y.get()),
-            _ => Ok(None),
-        }
-    }
-
-    /// The shape that an operation flashes, and its point.
-    fn operated(
-        &self,
-        action: Action,
-        x: Option<i64>,
-        y: Option<i64>,
-    ) -> Result<Option<PlacedShape>, AllocError>
-        ensures { (i j : Option ℤ) → IfOk result (λ answer. answer ≡ flashed_by (copper_state self.now) (command.Operate action x y i j)) }
-    {
-        match action {
-            Action::Flash => self.flashed(x, y),
-            Action::Move | Action::Plot => Ok(None),
-        }
-    }
-
-    /// The shape of a flash and its point.
-    fn flashed(&self, x: Option<i64>, y: Option<i64>) -> Result<Option<PlacedShape>, AllocError>
-        ensures { IfOk result (λ answer. answer ≡ flashed (copper_state self.now) x y) }
-    {
-        if self.pencil.in_region() {
-            return Ok(None);
-        }
-        let shape = self.flash_shape()?;
-        Ok(placed(self.pencil.operation_point(x, y), shape))
     }
 
     /// The shape that the selected aperture flashes.
@@ -290,12 +259,12 @@ impl FurtherCopper {
         }
     }
 
-    /// Takes in one more command without its pads.
+    /// Takes in one more command without its flashes and contours.
     fn advance(&mut self, command: &Command) -> Result<(), AllocError>
         ensures state { OnOk result (copper_state self.new ≡ after command.now (copper_state self.old)) }
-        ensures flashed { self.new.flashed.items ≡ self.old.flashed.items }
-        ensures contours { self.new.contours.items ≡ self.old.contours.items }
-        ensures flashes { self.new.flashes ≡ self.old.flashes }
+        ensures features { self.new.features.items ≡ self.old.features.items }
+        ensures left { self.new.left.now ≡ self.old.left.now }
+        ensures cleared { self.new.cleared ≡ self.old.cleared }
     {
         self.regions = self.regions_after(command);
         self.clearing = self.clearing.after_command(command);
@@ -328,36 +297,132 @@ fn block_after(block: StepRepeat, command: &Command) -> StepRepeat
     }
 }
 
-/// Zero, about which the points of a contour lie.
-fn origin() -> Point
-    ensures { result ≡ origin }
+/// The pad of a macro's shape at a point, where it may lie there.
+fn flashed_pad(
+    shape: &Option<SharedRounded>,
+    at: Point,
+) -> Result<Option<PlacedRounded>, AllocError>
+    ensures { IfOk result (λ pad. pad ≡ option_and_then (λ shape. shape_at shape at) shape.now) }
 {
-    Point::new(0, 0).unwrap()
-}
-
-/// A shape about a point, where there are both.
-fn placed(at: Option<Point>, shape: Option<SharedRounded>) -> Option<PlacedShape>
-    ensures { result ≡ placed at shape }
-{
-    match (at, shape) {
-        (Some(at), Some(shape)) => Some(PlacedShape { at, shape }),
-        _ => None,
+    match shape {
+        Some(shape) => PlacedRounded::new(shape, i128::from(at.x()), i128::from(at.y())),
+        None => Ok(None),
     }
 }
 
-/// The further pads of some commands.
+/// What a flash in dark polarity is, by the shape of its macro if it has one.
+fn dark_kind(shape: &Option<SharedRounded>, flash: &Flash) -> Result<FeatureKind, AllocError>
+    ensures { (s : CopperState) → shape.now ≡ flash_shape s → IfOk result (λ kind. kind ≡ dark_kind s flash.now.at flash.now.what) }
+{
+    match flash.what {
+        What::Pad(pad) => Ok(FeatureKind::Pad(WidePad::Plain(pad))),
+        What::Other(why) => match flashed_pad(shape, flash.at)? {
+            Some(pad) => Ok(FeatureKind::Pad(WidePad::Rounded(pad))),
+            None => Ok(FeatureKind::Other(why)),
+        },
+    }
+}
+
+/// A flash, by its polarity and the shape of its macro if it has one.
+fn flash_feature(
+    is_clear: bool,
+    shape: &Option<SharedRounded>,
+    flash: &Flash,
+) -> Result<Feature, AllocError>
+    ensures { (s : CopperState) → is_clear ≡ s.clearing.clear → shape.now ≡ flash_shape s → IfOk result (λ feature. feature ≡ flash_feature s flash.now) }
+{
+    let what = if is_clear {
+        FeatureKind::Clear
+    } else {
+        dark_kind(shape, flash)?
+    };
+    Ok(Feature { at: flash.at, what })
+}
+
+/// Adds a flash.
+fn add_flash(
+    features: &mut Vec<Feature>,
+    is_clear: bool,
+    shape: &Option<SharedRounded>,
+    flash: &Flash,
+) -> Result<(), AllocError>
+    ensures { (s : CopperState) → is_clear ≡ s.clearing.clear → shape.now ≡ flash_shape s → OnOk result (features.new.items ≡ features.old.items ++ flash_feature s flash.now ∷ []) }
+{
+    features.push(flash_feature(is_clear, shape, flash)?)?;
+    Ok(())
+}
+
+/// Adds flashes, by their polarity and the shape of their macro if they have one.
+fn add_flashes(
+    features: &mut Vec<Feature>,
+    is_clear: bool,
+    shape: &Option<SharedRounded>,
+    flashes: &[Flash],
+) -> Result<(), AllocError>
+    ensures { (s : CopperState) → is_clear ≡ s.clearing.clear → shape.now ≡ flash_shape s → OnOk result (features.new.items ≡ features.old.items ++ map (flash_feature s) flashes.now) }
+{
+    for flash in flashes {
+        add_flash(features, is_clear, shape, flash)?;
+    }
+    Ok(())
+}
+
+/// What is left of flashes and contours that clear polarity takes away.
+fn taken_away(alloc: Global, features: Vec<Feature>) -> Result<Vec<Feature>, AllocError>
+    ensures { IfOk result (λ left. left.items ≡ filter_map taken_away features.items) }
+{
+    features
+        .into_iter()
+        .filter_map(|feature| feature.taken_away())
+        .collect(alloc)
+}
+
+/// Flashes and contours of which the first ones, so many, are taken away.
+fn with_first_taken_away(
+    alloc: Global,
+    features: Vec<Feature>,
+    count: usize,
+) -> Result<Vec<Feature>, AllocError>
+    requires { count ≤ length features.items }
+    ensures { IfOk result (λ all. all.items ≡ filter_map taken_away (take count features.items) ++ drop count features.items) }
+{
+    let mut first = features;
+    if count == 0 {
+        return Ok(first);
+    }
+    let mut last = first.split_off(count)?;
+    let mut all = taken_away(alloc, first)?;
+    all.append(&mut last)?;
+    Ok(all)
+}
+
+/// The copper of all of these commands, whose flashes are these.
+fn copper_of<'a>(
+    alloc: Global,
+    entries: &[Placed<Command>],
+    flashes: &'a [Flash],
+) -> Result<Copper<'a>, AllocError>
+    ensures { IfOk result (λ copper. HasMet flashes.now copper (without_places entries.now)) }
+{
+    let mut copper = Copper::new(alloc, flashes);
+    for entry in entries {
+        copper.take(&entry.what)?;
+    }
+    Ok(copper)
+}
+
+/// The flashes and contours of a layer, in the order of its text, by its commands and their flashes as the strict profile reads them.
 ///
 /// # Errors
 ///
 /// An `AllocError` where there is no memory for them.
-pub fn further_pads(alloc: Global, entries: &[Placed<Command>]) -> Result<FurtherPads, AllocError>
-    ensures flashed { IfOk result (λ pads. pads.flashed.items ≡ flashed_pads_of (without_places entries.now)) }
-    ensures contours { IfOk result (λ pads. pads.contours.items ≡ contours_of (without_places entries.now)) }
-    ensures flashes { IfOk result (λ pads. pads.flashes ≡ uncleared_flashes (without_places entries.now)) }
+pub fn features(
+    alloc: Global,
+    entries: &[Placed<Command>],
+    flashes: &[Flash],
+) -> Result<Vec<Feature>, AllocError>
+    ensures { IsLegal broken_rule (without_places entries.now) → flashes.now ≡ flashes_of (without_places entries.now) → IfOk result (λ all. all.items ≡ features_of (without_places entries.now)) }
 {
-    let mut copper = FurtherCopper::new(alloc);
-    for entry in entries {
-        copper.take(&entry.what)?;
-    }
-    Ok(copper.into_pads())
+    let copper = copper_of(alloc, entries, flashes)?;
+    with_first_taken_away(alloc, copper.features, copper.cleared)
 }

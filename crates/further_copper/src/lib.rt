@@ -1,12 +1,15 @@
-//! The further copper of a layer that counts as pads: flashes of macros that have a shape, and convex contours of regions.
+//! The flashes and contours of a layer that is read in the wide profile. Further copper counts as pads there: flashes of macros that have a
+//! shape, and convex contours of regions.
 #![tactic(auto)]
 
 mod clearing;
 mod contour;
 mod copies;
 mod copper;
+mod feature;
 pub mod laws;
 mod mirroring;
 mod part;
 
-pub use copper::{FurtherCopper, FurtherPads, further_pads};
+pub use copper::features;
+pub use feature::{Feature, FeatureKind, FeatureRow, RowKind};

@@ -1,10 +1,11 @@
 //! The further pads of layers: mirrored, turned and repeated macros, and contours that count and that do not.
 
-use further_copper::{FurtherPads, further_pads};
+use further_copper::{Feature, FeatureKind, features};
 use grid_units::Point;
 use layer_image::read_layer;
 use pad_shapes::{PlacedRounded, Rounded};
 use std::alloc::Global;
+use wide_pads::WidePad;
 
 /// A pad: its radius, and its corners in µm.
 type Pad = (i64, &'static [(i64, i64)]);
@@ -12,7 +13,7 @@ type Pad = (i64, &'static [(i64, i64)]);
 /// A triangle with a right angle at the point of the flash, 3 mm along x and 2 mm along y.
 const TRIANGLE: &[u8] = b"%AMT*4,1,3,0,0,3,0,0,2,0,0,0*%\n%ADD10T*%\nD10*\n";
 
-/// What is written after the triangle, and the pads: first the flashes of macros, then the contours.
+/// What is written after the triangle, and the further pads in the order of the text.
 const FLASHES: [(&[u8], &[Pad]); 16] = [
     (b"X0Y0D03*\n", &[(0, &[(3_000, 0), (0, 2_000), (0, 0)])]),
     // A flash elsewhere.
@@ -82,7 +83,7 @@ const FLASHES: [(&[u8], &[Pad]); 16] = [
     (b"X0Y0D02*\nX5000000D02*\n", &[]),
 ];
 
-/// The commands of a layer, and the pads: first the flashes of macros, then the contours.
+/// The commands of a layer, and the further pads in the order of the text.
 const LAYERS: [(&[u8], &[Pad]); 24] = [
     // A square of 2 mm, from its lower left corner.
     (
@@ -217,8 +218,8 @@ const LAYERS: [(&[u8], &[Pad]); 24] = [
         b"%AMA*1,1,$1,0,0*%\n%AMB*1,1,$1,1,0*%\n%ADD10A,0.6*%\n%ADD11B,0.4*%\nD11*\nX0Y0D03*\nG36*\nX-1000000Y-1000000D02*\nX1000000D01*\nY1000000D01*\nX-1000000D01*\nY-1000000D01*\nG37*\nD10*\nX0Y0D03*\n",
         &[
             (200_000_000, &[(1_000, 0)]),
-            (300_000_000, &[(0, 0)]),
             (0, &SQUARE),
+            (300_000_000, &[(0, 0)]),
         ],
     ),
     // Pads of standard apertures are no further ones, and a macro that is not judged leaves none.
@@ -266,45 +267,44 @@ fn is_pad(found: &Rounded, &(radius, corners): &Pad) -> bool {
     }
 }
 
-/// Whether these are the pads of a list, in order.
-fn are_pads(alloc: Global, pads: &[PlacedRounded], expected: &[Pad]) -> bool {
-    if pads.len() != expected.len() {
-        return false;
+/// The rounded polygon of a flash of a macro or of a contour.
+fn rounded(what: &FeatureKind) -> Option<&PlacedRounded> {
+    match what {
+        FeatureKind::Pad(WidePad::Rounded(pad)) | FeatureKind::Contour(pad) => Some(pad),
+        _ => None,
     }
-    for i in 0..pads.len() {
-        match pads[i].on_board(alloc) {
-            Ok(found) => {
-                if !is_pad(&found, &expected[i]) {
-                    return false;
-                }
+}
+
+/// Whether the rounded polygons among flashes and contours are these, in order.
+fn are_pads(alloc: Global, features: &[Feature], expected: &[Pad]) -> bool {
+    let mut left = expected;
+    for feature in features {
+        if let Some(pad) = rounded(&feature.what) {
+            let [next, rest @ ..] = left else {
+                return false;
+            };
+            match pad.on_board(alloc) {
+                Ok(found) if is_pad(&found, next) => left = rest,
+                _ => return false,
             }
-            Err(_) => return false,
         }
     }
-    true
+    left.is_empty()
 }
 
-/// Whether these are the flashes of macros, and then the contours.
-fn are_further_pads(alloc: Global, found: &FurtherPads, expected: &[Pad]) -> bool {
-    let flashed = found.flashed.len();
-    flashed <= expected.len()
-        && are_pads(alloc, &found.flashed, &expected[..flashed])
-        && are_pads(alloc, &found.contours, &expected[flashed..])
-}
-
-/// The further pads of the layer of a text.
-fn pads_of(alloc: Global, pieces: &[&[u8]]) -> Option<FurtherPads> {
+/// The flashes and contours of the layer of a text.
+fn features_of(alloc: Global, pieces: &[&[u8]]) -> Option<Vec<Feature>> {
     let text = pieces.concat(alloc).ok()?;
     let layer = read_layer(alloc, &text).ok()?;
-    further_pads(alloc, layer.commands()).ok()
+    features(alloc, layer.commands(), layer.flashes()).ok()
 }
 
 /// Whether these are the further pads of the layer of a text in millimetres.
 fn has_pads(alloc: Global, pieces: [&[u8]; 2], expected: &[Pad]) -> bool {
     let [before, body] = pieces;
     let pieces: [&[u8]; 4] = [b"%FSLAX46Y46*%\n%MOMM*%\nG01*\n", before, body, b"M02*\n"];
-    match pads_of(alloc, &pieces) {
-        Some(pads) => are_further_pads(alloc, &pads, expected),
+    match features_of(alloc, &pieces) {
+        Some(features) => are_pads(alloc, &features, expected),
         None => false,
     }
 }

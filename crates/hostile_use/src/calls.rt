@@ -5,7 +5,7 @@ use crate::readers::Reader;
 use crate::small;
 use drill_text::{drill_sayable, read_drill, write_drill};
 use gerber_text::{Command, Kept, Placed, read_kept, read_words, write_commands, write_placed};
-use grid_units::Fail;
+use grid_units::{Fail, Profile};
 use manifest::read_manifest;
 use ringcheck_files::{ReadFail, read_all};
 use single_files::{Kind, rewrite_bytes, show_drill, show_layer};
@@ -23,7 +23,7 @@ pub(crate) enum Call {
     WritePlaced,
     Lines,
     WriteDrill,
-    Show(Kind),
+    Show(Profile, Kind),
     Rewrite(Kind),
     Manifest,
     ReadAll,
@@ -31,7 +31,7 @@ pub(crate) enum Call {
     Name,
 }
 
-pub(crate) const ON_LAYERS: [Call; 14] = [
+pub(crate) const ON_LAYERS: [Call; 15] = [
     Call::Whole(Reader::Words),
     Call::InTwo(Reader::Words),
     Call::InBytes(Reader::Words),
@@ -44,11 +44,12 @@ pub(crate) const ON_LAYERS: [Call; 14] = [
     Call::Items,
     Call::WriteCommands,
     Call::WritePlaced,
-    Call::Show(Kind::Layer),
+    Call::Show(Profile::Strict, Kind::Layer),
+    Call::Show(Profile::Wide, Kind::Layer),
     Call::Rewrite(Kind::Layer),
 ];
 
-pub(crate) const ON_DRILLS: [Call; 9] = [
+pub(crate) const ON_DRILLS: [Call; 10] = [
     Call::Whole(Reader::Drill),
     Call::InTwo(Reader::Drill),
     Call::InBytes(Reader::Drill),
@@ -56,7 +57,8 @@ pub(crate) const ON_DRILLS: [Call; 9] = [
     Call::InBytes(Reader::Holes),
     Call::Lines,
     Call::WriteDrill,
-    Call::Show(Kind::Drill),
+    Call::Show(Profile::Strict, Kind::Drill),
+    Call::Show(Profile::Wide, Kind::Drill),
     Call::Rewrite(Kind::Drill),
 ];
 
@@ -76,8 +78,8 @@ pub(crate) fn ask(call: Call, alloc: Global, text: &[u8]) -> Answer {
         Call::WriteCommands => Answer::of_bytes(commands_written(alloc, text)),
         Call::WritePlaced => Answer::of_bytes(placed_written(alloc, text)),
         Call::WriteDrill => Answer::of_bytes(drill_written(alloc, text)),
-        Call::Show(Kind::Layer) => Answer::of_bytes(show_layer(alloc, text)),
-        Call::Show(Kind::Drill) => Answer::of_bytes(show_drill(alloc, text)),
+        Call::Show(profile, Kind::Layer) => Answer::of_bytes(show_layer(alloc, profile, text)),
+        Call::Show(profile, Kind::Drill) => Answer::of_bytes(show_drill(alloc, profile, text)),
         Call::Rewrite(kind) => Answer::of_bytes(rewrite_bytes(alloc, kind, text)),
         Call::Manifest => Answer::of_manifest(read_manifest(alloc, text)),
         Call::ReadAll => all_read(alloc, text),

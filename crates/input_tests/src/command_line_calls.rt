@@ -152,18 +152,34 @@ fn a_profile_is_kept_as_it_is_written(rt: HostRuntime) {
 }
 
 /// Words, and what they ask for.
-const FILES: [(&str, &str); 5] = [
+const FILES: [(&str, &str); 9] = [
     (
         "show --kind layer top.gbr",
-        "Show { kind: \"layer\", file: \"top.gbr\" }",
+        "Show { kind: \"layer\", profile: None, file: \"top.gbr\" }",
     ),
     (
         "show top.gbr --kind layer",
-        "Show { kind: \"layer\", file: \"top.gbr\" }",
+        "Show { kind: \"layer\", profile: None, file: \"top.gbr\" }",
     ),
     (
         "show --kind board x",
-        "Show { kind: \"board\", file: \"x\" }",
+        "Show { kind: \"board\", profile: None, file: \"x\" }",
+    ),
+    (
+        "show --kind layer --profile wide top.gbr",
+        "Show { kind: \"layer\", profile: Some(\"wide\"), file: \"top.gbr\" }",
+    ),
+    (
+        "show --profile=wide top.gbr --kind=drill",
+        "Show { kind: \"drill\", profile: Some(\"wide\"), file: \"top.gbr\" }",
+    ),
+    (
+        "show top.gbr --kind layer --profile loose",
+        "Show { kind: \"layer\", profile: Some(\"loose\"), file: \"top.gbr\" }",
+    ),
+    (
+        "show --kind layer --profile= -- top.gbr",
+        "Show { kind: \"layer\", profile: Some(\"\"), file: \"top.gbr\" }",
     ),
     (
         "rewrite --kind drill pth.drl",
@@ -182,7 +198,7 @@ fn a_table_and_a_canonical_text_are_asked_for(rt: HostRuntime) {
     }
 }
 
-const REFUSED: [&str; 54] = [
+const REFUSED: [&str; 57] = [
     "check --ring -1 --gap 0.2 m.csv",
     // other words
     "",
@@ -205,20 +221,23 @@ const REFUSED: [&str; 54] = [
     "check --ring=0.125 --ring=0.125 --gap=0.2 m.csv",
     "check --ring=0.125 --gap=0.2 m.csv n.csv",
     "check --ring=0.125 --gap=0.2 --fast m.csv",
-    // a profile is named once, with its value, and of two commands
+    // a profile is named once, with its value, and not of every command
     "check --ring=0.125 --gap=0.2 m.csv --profile",
     "check --ring=0.125 --gap=0.2 --profile m.csv",
     "check --ring=0.125 --gap=0.2 --profile -wide m.csv",
     "check --ring=0.125 --gap=0.2 --profile wide --profile wide m.csv",
     "check --profile=strict --ring=0.125 --gap=0.2 --profile=wide m.csv",
     "check --profile wide m.csv",
-    "report --profile wide --ring=0.125 --gap=0.2 m.csv",
+    "report --profile wide --profile wide --ring=0.125 --gap=0.2 m.csv",
     "measure m.csv --profile",
     "measure --profile m.csv",
     "measure --profile wide --profile wide m.csv",
-    "draw --profile wide m.csv",
+    "draw --profile wide --profile wide m.csv",
     "manifest --profile wide top.gbr",
-    "show --profile wide --kind layer top.gbr",
+    "show --kind layer top.gbr --profile",
+    "show --kind layer --profile top.gbr",
+    "show --kind layer --profile wide --profile wide top.gbr",
+    "show --profile wide top.gbr",
     "rewrite --profile wide --kind layer top.gbr",
     // measures, reports and pictures with other words
     "measure",
@@ -283,7 +302,14 @@ const HELP: [(&str, Parts); 10] = [
     ("help", &COMMANDS),
     ("check --help", &VALUES),
     ("help check", &VALUES),
-    ("show --help", &["--kind <layer|drill>", "<FILE>"]),
+    (
+        "show --help",
+        &[
+            "ringcheck show --kind <layer|drill> [--profile <strict|wide>] <FILE>\n",
+            "--kind <layer|drill>  ",
+            "--profile <NAME>      strict, the default: ",
+        ],
+    ),
     ("rewrite -h", &["--kind <layer|drill>", "<FILE>"]),
     (
         "measure --help",
@@ -310,7 +336,7 @@ const HELP: [(&str, Parts); 10] = [
     (
         "draw --help",
         &[
-            "ringcheck draw [--ring <MM> --gap <MM>] [--outline <FILE>] <MANIFEST>",
+            "ringcheck draw [--ring <MM> --gap <MM>] [--profile <strict|wide>]",
             "--outline <FILE>  Gerber file of the board's edge, drawn as a thin line\n",
             "Draw a package as an SVG picture",
         ],
@@ -424,53 +450,62 @@ fn a_measure_is_asked_for(rt: HostRuntime) {
     }
 }
 
-const REPORTS: [(&str, &str); 11] = [
+const REPORTS: [(&str, &str); 13] = [
     (
         "report --ring 0.125 --gap 0.2 m.csv",
-        "Report { ring: \"0.125\", gap: \"0.2\", limit: None, waive: None, outline: None, format: None, manifest: \"m.csv\" }",
+        "Report { ring: \"0.125\", gap: \"0.2\", profile: None, limit: None, waive: None, outline: None, format: None, manifest: \"m.csv\" }",
     ),
     (
         "report --ring 0.125 --gap 0.2 --max 2 m.csv",
-        "Report { ring: \"0.125\", gap: \"0.2\", limit: Some(\"2\"), waive: None, outline: None, format: None, manifest: \"m.csv\" }",
+        "Report { ring: \"0.125\", gap: \"0.2\", profile: None, limit: Some(\"2\"), waive: None, outline: None, format: None, manifest: \"m.csv\" }",
     ),
     (
         "report --max 2 m.csv --gap 0.2 --ring 0.125",
-        "Report { ring: \"0.125\", gap: \"0.2\", limit: Some(\"2\"), waive: None, outline: None, format: None, manifest: \"m.csv\" }",
+        "Report { ring: \"0.125\", gap: \"0.2\", profile: None, limit: Some(\"2\"), waive: None, outline: None, format: None, manifest: \"m.csv\" }",
     ),
     // in a format
     (
         "report --ring 0.125 --gap 0.2 --format json m.csv",
-        "Report { ring: \"0.125\", gap: \"0.2\", limit: None, waive: None, outline: None, format: Some(\"json\"), manifest: \"m.csv\" }",
+        "Report { ring: \"0.125\", gap: \"0.2\", profile: None, limit: None, waive: None, outline: None, format: Some(\"json\"), manifest: \"m.csv\" }",
     ),
     (
         "report --ring 0.125 --gap 0.2 --max 2 --format json m.csv",
-        "Report { ring: \"0.125\", gap: \"0.2\", limit: Some(\"2\"), waive: None, outline: None, format: Some(\"json\"), manifest: \"m.csv\" }",
+        "Report { ring: \"0.125\", gap: \"0.2\", profile: None, limit: Some(\"2\"), waive: None, outline: None, format: Some(\"json\"), manifest: \"m.csv\" }",
     ),
     (
         "report --format=json m.csv --gap 0.2 --max=2 --ring 0.125",
-        "Report { ring: \"0.125\", gap: \"0.2\", limit: Some(\"2\"), waive: None, outline: None, format: Some(\"json\"), manifest: \"m.csv\" }",
+        "Report { ring: \"0.125\", gap: \"0.2\", profile: None, limit: Some(\"2\"), waive: None, outline: None, format: Some(\"json\"), manifest: \"m.csv\" }",
     ),
     (
         "report m.csv --gap 0.2 --ring 0.125 --format text",
-        "Report { ring: \"0.125\", gap: \"0.2\", limit: None, waive: None, outline: None, format: Some(\"text\"), manifest: \"m.csv\" }",
+        "Report { ring: \"0.125\", gap: \"0.2\", profile: None, limit: None, waive: None, outline: None, format: Some(\"text\"), manifest: \"m.csv\" }",
     ),
     // with waivers
     (
         "report --ring 0.125 --gap 0.2 --waive w.csv m.csv",
-        "Report { ring: \"0.125\", gap: \"0.2\", limit: None, waive: Some(\"w.csv\"), outline: None, format: None, manifest: \"m.csv\" }",
+        "Report { ring: \"0.125\", gap: \"0.2\", profile: None, limit: None, waive: Some(\"w.csv\"), outline: None, format: None, manifest: \"m.csv\" }",
     ),
     (
         "report --ring 0.125 --gap 0.2 --max 2 --waive w.csv --format json m.csv",
-        "Report { ring: \"0.125\", gap: \"0.2\", limit: Some(\"2\"), waive: Some(\"w.csv\"), outline: None, format: Some(\"json\"), manifest: \"m.csv\" }",
+        "Report { ring: \"0.125\", gap: \"0.2\", profile: None, limit: Some(\"2\"), waive: Some(\"w.csv\"), outline: None, format: Some(\"json\"), manifest: \"m.csv\" }",
     ),
     (
         "report m.csv --format=waivers --waive=w.csv --gap 0.2 --ring 0.125",
-        "Report { ring: \"0.125\", gap: \"0.2\", limit: None, waive: Some(\"w.csv\"), outline: None, format: Some(\"waivers\"), manifest: \"m.csv\" }",
+        "Report { ring: \"0.125\", gap: \"0.2\", profile: None, limit: None, waive: Some(\"w.csv\"), outline: None, format: Some(\"waivers\"), manifest: \"m.csv\" }",
     ),
     // with an outline
     (
         "report --outline edge.gbr --format html --ring 0.125 --gap 0.2 m.csv",
-        "Report { ring: \"0.125\", gap: \"0.2\", limit: None, waive: None, outline: Some(\"edge.gbr\"), format: Some(\"html\"), manifest: \"m.csv\" }",
+        "Report { ring: \"0.125\", gap: \"0.2\", profile: None, limit: None, waive: None, outline: Some(\"edge.gbr\"), format: Some(\"html\"), manifest: \"m.csv\" }",
+    ),
+    // in a profile
+    (
+        "report --profile wide --ring 0.125 --gap 0.2 m.csv",
+        "Report { ring: \"0.125\", gap: \"0.2\", profile: Some(\"wide\"), limit: None, waive: None, outline: None, format: None, manifest: \"m.csv\" }",
+    ),
+    (
+        "report m.csv --gap=0.2 --ring=0.125 --max=2 --profile=strict",
+        "Report { ring: \"0.125\", gap: \"0.2\", profile: Some(\"strict\"), limit: Some(\"2\"), waive: None, outline: None, format: None, manifest: \"m.csv\" }",
     ),
 ];
 
@@ -481,26 +516,34 @@ fn a_report_is_asked_for(rt: HostRuntime) {
     }
 }
 
-const PICTURES: [(&str, &str); 5] = [
+const PICTURES: [(&str, &str); 7] = [
     (
         "draw m.csv",
-        "Draw { ring: None, gap: None, outline: None, manifest: \"m.csv\" }",
+        "Draw { ring: None, gap: None, profile: None, outline: None, manifest: \"m.csv\" }",
     ),
     (
         "draw --ring 0.125 --gap 0.2 m.csv",
-        "Draw { ring: Some(\"0.125\"), gap: Some(\"0.2\"), outline: None, manifest: \"m.csv\" }",
+        "Draw { ring: Some(\"0.125\"), gap: Some(\"0.2\"), profile: None, outline: None, manifest: \"m.csv\" }",
     ),
     (
         "draw --ring 0.125 m.csv",
-        "Draw { ring: Some(\"0.125\"), gap: None, outline: None, manifest: \"m.csv\" }",
+        "Draw { ring: Some(\"0.125\"), gap: None, profile: None, outline: None, manifest: \"m.csv\" }",
     ),
     (
         "draw --outline edge.gbr m.csv",
-        "Draw { ring: None, gap: None, outline: Some(\"edge.gbr\"), manifest: \"m.csv\" }",
+        "Draw { ring: None, gap: None, profile: None, outline: Some(\"edge.gbr\"), manifest: \"m.csv\" }",
     ),
     (
         "draw m.csv --gap 0.2 --outline=edge.gbr --ring 0.125",
-        "Draw { ring: Some(\"0.125\"), gap: Some(\"0.2\"), outline: Some(\"edge.gbr\"), manifest: \"m.csv\" }",
+        "Draw { ring: Some(\"0.125\"), gap: Some(\"0.2\"), profile: None, outline: Some(\"edge.gbr\"), manifest: \"m.csv\" }",
+    ),
+    (
+        "draw --profile wide m.csv",
+        "Draw { ring: None, gap: None, profile: Some(\"wide\"), outline: None, manifest: \"m.csv\" }",
+    ),
+    (
+        "draw m.csv --gap 0.2 --profile=loose --ring 0.125",
+        "Draw { ring: Some(\"0.125\"), gap: Some(\"0.2\"), profile: Some(\"loose\"), outline: None, manifest: \"m.csv\" }",
     ),
 ];
 

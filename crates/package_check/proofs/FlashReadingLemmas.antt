@@ -5,7 +5,8 @@ use Rattle.std.proofs.lemmas.List.{take_more}
 use Rattle.std.proofs.lemmas.List.Elements.{filter_map-append}
 use Rattle.layer_image.specs.Flashes.{pad_in, pads_of}
 use Rattle.layer_image.specs.KeptFlashes.{keeps_commands, keeps_flashes}
-use Rattle.layer_image.specs.Layers.{LayerImage, ReadsLayer, kept_of}
+use Rattle.layer_image.specs.Layers.{LayerImage, ReadsLayer, image_of, kept_of}
+use Rattle.gerber_text.specs.Reading.{Entries}
 use Rattle.layer_image.specs.declared.flash.Flash.{Flash}
 use Rattle.layer_image.specs.declared.keep.Keep.{Keep}
 
@@ -20,6 +21,10 @@ pads_more flashes i d lt = sym (pads_append (take i flashes) (get_or flashes i d
 -- the pads of a layer are those among its flashes
 pub pads_are : (text : List ℕ) (image : LayerImage) → ReadsLayer text (Ok image) → pads_of image.flashes ≡ image.pads
 pads_are text image h = ap (λ (i : LayerImage). pads_of i.flashes) h.1 ∙ sym (ap (λ (i : LayerImage). i.pads) h.1)
+
+-- the pads of a layer are counted
+pub counted : (image : LayerImage) (entries : Entries) → image ≡ image_of entries → image.pad_count ≡ length image.pads
+counted image entries is = ap (λ (i : LayerImage). i.pad_count) is ∙ sym (ap (λ (i : LayerImage). length i.pads) is)
 
 -- where flashes are kept of a layer, they are all of its flashes
 pub flashes_kept : (keep : Keep) (image kept : LayerImage) → keeps_flashes keep ≡ true → kept ≡ kept_of keep image → kept.flashes ≡ image.flashes

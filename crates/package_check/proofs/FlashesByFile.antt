@@ -7,12 +7,12 @@ use Rattle.layer_image.specs.Drawn.{drawn_of}
 use Rattle.layer_image.specs.KeptFlashes.{keeps_commands, keeps_flashes}
 use Rattle.layer_image.specs.Layers.{LayerImage, ReadingIsUniqueIn}
 use Rattle.layer_image.specs.declared.drawn.Drawn.{Drawn}
-use Rattle.layer_image.specs.declared.flash.Flash.{Flash}
+use Rattle.further_copper.specs.declared.feature.FeatureRow.{FeatureRow}
 use Rattle.layer_image.specs.declared.keep.Keep.{Keep}
 use Rattle.layer_image.specs.declared.keep.Keep.TheVariants as keep
-use Rattle.package_check.specs.FileTexts.{Draws, HasFlashes}
+use Rattle.package_check.specs.FileTexts.{Draws, HasRows}
 use Rattle.package_check.specs.Package.{FileView}
-use Rattle.package_check.specs.Boards.{AreDrawnOf, AreFileLists, AreFlashesOf}
+use Rattle.package_check.specs.Boards.{AreDrawnOf, AreFileLists, AreRowsOf}
 
 -- flashes are kept where commands are
 pub flashes_too : (kept : Keep) → keeps_commands kept ≡ true → keeps_flashes kept ≡ true
@@ -25,10 +25,6 @@ the_ok image = Ok image
 
 ok_same : {a b : LayerImage} → the_ok a ≡ the_ok b → a ≡ b
 ok_same e = cc
-
--- the flashes that are read of a text are those of each layer that it reads as
-pub flashes_read : ReadingIsUniqueIn → (source : FileView) (flashes : List Flash) → HasFlashes source.setting.profile source.bytes flashes → AreFlashesOf source flashes
-flashes_read one source flashes read = λ copper image reads. read.2 ∙ ap (λ (i : LayerImage). i.flashes) (ok_same (one source.setting.profile source.bytes (Ok read.0) (Ok image) read.1 reads))
 
 -- what a text draws is what each layer draws that it reads as
 pub drawn_read : ReadingIsUniqueIn → (source : FileView) (drawn : List Drawn) → Draws source.setting.profile source.bytes drawn → AreDrawnOf source drawn

@@ -15,10 +15,11 @@ use Rattle.grid_units.specs.declared.profile.Profile.TheVariants.{Strict, Wide}
 use Rattle.wide_pads.specs.WidePads.{wide_pad_covers}
 use Rattle.wide_pads.specs.declared.wide_pad.WidePad.{WidePad}
 use Rattle.std.proofs.lemmas.List.{append-nil, map-append}
-use Rattle.package_check.specs.LayerViews.{all_pads, plain, rounded}
+use Rattle.package_check.specs.LayerViews.{plain}
 use Rattle.pad_shapes.specs.Rounded.{GridRounded}
 use Rattle.gerber_text.specs.Writing.{without_places}
-use Rattle.wide_layers.specs.WideLayers.{WideImage, wide_image_of}
+use Rattle.wide_layers.specs.WideLayers.{WideImage, contour_count, flashed_count, other_count, wide_image_of}
+use Rattle.further_copper.specs.Features.{pads_of}
 use Rattle.pad_shapes.specs.declared.pad.Pad.{Pad}
 use Rattle.ring_rules.specs.Findings.{layer_findings}
 use Rattle.ring_rules.specs.declared.finding.Drilled.{Drilled}
@@ -60,8 +61,8 @@ module _ (rules : GridRules) (strict : rules.profile ≡ Strict) (holes : List D
     record {
       sum = counts
           ∙ ((λ j. sum.Layer ((ap (λ (l : LayerImage). l.pad_count) read.2 ∙ (ap (λ (l : LayerImage). l.pad_count) read.1.1 ∙ sym (ap (λ (l : LayerImage). length l.pads) read.1.1))) j) rest.other 0)
-          ∙ ((λ j. sum.Layer (length read.0.pads) (ap (λ (l : LayerImage). l.other) read.2 j) 0) ∙ ap (λ (n : ℕ). sum.Layer n read.0.other 0) (sym (add-zero (length read.0.pads)))));
-      rings = rings ∙ ap (λ (ps : List WidePad). layer_findings wide_pad_covers rules.profile rules.ring holes layer ps) (sym (map-append plain dropped rest.pads) ∙ (ap (λ (l : LayerImage). map plain l.pads) read.2 ∙ sym (append-nil (map plain read.0.pads))));
+          ∙ (λ j. sum.Layer (length read.0.pads) (ap (λ (l : LayerImage). l.other) read.2 j) 0));
+      rings = rings ∙ ap (λ (ps : List WidePad). layer_findings wide_pad_covers rules.profile rules.ring holes layer ps) (sym (map-append plain dropped rest.pads) ∙ ap (λ (l : LayerImage). map plain l.pads) read.2);
     },
   )
 
@@ -100,8 +101,8 @@ module _ (rules : GridRules) (wide : rules.profile ≡ Wide) (holes : List Drill
   whole_view : HasLayerView rules.profile text (wide_view image)
   whole_view = subst (λ (p : Profile). HasLayerView p text (wide_view image)) (sym wide) (image, (whole, reads, is), refl)
 
-  pub whole_left : is_copper_function image.file_function ≡ true → (one : Judged) → one.sum ≡ sum.Layer (length image.pads + length image.flashed) image.other (length image.contours)
-      → one.rings.items ≡ layer_findings wide_pad_covers rules.profile rules.ring holes layer (all_pads (wide_view image)) → JudgesCopper rules holes layer text (Ok one)
+  pub whole_left : is_copper_function image.file_function ≡ true → (one : Judged) → one.sum ≡ sum.Layer (flashed_count image.features) (other_count image.features) (contour_count image.features)
+      → one.rings.items ≡ layer_findings wide_pad_covers rules.profile rules.ring holes layer (pads_of image.features) → JudgesCopper rules holes layer text (Ok one)
   whole_left copper one counts rings = (content.Layer (wide_view image), (whole_view, copper), record { sum = counts; rings = rings })
 
   whole_no_copper : is_copper_function image.file_function ≡ false → JudgesCopper rules holes layer text (Err not_copper)
@@ -119,7 +120,3 @@ pub whole_fault : (rules : GridRules) → rules.profile ≡ Wide → (holes : Li
     → Answers {T = Judged} (λ one. one) (JudgesCopper rules holes layer text) (Err e)
 whole_fault rules wide holes layer text fails.Memory h = tt
 whole_fault rules wide holes layer text (fails.Refused f) h = inl (subst (λ (p : Profile). layers.ReadsLayerIn p text (Err f)) (sym wide) h)
-
--- all pads of a layer, as they are tried one kind after the other
-pub kinds_joined : (pads : List Pad) (flashed contours : List GridRounded) → (([] ++ map plain pads) ++ map rounded flashed) ++ map rounded contours ≡ map plain pads ++ map rounded (flashed ++ contours)
-kinds_joined pads flashed contours = append_assoc (map plain pads) (map rounded flashed) (map rounded contours) ∙ ap (λ (ps : List WidePad). map plain pads ++ ps) (sym (map-append rounded flashed contours))

@@ -7,7 +7,6 @@ use Rattle.std.proofs.lemmas.Option.{none-some}
 use Rattle.grid_units.specs.Holes.{GridRules}
 use Rattle.wide_pads.specs.declared.wide_pad.WidePad.{WidePad}
 use Rattle.wide_pads.specs.WidePads.{wide_pad_covers}
-use Rattle.package_check.specs.LayerViews.{all_pads}
 use Rattle.ring_rules.specs.Findings.{gap_findings, layer_findings}
 use Rattle.ring_rules.specs.declared.finding.Drilled.{Drilled}
 use Rattle.ring_rules.specs.declared.finding.Finding.{Finding}
@@ -68,8 +67,8 @@ module _ (rules : GridRules) (holes : List Drilled) where
   rings_composed : (n : ℕ) (contents : List Content) → rings_from n contents ≡ flat_map (λ layer. layer_findings wide_pad_covers rules.profile rules.ring holes layer.0 layer.1) (enumerate_from n (layers contents))
   rings_composed n [] = refl
   rings_composed n (content.Layer image ∷ cs) =
-      ap (λ (fs : List Finding). layer_findings wide_pad_covers rules.profile rules.ring holes n (all_pads image) ++ fs) (rings_composed (n + 1) cs)
-      ∙ (sym (flat_map-cons (λ (layer : ℕ × List WidePad). layer_findings wide_pad_covers rules.profile rules.ring holes layer.0 layer.1) (n, all_pads image) (enumerate_from (n + 1) (layers cs)))
+      ap (λ (fs : List Finding). layer_findings wide_pad_covers rules.profile rules.ring holes n image.pads ++ fs) (rings_composed (n + 1) cs)
+      ∙ (sym (flat_map-cons (λ (layer : ℕ × List WidePad). layer_findings wide_pad_covers rules.profile rules.ring holes layer.0 layer.1) (n, image.pads) (enumerate_from (n + 1) (layers cs)))
       ∙ ap (λ (ps : List (List WidePad)). flat_map (λ (layer : ℕ × List WidePad). layer_findings wide_pad_covers rules.profile rules.ring holes layer.0 layer.1) (enumerate_from n ps)) (sym (flat_map-cons pads_of (content.Layer image) cs)))
   rings_composed n (content.Drill plated span drilled ∷ cs) =
       rings_composed n cs ∙ ap (λ (ps : List (List WidePad)). flat_map (λ (layer : ℕ × List WidePad). layer_findings wide_pad_covers rules.profile rules.ring holes layer.0 layer.1) (enumerate_from n ps)) (sym (flat_map-cons pads_of (content.Drill plated span drilled) cs))

@@ -22,10 +22,10 @@ use Rattle.package_check.specs.declared.package_reader.PackageReader.{PackageRea
 use Rattle.package_check.specs.declared.readers.Shown.{Shown}
 use Rattle.package_check.specs.declared.slots.Kept.{Kept}
 use Rattle.package_check.specs.Package.{FileView, Setting, HaveContents, IsFirstRefused, Reads, is_copper, unnamed_file}
-use Rattle.package_check.specs.Boards.{AreDrawnOf, AreFileLists, AreFlashesOf, BoardView, IsBoard, IsDrawnBoard, IsFlashedBoard, ReturnsBoard, ReturnsDrawnBoard, ReturnsFlashedBoard, board_of}
-use Rattle.package_check.specs.Holding.{HasTaken, HasTakenAll, HoldsThose, IsKeptOf, IsPutAt, IsOutOfMemory, ReadsAt, ReadsInto, StoppedAmong, TakesFile, TakesThose, all_drawn, all_flashes, contents_in, is_kind, is_kind_at, is_kind_of, is_wanted, kept_at, next_stop, shown_in}
+use Rattle.package_check.specs.Boards.{AreDrawnOf, AreFileLists, AreRowsOf, BoardView, IsBoard, IsDrawnBoard, IsFlashedBoard, ReturnsBoard, ReturnsDrawnBoard, ReturnsFlashedBoard, board_of}
+use Rattle.package_check.specs.Holding.{HasTaken, HasTakenAll, HoldsThose, IsKeptOf, IsPutAt, IsOutOfMemory, ReadsAt, ReadsInto, StoppedAmong, TakesFile, TakesThose, all_drawn, all_rows, contents_in, is_kind, is_kind_at, is_kind_of, is_wanted, kept_at, next_stop, shown_in}
 use Rattle.package_check.proofs.ContentIsReading.{content_read}
-use Rattle.package_check.proofs.FlashesByFile.{drawn_read, flashes_read, flashes_too, lists_first, no_lists}
+use Rattle.package_check.proofs.FlashesByFile.{drawn_read, flashes_too, lists_first, no_lists}
 use Rattle.package_check.proofs.GrowingLists.{any_name}
 
 -- ---- tests of what was taken
@@ -197,7 +197,7 @@ wanted_before (Some (stop.File r f)) i index lt h = let below = ltb-true index r
 -- what is read of a file does not depend on its name
 pub read_named : (keep : Keep) (index : ℕ) (q : Role) (name : List ℕ) (span : Option LayerSpan) (bytes : List ℕ) (n : Setting) (before after : List (Option Kept)) (r : Result (Unit {0}) Fail)
     → ReadsAt keep index (unnamed_file q span n bytes) before after r → ReadsAt keep index (record { role = q; name = name; span = span; bytes = bytes; setting = n }) before after r
-read_named keep index q name span bytes n before after (Ok u) h = (h.0, record { content = any_name q name span bytes n (Ok h.0.content) h.1.content; flashes = h.1.flashes; drawn = h.1.drawn }, h.2)
+read_named keep index q name span bytes n before after (Ok u) h = (h.0, record { content = any_name q name span bytes n (Ok h.0.content) h.1.content; rows = h.1.rows; drawn = h.1.drawn }, h.2)
 read_named keep index q name span bytes n before after (Err fails.Memory) h = tt
 read_named keep index q name span bytes n before after (Err (fails.Refused f)) h = (any_name q name span bytes n (Err f) h.0, h.1)
 
@@ -322,9 +322,9 @@ module _ (keep : Keep) where
       (lists_first IsOf s ss (list_of one.0.shown) (map list_of (flat_map shown_in xs)) (told s one.0 one.2)
       (all_lists IsOf list_of told ss xs (omega (arith, le)) (λ i t at. each (suc i) t at)))
 
-  -- the flashes of each file
-  pub flashes_told : ReadingIsUniqueIn → keeps_flashes keep ≡ true → (s : FileView) (one : Kept) → IsKeptOf keep s one → AreFlashesOf s one.shown.flashes.items
-  flashes_told once keeps s one kept = λ copper. flashes_read once s one.shown.flashes.items (kept.flashes keeps copper) copper
+  -- the rows of each file
+  pub rows_told : keeps_flashes keep ≡ true → (s : FileView) (one : Kept) → IsKeptOf keep s one → AreRowsOf s one.shown.rows.items
+  rows_told keeps s one kept = kept.rows keeps
 
   -- what each file draws
   pub drawn_told : ReadingIsUniqueIn → keeps_commands keep ≡ true → (s : FileView) (one : Kept) → IsKeptOf keep s one → AreDrawnOf s one.shown.drawn.items
@@ -372,7 +372,7 @@ module _ (reader : PackageReader) (keep : Keep) (sources : List FileView) (all :
   drawn_stop_returned (stop.File r f) is = refused_first r f is
 
   module _ (none : reader.stopped ≡ None) (board : BoardView)
-      (is : board ≡ board_of (flat_map contents_in reader.slots.items) (all_flashes (flat_map shown_in reader.slots.items)) (all_drawn (flat_map shown_in reader.slots.items))) where
+      (is : board ≡ board_of (flat_map contents_in reader.slots.items) (all_rows (flat_map shown_in reader.slots.items)) (all_drawn (flat_map shown_in reader.slots.items))) where
     each_kept : (i : ℕ) (s : FileView) → slice_get sources i ≡ Some s → KeptAt keep reader.slots.items i s
     each_kept i s at = all.holds.kept i s refl at (subst (λ (st : Option PackageFault). is_wanted st i ≡ true) (sym none) refl)
 
@@ -380,19 +380,19 @@ module _ (reader : PackageReader) (keep : Keep) (sources : List FileView) (all :
     board_read = record {
       contents = flat_map contents_in reader.slots.items;
       read = all_contents keep sources reader.slots.items all.holds.inside each_kept;
-      is = is ∙ sym (ap (λ (b : BoardView). board_of (flat_map contents_in reader.slots.items) b.flashes b.drawn) is);
+      is = is ∙ sym (ap (λ (b : BoardView). board_of (flat_map contents_in reader.slots.items) b.rows b.drawn) is);
     }
 
-    pub flashed_board_read : ReadingIsUniqueIn → keeps_flashes keep ≡ true → IsFlashedBoard sources board
-    flashed_board_read once keeps = record {
+    pub flashed_board_read : keeps_flashes keep ≡ true → IsFlashedBoard sources board
+    flashed_board_read keeps = record {
       is = board_read;
-      flashes = subst (AreFileLists AreFlashesOf sources) (sym (ap (λ (b : BoardView). b.flashes) is))
-          (all_lists keep AreFlashesOf (λ (one : Shown). one.flashes.items) (flashes_told keep once keeps) sources reader.slots.items all.holds.inside each_kept);
+      rows = subst (AreFileLists AreRowsOf sources) (sym (ap (λ (b : BoardView). b.rows) is))
+          (all_lists keep AreRowsOf (λ (one : Shown). one.rows.items) (rows_told keep keeps) sources reader.slots.items all.holds.inside each_kept);
     }
 
     pub drawn_board_read : ReadingIsUniqueIn → keeps_commands keep ≡ true → IsDrawnBoard sources board
     drawn_board_read once keeps = record {
-      is = flashed_board_read once (flashes_too keep keeps);
+      is = flashed_board_read (flashes_too keep keeps);
       drawn = subst (AreFileLists AreDrawnOf sources) (sym (ap (λ (b : BoardView). b.drawn) is))
           (all_lists keep AreDrawnOf (λ (one : Shown). one.drawn.items) (drawn_told keep once keeps) sources reader.slots.items all.holds.inside each_kept);
     }

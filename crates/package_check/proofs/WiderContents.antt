@@ -1,9 +1,8 @@
 -- What files say in the strict profile, they say in the wide one, with further pads.
-use Rattle.std.proofs.Common.{◌≡◌, ◌⊎◌, inl, inr, ◌↔◌, ◌<◌, ◌+◌, ◌++◌, ℕ, zero, suc, Bool, true, false, List, [], ◌∷◌, Option, Result, Ok, Err, length, map, get_or, arith, refl, ap, ap₂, sym, subst, ◌∙◌}
+use Rattle.std.proofs.Common.{◌≡◌, ◌⊎◌, inl, inr, ◌↔◌, ◌<◌, ◌+◌, ◌++◌, ℕ, zero, suc, Bool, true, false, List, [], ◌∷◌, Option, None, Some, Result, Ok, Err, length, map, get_or, arith, refl, ap, ap₂, sym, subst, ◌∙◌}
 use Rattle.std.specs.Prelude.{⊤}
-use Rattle.std.specs.List.{Contains, enumerate_from, filter, flat_map}
+use Rattle.std.specs.List.{Contains, cons_option, enumerate_from, filter, flat_map}
 use Rattle.std.proofs.lemmas.Bool.{false≢true}
-use Rattle.std.proofs.lemmas.List.{append-nil}
 use Rattle.std.proofs.lemmas.List.Concat.{flat_map-cons}
 use Rattle.std.proofs.lemmas.List.Elements.{Contains-append_cases, Contains-append_left}
 use Rattle.grid_units.specs.Holes.{GridHole, GridRules}
@@ -13,9 +12,15 @@ use Rattle.drill_lines.specs.declared.command.DrillCommand.{DrillCommand}
 use Rattle.drill_text.specs.Profiles.{ReadsIn}
 use Rattle.drill_text.specs.Reading as drills
 use Rattle.drill_text.specs.Texts.{IsDrillText}
-use Rattle.wide_layers.specs.WideLayers.{StrictLayers}
+use Rattle.wide_layers.specs.WideLayers.{StrictLayers, plain_pad, plain_pads}
+use Rattle.further_copper.specs.declared.feature.Feature.{Feature}
+use Rattle.further_copper.specs.declared.feature.FeatureKind.{FeatureKind}
+use Rattle.further_copper.specs.declared.feature.FeatureKind.TheVariants as kind
+use Rattle.further_copper.specs.Features.{pad_in, pads_of as feature_pads}
 use Rattle.wide_pads.specs.WidePads.{wide_pad_covers}
+use Rattle.pad_shapes.specs.declared.pad.Pad.{Pad}
 use Rattle.wide_pads.specs.declared.wide_pad.WidePad.{WidePad}
+use Rattle.wide_pads.specs.declared.wide_pad.WidePad.TheVariants.{Plain, Rounded}
 use Rattle.manifest.specs.declared.Role.{Role}
 use Rattle.manifest.specs.declared.Role.TheVariants as role
 use Rattle.ring_rules.specs.Findings.{gap_findings, ring_findings}
@@ -24,7 +29,7 @@ use Rattle.ring_rules.specs.declared.finding.Drilled.{Drilled}
 use Rattle.ring_rules.specs.declared.finding.Finding.{Finding}
 use Rattle.ring_rules.specs.declared.finding.Finding.TheVariants.{Ring, Oblique, Gap}
 use Rattle.package_check.specs.FileTexts.{HasLayerView, ReadsDrill, is_copper_function, layer_view, wide_view}
-use Rattle.package_check.specs.LayerViews.{LayerView, all_pads, plain, rounded}
+use Rattle.package_check.specs.LayerViews.{LayerView, plain}
 use Rattle.package_check.specs.Package.{FileView, HasContent, BytesHaveContent, HaveContents, Setting, drilled, holes_of, index_of, layer_indexes, layers, numbered_holes, pads_of, report_on}
 use Rattle.package_check.specs.Reports.{ReportView}
 use Rattle.package_check.specs.WiderProfile.{FindsNoMore, WideFindsNoMore, is_gap, read_in}
@@ -33,9 +38,36 @@ use Rattle.package_check.specs.declared.contents.Content.{Content}
 use Rattle.package_check.specs.declared.contents.Content.TheVariants as content
 use Rattle.package_check.proofs.WiderFindings.{gaps_among, gaps_are, is_among, rings_are}
 
+-- ---- the pads of standard apertures are among all pads
+
+later : {A : Type 0} (x y : A) (xs : List A) → Contains xs x → Contains (y ∷ xs) x
+later x y xs h = (suc h.0, (let lt = h.1 in omega arith), h.2)
+
+plain_among : (features : List Feature) (w : WidePad) → Contains (map plain (plain_pads features)) w → Contains (feature_pads features) w
+plain_among [] w = λ h. h
+plain_among (f ∷ fs) w = by f.what (plain_among fs w)
+  where
+    skipped : (k : FeatureKind) → plain_pad k ≡ None → (Contains (map plain (plain_pads fs)) w → Contains (feature_pads fs) w) → Contains (map plain (cons_option (plain_pad k) (plain_pads fs))) w → Contains (cons_option (pad_in k) (feature_pads fs)) w
+    skipped k none rest h = more (pad_in k) (rest (subst (λ (o : Option Pad). Contains (map plain (cons_option o (plain_pads fs))) w) none h))
+      where
+        more : (o : Option WidePad) → Contains (feature_pads fs) w → Contains (cons_option o (feature_pads fs)) w
+        more None there = there
+        more (Some pad) there = later w pad (feature_pads fs) there
+
+    by : (k : FeatureKind) → (Contains (map plain (plain_pads fs)) w → Contains (feature_pads fs) w) → Contains (map plain (cons_option (plain_pad k) (plain_pads fs))) w → Contains (cons_option (pad_in k) (feature_pads fs)) w
+    by (kind.Pad (Plain pad)) rest h = elim (Contains-append_cases (Plain pad ∷ []) (map plain (plain_pads fs)) w h) [
+      | inl here ↦ Contains-append_left (Plain pad ∷ []) (feature_pads fs) w here
+      | inr there ↦ later w (Plain pad) (feature_pads fs) (rest there)
+    ]
+    by (kind.Pad (Rounded pad)) rest h = skipped (kind.Pad (Rounded pad)) refl rest h
+    by (kind.Contour pad) rest h = skipped (kind.Contour pad) refl rest h
+    by (kind.Other why) rest h = skipped (kind.Other why) refl rest h
+    by kind.Clear rest h = skipped kind.Clear refl rest h
+    by kind.Cleared rest h = skipped kind.Cleared refl rest h
+
 -- a content has all that another has, and may have further pads
 abbrev IsWider : Content → Content → Type 0
-IsWider (content.Layer a) (content.Layer b) = (w : WidePad) → Contains (all_pads a) w → Contains (all_pads b) w
+IsWider (content.Layer a) (content.Layer b) = (w : WidePad) → Contains a.pads w → Contains b.pads w
 IsWider (content.Drill p v d) (content.Drill q w e) = content.Drill p v d ≡ content.Drill q w e
 IsWider (content.Layer a) (content.Drill q w e) = ⊥
 IsWider (content.Drill p v d) (content.Layer b) = ⊥
@@ -49,14 +81,14 @@ AreWider (c ∷ cs) (d ∷ ds) = IsWider c d × AreWider cs ds
 module _ (layers_too : StrictLayers) (texts : (text : List ℕ) (commands : List DrillCommand) → (drills.Reads text (Ok commands)) ↔ (IsDrillText text commands))
     (drills_too : (text : List ℕ) (commands : List DrillCommand) → drills.Reads text (Ok commands) → ReadsIn Wide text (Ok commands)) where
   -- a layer has its pads in the wide profile too
-  wider_layer : (bytes : List ℕ) (a : LayerView) → HasLayerView Strict bytes a → (b : LayerView) × HasLayerView Wide bytes b × (b.is_copper ≡ a.is_copper) × ((w : WidePad) → Contains (all_pads a) w → Contains (all_pads b) w)
+  wider_layer : (bytes : List ℕ) (a : LayerView) → HasLayerView Strict bytes a → (b : LayerView) × HasLayerView Wide bytes b × (b.is_copper ≡ a.is_copper) × ((w : WidePad) → Contains a.pads w → Contains b.pads w)
   wider_layer bytes a h =
       let wide = layers_too bytes h.0 h.1 in
-      let same : all_pads a ≡ map plain wide.0.pads = ap all_pads h.2 ∙ (append-nil (map plain h.0.pads) ∙ ap (map plain) (sym wide.2)) in (
+      let same : a.pads ≡ map plain (plain_pads wide.0.features) = ap (λ (v : LayerView). v.pads) h.2 ∙ ap (map plain) (sym wide.2) in (
         wide_view wide.0,
         (wide.0, wide.1, refl),
         ap is_copper_function wide.3 ∙ sym (ap (λ (v : LayerView). v.is_copper) h.2),
-        λ w among. Contains-append_left (map plain wide.0.pads) (map rounded (wide.0.flashed ++ wide.0.contours)) w (subst (λ (ps : List WidePad). Contains ps w) same among),
+        λ w among. plain_among wide.0.features w (subst (λ (ps : List WidePad). Contains ps w) same among),
       )
 
   wider_drill : (bytes : List ℕ) (holes : List GridHole) → ReadsDrill Strict bytes (Ok holes) → ReadsDrill Wide bytes (Ok holes)
@@ -116,8 +148,8 @@ wider_pads (c ∷ cs) (d ∷ ds) h =
         → (length (pads_of a ++ layers cs) ≡ length (pads_of b ++ layers ds)) × ((l : ℕ) (w : WidePad) → l < length (pads_of a ++ layers cs) → Contains (get_or (pads_of a ++ layers cs) l []) w → Contains (get_or (pads_of b ++ layers ds) l []) w)
     first (content.Layer a) (content.Layer b) one rest = (ap suc rest.0, by one rest.1)
       where
-        by : ((w : WidePad) → Contains (all_pads a) w → Contains (all_pads b) w) → ((l : ℕ) (w : WidePad) → l < length (layers cs) → Contains (get_or (layers cs) l []) w → Contains (get_or (layers ds) l []) w)
-            → (l : ℕ) (w : WidePad) → l < length (all_pads a ∷ layers cs) → Contains (get_or (all_pads a ∷ layers cs) l []) w → Contains (get_or (all_pads b ∷ layers ds) l []) w
+        by : ((w : WidePad) → Contains a.pads w → Contains b.pads w) → ((l : ℕ) (w : WidePad) → l < length (layers cs) → Contains (get_or (layers cs) l []) w → Contains (get_or (layers ds) l []) w)
+            → (l : ℕ) (w : WidePad) → l < length (a.pads ∷ layers cs) → Contains (get_or (a.pads ∷ layers cs) l []) w → Contains (get_or (b.pads ∷ layers ds) l []) w
         by one rest zero w lt among = one w among
         by one rest (suc l) w lt among = rest l w (omega arith) among
     first (content.Drill p v e) (content.Drill q w g) one rest = rest

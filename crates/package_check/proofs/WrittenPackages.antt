@@ -26,7 +26,7 @@ use Rattle.drill_text.specs.WideGrammar.{ReadIsWritten, WideHolesAreDrilled}
 use Rattle.drill_lines.specs.declared.command.DrillCommand.{DrillCommand}
 use Rattle.manifest.specs.declared.Role.{Role}
 use Rattle.manifest.specs.declared.Role.TheVariants as role
-use Rattle.package_check.specs.LayerViews.{LayerView, all_pads, plain}
+use Rattle.package_check.specs.LayerViews.{LayerView, plain}
 use Rattle.package_check.specs.FileTexts.{HasLayerView, ReadsDrill, is_copper_function, wide_view}
 use Rattle.package_check.specs.declared.contents.Content.{Content}
 use Rattle.package_check.specs.declared.contents.Content.TheVariants as content
@@ -115,20 +115,20 @@ is_through (c ∷ cs) layer d h plated within =
 
 module _ (texts : SpelledTextsAreWrittenIn) (layer_pads : LayerPads) (lines : SpelledIsWritten) (listed : ListedHolesAreDrilled) (wide_lines : ReadIsWritten) (wide_listed : WideHolesAreDrilled) where
   made_by : (profile : Profile) (bytes : List ℕ) (image : LayerView) → HasLayerView profile bytes image
-      → (commands : List Command) × IsTextIn profile bytes commands × MakePads profile commands (all_pads image) × (is_copper_function (last_set function_set commands) ≡ image.is_copper)
+      → (commands : List Command) × IsTextIn profile bytes commands × MakePads profile commands image.pads × (is_copper_function (last_set function_set commands) ≡ image.is_copper)
   made_by Strict bytes image h =
       let layer = h.0 in (
         without_places layer.commands,
         texts Strict bytes layer.commands h.1.0.spells,
-        (layer.pads, layer_pads bytes layer h.1, ap all_pads h.2 ∙ append-nil (map plain layer.pads)),
+        (layer.pads, layer_pads bytes layer h.1, ap (λ v. v.pads) h.2),
         ap (λ l. is_copper_function l.file_function) (sym h.1.1) ∙ sym (ap (λ v. v.is_copper) h.2),
       )
   made_by Wide bytes image h =
       let layer = h.1.0 in
       let is = h.2 ∙ ap wide_view h.1.2 in
-      (without_places layer.commands, texts Wide bytes layer.commands h.1.1.0.spells, ap all_pads is, sym (ap (λ v. v.is_copper) is))
+      (without_places layer.commands, texts Wide bytes layer.commands h.1.1.0.spells, ap (λ v. v.pads) is, sym (ap (λ v. v.is_copper) is))
 
-  says_pads : (s : FileView) (image : LayerView) → HasLayerView s.setting.profile s.bytes image → image.is_copper ≡ true → s.span ≡ None → SaysPads s (all_pads image)
+  says_pads : (s : FileView) (image : LayerView) → HasLayerView s.setting.profile s.bytes image → image.is_copper ≡ true → s.span ≡ None → SaysPads s image.pads
   says_pads s image h copper none =
       let made = made_by s.setting.profile s.bytes image h in
       record { commands = made.0; written = made.1; made = made.2; copper = made.3 ∙ copper; spanless = none }

@@ -6,7 +6,7 @@ use Rattle.gerber_text.specs.Writing.{without_places}
 use Rattle.layer_image.specs.Drawn.{drawn_of}
 use Rattle.layer_image.specs.Layers.{LayerImage, ReadsLayerIn}
 use Rattle.layer_image.specs.declared.drawn.Drawn.{Drawn}
-use Rattle.layer_image.specs.declared.flash.Flash.{Flash}
+use Rattle.further_copper.specs.declared.feature.FeatureRow.{FeatureRow}
 use Rattle.wide_pads.specs.WidePads.{wide_pad_covers}
 use Rattle.wide_pads.specs.declared.wide_pad.WidePad.{WidePad}
 use Rattle.ring_rules.specs.Findings.{gap_findings, ring_findings}
@@ -19,35 +19,36 @@ use Rattle.package_check.specs.declared.PackageFault.{PackageFault}
 use Rattle.package_check.specs.declared.PackageFault.TheVariants as stop
 use Rattle.package_check.specs.declared.contents.Content.{Content}
 use Rattle.package_check.specs.Reports.{ReportView}
+use Rattle.package_check.specs.FileTexts.{HasRows}
 use Rattle.package_check.specs.SoundnessAsRead.{drilled_in}
 use Rattle.package_check.specs.Package.{FileView, HaveContents, IsFirstRefused, is_copper, layer_indexes, layers, sum_of}
 
--- the board of a package: the counts of each file, the pads and the index of each copper file, the holes of all drill files in order, and what is kept of flashes and of
+-- the board of a package: the counts of each file, the pads and the index of each copper file, the holes of all drill files in order, and what is kept of rows and of
 -- what is drawn
 pub record BoardView : Type 0 where
   pub files : List FileSum
   pub layers : List (List WidePad)
   pub layer_indexes : List ℕ
   pub holes : List Drilled
-  pub flashes : List (List Flash)
+  pub rows : List (List FeatureRow)
   pub drawn : List (List Drawn)
 
--- the board of files with these contents and these flashes, which draw this
-abbrev pub board_of : List Content → List (List Flash) → List (List Drawn) → BoardView
-board_of contents flashes drawn = record {
+-- the board of files with these contents and these rows, which draw this
+abbrev pub board_of : List Content → List (List FeatureRow) → List (List Drawn) → BoardView
+board_of contents rows drawn = record {
   files = map sum_of contents;
   layers = layers contents;
   layer_indexes = layer_indexes contents;
   holes = flat_map drilled_in contents;
-  flashes = flashes;
+  rows = rows;
   drawn = drawn;
 }
 
--- the board of a package whose files are all read; nothing is said of its flashes and of what is drawn
+-- the board of a package whose files are all read; nothing is said of its rows and of what is drawn
 pub record IsBoard (sources : List FileView) (board : BoardView) : Type 0 where
   pub contents : List Content
   pub read : HaveContents sources contents
-  pub is : board ≡ board_of contents board.flashes board.drawn
+  pub is : board ≡ board_of contents board.rows board.drawn
 
 -- the result is the board of the package, or the first file that is refused, running out of memory aside
 abbrev pub ReturnsBoard : List FileView → Result BoardView PackageFault → Type 0
@@ -55,25 +56,25 @@ ReturnsBoard sources (Ok board) = IsBoard sources board
 ReturnsBoard sources (Err stop.Memory) = ⊤
 ReturnsBoard sources (Err (stop.File index fault)) = IsFirstRefused sources index fault
 
--- the flashes of a copper file are those of the layer that its text reads as; of a drill file nothing is said
-abbrev pub AreFlashesOf : FileView → List Flash → Type 0
-AreFlashesOf source flashes = is_copper source.role ≡ true → (image : LayerImage) → ReadsLayerIn source.setting.profile source.bytes (Ok image) → flashes ≡ image.flashes
+-- the rows of a copper file are those of the layer that its text reads as; of a drill file nothing is said
+abbrev pub AreRowsOf : FileView → List FeatureRow → Type 0
+AreRowsOf source rows = is_copper source.role ≡ true → HasRows source.setting.profile source.bytes rows
 
 -- one list for each file of a package, of which the relation says what it has of the file
 pub record AreFileLists {X : Type 0} (IsOf : FileView → List X → Type 0) (sources : List FileView) (lists : List (List X)) : Type 0 where
   pub size : length lists ≡ length sources
   pub each : (i : ℕ) (s : FileView) → i < length sources → IsOf (get_or sources i s) (get_or lists i [])
 
--- one list of flashes for each file of a package; that of a copper file has the flashes of its layer
-abbrev pub AreFileFlashes : List FileView → List (List Flash) → Type 0
-AreFileFlashes sources flashes = AreFileLists AreFlashesOf sources flashes
+-- one list of rows for each file of a package; that of a copper file has the rows of its layer
+abbrev pub AreFileRows : List FileView → List (List FeatureRow) → Type 0
+AreFileRows sources rows = AreFileLists AreRowsOf sources rows
 
--- the board of a package whose files are all read, with the flashes of each file
+-- the board of a package whose files are all read, with the rows of each file
 pub record IsFlashedBoard (sources : List FileView) (board : BoardView) : Type 0 where
   pub is : IsBoard sources board
-  pub flashes : AreFileFlashes sources board.flashes
+  pub rows : AreFileRows sources board.rows
 
--- the result is the board of the package with its flashes, or the first file that is refused, running out of memory aside
+-- the result is the board of the package with its rows, or the first file that is refused, running out of memory aside
 abbrev pub ReturnsFlashedBoard : List FileView → Result BoardView PackageFault → Type 0
 ReturnsFlashedBoard sources (Ok board) = IsFlashedBoard sources board
 ReturnsFlashedBoard sources (Err stop.Memory) = ⊤
@@ -83,12 +84,12 @@ ReturnsFlashedBoard sources (Err (stop.File index fault)) = IsFirstRefused sourc
 abbrev pub AreDrawnOf : FileView → List Drawn → Type 0
 AreDrawnOf source drawn = is_copper source.role ≡ true → (image : LayerImage) → ReadsLayerIn source.setting.profile source.bytes (Ok image) → drawn ≡ drawn_of (without_places image.commands)
 
--- the board of a package whose files are all read, with the flashes of each file and what it draws
+-- the board of a package whose files are all read, with the rows of each file and what it draws
 pub record IsDrawnBoard (sources : List FileView) (board : BoardView) : Type 0 where
   pub is : IsFlashedBoard sources board
   pub drawn : AreFileLists AreDrawnOf sources board.drawn
 
--- the result is the board of the package with its flashes and what its files draw, or the first file that is refused, running out of memory aside
+-- the result is the board of the package with its rows and what its files draw, or the first file that is refused, running out of memory aside
 abbrev pub ReturnsDrawnBoard : List FileView → Result BoardView PackageFault → Type 0
 ReturnsDrawnBoard sources (Ok board) = IsDrawnBoard sources board
 ReturnsDrawnBoard sources (Err stop.Memory) = ⊤

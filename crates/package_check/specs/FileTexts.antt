@@ -1,5 +1,5 @@
 -- What the bytes of a file say.
-use Rattle.std.specs.Prelude.{◌≡◌, ℕ, Bool, true, List, [], codes, Option, Some, None, Result, Ok, Err}
+use Rattle.std.specs.Prelude.{◌≡◌, ℕ, Bool, true, List, codes, length, map, Option, Some, None, Result, Ok, Err}
 use Rattle.std.specs.Str.{bytes_eq}
 use Rattle.grid_units.specs.Holes.{GridHole}
 use Rattle.grid_units.specs.declared.fault.Fault.{Fault}
@@ -14,9 +14,10 @@ use Rattle.layer_image.specs.Drawn.{drawn_of}
 use Rattle.layer_image.specs.Layers as layers
 use Rattle.layer_image.specs.Layers.{LayerImage}
 use Rattle.layer_image.specs.declared.drawn.Drawn.{Drawn}
-use Rattle.layer_image.specs.declared.flash.Flash.{Flash}
-use Rattle.wide_layers.specs.WideLayers.{ReadsWideLayer, WideImage}
-use Rattle.package_check.specs.LayerViews.{LayerView}
+use Rattle.further_copper.specs.declared.feature.FeatureRow.{FeatureRow}
+use Rattle.wide_layers.specs.WideLayers.{ReadsWideLayer, WideImage, contour_count, flashed_count, other_count}
+use Rattle.further_copper.specs.Features.{pads_of, rows_of, strict_row}
+use Rattle.package_check.specs.LayerViews.{LayerView, plain}
 
 -- the first field of a file function is `Copper`, as in `Copper,L1,Top`; a layer without one is taken for copper (docs/FORMATS.md, File function)
 abbrev pub is_copper_function : Option (List ℕ) → Bool
@@ -26,9 +27,9 @@ is_copper_function (Some text) = bytes_eq (first_field text) (codes "Copper")
 -- what the check keeps of a layer in the strict profile
 abbrev pub layer_view : LayerImage → LayerView
 layer_view layer = record {
-  pads = layer.pads;
-  flashed = [];
-  contours = [];
+  pads = map plain layer.pads;
+  flashed = length layer.pads;
+  contours = 0;
   other = layer.other;
   is_copper = is_copper_function layer.file_function;
 }
@@ -36,10 +37,10 @@ layer_view layer = record {
 -- what the check keeps of a layer in the wide profile
 abbrev pub wide_view : WideImage → LayerView
 wide_view layer = record {
-  pads = layer.pads;
-  flashed = layer.flashed;
-  contours = layer.contours;
-  other = layer.other;
+  pads = pads_of layer.features;
+  flashed = flashed_count layer.features;
+  contours = contour_count layer.features;
+  other = other_count layer.features;
   is_copper = is_copper_function layer.file_function;
 }
 
@@ -53,9 +54,10 @@ abbrev pub ReadsLayer : Profile → List ℕ → Result LayerView Fault → Type
 ReadsLayer profile bytes (Ok view) = HasLayerView profile bytes view
 ReadsLayer profile bytes (Err fault) = layers.ReadsLayerIn profile bytes (Err fault)
 
--- in the profile the bytes are the text of a layer, and these are its flashes
-abbrev pub HasFlashes : Profile → List ℕ → List Flash → Type 0
-HasFlashes profile bytes flashes = (layer : LayerImage) × layers.IsLayerIn profile bytes layer × (flashes ≡ layer.flashes)
+-- in the profile the bytes are the text of a layer, and these are its rows: its flashes, and in the wide profile its contours too, in the order of the text
+abbrev pub HasRows : Profile → List ℕ → List FeatureRow → Type 0
+HasRows Strict bytes rows = (layer : LayerImage) × layers.IsLayer bytes layer × (rows ≡ map strict_row layer.flashes)
+HasRows Wide bytes rows = (layer : WideImage) × ReadsWideLayer bytes (Ok layer) × (rows ≡ rows_of layer.features)
 
 -- in the profile the bytes are the text of a layer, and this is what its commands draw (docs/FORMATS.md, Pictures)
 abbrev pub Draws : Profile → List ℕ → List Drawn → Type 0

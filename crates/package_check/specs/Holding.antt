@@ -4,7 +4,7 @@ use Rattle.grid_units.specs.declared.fault.Fail.{Fail}
 use Rattle.grid_units.specs.declared.fault.Fail.TheVariants as fails
 use Rattle.layer_image.specs.KeptFlashes.{keeps_commands, keeps_flashes}
 use Rattle.layer_image.specs.declared.drawn.Drawn.{Drawn}
-use Rattle.layer_image.specs.declared.flash.Flash.{Flash}
+use Rattle.further_copper.specs.declared.feature.FeatureRow.{FeatureRow}
 use Rattle.layer_image.specs.declared.keep.Keep.{Keep}
 use Rattle.manifest.specs.declared.Role.{Role}
 use Rattle.package_check.specs.declared.PackageFault.{PackageFault}
@@ -13,7 +13,7 @@ use Rattle.package_check.specs.declared.contents.Content.{Content}
 use Rattle.package_check.specs.declared.package_reader.PackageReader.{PackageReader}
 use Rattle.package_check.specs.declared.readers.Shown.{Shown}
 use Rattle.package_check.specs.declared.slots.Kept.{Kept}
-use Rattle.package_check.specs.FileTexts.{Draws, HasFlashes}
+use Rattle.package_check.specs.FileTexts.{Draws, HasRows}
 use Rattle.package_check.specs.Package.{FileView, Reads, Setting, is_copper}
 
 -- ---- slots
@@ -38,18 +38,18 @@ abbrev pub shown_in : Option Kept → List Shown
 shown_in None = []
 shown_in (Some one) = one.shown ∷ []
 
--- the flashes of each file, of what is kept of the files to be shown
-abbrev pub all_flashes : List Shown → List (List Flash)
-all_flashes shown = map (λ one. one.flashes.items) shown
+-- the rows of each file, of what is kept of the files to be shown
+abbrev pub all_rows : List Shown → List (List FeatureRow)
+all_rows shown = map (λ one. one.rows.items) shown
 
 -- what each file draws, of what is kept of the files to be shown
 abbrev pub all_drawn : List Shown → List (List Drawn)
 all_drawn shown = map (λ one. one.drawn.items) shown
 
--- what is kept of a file: its content; of a copper file its flashes where they are kept, and what its commands draw where these are kept
+-- what is kept of a file: its content; of a copper file its rows where they are kept, and what its commands draw where these are kept
 pub record IsKeptOf (keep : Keep) (source : FileView) (one : Kept) : Type 0 where
   pub content : Reads source (Ok one.content)
-  pub flashes : keeps_flashes keep ≡ true → is_copper source.role ≡ true → HasFlashes source.setting.profile source.bytes one.shown.flashes.items
+  pub rows : keeps_flashes keep ≡ true → is_copper source.role ≡ true → HasRows source.setting.profile source.bytes one.shown.rows.items
   pub drawn : keeps_commands keep ≡ true → is_copper source.role ≡ true → Draws source.setting.profile source.bytes one.shown.drawn.items
 
 -- ---- where a reader stopped

@@ -15,7 +15,7 @@ use Rattle.ring_rules.specs.declared.finding.Finding.{Finding}
 use Rattle.ring_rules.specs.declared.layer_search.LayerSearch.{LayerSearch}
 use Rattle.ring_rules.specs.declared.ring_index.RingIndex.{RingIndex}
 use Rattle.package_check.specs.HoleViews.{HolesView}
-use Rattle.package_check.specs.LayerViews.{all_pads, plain}
+use Rattle.package_check.specs.LayerViews.{plain}
 use Rattle.package_check.specs.Package.{FileView, Reads, ReadsCopper, sum_of}
 use Rattle.package_check.specs.declared.contents.Content.{Content}
 use Rattle.package_check.specs.declared.contents.Content.TheVariants as content
@@ -34,7 +34,7 @@ pub record HasTriedPadsOf (holes : HolesView) (layer : ℕ) (reader : LayerReade
 
 -- the findings of rings on the layer of a file with this content, by the layer's number from 0; a drill file has none
 abbrev pub rings_of : GridRules → List Drilled → ℕ → Content → List Finding
-rings_of rules holes layer (content.Layer image) = layer_findings wide_pad_covers rules.profile rules.ring holes layer (all_pads image)
+rings_of rules holes layer (content.Layer image) = layer_findings wide_pad_covers rules.profile rules.ring holes layer image.pads
 rings_of rules holes layer (content.Drill plated span drilled) = []
 
 -- what is left of a file with this content: its counts, and the findings of rings on its layer

@@ -12,7 +12,7 @@ use Rattle.grid_units.specs.Spans.{LayerSpan}
 use Rattle.ring_rules.specs.WithoutFindings.{NamesPlaces}
 use Rattle.ring_rules.specs.declared.finding.Drilled.{Drilled}
 use Rattle.ring_rules.specs.declared.finding.Finding.{Finding}
-use Rattle.package_check.specs.LayerViews.{LayerView, all_pads}
+use Rattle.package_check.specs.LayerViews.{LayerView}
 use Rattle.package_check.specs.FileTexts.{HasLayerView, ReadsLayer, ReadsDrill}
 use Rattle.package_check.specs.Reports.{ReportView}
 use Rattle.grid_units.specs.declared.fault.Fault.{Fault}
@@ -138,12 +138,12 @@ Reads source answer = ReadsUnlessBadSpan (is_bad_span source.role source.span so
 
 -- the counts of a file: flashed pads, other flashes and contours of a layer, round holes and slots of a drill file
 abbrev pub sum_of : Content → FileSum
-sum_of (content.Layer image) = sum.Layer (length image.pads + length image.flashed) image.other (length image.contours)
+sum_of (content.Layer image) = sum.Layer image.flashed image.other image.contours
 sum_of (content.Drill plated span holes) = sum.Drill plated span (count_by is_round holes) (count_by (λ hole. not (is_round hole)) holes)
 
 -- the pads of a copper file, as a list of one; none for a drill file
 abbrev pub pads_of : Content → List (List WidePad)
-pads_of (content.Layer image) = all_pads image ∷ []
+pads_of (content.Layer image) = image.pads ∷ []
 pads_of (content.Drill plated span holes) = []
 
 -- the pads of each copper file, in the order of the files

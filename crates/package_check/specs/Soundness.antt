@@ -1,5 +1,5 @@
 -- When a package is sound: what its files say as they are written, by the grammars of their formats, and what holds of that.
-use Rattle.std.specs.Prelude.{◌≡◌, ◌++◌, ◌≤◌, ◌<◌, ℕ, Bool, true, false, not, List, [], map, length, get_or, Option, None, Some, ⊤}
+use Rattle.std.specs.Prelude.{◌≡◌, ◌≤◌, ◌<◌, ℕ, Bool, true, false, not, List, [], map, length, get_or, Option, None, Some, ⊤}
 use Rattle.std.specs.List.{AllPairs, AllZip, Contains, filter, flat_map}
 use Rattle.grid_units.specs.Holes.{GridHole, GridRules, AreClear}
 use Rattle.grid_units.specs.Lists.{last_set}
@@ -10,8 +10,7 @@ use Rattle.pad_shapes.specs.declared.pad.Pad.{Pad}
 use Rattle.pad_shapes.specs.Shapes.{IsAxisAligned}
 use Rattle.wide_pads.specs.WidePads.{IsInWidePad}
 use Rattle.wide_pads.specs.declared.wide_pad.WidePad.{WidePad}
-use Rattle.wide_layers.specs.WideLayers.{pads_left}
-use Rattle.further_copper.specs.FurtherPads.{contours_of, flashed_pads_of}
+use Rattle.further_copper.specs.Features.{features_of, pads_of}
 use Rattle.ring_rules.specs.declared.finding.Drilled.{Drilled}
 use Rattle.ring_rules.specs.WithoutFindings.{IsHoleHeld}
 use Rattle.gerber_commands.specs.declared.command.Command.{Command}
@@ -25,7 +24,7 @@ use Rattle.drill_text.specs.Drilling.{AreHoles}
 use Rattle.manifest.specs.declared.Role.{Role}
 use Rattle.manifest.specs.declared.Role.TheVariants as role
 use Rattle.package_check.specs.FileTexts.{is_copper_function}
-use Rattle.package_check.specs.LayerViews.{plain, rounded}
+use Rattle.package_check.specs.LayerViews.{plain}
 use Rattle.package_check.specs.Package.{FileView, IsReport, is_copper}
 use Rattle.package_check.specs.Reports.{ReportView}
 
@@ -39,11 +38,11 @@ abbrev pub IsRun : ℕ → Option LayerSpan → Type 0
 IsRun layers None = ⊤
 IsRun layers (Some span) = (1 ≤ span.first) × (span.first ≤ span.last) × (span.last ≤ layers)
 
--- Commands make just these pads. In the strict profile they are the flashes of standard apertures. In the wide one they are those that no clear polarity
--- takes away, then the flashes of macros that have a shape, and then the closed convex contours of regions, each of which no clear polarity takes away.
+-- Commands make just these pads. In the strict profile they are the flashes of standard apertures. In the wide one they are these, the flashes of macros that have a
+-- shape, and the closed convex contours of regions, in the order of the commands: those that no clear polarity takes away.
 abbrev pub MakePads : Profile → List Command → List WidePad → Type 0
 MakePads Strict commands made = (pads : List Pad) × ArePads commands pads × (made ≡ map plain pads)
-MakePads Wide commands made = made ≡ map plain (pads_left commands) ++ map rounded (flashed_pads_of commands ++ contours_of commands)
+MakePads Wide commands made = made ≡ pads_of (features_of commands)
 
 -- a copper file says these pads: its bytes are a Gerber text of commands that make just these, and the last file function among the commands, if any, is that of copper
 pub record SaysPads (file : FileView) (pads : List WidePad) : Type 0 where

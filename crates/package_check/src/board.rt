@@ -4,7 +4,7 @@ ghost use Rattle.std.specs.Prelude.{◌≡◌, ◌++◌, ◌∷◌, [], IfOk, On
 ghost use Rattle.std.specs.List.{flat_map};
 ghost use Rattle.grid_units.specs.Holes.{is_round};
 ghost use Rattle.package_check.specs.Boards.{CountsAddUp, board_findings, board_of, hole_count};
-ghost use Rattle.package_check.specs.Holding.{all_drawn, all_flashes};
+ghost use Rattle.package_check.specs.Holding.{all_drawn, all_rows};
 ghost use Rattle.package_check.specs.Package.{sum_of, layer_indexes, pads_of};
 ghost use Rattle.package_check.specs.SoundnessAsRead.{drilled_in};
 
@@ -12,14 +12,15 @@ use crate::FileSum;
 use crate::contents::Content;
 use crate::lists::push;
 use crate::readers::Shown;
+use further_copper::FeatureRow;
 use grid_units::{Hole, Rules};
-use layer_image::{Drawn, Flash};
+use layer_image::Drawn;
 use ring_rules::{Drilled, Finding, Span, gap_findings, ring_findings};
 use std::alloc::{AllocError, Global};
 use std::marker::Model;
 use wide_pads::WidePad;
 
-/// The board of a package: the counts of each file, the pads of each copper file, and the holes of all drill files; also the flashes
+/// The board of a package: the counts of each file, the pads of each copper file, and the holes of all drill files; also the rows
 /// of each file and what it draws, where they are kept.
 #[derive(Drop)]
 pub struct Board {
@@ -36,7 +37,7 @@ impl Model for Board {
 
     ghost Value = { BoardView };
 
-    ghost view = { λ b. record { files = b.files.items; layers = map (λ l. l.items) b.layers.items; layer_indexes = b.layer_indexes.items; holes = b.holes.items; flashes = map (λ one. one.flashes.items) b.shown.items; drawn = map (λ one. one.drawn.items) b.shown.items } };
+    ghost view = { λ b. record { files = b.files.items; layers = map (λ l. l.items) b.layers.items; layer_indexes = b.layer_indexes.items; holes = b.holes.items; rows = map (λ one. one.rows.items) b.shown.items; drawn = map (λ one. one.drawn.items) b.shown.items } };
 
     ghost invariant = { λ b. CountsAddUp b.files.items b.holes.items };
 }
@@ -61,6 +62,16 @@ impl Board {
         pads_of_each(alloc, &self.layers)
     }
 
+    /// The pads of a layer, by its place among the copper files: none where there is no such layer.
+    pub fn pads_of(&self, layer: usize) -> &[WidePad]
+        ensures { result.now ≡ get_or self.now.layers layer [] }
+    {
+        match self.layers.get(layer) {
+            Some(pads) => pads,
+            None => &[],
+        }
+    }
+
     /// For each layer the index of its copper file among all files, from 0.
     pub fn layer_indexes(&self) -> &[usize]
         ensures { result.now ≡ self.now.layer_indexes }
@@ -75,12 +86,12 @@ impl Board {
         &self.holes
     }
 
-    /// The flashes of a file, by its index among all files: none where they are not kept, or where there is no such file.
-    pub fn flashes_of(&self, file: usize) -> &[Flash]
-        ensures { result.now ≡ get_or self.now.flashes file [] }
+    /// The rows of a file's flashes and contours, by its index among all files: none where they are not kept, or where there is no such file.
+    pub fn rows_of(&self, file: usize) -> &[FeatureRow]
+        ensures { result.now ≡ get_or self.now.rows file [] }
     {
         match self.shown.get(file) {
-            Some(shown) => shown.flashes(),
+            Some(shown) => shown.rows(),
             None => &[],
         }
     }
@@ -138,9 +149,9 @@ pub(crate) fn sum_of(content: &Content) -> FileSum
 {
     match content {
         Content::Layer(layer) => FileSum::Layer {
-            pads: layer.pads().len() + layer.flashed().len(),
+            pads: layer.flashed(),
             other: layer.other(),
-            contours: layer.contours().len(),
+            contours: layer.contours(),
         },
         Content::Drill {
             plated,
@@ -211,7 +222,6 @@ pub(crate) fn push_holes(holes: &mut Vec<Drilled>, content: &Content) -> Result<
 
 /// Moves the content of a file to the list of its kind. Its own lists are freed once they are moved.
 fn add_content(
-    alloc: Global,
     layers: &mut Vec<Vec<WidePad>>,
     holes: &mut Vec<Drilled>,
     content: Content,
@@ -220,7 +230,7 @@ fn add_content(
     ensures holes { OnOk result (holes.new.items ≡ holes.old.items ++ drilled_in content) }
 {
     match content {
-        Content::Layer(layer) => push(layers, layer.into_pads(alloc)?),
+        Content::Layer(layer) => push(layers, layer.into_pads()),
         Content::Drill {
             plated,
             span,
@@ -231,7 +241,6 @@ fn add_content(
 
 /// Moves the contents of the files to the lists of their kinds, file by file.
 fn add_contents(
-    alloc: Global,
     layers: &mut Vec<Vec<WidePad>>,
     holes: &mut Vec<Drilled>,
     contents: Vec<Content>,
@@ -240,7 +249,7 @@ fn add_contents(
     ensures holes { OnOk result (holes.new.items ≡ holes.old.items ++ flat_map drilled_in contents.items) }
 {
     for content in contents {
-        add_content(alloc, layers, holes, content)?;
+        add_content(layers, holes, content)?;
     }
     Ok(())
 }
@@ -263,13 +272,13 @@ pub(crate) fn board_of(
     contents: Vec<Content>,
     shown: Vec<Shown>,
 ) -> Result<Board, AllocError>
-    ensures { IfOk result (λ board. board ≡ board_of contents.items (all_flashes shown.items) (all_drawn shown.items)) }
+    ensures { IfOk result (λ board. board ≡ board_of contents.items (all_rows shown.items) (all_drawn shown.items)) }
 {
     let files = sums(alloc, &contents)?;
     let layer_indexes = layer_indexes(alloc, &contents)?;
     let mut layers = Vec::new(alloc);
     let mut holes = Vec::with_capacity(alloc, hole_total(&contents))?;
-    add_contents(alloc, &mut layers, &mut holes, contents)?;
+    add_contents(&mut layers, &mut holes, contents)?;
     Ok(Board {
         files,
         layers,

@@ -7,7 +7,7 @@ ghost use Rattle.grid_units.specs.declared.profile.Profile.{Profile as TheProfil
 ghost use Rattle.drill_text.specs.declared.kept.Keep.TheVariants as drill_keep;
 ghost use Rattle.layer_image.specs.Holding.{LayerStandsIn};
 ghost use Rattle.layer_image.specs.KeptFlashes.{keeps_commands, keeps_flashes};
-ghost use Rattle.package_check.specs.FileTexts.{Draws, HasFlashes, ReadsLayer};
+ghost use Rattle.package_check.specs.FileTexts.{Draws, HasRows, ReadsLayer};
 ghost use Rattle.package_check.specs.Holding.{is_kind};
 ghost use Rattle.package_check.specs.OpenFiles.{keep_in};
 ghost use Rattle.package_check.specs.Package.{ReadsCopper, ReadsHoles, bad_span, is_bad_span, is_copper, not_copper};
@@ -73,7 +73,7 @@ pub(crate) fn read_copper(
     reader: LayerReader,
 ) -> Result<Content, Fail>
     ensures copper { (text : List ℕ) → LayerStandsIn reader profile (keep_in profile keep) text → Answers (λ x. x) (ReadsCopper profile text) result }
-    ensures flashes { (text : List ℕ) → LayerStandsIn reader profile (keep_in profile keep) text → keeps_flashes keep ≡ true → OnOk result (HasFlashes profile text shown.new.flashes.items) }
+    ensures flashes { (text : List ℕ) → LayerStandsIn reader profile (keep_in profile keep) text → keeps_flashes keep ≡ true → OnOk result (HasRows profile text shown.new.rows.items) }
     ensures drawn { (text : List ℕ) → LayerStandsIn reader profile (keep_in profile keep) text → keeps_commands keep ≡ true → OnOk result (Draws profile text shown.new.drawn.items) }
 {
     let layer = read_layer_view(alloc, keep, profile, shown, reader)?;

@@ -7,10 +7,11 @@ ghost use Rattle.layer_image.specs.Holding.{LayerStandsIn, ShowsLayerFault, Show
 ghost use Rattle.layer_image.specs.declared.keep.Keep.TheVariants as keep;
 ghost use Rattle.wide_pads.specs.WidePads.{wide_pad_covers};
 ghost use Rattle.wide_pads.specs.declared.wide_pad.WidePad.{WidePad as ThePad};
+ghost use Rattle.wide_layers.specs.WideLayers.{contour_count, flashed_count, other_count};
 ghost use Rattle.package_check.specs.CheckViews.{is_drill_sum};
 ghost use Rattle.package_check.specs.declared.FileSum.TheVariants as sum;
 ghost use Rattle.package_check.specs.Judging.{HasTriedIn, HasTriedPadsOf, JudgesCopper};
-ghost use Rattle.package_check.specs.LayerViews.{plain, rounded};
+ghost use Rattle.package_check.specs.LayerViews.{plain};
 ghost use Rattle.package_check.specs.OpenFiles.{HasReadLayer};
 ghost use Rattle.ring_rules.specs.Findings.{gap_findings, layer_findings};
 ghost use Rattle.ring_rules.specs.Search.{HasTried, IsRingIndexOf, IsSearchOver};
@@ -22,11 +23,12 @@ use crate::pad_size::{PadSize, are_unlike, likely_size, mean_size};
 use crate::readers::{PIECE, is_copper_function};
 use grid_units::{Fail, Profile, Rules};
 use layer_image::{LayerReader, shown_faults};
-use pad_shapes::{Pad, PlacedRounded};
+use pad_shapes::{Pad, PadShape};
 use ring_rules::{Drilled, Finding, LayerSearch, RingIndex};
 use std::alloc::{AllocError, Global};
 use std::marker::Model;
 use wide_layers::{WideLayer, wide_layer};
+use wide_pads::WidePad;
 
 /// The holes of all drill files of a package, file by file, with an index of them, by which rings and gaps are judged.
 #[derive(Drop)]
@@ -56,12 +58,12 @@ impl Model for IndexedHoles {
 
 /// The counts of a layer that was read in the wide profile.
 fn wide_sum(wide: &WideLayer) -> FileSum
-    ensures { result ≡ sum.Layer (length wide.now.pads + length wide.now.flashed) wide.now.other (length wide.now.contours) }
+    ensures { result ≡ sum.Layer (flashed_count wide.now.features) (other_count wide.now.features) (contour_count wide.now.features) }
 {
     FileSum::Layer {
-        pads: wide.pads().len() + wide.flashed().len(),
-        other: wide.other(),
-        contours: wide.contours().len(),
+        pads: wide.flashed_count(),
+        other: wide.other_count(),
+        contours: wide.contour_count(),
     }
 }
 
@@ -152,7 +154,7 @@ impl IndexedHoles {
     }
 
     /// Fits the index to the next pads of a layer, where most of them are of another shape than those for which it is quick.
-    fn suit(&mut self, alloc: Global, pads: &[Pad]) -> Result<(), AllocError>
+    fn suit<S: PadShape>(&mut self, alloc: Global, pads: &[S]) -> Result<(), AllocError>
         ensures tried { (layer : ℕ) (tried : List ThePad) → HasTriedIn self.old.holes self.old.index layer tried self.old.search → OnOk result (HasTriedIn self.new.holes self.new.index layer tried self.new.search) }
         ensures holes { self.new.holes ≡ self.old.holes }
         ensures rules { self.new.rules ≡ self.old.rules }
@@ -243,32 +245,18 @@ impl IndexedHoles {
         }
     }
 
-    /// Tries flashes of macros, or contours, of a layer of this number.
-    fn try_further(
-        &mut self,
-        alloc: Global,
-        layer: usize,
-        pads: &[PlacedRounded],
-    ) -> Result<(), AllocError>
-        ensures tried { (tried : List ThePad) → HasTriedIn self.old.holes self.old.index layer tried self.old.search → OnOk result (HasTriedIn self.new.holes self.new.index layer (tried ++ map rounded pads.now) self.new.search) }
+    /// Tries the pads of a layer of this number that was read in the wide profile, by an index that suits them.
+    fn try_wide(&mut self, alloc: Global, layer: usize, pads: &[WidePad]) -> Result<(), AllocError>
+        ensures tried { self.old.search ≡ None → OnOk result (HasTriedIn self.new.holes self.new.index layer pads.now self.new.search) }
         ensures holes { self.new.holes ≡ self.old.holes }
         ensures rules { self.new.rules ≡ self.old.rules }
     {
+        self.suit(alloc, pads)?;
         let mut search = self.take_search(alloc, layer)?;
         search.try_pads(&self.index, pads);
         self.search = Some(search);
+        self.tried = self.tried.saturating_add(pads.len());
         Ok(())
-    }
-
-    /// Tries all pads of a layer of this number that was read in the wide profile.
-    fn try_wide(&mut self, alloc: Global, layer: usize, wide: &WideLayer) -> Result<(), AllocError>
-        ensures tried { self.old.search ≡ None → OnOk result (HasTriedIn self.new.holes self.new.index layer (map plain wide.now.pads ++ map rounded (wide.now.flashed ++ wide.now.contours)) self.new.search) }
-        ensures holes { self.new.holes ≡ self.old.holes }
-        ensures rules { self.new.rules ≡ self.old.rules }
-    {
-        self.try_pads(alloc, layer, wide.pads())?;
-        self.try_further(alloc, layer, wide.flashed())?;
-        self.try_further(alloc, layer, wide.contours())
     }
 
     /// The findings of rings on a layer of this number, whose pads were all tried. The search ends.
@@ -323,12 +311,13 @@ impl IndexedHoles {
     {
         let whole = reader.finish()?;
         let wide = wide_layer(alloc, &whole)?;
-        self.try_wide(alloc, layer, &wide)?;
-        let rings = self.rings(alloc, layer)?;
         if !is_copper_function(wide.file_function()) {
             return Err(not_copper());
         }
         let sum = wide_sum(&wide);
+        let pads = wide.into_pads(alloc)?;
+        self.try_wide(alloc, layer, &pads)?;
+        let rings = self.rings(alloc, layer)?;
         Ok(Judged { sum, rings })
     }
 

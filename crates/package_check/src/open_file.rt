@@ -8,7 +8,7 @@ ghost use Rattle.layer_image.specs.KeptFlashes.{keeps_commands, keeps_flashes};
 ghost use Rattle.layer_image.specs.declared.keep.Keep.{Keep as TheKeep};
 ghost use Rattle.manifest.specs.declared.Role.{Role as TheRole};
 ghost use Rattle.manifest.specs.declared.Role.TheVariants as role;
-ghost use Rattle.package_check.specs.FileTexts.{Draws, HasFlashes};
+ghost use Rattle.package_check.specs.FileTexts.{Draws, HasRows};
 ghost use Rattle.package_check.specs.OpenFiles.{HasFailed, HasOpened, HasReadText, drill_role, keep_in};
 ghost use Rattle.package_check.specs.Package.{Reads, Setting, is_bad_span, is_copper, unnamed_file};
 ghost use Rattle.package_check.specs.declared.package_reader.PackageReader.{PackageReader as TheReader};
@@ -107,7 +107,7 @@ impl Reading {
         span: Option<Span>,
     ) -> Result<Content, Fail>
         ensures content { (of : TheRole) (layers : ℕ) (text : List ℕ) → HasReadText keep of span (record { layers = layers; profile = profile }) self text → Answers (λ x. x) (Reads (unnamed_file of span (record { layers = layers; profile = profile }) text)) result }
-        ensures flashes { (of : TheRole) (layers : ℕ) (text : List ℕ) → HasReadText keep of span (record { layers = layers; profile = profile }) self text → keeps_flashes keep ≡ true → is_copper of ≡ true → OnOk result (HasFlashes profile text shown.new.flashes.items) }
+        ensures flashes { (of : TheRole) (layers : ℕ) (text : List ℕ) → HasReadText keep of span (record { layers = layers; profile = profile }) self text → keeps_flashes keep ≡ true → is_copper of ≡ true → OnOk result (HasRows profile text shown.new.rows.items) }
         ensures drawn { (of : TheRole) (layers : ℕ) (text : List ℕ) → HasReadText keep of span (record { layers = layers; profile = profile }) self text → keeps_commands keep ≡ true → is_copper of ≡ true → OnOk result (Draws profile text shown.new.drawn.items) }
     {
         match self {

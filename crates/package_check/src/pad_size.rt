@@ -1,7 +1,7 @@
 //! How large pads are, to choose the cells of an index. Any answer is right: only the time depends on it.
 
 use grid_units::Rules;
-use pad_shapes::{Pad, PadShape};
+use pad_shapes::PadShape;
 use ring_rules::Drilled;
 
 /// How much longer one side of a pad may be, compared with the other, than those for which an index is quick.
@@ -40,7 +40,7 @@ pub(crate) fn likely_size(holes: &[Drilled], rules: Rules) -> PadSize {
 }
 
 /// The size of a pad, as far as it has a zone.
-fn size_of(pad: &Pad) -> PadSize {
+fn size_of<S: PadShape>(pad: &S) -> PadSize {
     match pad.zone(0) {
         Some(zone) => PadSize {
             width: zone.right.abs_diff(zone.left),
@@ -54,16 +54,16 @@ fn size_of(pad: &Pad) -> PadSize {
 }
 
 /// Whether most of these pads are shaped otherwise than one of this size.
-pub(crate) fn are_unlike(pads: &[Pad], size: PadSize) -> bool {
+pub(crate) fn are_unlike<S: PadShape>(pads: &[S], size: PadSize) -> bool {
     let unlike = pads
         .iter()
-        .filter(|pad| !size_of(pad).is_shaped_like(size))
+        .filter(|pad| !size_of(*pad).is_shaped_like(size))
         .count();
     pads.len() / 2 < unlike
 }
 
 /// The mean size of pads; none where there is no pad.
-pub(crate) fn mean_size(pads: &[Pad]) -> Option<PadSize> {
+pub(crate) fn mean_size<S: PadShape>(pads: &[S]) -> Option<PadSize> {
     let (mut width, mut height): (u64, u64) = (0, 0);
     for pad in pads {
         let size = size_of(pad);

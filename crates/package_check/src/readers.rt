@@ -14,18 +14,22 @@ ghost use Rattle.layer_image.specs.KeptFlashes.{keeps_commands, keeps_flashes};
 ghost use Rattle.layer_image.specs.Layers.{ReadsLayerIn};
 ghost use Rattle.layer_image.specs.declared.keep.Keep.{Keep as TheKeep};
 ghost use Rattle.layer_image.specs.declared.keep.Keep.TheVariants as keep;
-ghost use Rattle.package_check.specs.FileTexts.{Draws, HasFlashes, ReadsLayer, ReadsDrill, is_copper_function};
-ghost use Rattle.package_check.specs.LayerViews.{all_pads, plain, rounded};
+ghost use Rattle.further_copper.specs.Features.{rows_of, strict_row};
+ghost use Rattle.gerber_text.specs.Writing.{without_places};
+ghost use Rattle.layer_image.specs.Drawn.{drawn_of};
+ghost use Rattle.package_check.specs.FileTexts.{Draws, HasRows, ReadsLayer, ReadsDrill, is_copper_function, wide_view};
+ghost use Rattle.package_check.specs.LayerViews.{plain};
 ghost use Rattle.package_check.specs.OpenFiles.{keep_in};
 
 use drill_text::DrillReader;
+use further_copper::FeatureRow;
 use grid_units::numbers::len_before;
 use grid_units::{Fail, Hole, Profile};
 use layer_image::{Drawn, Flash, Keep, LayerReader, What, readings_in_profiles};
-use pad_shapes::{Pad, PlacedRounded};
+use pad_shapes::Pad;
 use std::alloc::{AllocError, Global};
 use std::marker::Model;
-use wide_layers::wide_layer;
+use wide_layers::{WideLayer, wide_layer};
 use wide_pads::WidePad;
 
 /// How many bytes of a layer are read at once: its commands are held for so many bytes alone, and then dropped.
@@ -34,9 +38,9 @@ pub(crate) const PIECE: usize = 65_536;
 /// What the check keeps of a copper file.
 #[derive(Drop)]
 pub(crate) struct Layer {
-    pads: Vec<Pad>,
-    flashed: Vec<PlacedRounded>,
-    contours: Vec<PlacedRounded>,
+    pads: Vec<WidePad>,
+    flashed: usize,
+    contours: usize,
     other: usize,
     is_copper: bool,
 }
@@ -46,26 +50,22 @@ impl Model for Layer {
 
     ghost Value = { LayerView };
 
-    ghost view = { λ l. record { pads = l.pads.items; flashed = l.flashed.items; contours = l.contours.items; other = l.other; is_copper = l.is_copper } };
+    ghost view = { λ l. record { pads = l.pads.items; flashed = l.flashed; contours = l.contours; other = l.other; is_copper = l.is_copper } };
 }
 
 impl Layer {
-    pub(crate) fn pads(&self) -> &[Pad]
-        ensures { result.now ≡ self.now.pads }
+    /// How many of the pads are flashes.
+    pub(crate) fn flashed(&self) -> usize
+        ensures { result ≡ self.now.flashed }
     {
-        &self.pads
+        self.flashed
     }
 
-    pub(crate) fn flashed(&self) -> &[PlacedRounded]
-        ensures { result.now ≡ self.now.flashed }
+    /// How many of the pads are contours.
+    pub(crate) fn contours(&self) -> usize
+        ensures { result ≡ self.now.contours }
     {
-        &self.flashed
-    }
-
-    pub(crate) fn contours(&self) -> &[PlacedRounded]
-        ensures { result.now ≡ self.now.contours }
-    {
-        &self.contours
+        self.contours
     }
 
     pub(crate) fn other(&self) -> usize
@@ -80,14 +80,11 @@ impl Layer {
         self.is_copper
     }
 
-    /// All pads: those of standard apertures, the flashes of macros and the contours.
-    pub(crate) fn into_pads(self, alloc: Global) -> Result<Vec<WidePad>, AllocError>
-        ensures { IfOk result (λ all. all.items ≡ all_pads self) }
+    /// The pads, in the order of the text.
+    pub(crate) fn into_pads(self) -> Vec<WidePad>
+        ensures { result.items ≡ self.pads }
     {
-        let mut all = plain_pads(alloc, self.pads)?;
-        add_rounded(&mut all, self.flashed)?;
-        add_rounded(&mut all, self.contours)?;
-        Ok(all)
+        self.pads
     }
 }
 
@@ -100,16 +97,6 @@ fn plain_pads(alloc: Global, pads: Vec<Pad>) -> Result<Vec<WidePad>, AllocError>
         all.push(WidePad::Plain(pad))?;
     }
     Ok(all)
-}
-
-/// Adds flashes of macros, or contours, to all pads.
-fn add_rounded(all: &mut Vec<WidePad>, pads: Vec<PlacedRounded>) -> Result<(), AllocError>
-    ensures { OnOk result (all.new.items ≡ all.old.items ++ map rounded pads.items) }
-{
-    for pad in pads {
-        all.push(WidePad::Rounded(pad))?;
-    }
-    Ok(())
 }
 
 /// What the check keeps of a drill file: its holes.
@@ -135,29 +122,29 @@ impl Drill {
     }
 }
 
-/// What is kept of a file to be shown: its flashes, and what its commands draw, each where it is asked for.
+/// What is kept of a file to be shown: the rows of its flashes and contours, and what its commands draw, each where it is asked for.
 #[derive(Drop)]
 pub(crate) struct Shown {
-    flashes: Vec<Flash>,
+    rows: Vec<FeatureRow>,
     drawn: Vec<Drawn>,
 }
 
 impl Shown {
     /// Nothing to be shown. This takes no memory.
     pub(crate) fn nothing(alloc: Global) -> Shown
-        ensures flashes { result.flashes.items ≡ [] }
+        ensures rows { result.rows.items ≡ [] }
         ensures drawn { result.drawn.items ≡ [] }
     {
         Shown {
-            flashes: Vec::new(alloc),
+            rows: Vec::new(alloc),
             drawn: Vec::new(alloc),
         }
     }
 
-    pub(crate) fn flashes(&self) -> &[Flash]
-        ensures { result.now ≡ self.now.flashes.items }
+    pub(crate) fn rows(&self) -> &[FeatureRow]
+        ensures { result.now ≡ self.now.rows.items }
     {
-        &self.flashes
+        &self.rows
     }
 
     pub(crate) fn drawn(&self) -> &[Drawn]
@@ -201,12 +188,12 @@ fn read_pads(alloc: Global, reader: LayerReader) -> Result<Layer, Fail>
     ensures { (text : List ℕ) → LayerStandsAfter reader keep.Pads text → Answers (λ x. x) (ReadsLayer Strict text) result }
 {
     let layer = reader.finish()?;
-    let other = layer.other();
+    let (flashed, other) = (layer.pad_count(), layer.other());
     let is_copper = is_copper_function(layer.file_function());
     Ok(Layer {
-        pads: layer.into_pads(),
-        flashed: Vec::new(alloc),
-        contours: Vec::new(alloc),
+        pads: plain_pads(alloc, layer.into_pads())?,
+        flashed,
+        contours: 0,
         other,
         is_copper,
     })
@@ -236,25 +223,34 @@ fn pads_among(alloc: Global, flashes: &[Flash], count: usize) -> Result<Vec<Pad>
     Ok(all)
 }
 
-/// What [`read_pads`] gives of a copper file, and its flashes; also what its commands draw, where these are kept. The commands are
+/// The rows of flashes of the strict profile.
+fn strict_rows(alloc: Global, flashes: &[Flash]) -> Result<Vec<FeatureRow>, AllocError>
+    ensures { IfOk result (λ rows. rows.items ≡ map strict_row flashes.now) }
+{
+    flashes
+        .iter()
+        .map(|flash| FeatureRow::of_flash(flash))
+        .collect(alloc)
+}
+
+/// What [`read_pads`] gives of a copper file, and its rows; also what its commands draw, where these are kept. The commands are
 /// dropped then.
 fn read_shown(alloc: Global, shown: &mut Shown, reader: LayerReader) -> Result<Layer, Fail>
     ensures image { (keep : TheKeep) (text : List ℕ) → LayerStandsAfter reader keep text → keeps_flashes keep ≡ true → Answers (λ x. x) (ReadsLayer Strict text) result }
-    ensures flashes { (keep : TheKeep) (text : List ℕ) → LayerStandsAfter reader keep text → keeps_flashes keep ≡ true → OnOk result (HasFlashes Strict text shown.new.flashes.items) }
+    ensures flashes { (keep : TheKeep) (text : List ℕ) → LayerStandsAfter reader keep text → keeps_flashes keep ≡ true → OnOk result (HasRows Strict text shown.new.rows.items) }
     ensures drawn { (keep : TheKeep) (text : List ℕ) → LayerStandsAfter reader keep text → keeps_commands keep ≡ true → OnOk result (Draws Strict text shown.new.drawn.items) }
 {
     let layer = reader.finish()?;
-    let other = layer.other();
-    let count = layer.flashes().len().saturating_sub(other);
-    let pads = pads_among(alloc, layer.flashes(), count)?;
+    let (flashed, other) = (layer.pad_count(), layer.other());
+    let own = pads_among(alloc, layer.flashes(), flashed)?;
+    let pads = plain_pads(alloc, own)?;
     let is_copper = is_copper_function(layer.file_function());
-    let drawn = layer.drawn(alloc)?;
-    shown.drawn = drawn;
-    shown.flashes = layer.into_flashes();
+    shown.drawn = layer.drawn(alloc)?;
+    shown.rows = strict_rows(alloc, layer.flashes())?;
     Ok(Layer {
         pads,
-        flashed: Vec::new(alloc),
-        contours: Vec::new(alloc),
+        flashed,
+        contours: 0,
         other,
         is_copper,
     })
@@ -269,7 +265,7 @@ fn read_strict(
     reader: LayerReader,
 ) -> Result<Layer, Fail>
     ensures image { (text : List ℕ) → LayerStandsAfter reader keep text → Answers (λ x. x) (ReadsLayer Strict text) result }
-    ensures flashes { (text : List ℕ) → LayerStandsAfter reader keep text → keeps_flashes keep ≡ true → OnOk result (HasFlashes Strict text shown.new.flashes.items) }
+    ensures flashes { (text : List ℕ) → LayerStandsAfter reader keep text → keeps_flashes keep ≡ true → OnOk result (HasRows Strict text shown.new.rows.items) }
     ensures drawn { (text : List ℕ) → LayerStandsAfter reader keep text → keeps_commands keep ≡ true → OnOk result (Draws Strict text shown.new.drawn.items) }
 {
     match keep {
@@ -279,34 +275,60 @@ fn read_strict(
     }
 }
 
-/// What the check keeps of a layer that was read whole in the wide profile.
-fn wide_view(alloc: Global, layer: &layer_image::Layer) -> Result<Layer, AllocError>
-    ensures { (text : List ℕ) → ReadsLayerIn Wide text (Ok layer.now) → IfOk result (λ view. ReadsLayer Wide text (Ok view)) }
+/// What the check keeps of a layer of the wide profile.
+fn wide_view(alloc: Global, wide: WideLayer) -> Result<Layer, AllocError>
+    ensures { IfOk result (λ view. view ≡ wide_view wide) }
 {
-    let wide = wide_layer(alloc, layer)?;
-    let other = wide.other();
+    let (flashed, contours) = (wide.flashed_count(), wide.contour_count());
+    let other = wide.other_count();
     let is_copper = is_copper_function(wide.file_function());
-    let pads = wide.into_pads();
     Ok(Layer {
-        pads: pads.pads,
-        flashed: pads.flashed,
-        contours: pads.contours,
+        pads: wide.into_pads(alloc)?,
+        flashed,
+        contours,
         other,
         is_copper,
     })
 }
 
-/// What the check keeps of the copper file whose text the reader has read in the wide profile, or its fault. Its flashes, and what its
-/// commands draw, are put into `shown`.
-fn read_wide(alloc: Global, shown: &mut Shown, reader: LayerReader) -> Result<Layer, Fail>
-    ensures image { (text : List ℕ) → LayerStandsIn reader Wide keep.All text → Answers (λ x. x) (ReadsLayer Wide text) result }
-    ensures flashes { (text : List ℕ) → LayerStandsIn reader Wide keep.All text → OnOk result (HasFlashes Wide text shown.new.flashes.items) }
-    ensures drawn { (text : List ℕ) → LayerStandsIn reader Wide keep.All text → OnOk result (Draws Wide text shown.new.drawn.items) }
+/// Puts the rows of a layer in the wide profile, and what its commands draw, into `shown`, each where it is kept.
+fn show_wide(
+    alloc: Global,
+    keep: Keep,
+    shown: &mut Shown,
+    layer: &layer_image::Layer,
+    wide: &WideLayer,
+) -> Result<(), AllocError>
+    ensures rows { keeps_flashes keep ≡ true → OnOk result (shown.new.rows.items ≡ rows_of wide.now.features) }
+    ensures drawn { keeps_commands keep ≡ true → OnOk result (shown.new.drawn.items ≡ drawn_of (without_places layer.now.commands)) }
+{
+    match keep {
+        Keep::Pads => {}
+        Keep::Flashes => shown.rows = wide.rows(alloc)?,
+        Keep::All => {
+            shown.rows = wide.rows(alloc)?;
+            shown.drawn = layer.drawn(alloc)?;
+        }
+    }
+    Ok(())
+}
+
+/// What the check keeps of the copper file whose text the reader has read in the wide profile, or its fault. What is kept to be shown is
+/// put into `shown`.
+fn read_wide(
+    alloc: Global,
+    keep: Keep,
+    shown: &mut Shown,
+    reader: LayerReader,
+) -> Result<Layer, Fail>
+    ensures image { (text : List ℕ) → LayerStandsIn reader Wide (keep_in Wide keep) text → Answers (λ x. x) (ReadsLayer Wide text) result }
+    ensures flashes { (text : List ℕ) → LayerStandsIn reader Wide (keep_in Wide keep) text → keeps_flashes keep ≡ true → OnOk result (HasRows Wide text shown.new.rows.items) }
+    ensures drawn { (text : List ℕ) → LayerStandsIn reader Wide (keep_in Wide keep) text → keeps_commands keep ≡ true → OnOk result (Draws Wide text shown.new.drawn.items) }
 {
     let layer = reader.finish()?;
-    let view = wide_view(alloc, &layer)?;
-    shown.drawn = layer.drawn(alloc)?;
-    shown.flashes = layer.into_flashes();
+    let wide = wide_layer(alloc, &layer)?;
+    show_wide(alloc, keep, shown, &layer, &wide)?;
+    let view = wide_view(alloc, wide)?;
     Ok(view)
 }
 
@@ -320,12 +342,12 @@ pub(crate) fn read_layer_view(
     reader: LayerReader,
 ) -> Result<Layer, Fail>
     ensures image { (text : List ℕ) → LayerStandsIn reader profile (keep_in profile keep) text → Answers (λ x. x) (ReadsLayer profile text) result }
-    ensures flashes { (text : List ℕ) → LayerStandsIn reader profile (keep_in profile keep) text → keeps_flashes keep ≡ true → OnOk result (HasFlashes profile text shown.new.flashes.items) }
+    ensures flashes { (text : List ℕ) → LayerStandsIn reader profile (keep_in profile keep) text → keeps_flashes keep ≡ true → OnOk result (HasRows profile text shown.new.rows.items) }
     ensures drawn { (text : List ℕ) → LayerStandsIn reader profile (keep_in profile keep) text → keeps_commands keep ≡ true → OnOk result (Draws profile text shown.new.drawn.items) }
 {
     match profile {
         Profile::Strict => read_strict(alloc, keep, shown, reader),
-        Profile::Wide => read_wide(alloc, shown, reader),
+        Profile::Wide => read_wide(alloc, keep, shown, reader),
     }
 }
 

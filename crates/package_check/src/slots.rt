@@ -3,7 +3,7 @@
 ghost use Rattle.std.specs.Prelude.{◌≡◌, ◌≤◌, ◌<◌, ◌++◌, ℕ, IfOk, OnErr, OnOk, length};
 ghost use Rattle.std.specs.List.{flat_map};
 ghost use Rattle.package_check.specs.Boards.{board_of};
-ghost use Rattle.package_check.specs.Holding.{IsPutAt, all_drawn, all_flashes, contents_in, kept_at, shown_in};
+ghost use Rattle.package_check.specs.Holding.{IsPutAt, all_drawn, all_rows, contents_in, kept_at, shown_in};
 
 use crate::Board;
 use crate::board::board_of;
@@ -86,7 +86,7 @@ fn add_slots(
 
 /// The board of the files whose slots are filled, in the order of their indexes.
 pub(crate) fn board_of_slots(alloc: Global, slots: Vec<Option<Kept>>) -> Result<Board, AllocError>
-    ensures { IfOk result (λ board. board ≡ board_of (flat_map contents_in slots.items) (all_flashes (flat_map shown_in slots.items)) (all_drawn (flat_map shown_in slots.items))) }
+    ensures { IfOk result (λ board. board ≡ board_of (flat_map contents_in slots.items) (all_rows (flat_map shown_in slots.items)) (all_drawn (flat_map shown_in slots.items))) }
 {
     let mut contents = Vec::with_capacity(alloc, slots.len())?;
     let mut shown = Vec::with_capacity(alloc, slots.len())?;

@@ -630,9 +630,9 @@ fn has_flashes(
 ) -> Result<bool, RowFail> {
     let layers = board.layers(alloc)?;
     let found = [
-        board.flashes_of(0).len(),
-        board.flashes_of(1).len(),
-        board.flashes_of(2).len(),
+        board.rows_of(0).len(),
+        board.rows_of(1).len(),
+        board.rows_of(2).len(),
     ];
     Ok(board.files() == files && found == counts && layers.len() == 2)
 }

@@ -1,3 +1,4 @@
 pub mod EscapesLemmas
 pub mod Gathered
 pub mod PadOrderLemmas
+pub mod StrictLemmas

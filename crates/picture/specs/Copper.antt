@@ -100,11 +100,19 @@ flash_corner at corner = next_corner (corner_x at corner) (corner_y at corner)
 abbrev pub flash_width : GridRounded → ℤ
 flash_width shape = pos (2 * shape.radius)
 
--- the path round several corners, by the width of its line, the first corner and the others:
+-- the path round several corners, by its ink, the width of its line, the first corner and the others:
 -- `<path stroke-width="0.2" stroke-linejoin="round" fill="#f0dcc0" d="M1 -2L3 -2L3 -4z"/>`
-unfoldable pub drawn_polygon : ℤ → ℤ → ℤ → List ℕ → List ℕ
-drawn_polygon width x y others =
-    after (codes "<path stroke-width=\"") width ++ (after (codes "\" stroke-linejoin=\"round\" fill=\"#f0dcc0\" d=\"M") x ++ (after (codes " ") y ++ (others ++ codes "z\"/>\n")))
+unfoldable pub drawn_polygon : List ℕ → ℤ → ℤ → ℤ → List ℕ → List ℕ
+drawn_polygon ink width x y others =
+    after (codes "<path stroke-width=\"") width ++ (codes "\" stroke-linejoin=\"round\" " ++ (ink ++ (after (codes " d=\"M") x ++ (after (codes " ") y ++ (others ++ codes "z\"/>\n")))))
+
+-- the path round the corners of a shape about a point
+abbrev pub shape_path : List ℕ → GridPoint → GridRounded → List ℕ
+shape_path ink at shape = drawn_polygon ink (flash_width shape) (corner_x at shape.first) (corner_y at shape.first) (flat_map (flash_corner at) shape.others)
+
+-- the ink of a flash, which is pale, since it is not judged
+abbrev pub flash_ink : List ℕ
+flash_ink = codes "fill=\"#f0dcc0\""
 
 -- a flash of a single corner: a line of no length
 abbrev pub drawn_dot : GridPoint → GridRounded → List ℕ
@@ -114,7 +122,7 @@ drawn_dot at shape = drawn_line (flash_width shape) (corner_x at shape.first) (c
 abbrev pub drawn_flash : GridPoint → GridRounded → List ℕ
 drawn_flash at shape =
     if length shape.others == 0 then drawn_dot at shape
-    else drawn_polygon (flash_width shape) (corner_x at shape.first) (corner_y at shape.first) (flat_map (flash_corner at) shape.others)
+    else shape_path flash_ink at shape
 
 -- ---- all parts
 

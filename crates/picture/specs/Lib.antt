@@ -2,5 +2,6 @@ pub mod Elements
 pub mod Copper
 pub mod Escapes
 pub mod Outlines
+pub mod RoundedPads
 pub mod Panels
 pub mod Scenes

@@ -1,8 +1,9 @@
 -- The text of a panel: its elements, in their order (docs/FORMATS.md, Pictures).
-use Rattle.std.specs.Prelude.{ℕ, ℤ, pos, neg_ℤ, ◌*◌, ◌/◌, ◌+ℤ◌, ◌==◌, Bool, true, false, List, [], ◌++◌, length, take, count_by, codes, decimal, if◌then◌else◌}
+use Rattle.std.specs.Prelude.{ℕ, ℤ, pos, neg_ℤ, ◌+◌, ◌*◌, ◌/◌, ◌+ℤ◌, ◌==◌, Bool, true, false, List, [], ◌++◌, length, take, count_by, codes, decimal, if◌then◌else◌}
 use Rattle.std.specs.List.{flat_map}
 use Rattle.grid_units.specs.Points.{GridPoint}
 use Rattle.layer_image.specs.declared.drawn.Drawn.{Drawn}
+use Rattle.pad_shapes.specs.Rounded.{GridRounded}
 use Rattle.pad_shapes.specs.declared.pad.Pad.{Pad}
 use Rattle.ring_rules.specs.declared.finding.Drilled.{Drilled}
 use Rattle.picture.specs.declared.frame.Frame.{Frame}
@@ -14,7 +15,8 @@ use Rattle.picture.specs.declared.scene.Scene.{Scene}
 use Rattle.picture.specs.Copper.{copper}
 use Rattle.picture.specs.Escapes.{escaped}
 use Rattle.picture.specs.Outlines.{outline_text}
-use Rattle.picture.specs.Elements.{after, crosses, finding_text, hole_paths, mark, number, pad_paths, text_start}
+use Rattle.picture.specs.Elements.{after, crosses, finding_text, hole_paths, mark, number, text_start}
+use Rattle.picture.specs.RoundedPads.{pads_text}
 
 -- the place of a panel on the page: `" transform="translate(5.5 109.5)">`
 unfoldable pub translated : ℤ → ℤ → List ℕ
@@ -59,10 +61,14 @@ amount count one more = decimal count ++ (if count == 1 then one else more)
 abbrev pub flash_words : ℕ → ℕ → List ℕ
 flash_words pads other = amount pads (codes " pad, ") (codes " pads, ") ++ (decimal other ++ codes " other")
 
+-- the number of all pads of a scene
+abbrev pub pad_count : Scene → ℕ
+pad_count scene = length scene.pads.items + length scene.rounded.items
+
 -- these numbers of a scene; in a crowded one `more than 100000 flashes and holes`
 abbrev pub drawn_words : Scene → List ℕ
 drawn_words scene =
-    if scene.crowded then codes "more than 100000 flashes and holes" else flash_words (length scene.pads.items) (length scene.crosses.items)
+    if scene.crowded then codes "more than 100000 flashes and holes" else flash_words (pad_count scene) (length scene.crosses.items)
 
 -- the number of rings lacking: `, 2 rings lacking`; nothing where there are no rules
 abbrev pub lacking_words : Pen → ℕ → List ℕ
@@ -93,9 +99,9 @@ unfoldable pub ground_text : Pen → Frame → List Drawn → List Drawn → Lis
 ground_text pen frame drawn outline = copper frame drawn ++ outline_text pen outline
 
 -- the contents of a panel: what stands below the pads, then pads, crosses, holes and findings
-abbrev pub scene_text : Pen → Place → Frame → List Drawn → List Drawn → List Pad → List GridPoint → List Drilled → List DrawnFinding → List ℕ
-scene_text pen place frame drawn outline pads points holes lacks =
-    (((ground_text pen frame drawn outline ++ pad_paths pads) ++ crosses pen points) ++ hole_paths pen holes) ++ lacks_text pen place lacks
+abbrev pub scene_text : Pen → Place → Frame → List Drawn → List Drawn → List Pad → List GridRounded → List GridPoint → List Drilled → List DrawnFinding → List ℕ
+scene_text pen place frame drawn outline pads rounded points holes lacks =
+    (((ground_text pen frame drawn outline ++ pads_text pads rounded) ++ crosses pen points) ++ hole_paths pen holes) ++ lacks_text pen place lacks
 
 -- the end of a panel
 abbrev pub panel_end : List ℕ
@@ -105,5 +111,5 @@ panel_end = codes "</g>\n"
 abbrev pub panel_text : Place → Frame → Pen → Scene → List ℕ
 panel_text place frame pen scene =
     ((((panel_start place ++ name_start pen frame) ++ escaped place.name.now) ++ after_name pen frame scene)
-    ++ scene_text pen place frame scene.drawn.now scene.outline.now scene.pads.items scene.crosses.items scene.holes.now scene.lacks.items)
+    ++ scene_text pen place frame scene.drawn.now scene.outline.now scene.pads.items scene.rounded.items scene.crosses.items scene.holes.now scene.lacks.items)
     ++ panel_end

@@ -1,27 +1,30 @@
--- The contents of a layer's panel: what it draws, its pads, its other flashes, the holes, and the findings there (docs/FORMATS.md, Pictures).
+-- The contents of a layer's panel: what it draws, its pads, its rows that are no pads, the holes, and the findings there (docs/FORMATS.md, Pictures).
 use Rattle.std.specs.Prelude.{◌≡◌, ℕ, ◌+◌, ◌≤◌, ◌<◌, ◌==◌, ◌||◌, nat_lt, Bool, true, List, [], ◌∷◌, length, get_or, Option, Some, None, slice_get, if◌then◌else◌}
-use Rattle.std.specs.List.{cons_option, flat_map, enumerate_from}
+use Rattle.std.specs.List.{flat_map, enumerate_from}
 use Rattle.std.specs.List.Sorted.{IsSortedByKey}
 use Rattle.std.specs.Ordering.{nat_cmp, ordering_then}
 use Rattle.std.specs.declared.cmp.Ordering.{Ordering}
 use Rattle.grid_units.specs.Points.{GridPoint}
-use Rattle.layer_image.specs.Flashes.{is_other, pad_in}
+use Rattle.further_copper.specs.Features.{is_pad_row}
+use Rattle.further_copper.specs.declared.feature.FeatureRow.{FeatureRow}
 use Rattle.layer_image.specs.declared.drawn.Drawn.{Drawn}
-use Rattle.layer_image.specs.declared.flash.Flash.{Flash}
+use Rattle.pad_shapes.specs.Rounded.{GridRounded}
 use Rattle.pad_shapes.specs.declared.pad.Pad.{Pad}
 use Rattle.pad_shapes.specs.declared.pad.Pad.TheVariants as pads
 use Rattle.ring_rules.specs.declared.finding.Drilled.{Drilled}
 use Rattle.ring_rules.specs.declared.finding.Finding.{Finding}
 use Rattle.ring_rules.specs.declared.finding.Finding.TheVariants as finding
+use Rattle.wide_pads.specs.declared.wide_pad.WidePad.{WidePad}
+use Rattle.wide_pads.specs.declared.wide_pad.WidePad.TheVariants.{Plain, Rounded}
 use Rattle.picture.specs.Elements.{are_alike}
 use Rattle.picture.specs.declared.scene.DrawnFinding.{DrawnFinding}
 use Rattle.picture.specs.declared.scene.DrawnFinding.TheVariants.{Ring, Gap}
 
--- more flashes and holes than a panel draws: above 100,000
-abbrev pub is_crowded : List Flash → List Drilled → Bool
-is_crowded flashes holes = nat_lt 100000 (length flashes + length holes)
+-- more rows and holes than a panel draws: above 100,000
+abbrev pub is_crowded : List FeatureRow → List Drilled → Bool
+is_crowded rows holes = nat_lt 100000 (length rows + length holes)
 
--- the flashes or holes that are drawn: none of them in a crowded panel
+-- the rows, pads or holes that are drawn: none of them in a crowded panel
 abbrev pub unless_crowded : {X : Type 0} → Bool → List X → List X
 unless_crowded crowded xs = if crowded then [] else xs
 
@@ -29,9 +32,23 @@ unless_crowded crowded xs = if crowded then [] else xs
 abbrev pub shown_copper : Bool → List Drawn → List Drawn
 shown_copper crowded drawn = unless_crowded (crowded || nat_lt 100000 (length drawn)) drawn
 
--- the pad of a flash, if it is one
-abbrev pub pad_of : Flash → List Pad
-pad_of flash = cons_option (pad_in flash.what) []
+-- a pad, if it is a plain one
+abbrev pub plain_pad : WidePad → List Pad
+plain_pad (Plain pad) = pad ∷ []
+plain_pad (Rounded pad) = []
+
+-- the plain ones among some pads, in order
+abbrev pub plain_pads : List WidePad → List Pad
+plain_pads pads = flat_map plain_pad pads
+
+-- a pad on the board, if it is a rounded polygon
+abbrev pub round_pad : WidePad → List GridRounded
+round_pad (Plain pad) = []
+round_pad (Rounded pad) = pad ∷ []
+
+-- the rounded polygons among some pads, in order
+abbrev pub rounded_pads : List WidePad → List GridRounded
+rounded_pads pads = flat_map round_pad pads
 
 -- the kind of a pad (0 disc, 1 rectangle, 2 obround) and its half sides along x and y, in pm
 abbrev pub kind_of : Pad → ℕ × ℕ × ℕ
@@ -53,13 +70,13 @@ IsOnePathPerSize pads =
     (i j k : ℕ) (d : Pad) → i ≤ j → j < k → k < length pads → are_alike (get_or pads i d) (get_or pads k d) ≡ true
     → are_alike (get_or pads j d) (get_or pads (j + 1) d) ≡ true
 
--- the point of a flash that is no pad
-abbrev pub cross_of : Flash → List GridPoint
-cross_of flash = if is_other flash.what then flash.at ∷ [] else []
+-- the point of a row that is no pad
+abbrev pub cross_of : FeatureRow → List GridPoint
+cross_of row = if is_pad_row row.what then [] else row.at ∷ []
 
--- the crosses of some flashes: a point for each that is no pad, in order
-abbrev pub crosses_of : List Flash → List GridPoint
-crosses_of flashes = flat_map cross_of flashes
+-- the crosses of some rows: a point for each that is no pad, in order
+abbrev pub crosses_of : List FeatureRow → List GridPoint
+crosses_of rows = flat_map cross_of rows
 
 -- the insufficient ring of a hole, with the number of its finding; nothing where there is no such hole
 abbrev pub drawn_ring : ℕ → Option Drilled → List DrawnFinding

@@ -4,7 +4,7 @@ ghost use Rattle.std.specs.Prelude.{◌≡◌, ◌≤◌, ◌+ℤ◌, ◌-ℤ◌
 ghost use Rattle.std.specs.Fmt.{DisplaysOnOk};
 ghost use Rattle.std.specs.List.{flat_map};
 ghost use Rattle.grid_units.specs.Points.{IsCoordinate};
-ghost use Rattle.picture.specs.Copper.{arc_radius, arc_to, arc_way, copper, corner_text, corner_x, corner_y, drawn_arc, drawn_dot, drawn_flash, drawn_line, drawn_polygon, first_corner, flag, flash_corner, flash_width, floor_root, is_circle, is_large, is_left, line_text, next_corner, open_way, opposite};
+ghost use Rattle.picture.specs.Copper.{arc_radius, arc_to, arc_way, copper, corner_text, corner_x, corner_y, drawn_arc, drawn_dot, drawn_flash, drawn_line, drawn_polygon, first_corner, flag, flash_corner, flash_ink, flash_width, floor_root, is_circle, is_large, is_left, line_text, next_corner, open_way, opposite, shape_path};
 
 use crate::cut::Cut;
 use crate::elements::down;
@@ -290,7 +290,7 @@ fn corner_y(at: &Point, corner: Point) -> i64
 }
 
 /// The width of the line round the corners of a flash.
-fn flash_width(shape: &Rounded) -> i64
+pub(crate) fn flash_width(shape: &Rounded) -> i64
     ensures { result ≡ flash_width shape.now }
 {
     2 * shape.radius()
@@ -312,9 +312,10 @@ impl Line<FlashPoint> for Point {
     }
 }
 
-/// A flash with several corners, by the width of its line, its first corner, its point and the other corners about it.
+/// A shape with several corners, by its ink, the width of its line, its first corner, its point and the other corners about it.
 #[derive(Clone, Copy)]
-struct FlashPath<'a> {
+pub(crate) struct ShapePath<'a> {
+    ink: &'a str,
     width: i64,
     x: i64,
     y: i64,
@@ -322,35 +323,43 @@ struct FlashPath<'a> {
     others: &'a [Point],
 }
 
-impl Display for FlashPath<'_> {
-    ghost output = { λ p. Some (drawn_polygon p.width p.x p.y (flat_map (flash_corner p.at.0) p.others.now)) };
+impl Display for ShapePath<'_> {
+    ghost output = { λ p. Some (drawn_polygon p.ink.now p.width p.x p.y (flat_map (flash_corner p.at.0) p.others.now)) };
 
     fn fmt<W: fmt::Write>(&self, f: &mut Formatter<W>) -> fmt::Result {
         let (x, y) = (ShortMillimetres(self.x), ShortMillimetres(self.y));
-        let width = ShortMillimetres(self.width);
+        let (ink, width) = (self.ink, ShortMillimetres(self.width));
         let others = Lines {
             page: &self.at,
             lines: self.others,
         };
         write!(
             f,
-            "<path stroke-width=\"{width}\" stroke-linejoin=\"round\" fill=\"#f0dcc0\" d=\"M{x} {y}{others}z\"/>\n"
+            "<path stroke-width=\"{width}\" stroke-linejoin=\"round\" {ink} d=\"M{x} {y}{others}z\"/>\n"
         )
     }
 }
 
-/// The path of a flash with several corners.
-fn path_of<'a>(at: &Point, shape: &'a Rounded) -> FlashPath<'a>
-    ensures { drawn_polygon result.width result.x result.y (flat_map (flash_corner result.at.0) result.others.now) ≡ drawn_polygon (flash_width shape.now) (corner_x at.now shape.now.first) (corner_y at.now shape.now.first) (flat_map (flash_corner at.now) shape.now.others) }
+/// The path round the corners of a shape about a point, in this ink.
+pub(crate) fn path_of<'a>(ink: &'a str, at: &Point, shape: &'a Rounded) -> ShapePath<'a>
+    ensures { drawn_polygon result.ink.now result.width result.x result.y (flat_map (flash_corner result.at.0) result.others.now) ≡ shape_path ink.now at.now shape.now }
 {
     let first = shape.first();
-    FlashPath {
+    ShapePath {
+        ink,
         width: flash_width(shape),
         x: corner_x(at, first),
         y: corner_y(at, first),
         at: FlashPoint(*at),
         others: shape.others(),
     }
+}
+
+/// The ink of a flash.
+fn flash_ink() -> &'static str
+    ensures { result.now ≡ flash_ink }
+{
+    "fill=\"#f0dcc0\""
 }
 
 /// A flash of a single corner: a line of no length.
@@ -374,7 +383,7 @@ fn write_flash<W: fmt::Write>(f: &mut Formatter<W>, at: &Point, shape: &Rounded)
     if shape.others().is_empty() {
         write!(f, "{}", dot_of(at, shape))
     } else {
-        write!(f, "{}", path_of(at, shape))
+        write!(f, "{}", path_of(flash_ink(), at, shape))
     }
 }
 

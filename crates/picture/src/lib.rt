@@ -1,4 +1,4 @@
-//! The panel of a copper layer, as SVG: what it draws, its pads, its other flashes, the holes, and the findings under the rules.
+//! The panel of a copper layer, as SVG: what it draws, its pads, its flashes that are no pads, the holes, and the findings under the rules.
 //!
 //! All lengths are whole picometres (pm), and are printed in millimetres.
 #![tactic(auto)]
@@ -16,15 +16,16 @@ mod pads;
 mod panel;
 mod pen;
 mod place;
+mod rounded_pads;
 mod scene;
 mod titles;
 mod widths;
 
 pub use frame::Frame;
-pub use laws::{escaped_names, one_path_per_size};
+pub use laws::{escaped_names, one_path_per_size, strict_layers};
 pub use names::Escaped;
 pub use outlines::{long_radius, shown_outline};
 pub use panel::Panel;
 pub use pen::Pen;
 pub use place::Place;
-pub use scene::{DrawnFinding, Scene, scene_of};
+pub use scene::{DrawnFinding, LayerCopper, Scene, scene_of};

@@ -3,7 +3,7 @@
 ghost use Rattle.std.specs.Prelude.{◌≡◌, ◌≤◌, ◌^◌, ◌++◌, ◌+ℤ◌, ◌==◌, neg_ℤ, pos, Some, if◌then◌else◌};
 ghost use Rattle.std.specs.Fmt.{DisplaysOnOk};
 ghost use Rattle.picture.specs.Escapes.{escaped};
-ghost use Rattle.picture.specs.Panels.{after_name, board_box, drawn_words, ground_text, lacking_words, name_start, note, panel_start, panel_text, ring_count, scene_text};
+ghost use Rattle.picture.specs.Panels.{after_name, board_box, drawn_words, ground_text, lacking_words, name_start, note, pad_count, panel_start, panel_text, ring_count, scene_text};
 
 use crate::copper::Copper;
 use crate::elements::{TextStart, down};
@@ -12,9 +12,9 @@ use crate::frame::Frame;
 use crate::holes::{Crosses, HolePaths};
 use crate::names::Escaped;
 use crate::outlines::Outline;
-use crate::pads::Paths;
 use crate::pen::Pen;
 use crate::place::Place;
+use crate::rounded_pads::PanelPads;
 use crate::scene::{DrawnFinding, Scene};
 use crate::titles::FindingPage;
 use printing::ShortMillimetres;
@@ -88,6 +88,13 @@ fn words_for<'a>(count: usize, one: &'a str, more: &'a str) -> &'a str
     if count == 1 { one } else { more }
 }
 
+/// The number of all pads.
+fn pad_count(scene: &Scene) -> usize
+    ensures { result ≡ pad_count scene.now }
+{
+    scene.pads.len() + scene.rounded.len()
+}
+
 /// Writes the number of pads and of other flashes, `361 pads, 1 other`, or that they are too many.
 fn write_drawn<W: fmt::Write>(f: &mut Formatter<W>, scene: &Scene) -> fmt::Result
     ensures { DisplaysOnOk W.write_str_gives f.old result (Some (drawn_words scene.now)) f.new }
@@ -95,7 +102,7 @@ fn write_drawn<W: fmt::Write>(f: &mut Formatter<W>, scene: &Scene) -> fmt::Resul
     if scene.crowded {
         return f.write_str("more than 100000 flashes and holes");
     }
-    let (pads, other) = (scene.pads.len(), scene.crosses.len());
+    let (pads, other) = (pad_count(scene), scene.crosses.len());
     let word = words_for(pads, " pad, ", " pads, ");
     write!(f, "{pads}{word}{other} other")
 }
@@ -165,12 +172,15 @@ struct Contents<'a> {
 }
 
 impl Display for Contents<'_> {
-    ghost output = { λ all. Some (scene_text all.pen.now all.place.now all.frame.now all.scene.now.drawn.now all.scene.now.outline.now all.scene.now.pads.items all.scene.now.crosses.items all.scene.now.holes.now all.scene.now.lacks.items) };
+    ghost output = { λ all. Some (scene_text all.pen.now all.place.now all.frame.now all.scene.now.drawn.now all.scene.now.outline.now all.scene.now.pads.items all.scene.now.rounded.items all.scene.now.crosses.items all.scene.now.holes.now all.scene.now.lacks.items) };
 
     fn fmt<W: fmt::Write>(&self, f: &mut Formatter<W>) -> fmt::Result {
         let (pen, frame, scene) = (self.pen, self.frame, self.scene);
         let ground = Ground { pen, frame, scene };
-        let pads = Paths(&scene.pads);
+        let pads = PanelPads {
+            plain: &scene.pads,
+            rounded: &scene.rounded,
+        };
         let crosses = Crosses {
             pen,
             points: &scene.crosses,

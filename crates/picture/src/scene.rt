@@ -1,16 +1,17 @@
 //! The contents of a layer's panel.
 
 ghost use Rattle.std.specs.Prelude.{◌≡◌, ◌<◌, ◌^◌, ◌++◌, slice_get, IfOk, IsPermutation, OnOk};
-ghost use Rattle.layer_image.specs.Flashes.{pads_of};
-ghost use Rattle.picture.specs.Scenes.{AreSortedBySize, cross_of, crosses_of, drawn_gap, is_crowded, kind_of, drawn_finding, drawn_findings, pad_of, drawn_ring, shown_copper, unless_crowded};
+ghost use Rattle.picture.specs.Scenes.{AreSortedBySize, cross_of, crosses_of, drawn_gap, is_crowded, kind_of, drawn_finding, drawn_findings, plain_pad, plain_pads, drawn_ring, round_pad, rounded_pads, shown_copper, unless_crowded};
 
+use further_copper::FeatureRow;
 use grid_units::{Hole, Point};
-use layer_image::{Drawn, Flash, What};
-use pad_shapes::Pad;
+use layer_image::Drawn;
+use pad_shapes::{Pad, Rounded};
 use ring_rules::{Drilled, Finding};
 use std::alloc::{AllocError, Global};
+use wide_pads::WidePad;
 
-/// The most flashes and holes that a panel draws, and the most parts of what its layer draws.
+/// The most rows and holes that a panel draws, and the most parts of what its layer draws.
 const DRAWN_LIMIT: usize = 100_000;
 
 /// An insufficient ring or gap, with the number of its finding, from 1.
@@ -34,18 +35,31 @@ pub enum DrawnFinding {
     },
 }
 
+/// What a panel shows of a layer, in either profile.
+#[derive(Clone, Copy)]
+pub struct LayerCopper<'a> {
+    /// Its rows: its flashes, and the contours that are pads, in the order of the text.
+    pub rows: &'a [FeatureRow],
+    /// Its pads: those of the rows that are pads, in the same order.
+    pub pads: &'a [WidePad],
+    /// What it draws, in order.
+    pub drawn: &'a [Drawn],
+}
+
 /// The contents of a panel.
 #[derive(Drop)]
 pub struct Scene<'a> {
-    /// Whether there are more than 100,000 flashes and holes: then none of them is drawn.
+    /// Whether there are more than 100,000 rows and holes: then none of them is drawn.
     pub crowded: bool,
     /// What the layer draws, in order; nothing in a crowded panel, or where it is more than 100,000 parts.
     pub drawn: &'a [Drawn],
     /// The outline of the board: what a file of its edge draws, in order.
     pub outline: &'a [Drawn],
-    /// The pads in order of kind and size, so that pads alike stand next to each other.
+    /// The plain pads in order of kind and size, so that pads alike stand next to each other.
     pub pads: Vec<Pad>,
-    /// The points of the flashes that are no pads.
+    /// The pads that are rounded polygons, in the order of the rows.
+    pub rounded: Vec<Rounded>,
+    /// The points of the rows that are no pads.
     pub crosses: Vec<Point>,
     /// The holes.
     pub holes: &'a [Drilled],
@@ -53,28 +67,21 @@ pub struct Scene<'a> {
     pub lacks: Vec<DrawnFinding>,
 }
 
-/// Whether there are more flashes and holes than a panel draws.
-fn is_crowded(flashes: &[Flash], holes: &[Drilled]) -> bool
-    ensures { result ≡ is_crowded flashes.now holes.now }
+/// Whether there are more rows and holes than a panel draws.
+fn is_crowded(rows: &[FeatureRow], holes: &[Drilled]) -> bool
+    ensures { result ≡ is_crowded rows.now holes.now }
 {
-    match flashes.len().checked_add(holes.len()) {
+    match rows.len().checked_add(holes.len()) {
         Some(count) => count > DRAWN_LIMIT,
         None => true,
     }
 }
 
-/// The flashes that are drawn: none in a crowded panel.
-fn drawn_flashes(crowded: bool, flashes: &[Flash]) -> &[Flash]
-    ensures { result.now ≡ unless_crowded crowded flashes.now }
+/// The rows, pads or holes that are drawn: none in a crowded panel.
+fn unless_crowded<T>(crowded: bool, items: &[T]) -> &[T]
+    ensures { result.now ≡ unless_crowded crowded items.now }
 {
-    if crowded { &[] } else { flashes }
-}
-
-/// The holes that are drawn: none in a crowded panel.
-fn drawn_holes(crowded: bool, holes: &[Drilled]) -> &[Drilled]
-    ensures { result.now ≡ unless_crowded crowded holes.now }
-{
-    if crowded { &[] } else { holes }
+    if crowded { &[] } else { items }
 }
 
 /// What a panel shows of what its layer draws: nothing in a crowded panel, or above the limit.
@@ -110,54 +117,75 @@ fn kind_of(pad: &Pad) -> (u8, u64, u64)
     }
 }
 
-/// Adds the pad of a flash, if it is one.
-fn push_pad(pads: &mut Vec<Pad>, flash: &Flash) -> Result<(), AllocError>
-    ensures { OnOk result (pads.new.items ≡ pads.old.items ++ pad_of flash.now) }
+/// Adds a pad, if it is a plain one.
+fn push_plain(pads: &mut Vec<Pad>, pad: &WidePad) -> Result<(), AllocError>
+    ensures { OnOk result (pads.new.items ≡ pads.old.items ++ plain_pad pad.now) }
 {
-    if let What::Pad(pad) = flash.what {
-        pads.push(pad)?;
+    if let WidePad::Plain(plain) = pad {
+        pads.push(*plain)?;
     }
     Ok(())
 }
 
-/// Adds the point of a flash that is no pad.
-fn push_cross(points: &mut Vec<Point>, flash: &Flash) -> Result<(), AllocError>
-    ensures { OnOk result (points.new.items ≡ points.old.items ++ cross_of flash.now) }
+/// Adds a pad on the board, if it is a rounded polygon.
+fn push_rounded(alloc: Global, pads: &mut Vec<Rounded>, pad: &WidePad) -> Result<(), AllocError>
+    ensures { OnOk result (pads.new.items ≡ pads.old.items ++ round_pad pad.now) }
 {
-    if let What::Other(_) = flash.what {
-        points.push(flash.at)?;
+    if let WidePad::Rounded(placed) = pad {
+        pads.push(placed.on_board(alloc)?)?;
     }
     Ok(())
 }
 
-/// The pads of some flashes, in order.
-fn pads_of(alloc: Global, flashes: &[Flash]) -> Result<Vec<Pad>, AllocError>
-    ensures { IfOk result (λ pads. pads.items ≡ pads_of flashes.now) }
+/// Adds the point of a row that is no pad.
+fn push_cross(points: &mut Vec<Point>, row: &FeatureRow) -> Result<(), AllocError>
+    ensures { OnOk result (points.new.items ≡ points.old.items ++ cross_of row.now) }
+{
+    if !row.what.is_pad() {
+        points.push(row.at)?;
+    }
+    Ok(())
+}
+
+/// The plain ones among some pads, in order.
+fn plain_pads(alloc: Global, all: &[WidePad]) -> Result<Vec<Pad>, AllocError>
+    ensures { IfOk result (λ pads. pads.items ≡ plain_pads all.now) }
 {
     let mut pads = Vec::new(alloc);
-    for flash in flashes {
-        push_pad(&mut pads, flash)?;
+    for pad in all {
+        push_plain(&mut pads, pad)?;
     }
     Ok(pads)
 }
 
-/// The pads of some flashes, in order of kind and size.
-fn sorted_pads(alloc: Global, flashes: &[Flash]) -> Result<Vec<Pad>, AllocError>
-    ensures all { IfOk result (λ pads. IsPermutation (pads_of flashes.now) pads.items) }
+/// The rounded polygons among some pads, in order.
+fn rounded_pads(alloc: Global, all: &[WidePad]) -> Result<Vec<Rounded>, AllocError>
+    ensures { IfOk result (λ pads. pads.items ≡ rounded_pads all.now) }
+{
+    let mut pads = Vec::new(alloc);
+    for pad in all {
+        push_rounded(alloc, &mut pads, pad)?;
+    }
+    Ok(pads)
+}
+
+/// The plain ones among some pads, in order of kind and size.
+fn sorted_pads(alloc: Global, all: &[WidePad]) -> Result<Vec<Pad>, AllocError>
+    ensures all { IfOk result (λ pads. IsPermutation (plain_pads all.now) pads.items) }
     ensures order { IfOk result (λ pads. AreSortedBySize pads.items) }
 {
-    let mut pads = pads_of(alloc, flashes)?;
+    let mut pads = plain_pads(alloc, all)?;
     pads.sort_by_key(|pad| kind_of(pad))?;
     Ok(pads)
 }
 
-/// The points of the flashes that are no pads, in order.
-fn crosses_of(alloc: Global, flashes: &[Flash]) -> Result<Vec<Point>, AllocError>
-    ensures { IfOk result (λ points. points.items ≡ crosses_of flashes.now) }
+/// The points of the rows that are no pads, in order.
+fn crosses_of(alloc: Global, rows: &[FeatureRow]) -> Result<Vec<Point>, AllocError>
+    ensures { IfOk result (λ points. points.items ≡ crosses_of rows.now) }
 {
     let mut points = Vec::new(alloc);
-    for flash in flashes {
-        push_cross(&mut points, flash)?;
+    for row in rows {
+        push_cross(&mut points, row)?;
     }
     Ok(points)
 }
@@ -250,9 +278,9 @@ fn drawn_findings(
 }
 
 /// The contents of a layer's panel, by the layer's place among the copper files, from 0: what it draws, unless that is more than 100,000
-/// parts; its pads in order of kind and size, its other flashes and all holes, or none of all these where the flashes and holes are more
-/// than 100,000; and the insufficient rings and gaps, numbered from 1 in the order of the findings. A layer or a hole in a finding is a place in the lists that were checked.
-/// The parts of the board's outline stand there as they are.
+/// parts; its plain pads in order of kind and size, its rounded ones, the points of its rows that are no pads, and all holes, or none of all
+/// these where the rows and holes are more than 100,000; and the insufficient rings and gaps, numbered from 1 in the order of the findings.
+/// A layer or a hole in a finding is a place in the lists that were checked. The parts of the board's outline stand there as they are.
 ///
 /// # Errors
 ///
@@ -260,30 +288,31 @@ fn drawn_findings(
 pub fn scene_of<'a>(
     alloc: Global,
     layer: usize,
-    flashes: &[Flash],
-    drawn: &'a [Drawn],
+    copper: LayerCopper<'a>,
     outline: &'a [Drawn],
     holes: &'a [Drilled],
     findings: &[Finding],
 ) -> Result<Scene<'a>, AllocError>
-    ensures crowded { IfOk result (λ scene. scene.crowded ≡ is_crowded flashes.now holes.now) }
-    ensures drawn { IfOk result (λ scene. scene.drawn.now ≡ shown_copper scene.crowded drawn.now) }
+    ensures crowded { IfOk result (λ scene. scene.crowded ≡ is_crowded copper.entry.rows.now holes.now) }
+    ensures drawn { IfOk result (λ scene. scene.drawn.now ≡ shown_copper scene.crowded copper.entry.drawn.now) }
     ensures outline { IfOk result (λ scene. scene.outline.now ≡ outline.entry.now) }
-    ensures pads { IfOk result (λ scene. IsPermutation (pads_of (unless_crowded scene.crowded flashes.now)) scene.pads.items) }
+    ensures pads { IfOk result (λ scene. IsPermutation (plain_pads (unless_crowded scene.crowded copper.entry.pads.now)) scene.pads.items) }
     ensures order { IfOk result (λ scene. AreSortedBySize scene.pads.items) }
-    ensures crosses { IfOk result (λ scene. scene.crosses.items ≡ crosses_of (unless_crowded scene.crowded flashes.now)) }
+    ensures rounded { IfOk result (λ scene. scene.rounded.items ≡ rounded_pads (unless_crowded scene.crowded copper.entry.pads.now)) }
+    ensures crosses { IfOk result (λ scene. scene.crosses.items ≡ crosses_of (unless_crowded scene.crowded copper.entry.rows.now)) }
     ensures holes { IfOk result (λ scene. scene.holes.now ≡ unless_crowded scene.crowded holes.now) }
     ensures lacks { IfOk result (λ scene. scene.lacks.items ≡ drawn_findings layer holes.now findings.now) }
 {
-    let crowded = is_crowded(flashes, holes);
-    let shown = drawn_flashes(crowded, flashes);
+    let crowded = is_crowded(copper.rows, holes);
+    let pads = unless_crowded(crowded, copper.pads);
     Ok(Scene {
         crowded,
-        drawn: shown_copper(crowded, drawn),
+        drawn: shown_copper(crowded, copper.drawn),
         outline,
-        pads: sorted_pads(alloc, shown)?,
-        crosses: crosses_of(alloc, shown)?,
-        holes: drawn_holes(crowded, holes),
+        pads: sorted_pads(alloc, pads)?,
+        rounded: rounded_pads(alloc, pads)?,
+        crosses: crosses_of(alloc, unless_crowded(crowded, copper.rows))?,
+        holes: unless_crowded(crowded, holes),
         lacks: drawn_findings(alloc, layer, holes, findings)?,
     })
 }

@@ -135,11 +135,20 @@ gaps_within before gaps accepted =
     All-map (λ v. depth v ≤ 3) (λ (one : ℕ × GapLack). gap_value (before + (one.0 + 1)) one.1 (acceptance_at accepted one.0)) (enumerate_from 0 gaps) (λ k d l. gap_within _ _ _)
 
 -- the depth of a report
-pub report_within : (names : List (List ℕ)) (files : List FileSum) (report : BoardReport) (of_rings of_gaps : List (Option (Bor (List ℕ)))) → depth (report_value names files report of_rings of_gaps) ≤ max_depth
+pub report_within : (profile : Profile) (names : List (List ℕ)) (files : List FileSum) (report : BoardReport) (of_rings of_gaps : List (Option (Bor (List ℕ)))) → depth (report_value profile names files report of_rings of_gaps) ≤ max_depth
 unfolding report_value rules_value
-report_within names files report of_rings of_gaps =
+report_within Strict names files report of_rings of_gaps =
     let meets = meets_within report.meets in
     let named = files_within Strict names files in
+    let scales = each_within scale_value 1 scale_within report.scales.items in
+    let rings = ring_values report.layers.items report.rings.items of_rings in
+    let before = length report.rings.items in
+    let found = items_within 3 (rings ++ gap_values before report.gaps.items of_gaps)
+    (All-append (λ v. depth v ≤ 3) rings (gap_values before report.gaps.items of_gaps) (rings_within report.layers.items report.rings.items of_rings) (gaps_within before report.gaps.items of_gaps)) in
+    omega (arith, meets, named, scales, found)
+report_within Wide names files report of_rings of_gaps =
+    let meets = meets_within report.meets in
+    let named = files_within Wide names files in
     let scales = each_within scale_value 1 scale_within report.scales.items in
     let rings = ring_values report.layers.items report.rings.items of_rings in
     let before = length report.rings.items in

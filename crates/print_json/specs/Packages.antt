@@ -62,20 +62,20 @@ result_word findings waived = if findings == 0 then codes "pass" else if waived 
 abbrev pub report_result : BoardReport → List (Option (Bor (List ℕ))) → List (Option (Bor (List ℕ))) → List ℕ
 report_result report rings gaps = result_word (length report.rings.items + length report.gaps.items) (waived_in report rings gaps)
 
--- a report with such reasons: the rules, the rules that are met, the files, the scales, and all findings, rings before gaps
-unfoldable pub report_value : List (List ℕ) → List FileSum → BoardReport → List (Option (Bor (List ℕ))) → List (Option (Bor (List ℕ))) → Json
-report_value names files report rings gaps =
-    object_of (opening (report_result report rings gaps) ++ ((codes "rules", rules_value report.rules) ∷ (codes "meets", meets_value report.meets)
-    ∷ (codes "files", array_of (file_values Strict names files)) ∷ (codes "scales", array_of (map scale_value report.scales.items))
+-- a report in a profile with such reasons: the rules, the rules that are met, the files, the scales, and all findings, rings before gaps
+unfoldable pub report_value : Profile → List (List ℕ) → List FileSum → BoardReport → List (Option (Bor (List ℕ))) → List (Option (Bor (List ℕ))) → Json
+report_value profile names files report rings gaps =
+    object_of (opening_in profile (report_result report rings gaps) ++ ((codes "rules", rules_value report.rules) ∷ (codes "meets", meets_value report.meets)
+    ∷ (codes "files", array_of (file_values profile names files)) ∷ (codes "scales", array_of (map scale_value report.scales.items))
     ∷ (codes "findings", array_of (finding_values report rings gaps)) ∷ []))
 
--- a report with waivers
+-- a report with waivers, in the profile of its rules
 abbrev pub waived_report_value : List (List ℕ) → List FileSum → BoardReport → Acceptances → Json
-waived_report_value names files report accepted = report_value names files report accepted.rings.now accepted.gaps.now
+waived_report_value names files report accepted = report_value report.rules.profile names files report accepted.rings.now accepted.gaps.now
 
--- a report without waivers
+-- a report without waivers, in the profile of its rules
 abbrev pub board_report_value : List (List ℕ) → List FileSum → BoardReport → Json
-board_report_value names files report = report_value names files report [] []
+board_report_value names files report = report_value report.rules.profile names files report [] []
 
 -- a measure in a profile: the rules that are met, the files, the scales, the rows of rings, and the least gap of the board's holes
 unfoldable pub measure_value : Profile → List (List ℕ) → BoardView → Measure → Json

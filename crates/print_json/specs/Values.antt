@@ -154,7 +154,10 @@ reason_word why.Turned = codes "turned"
 abbrev pub cause_word : RingCause → List ℕ
 cause_word (causes.TooSmall place) = codes "small"
 cause_word (causes.OffCentre place) = codes "off"
+cause_word (causes.Edge at_edge) = codes "edge"
 cause_word (causes.Other why flash) = reason_word why
+cause_word (causes.Clear flash) = codes "clear"
+cause_word (causes.Cleared flash) = codes "cleared"
 cause_word causes.NoFlash = codes "none"
 cause_word causes.Oblique = codes "oblique"
 
@@ -162,15 +165,21 @@ cause_word causes.Oblique = codes "oblique"
 abbrev pub ring_of : RingCause → Option ℤ
 ring_of (causes.TooSmall place) = Some place.ring
 ring_of (causes.OffCentre place) = Some place.ring
+ring_of (causes.Edge at_edge) = Some at_edge.ring
 ring_of (causes.Other why flash) = None
+ring_of (causes.Clear flash) = None
+ring_of (causes.Cleared flash) = None
 ring_of causes.NoFlash = None
 ring_of causes.Oblique = None
 
--- the number of the flash of a hole: that of its best pad, or of the flash that is no pad
+-- the number of the flash of a hole: that of its best pad, which may be a contour, or of the flash that is no pad
 abbrev pub flash_of : RingCause → Option ℕ
 flash_of (causes.TooSmall place) = Some place.flash
 flash_of (causes.OffCentre place) = Some place.flash
+flash_of (causes.Edge at_edge) = Some at_edge.flash
 flash_of (causes.Other why flash) = Some flash
+flash_of (causes.Clear flash) = Some flash
+flash_of (causes.Cleared flash) = Some flash
 flash_of causes.NoFlash = None
 flash_of causes.Oblique = None
 

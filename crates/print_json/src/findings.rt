@@ -41,9 +41,12 @@ impl Display for HasJson<'_> {
     fn fmt<W: fmt::Write>(&self, f: &mut Formatter<W>) -> fmt::Result {
         match self.0 {
             RingCause::TooSmall(place) | RingCause::OffCentre(place) => write!(f, "{}", place.ring),
-            RingCause::Other { .. } | RingCause::NoFlash | RingCause::Oblique => {
-                f.write_str("null")
-            }
+            RingCause::Edge(at_edge) => write!(f, "{}", at_edge.ring),
+            RingCause::Other { .. }
+            | RingCause::Clear { .. }
+            | RingCause::Cleared { .. }
+            | RingCause::NoFlash
+            | RingCause::Oblique => f.write_str("null"),
         }
     }
 }
@@ -83,13 +86,16 @@ fn cause_word(cause: &RingCause) -> &'static str
     match cause {
         RingCause::TooSmall(_) => "small",
         RingCause::OffCentre(_) => "off",
+        RingCause::Edge(_) => "edge",
         RingCause::Other { why, .. } => reason_word(*why),
+        RingCause::Clear { .. } => "clear",
+        RingCause::Cleared { .. } => "cleared",
         RingCause::NoFlash => "none",
         RingCause::Oblique => "oblique",
     }
 }
 
-/// The reason why a hole lacks its ring: `"small"`, `"off"`, `"macro"`, `"none"`.
+/// The reason why a hole lacks its ring: `"small"`, `"off"`, `"edge"`, `"macro"`, `"clear"`, `"none"`.
 #[derive(Clone, Copy)]
 struct CauseJson<'a>(&'a RingCause);
 
@@ -115,7 +121,10 @@ impl Display for FlashJson<'_> {
                 "{}",
                 place.flash
             ),
-            RingCause::Other { flash, .. } => write!(f, "{flash}"),
+            RingCause::Edge(at_edge) => write!(f, "{}", at_edge.flash),
+            RingCause::Other { flash, .. }
+            | RingCause::Clear { flash }
+            | RingCause::Cleared { flash } => write!(f, "{flash}"),
             RingCause::NoFlash | RingCause::Oblique => f.write_str("null"),
         }
     }

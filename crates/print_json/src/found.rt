@@ -6,7 +6,7 @@ ghost use Rattle.json.specs.Print.{print};
 ghost use Rattle.json.specs.Tree.{json_tokens, HasNumbers};
 ghost use Rattle.print_json.specs.Inner.Rests.{report_rest};
 ghost use Rattle.print_json.specs.Inner.Texts.{more_members, value_text};
-ghost use Rattle.print_json.specs.Packages.{result_word, board_report_value, report_result, waived_report_value};
+ghost use Rattle.print_json.specs.Packages.{result_word, board_report_value, report_result, report_value, waived_report_value};
 ghost use Rattle.print_json.specs.Values.{json_text, members_of, word};
 
 use crate::VERSION;
@@ -41,7 +41,8 @@ fn report_result(report: &BoardReport, accepted: &Acceptances) -> &'static str
     result_word(findings, count_waived(report, accepted))
 }
 
-/// The JSON of a report with the reasons why findings are accepted: one line with its line end, and all findings in it.
+/// The JSON of a report in the profile of its rules, with the reasons why findings are accepted: one line with its line end, and all
+/// findings in it.
 #[derive(Clone, Copy)]
 pub struct ReportJson<'a> {
     /// The names of the package's files.
@@ -73,19 +74,22 @@ impl Display for ResultJson<'_> {
     }
 }
 
-/// The last members of a report, from `files` on, with the closing bracket.
+/// The last members of a report in a profile, from `files` on, with the closing bracket.
 #[derive(Clone, Copy)]
-struct ReportRest<'a>(&'a ReportJson<'a>);
+struct ReportRest<'a> {
+    profile: Profile,
+    json: &'a ReportJson<'a>,
+}
 
 impl Display for ReportRest<'_> {
-    ghost output = { λ rest. Some (more_members (members_of (report_rest (map (λ name. name.now) rest.0.now.names.now) rest.0.now.files.now rest.0.now.report.now rest.0.now.accepted.now))) };
+    ghost output = { λ rest. Some (more_members (members_of (report_rest rest.profile (map (λ name. name.now) rest.json.now.names.now) rest.json.now.files.now rest.json.now.report.now rest.json.now.accepted.now))) };
 
     #[tactic(auto, unfolding(json::specs::Print::escape_byte))]
     fn fmt<W: fmt::Write>(&self, f: &mut Formatter<W>) -> fmt::Result {
-        let (names, files) = (self.0.names, self.0.files);
-        let (report, accepted) = (self.0.report, self.0.accepted);
+        let (profile, json) = (self.profile, self.json);
+        let (names, files, report, accepted) = (json.names, json.files, json.report, json.accepted);
         let files = Files {
-            profile: Profile::Strict,
+            profile,
             names,
             files,
         };
@@ -99,39 +103,79 @@ impl Display for ReportRest<'_> {
     }
 }
 
-impl Display for ReportJson<'_> {
-    ghost output = { λ json. Some (json_text (waived_report_value (map (λ name. name.now) json.names.now) json.files.now json.report.now json.accepted.now)) };
+/// The object of a report in a profile.
+#[derive(Clone, Copy)]
+struct ReportObject<'a> {
+    profile: Profile,
+    json: &'a ReportJson<'a>,
+}
 
+impl Display for ReportObject<'_> {
+    ghost output = { λ object. Some (value_text (report_value object.profile (map (λ name. name.now) object.json.now.names.now) object.json.now.files.now object.json.now.report.now object.json.now.accepted.now.rings.now object.json.now.accepted.now.gaps.now)) };
+
+    #[tactic(auto, unfolding(crate::specs::Packages::report_value, json::specs::Print::escape_byte))]
     fn fmt<W: fmt::Write>(&self, f: &mut Formatter<W>) -> fmt::Result {
-        let (report, accepted) = (self.report, self.accepted);
+        let (profile, json) = (self.profile, self.json);
+        let (report, accepted) = (json.report, json.accepted);
         let result = ResultJson { report, accepted };
         let (rules, meets) = (RulesJson(report.rules), MeetsJson(report.meets));
-        let rest = ReportRest(self);
-        write!(
-            f,
-            r#"{{"format":"ringcheck","version":{VERSION},"result":{result},"rules":{rules},"meets":{meets}{rest}"#
-        )?;
-        f.write_str("\n")
+        let rest = ReportRest { profile, json };
+        match profile {
+            Profile::Strict => write!(
+                f,
+                r#"{{"format":"ringcheck","version":{VERSION},"result":{result},"rules":{rules},"meets":{meets}{rest}"#
+            ),
+            Profile::Wide => write!(
+                f,
+                r#"{{"format":"ringcheck","version":{VERSION},"profile":"wide","result":{result},"rules":{rules},"meets":{meets}{rest}"#
+            ),
+        }
     }
 }
 
-impl ReportJson<'_> {
+impl ReportObject<'_> {
     /// Each number in the text is one of RFC 8259.
     #[tactic(auto, unfolding(crate::specs::Packages::report_value))]
     fn numbers(&self)
-        ensures { HasNumbers (waived_report_value (map (λ name. name.now) self.now.names.now) self.now.files.now self.now.report.now self.now.accepted.now) }
+        ensures { HasNumbers (report_value self.now.profile (map (λ name. name.now) self.now.json.now.names.now) self.now.json.now.files.now self.now.json.now.report.now self.now.json.now.accepted.now.rings.now self.now.json.now.accepted.now.gaps.now) }
     {
-        let (names, files, report, accepted) = (self.names, self.files, self.report, self.accepted);
+        let (profile, json) = (self.profile, self.json);
+        let (names, files, report, accepted) = (json.names, json.files, json.report, json.accepted);
         whole_number(u128::from(VERSION));
         rules_numbers(report.rules);
         meets_numbers(report.meets);
         array_numbers(&Files {
-            profile: Profile::Strict,
+            profile,
             names,
             files,
         });
         array_numbers(&Scales(report.scales.as_slice()));
         array_numbers(&Findings { report, accepted });
+    }
+}
+
+impl Display for ReportJson<'_> {
+    ghost output = { λ json. Some (json_text (waived_report_value (map (λ name. name.now) json.names.now) json.files.now json.report.now json.accepted.now)) };
+
+    fn fmt<W: fmt::Write>(&self, f: &mut Formatter<W>) -> fmt::Result {
+        let object = ReportObject {
+            profile: self.report.rules.profile(),
+            json: self,
+        };
+        write!(f, "{object}\n")
+    }
+}
+
+impl ReportJson<'_> {
+    /// Each number in the text is one of RFC 8259.
+    fn numbers(&self)
+        ensures { HasNumbers (waived_report_value (map (λ name. name.now) self.now.names.now) self.now.files.now self.now.report.now self.now.accepted.now) }
+    {
+        let object = ReportObject {
+            profile: self.report.rules.profile(),
+            json: self,
+        };
+        object.numbers();
     }
 
     /// Before its line end the printed text is a document of RFC 8259, and its value is just the defined one, whatever the names and the

@@ -160,7 +160,12 @@ fn has_numbers(cause: &RingCause)
 {
     match cause {
         RingCause::TooSmall(place) | RingCause::OffCentre(place) => length_number(place.ring),
-        RingCause::Other { .. } | RingCause::NoFlash | RingCause::Oblique => {}
+        RingCause::Edge(at_edge) => length_number(at_edge.ring),
+        RingCause::Other { .. }
+        | RingCause::Clear { .. }
+        | RingCause::Cleared { .. }
+        | RingCause::NoFlash
+        | RingCause::Oblique => {}
     }
 }
 
@@ -181,7 +186,10 @@ fn flash_numbers(cause: &RingCause)
         RingCause::TooSmall(place) | RingCause::OffCentre(place) => whole_number(
             place.flash as u128,
         ),
-        RingCause::Other { flash, .. } => whole_number(*flash as u128),
+        RingCause::Edge(at_edge) => whole_number(at_edge.flash as u128),
+        RingCause::Other { flash, .. }
+        | RingCause::Clear { flash }
+        | RingCause::Cleared { flash } => whole_number(*flash as u128),
         RingCause::NoFlash | RingCause::Oblique => {}
     }
 }

@@ -19,26 +19,33 @@ flash_kind why.Turned = kinds.Turned
 abbrev pub kind_of : RingCause → CauseKind
 kind_of (causes.TooSmall place) = kinds.TooSmall
 kind_of (causes.OffCentre place) = kinds.OffCentre
+kind_of (causes.Edge at_edge) = kinds.Edge
 kind_of (causes.Other why flash) = flash_kind why
+kind_of (causes.Clear flash) = kinds.Clear
+kind_of (causes.Cleared flash) = kinds.Cleared
 kind_of causes.NoFlash = kinds.Bare
 kind_of causes.Oblique = kinds.Oblique
 
 -- the kinds, in the order in which a report counts them
 abbrev pub all_kinds : List CauseKind
 all_kinds =
-    kinds.TooSmall ∷ kinds.OffCentre ∷ kinds.Macro ∷ kinds.Polygon ∷ kinds.Holed ∷ kinds.Scaled ∷ kinds.Turned ∷ kinds.Bare ∷ kinds.Oblique ∷ []
+    kinds.TooSmall ∷ kinds.OffCentre ∷ kinds.Edge ∷ kinds.Macro ∷ kinds.Polygon ∷ kinds.Holed ∷ kinds.Scaled ∷ kinds.Turned
+    ∷ kinds.Clear ∷ kinds.Cleared ∷ kinds.Bare ∷ kinds.Oblique ∷ []
 
 -- the place of a kind in that order, from 0
 abbrev pub place_of : CauseKind → ℕ
 place_of kinds.TooSmall = 0
 place_of kinds.OffCentre = 1
-place_of kinds.Macro = 2
-place_of kinds.Polygon = 3
-place_of kinds.Holed = 4
-place_of kinds.Scaled = 5
-place_of kinds.Turned = 6
-place_of kinds.Bare = 7
-place_of kinds.Oblique = 8
+place_of kinds.Edge = 2
+place_of kinds.Macro = 3
+place_of kinds.Polygon = 4
+place_of kinds.Holed = 5
+place_of kinds.Scaled = 6
+place_of kinds.Turned = 7
+place_of kinds.Clear = 8
+place_of kinds.Cleared = 9
+place_of kinds.Bare = 10
+place_of kinds.Oblique = 11
 
 -- a cause is of a kind
 abbrev pub is_of_kind : CauseKind → RingCause → Bool
@@ -48,11 +55,14 @@ is_of_kind kind cause = place_of (kind_of cause) == place_of kind
 abbrev pub kind_words : CauseKind → List ℕ
 kind_words kinds.TooSmall = codes "pad too small"
 kind_words kinds.OffCentre = codes "off centre"
+kind_words kinds.Edge = codes "in a rounded pad or contour, too near its edge"
 kind_words kinds.Macro = codes "only a macro flash"
 kind_words kinds.Polygon = codes "only a polygon flash"
 kind_words kinds.Holed = codes "only a holed flash"
 kind_words kinds.Scaled = codes "only a scaled flash"
 kind_words kinds.Turned = codes "only a turned flash"
+kind_words kinds.Clear = codes "only a clear flash"
+kind_words kinds.Cleared = codes "only a cleared flash"
 kind_words kinds.Bare = codes "no pad at the hole"
 kind_words kinds.Oblique = codes "oblique slot"
 
@@ -60,10 +70,13 @@ kind_words kinds.Oblique = codes "oblique slot"
 abbrev pub hint : CauseKind → List ℕ
 hint kinds.TooSmall = codes "the pad's own radius or half side is less than the hole's radius and the ring"
 hint kinds.OffCentre = codes "the pad is large enough for a hole at its centre; drill files are rounded: see `ringcheck explain ring`"
+hint kinds.Edge = codes "move the hole or enlarge the pad: rings in rounded pads and contours are measured to their edge"
 hint kinds.Macro = codes "flashes by a macro are not judged: choose circle, oval or rectangle: see `ringcheck explain macro`"
 hint kinds.Polygon = codes "polygon flashes are not judged"
 hint kinds.Holed = codes "flashes with a hole are not judged"
 hint kinds.Scaled = codes "scaled flashes are not judged"
 hint kinds.Turned = codes "flashes turned by other than quarters are not judged"
+hint kinds.Clear = codes "a flash in clear polarity takes copper away"
+hint kinds.Cleared = codes "copper drawn before a clear object does not count"
 hint kinds.Bare = codes "none was flashed here, or its copper is drawn or of a shape that is not judged, or origin or format differ: see `ringcheck explain none`"
 hint kinds.Oblique = codes "plated slots that lie along no axis are not judged"

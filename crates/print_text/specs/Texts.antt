@@ -7,6 +7,8 @@ use Rattle.std.specs.List.{count_by, enumerate_from, filter, filter_map, flat_ma
 use Rattle.std.specs.Ordering.{int_eq}
 use Rattle.grid_units.specs.Holes.{GridHole, GridRules}
 use Rattle.grid_units.specs.Points.{GridPoint}
+use Rattle.grid_units.specs.declared.profile.Profile.{Profile}
+use Rattle.grid_units.specs.declared.profile.Profile.TheVariants.{Strict, Wide}
 use Rattle.pad_shapes.specs.declared.pad.Pad.{Pad}
 use Rattle.pad_shapes.specs.declared.pad.Pad.TheVariants as pads
 use Rattle.margins.specs.Depths.{pad_middle}
@@ -22,6 +24,7 @@ use Rattle.printing.specs.Lengths.{short_millimetres}
 use Rattle.report.specs.Acceptances.{acceptance_at, count_waived_first, is_waived, waived_in}
 use Rattle.report.specs.declared.GapLack.{GapLack}
 use Rattle.report.specs.declared.PlacedHole.{PlacedHole}
+use Rattle.report.specs.declared.RingAtEdge.{RingAtEdge}
 use Rattle.report.specs.declared.RingInPad.{RingInPad}
 use Rattle.report.specs.declared.LayerHead.{LayerHead}
 use Rattle.report.specs.declared.RingCause.{RingCause}
@@ -101,6 +104,11 @@ abbrev pub in_pad_words : CauseKind → ℤ → GridHole → RingInPad → List 
 in_pad_words kind rule hole place =
     measured_words (codes "annular ring ") place.ring rule ++ (flash_words (kind_words kind) place.flash ++ place_words hole place.pad)
 
+-- a ring in a rounded pad or a contour, and the rule: `annular ring 0.149 (rule 0.15), in a rounded pad or contour, too near its edge: flash 17`
+abbrev pub at_edge_words : CauseKind → ℤ → RingAtEdge → List ℕ
+at_edge_words kind rule place =
+    measured_words (codes "annular ring ") place.ring rule ++ (codes ", " ++ (kind_words kind ++ (codes ": flash " ++ decimal place.flash)))
+
 -- a ring that is not judged, whatever the hole lies in: `annular ring not judged, oblique slot`
 abbrev pub not_judged_words : List ℕ → List ℕ
 not_judged_words words = codes "annular ring not judged, " ++ words
@@ -113,7 +121,10 @@ other_words words flash = not_judged_words (words ++ (codes ": flash " ++ decima
 abbrev pub cause_words : ℤ → GridHole → RingCause → List ℕ
 cause_words rule hole (causes.TooSmall place) = in_pad_words kinds.TooSmall rule hole place
 cause_words rule hole (causes.OffCentre place) = in_pad_words kinds.OffCentre rule hole place
+cause_words rule hole (causes.Edge place) = at_edge_words kinds.Edge rule place
 cause_words rule hole (causes.Other why flash) = other_words (kind_words (flash_kind why)) flash
+cause_words rule hole (causes.Clear flash) = other_words (kind_words kinds.Clear) flash
+cause_words rule hole (causes.Cleared flash) = other_words (kind_words kinds.Cleared) flash
 cause_words rule hole causes.NoFlash = kind_words kinds.Bare
 cause_words rule hole causes.Oblique = not_judged_words (kind_words kinds.Oblique)
 
@@ -223,7 +234,10 @@ kind_line rings kind = count_line kind (count_by (λ lack. is_of_kind kind lack.
 abbrev pub ring_of : RingCause → Option ℤ
 ring_of (causes.TooSmall place) = Some place.ring
 ring_of (causes.OffCentre place) = Some place.ring
+ring_of (causes.Edge at_edge) = Some at_edge.ring
 ring_of (causes.Other why flash) = None
+ring_of (causes.Clear flash) = None
+ring_of (causes.Cleared flash) = None
 ring_of causes.NoFlash = None
 ring_of causes.Oblique = None
 
@@ -290,9 +304,16 @@ meets_line meets = ring_and_gap_words meets.ring meets.gap ++ (pad_ring_if_diffe
 unfoldable pub rule_words : List ℕ → ℤ → List ℕ
 rule_words words rule = words ++ (short_millimetres rule ++ codes " mm")
 
--- the line of the rules of the check: `rules: annular ring 0.15 mm, hole to hole 0.25 mm`
+-- the profile at the end of the rules: `, profile wide`; nothing of the strict one
+abbrev pub profile_words : Profile → List ℕ
+profile_words Strict = []
+profile_words Wide = codes ", profile wide"
+
+-- the line of the rules of the check: `rules: annular ring 0.15 mm, hole to hole 0.25 mm`, in the wide profile with `, profile wide`
 abbrev pub rules_line : GridRules → List ℕ
-rules_line rules = rule_words (codes "rules: annular ring ") (pos rules.ring) ++ (rule_words (codes ", hole to hole ") (pos rules.gap) ++ ascii.line_feed ∷ [])
+rules_line rules =
+    rule_words (codes "rules: annular ring ") (pos rules.ring)
+    ++ (rule_words (codes ", hole to hole ") (pos rules.gap) ++ (profile_words rules.profile ++ ascii.line_feed ∷ []))
 
 -- the line of a waiver that waives nothing, by the number of its record: `waiver 8 waives nothing`
 abbrev pub idle_line : ℕ → List ℕ
@@ -363,20 +384,31 @@ findings_text names report limit rings gaps =
 abbrev pub causes_text : BoardReport → List ℕ
 causes_text report = flat_map (kind_line report.rings.items) all_kinds ++ smallest_lines report.rules report.rings.items report.gaps.items
 
--- the last part: the rules that the package meets, the waivers that waive nothing, and the last line
-abbrev pub last_lines : BoardReport → List (Option (Bor (List ℕ))) → List (Option (Bor (List ℕ))) → List ℕ → List ℕ
-last_lines report rings gaps idle =
-    meets_line report.meets ++ (flat_map idle_line idle ++ last_line (length report.rings.items + length report.gaps.items) (waived_in report rings gaps))
+-- how many findings are not there in the wide profile: `3 of these are not there with --profile wide`; no line for none
+abbrev pub fewer_line : ℕ → List ℕ
+fewer_line fewer =
+    if fewer == 0 then []
+    else if fewer == 1 then codes "1 of these is not there with --profile wide" ++ ascii.line_feed ∷ []
+    else decimal fewer ++ (codes " of these are not there with --profile wide" ++ ascii.line_feed ∷ [])
 
--- the text of a report, by the reasons of its rings and gaps, and the numbers of the waivers that waive nothing
-abbrev pub full_text : List (List ℕ) → BoardReport → Option ℕ → List (Option (Bor (List ℕ))) → List (Option (Bor (List ℕ))) → List ℕ → List ℕ
-full_text names report limit rings gaps idle =
-    (head_text names report ++ findings_text names report limit rings gaps) ++ (causes_text report ++ last_lines report rings gaps idle)
+-- the last part: the rules that the package meets, the waivers that waive nothing, how many findings the wide profile does not have, and the
+-- last line
+abbrev pub last_lines : BoardReport → ℕ → List (Option (Bor (List ℕ))) → List (Option (Bor (List ℕ))) → List ℕ → List ℕ
+last_lines report fewer rings gaps idle =
+    meets_line report.meets
+    ++ (flat_map idle_line idle ++ (fewer_line fewer ++ last_line (length report.rings.items + length report.gaps.items) (waived_in report rings gaps)))
 
--- the text of a report with waivers; `names` are those of the files, `limit` is how many findings are shown at most
-abbrev pub waived_report_text : List (List ℕ) → BoardReport → Option ℕ → Acceptances → List ℕ
-waived_report_text names report limit accepted = full_text names report limit accepted.rings.now accepted.gaps.now accepted.idle.now
+-- the text of a report, by how many findings the wide profile does not have, the reasons of its rings and gaps, and the numbers of the waivers
+-- that waive nothing
+abbrev pub full_text : List (List ℕ) → BoardReport → ℕ → Option ℕ → List (Option (Bor (List ℕ))) → List (Option (Bor (List ℕ))) → List ℕ → List ℕ
+full_text names report fewer limit rings gaps idle =
+    (head_text names report ++ findings_text names report limit rings gaps) ++ (causes_text report ++ last_lines report fewer rings gaps idle)
+
+-- the text of a report with waivers; `names` are those of the files, `fewer` is how many findings the wide profile does not have, `limit` how many
+-- are shown at most
+abbrev pub waived_report_text : List (List ℕ) → BoardReport → ℕ → Option ℕ → Acceptances → List ℕ
+waived_report_text names report fewer limit accepted = full_text names report fewer limit accepted.rings.now accepted.gaps.now accepted.idle.now
 
 -- the text of a report without waivers
-abbrev pub board_report_text : List (List ℕ) → BoardReport → Option ℕ → List ℕ
-board_report_text names report limit = full_text names report limit [] [] []
+abbrev pub board_report_text : List (List ℕ) → BoardReport → ℕ → Option ℕ → List ℕ
+board_report_text names report fewer limit = full_text names report fewer limit [] [] []

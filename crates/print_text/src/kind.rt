@@ -11,24 +11,30 @@ use report::RingCause;
 pub(crate) enum CauseKind {
     TooSmall,
     OffCentre,
+    Edge,
     Macro,
     Polygon,
     Holed,
     Scaled,
     Turned,
+    Clear,
+    Cleared,
     Bare,
     Oblique,
 }
 
 /// The kinds, in the order in which a report counts them.
-pub(crate) const CAUSE_KINDS: [CauseKind; 9] = [
+pub(crate) const CAUSE_KINDS: [CauseKind; 12] = [
     CauseKind::TooSmall,
     CauseKind::OffCentre,
+    CauseKind::Edge,
     CauseKind::Macro,
     CauseKind::Polygon,
     CauseKind::Holed,
     CauseKind::Scaled,
     CauseKind::Turned,
+    CauseKind::Clear,
+    CauseKind::Cleared,
     CauseKind::Bare,
     CauseKind::Oblique,
 ];
@@ -53,7 +59,10 @@ fn kind_of(cause: &RingCause) -> CauseKind
     match cause {
         RingCause::TooSmall(_) => CauseKind::TooSmall,
         RingCause::OffCentre(_) => CauseKind::OffCentre,
+        RingCause::Edge(_) => CauseKind::Edge,
         RingCause::Other { why, flash: _ } => flash_kind(*why),
+        RingCause::Clear { flash: _ } => CauseKind::Clear,
+        RingCause::Cleared { flash: _ } => CauseKind::Cleared,
         RingCause::NoFlash => CauseKind::Bare,
         RingCause::Oblique => CauseKind::Oblique,
     }
@@ -73,11 +82,14 @@ pub(crate) fn kind_words(kind: CauseKind) -> &'static str
     match kind {
         CauseKind::TooSmall => "pad too small",
         CauseKind::OffCentre => "off centre",
+        CauseKind::Edge => "in a rounded pad or contour, too near its edge",
         CauseKind::Macro => "only a macro flash",
         CauseKind::Polygon => "only a polygon flash",
         CauseKind::Holed => "only a holed flash",
         CauseKind::Scaled => "only a scaled flash",
         CauseKind::Turned => "only a turned flash",
+        CauseKind::Clear => "only a clear flash",
+        CauseKind::Cleared => "only a cleared flash",
         CauseKind::Bare => "no pad at the hole",
         CauseKind::Oblique => "oblique slot",
     }
@@ -94,6 +106,9 @@ pub(crate) fn hint(kind: CauseKind) -> &'static str
         CauseKind::OffCentre => {
             "the pad is large enough for a hole at its centre; drill files are rounded: see `ringcheck explain ring`"
         }
+        CauseKind::Edge => {
+            "move the hole or enlarge the pad: rings in rounded pads and contours are measured to their edge"
+        }
         CauseKind::Macro => {
             "flashes by a macro are not judged: choose circle, oval or rectangle: see `ringcheck explain macro`"
         }
@@ -101,6 +116,8 @@ pub(crate) fn hint(kind: CauseKind) -> &'static str
         CauseKind::Holed => "flashes with a hole are not judged",
         CauseKind::Scaled => "scaled flashes are not judged",
         CauseKind::Turned => "flashes turned by other than quarters are not judged",
+        CauseKind::Clear => "a flash in clear polarity takes copper away",
+        CauseKind::Cleared => "copper drawn before a clear object does not count",
         CauseKind::Bare => {
             "none was flashed here, or its copper is drawn or of a shape that is not judged, or origin or format differ: see `ringcheck explain none`"
         }

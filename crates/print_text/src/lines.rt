@@ -1,12 +1,12 @@
 //! The lines of a report, one by one.
 
 ghost use Rattle.std.specs.Prelude.{◌≡◌, ◌≤◌, map, Some};
-ghost use Rattle.print_text.specs.Texts.{are_equal_rules, gap_line, gaps_line, pad_ring_if_differs, idle_line, kind_line, last_line, layer_line, meets_line, met_words, more_line, pair_words, ring_line, rule_words, rules_line, scale_line, size_words, smallest_line, too_small_words, waived_words, acceptance_words};
+ghost use Rattle.print_text.specs.Texts.{are_equal_rules, fewer_line, gap_line, gaps_line, pad_ring_if_differs, profile_words, idle_line, kind_line, last_line, layer_line, meets_line, met_words, more_line, pair_words, ring_line, rule_words, rules_line, scale_line, size_words, smallest_line, too_small_words, waived_words, acceptance_words};
 
 use crate::kind::{CauseKind, hint, kind_words};
 use crate::tallies::rings_of_kind;
 use crate::words::{CauseWords, HoleWords, MeasuredWords};
-use grid_units::Rules;
+use grid_units::{Profile, Rules};
 use printing::{Line, ShortMillimetres, name_of};
 use report::{GapLack, Meets, Met, PlacedHole, RingLack, UnitFactor, UnitMistake, factor_word};
 use std::fmt;
@@ -34,7 +34,17 @@ impl Display for RuleWords<'_> {
     }
 }
 
-/// The line of the rules of the check: `rules: annular ring 0.15 mm, hole to hole 0.25 mm`.
+/// The profile at the end of the rules: `, profile wide`; nothing of the strict one.
+fn profile_words(profile: Profile) -> &'static str
+    ensures { result.now ≡ profile_words profile }
+{
+    match profile {
+        Profile::Strict => "",
+        Profile::Wide => ", profile wide",
+    }
+}
+
+/// The line of the rules of the check: `rules: annular ring 0.15 mm, hole to hole 0.25 mm`, in the wide profile with `, profile wide`.
 #[derive(Clone, Copy)]
 pub(crate) struct RulesLine<'a>(pub(crate) &'a Rules);
 
@@ -50,7 +60,8 @@ impl Display for RulesLine<'_> {
             words: ", hole to hole ",
             rule: self.0.gap(),
         };
-        write!(f, "{ring}{gap}\n")
+        let profile = profile_words(self.0.profile());
+        write!(f, "{ring}{gap}{profile}\n")
     }
 }
 
@@ -378,6 +389,24 @@ impl Line<WaiverFile> for usize {
 
     fn fmt_on<W: fmt::Write>(&self, _page: &WaiverFile, f: &mut Formatter<W>) -> fmt::Result {
         write!(f, "waiver {self} waives nothing\n")
+    }
+}
+
+/// How many findings the wide profile does not have; no line for none.
+#[derive(Clone, Copy)]
+pub(crate) struct FewerLine(pub(crate) u128);
+
+impl Display for FewerLine {
+    ghost output = { λ line. Some (fewer_line line.0) };
+
+    fn fmt<W: fmt::Write>(&self, f: &mut Formatter<W>) -> fmt::Result {
+        if self.0 == 0 {
+            return Ok(());
+        }
+        if self.0 == 1 {
+            return f.write_str("1 of these is not there with --profile wide\n");
+        }
+        write!(f, "{} of these are not there with --profile wide\n", self.0)
     }
 }
 

@@ -8,8 +8,8 @@ ghost use Rattle.print_text.specs.Texts.{causes_text, gaps_text, groups_text, he
 
 use crate::kind::CAUSE_KINDS;
 use crate::lines::{
-    FileNames, GapLine, GapsLine, LastLine, LayerLine, MeetsLine, MoreLine, RingLine, RulesLine,
-    SmallestLine, WaiverFile,
+    FewerLine, FileNames, GapLine, GapsLine, LastLine, LayerLine, MeetsLine, MoreLine, RingLine,
+    RulesLine, SmallestLine, WaiverFile,
 };
 use crate::runs::{Run, runs_of};
 use crate::summary::write_groups;
@@ -289,15 +289,17 @@ impl Display for CausesText<'_> {
     }
 }
 
-/// The last lines: the rules that the package meets, the waivers that waive nothing, and the result.
+/// The last lines: the rules that the package meets, the waivers that waive nothing, how many findings the wide profile does not have, and
+/// the result.
 #[derive(Clone, Copy)]
 struct LastLines<'a> {
     report: &'a BoardReport,
+    fewer: u128,
     accepted: &'a Acceptances<'a>,
 }
 
 impl Display for LastLines<'_> {
-    ghost output = { λ text. Some (last_lines text.report.now text.accepted.now.rings.now text.accepted.now.gaps.now text.accepted.now.idle.now) };
+    ghost output = { λ text. Some (last_lines text.report.now text.fewer text.accepted.now.rings.now text.accepted.now.gaps.now text.accepted.now.idle.now) };
 
     fn fmt<W: fmt::Write>(&self, f: &mut Formatter<W>) -> fmt::Result {
         let (rings, gaps) = (self.report.rings.len(), self.report.gaps.len());
@@ -308,7 +310,8 @@ impl Display for LastLines<'_> {
             lines: self.accepted.idle,
         };
         let last = LastLine { findings, waived };
-        write!(f, "{}{idle}{last}", MeetsLine(self.report.meets))
+        write!(f, "{}{idle}", MeetsLine(self.report.meets))?;
+        write!(f, "{}{last}", FewerLine(self.fewer))
     }
 }
 
@@ -318,6 +321,7 @@ impl Display for LastLines<'_> {
 pub struct ReportText<'a> {
     names: &'a [&'a str],
     report: &'a BoardReport,
+    fewer: u128,
     limit: Option<usize>,
     accepted: &'a Acceptances<'a>,
     runs: Vec<Run>,
@@ -326,14 +330,14 @@ pub struct ReportText<'a> {
 impl<'a> Model for ReportText<'a> {
     ghost Value = { List ℕ };
 
-    ghost view = { λ text. waived_report_text (map (λ name. name.now) text.names.now) text.report.now text.limit text.accepted.now };
+    ghost view = { λ text. waived_report_text (map (λ name. name.now) text.names.now) text.report.now text.fewer text.limit text.accepted.now };
 
     ghost invariant = { λ text. (length text.runs.items ≡ length text.report.now.layers.items) × AreRuns text.report.now.rings.items (length text.report.now.rings.items) text.runs.items };
 }
 
 impl<'a> ReportText<'a> {
-    /// The text of a report for people, with the reasons why findings are accepted. `names` are those of the package's files, `limit`
-    /// is how many findings are shown at most. The rings may be in any order: what is allocated is a place for each layer, with the
+    /// The text of a report for people, with the reasons why findings are accepted. `names` are those of the package's files, `fewer`
+    /// is how many of the findings the wide profile does not have, `limit` how many are shown at most. The rings may be in any order: what is allocated is a place for each layer, with the
     /// range from its first to its last ring, and only these are visited for its lines. Printing allocates nothing.
     ///
     /// # Errors
@@ -343,15 +347,17 @@ impl<'a> ReportText<'a> {
         alloc: Global,
         names: &'a [&'a str],
         report: &'a BoardReport,
+        fewer: u128,
         limit: Option<usize>,
         accepted: &'a Acceptances<'a>,
     ) -> Result<ReportText<'a>, AllocError>
-        ensures { IfOk result (λ text. text ≡ waived_report_text (map (λ name. name.now) names.now) report.now limit accepted.now) }
+        ensures { IfOk result (λ text. text ≡ waived_report_text (map (λ name. name.now) names.now) report.now fewer limit accepted.now) }
     {
         let runs = runs_of(alloc, report.layers.len(), &report.rings)?;
         Ok(ReportText {
             names,
             report,
+            fewer,
             limit,
             accepted,
             runs,
@@ -384,6 +390,7 @@ impl Display for ReportText<'_> {
         };
         let last = LastLines {
             report: self.report,
+            fewer: self.fewer,
             accepted: self.accepted,
         };
         write!(f, "{head}")?;

@@ -101,7 +101,9 @@ pub(crate) fn ring_of(cause: &RingCause) -> Option<i64>
 {
     match cause {
         RingCause::TooSmall(place) | RingCause::OffCentre(place) => Some(place.ring),
-        RingCause::Other { .. } | RingCause::NoFlash | RingCause::Oblique => None,
+        RingCause::Edge(at_edge) => Some(at_edge.ring),
+        RingCause::Other { .. } | RingCause::Clear { .. } | RingCause::Cleared { .. } => None,
+        RingCause::NoFlash | RingCause::Oblique => None,
     }
 }
 

@@ -31,7 +31,7 @@ pub(crate) fn waived_on(accepted: &[Option<&str>], run: Run, rings: &[RingLack])
 
 /// No reasons: the text of a report with these is that of a report without waivers.
 pub fn no_acceptances() -> Acceptances<'static>
-    ensures { (names : List (List ℕ)) (report : TheBoardReport) (limit : Option ℕ) → waived_report_text names report limit result ≡ board_report_text names report limit }
+    ensures { (names : List (List ℕ)) (report : TheBoardReport) (fewer : ℕ) (limit : Option ℕ) → waived_report_text names report fewer limit result ≡ board_report_text names report fewer limit }
 {
     Acceptances {
         rings: &[],

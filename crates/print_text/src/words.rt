@@ -2,14 +2,15 @@
 
 ghost use Rattle.std.specs.Prelude.{◌≡◌, ◌*◌, ◌-ℤ◌, pos, map, Some};
 ghost use Rattle.grid_units.specs.Points.{IsCoordinate};
-ghost use Rattle.print_text.specs.Texts.{cause_words, halfway, height_of, hole_middle, hole_words, in_pad_words, measured_words, pad_words, place_words, shape_word, width_of};
+ghost use Rattle.print_text.specs.Causes.{kind_words};
+ghost use Rattle.print_text.specs.Texts.{at_edge_words, cause_words, halfway, height_of, hole_middle, hole_words, in_pad_words, measured_words, other_words, pad_words, place_words, shape_word, width_of};
 
 use crate::kind::{CauseKind, flash_kind, kind_words};
 use grid_units::{Hole, Point};
 use margins::DepthShape;
 use pad_shapes::Pad;
 use printing::{DrilledWords, ShortMillimetres, name_of};
-use report::{PlacedHole, RingCause, RingInPad};
+use report::{PlacedHole, RingAtEdge, RingCause, RingInPad};
 use std::fmt;
 use std::fmt::{Display, Formatter};
 
@@ -185,6 +186,41 @@ impl Display for InPadWords<'_> {
     }
 }
 
+/// A ring in a rounded pad or a contour: `annular ring 0.149 (rule 0.15), in a rounded pad or contour, too near its edge: flash 17`.
+#[derive(Clone, Copy)]
+struct AtEdgeWords<'a> {
+    kind: CauseKind,
+    rule: i64,
+    place: &'a RingAtEdge,
+}
+
+impl Display for AtEdgeWords<'_> {
+    ghost output = { λ words. Some (at_edge_words words.kind words.rule words.place.now) };
+
+    fn fmt<W: fmt::Write>(&self, f: &mut Formatter<W>) -> fmt::Result {
+        let ring = MeasuredWords {
+            words: "annular ring ",
+            has: self.place.ring,
+            rule: self.rule,
+        };
+        let (words, flash) = (kind_words(self.kind), self.place.flash);
+        write!(f, "{ring}, {words}: flash {flash}")
+    }
+}
+
+/// A hole that lies in no pad, but in another flash: `annular ring not judged, only a macro flash: flash 156`.
+#[derive(Clone, Copy)]
+struct OtherWords(CauseKind, usize);
+
+impl Display for OtherWords {
+    ghost output = { λ words. Some (other_words (kind_words words.0) words.1) };
+
+    fn fmt<W: fmt::Write>(&self, f: &mut Formatter<W>) -> fmt::Result {
+        let (words, flash) = (kind_words(self.0), self.1);
+        write!(f, "annular ring not judged, {words}: flash {flash}")
+    }
+}
+
 /// Why a hole lacks its ring, with the figures of the cause: `annular ring not judged, only a macro flash: flash 156`.
 #[derive(Clone, Copy)]
 pub(crate) struct CauseWords<'a> {
@@ -220,10 +256,15 @@ impl Display for CauseWords<'_> {
                 };
                 write!(f, "{words}")
             }
-            RingCause::Other { why, flash } => {
-                let words = kind_words(flash_kind(*why));
-                write!(f, "annular ring not judged, {words}: flash {flash}")
+            RingCause::Edge(place) => {
+                let kind = CauseKind::Edge;
+                write!(f, "{}", AtEdgeWords { kind, rule, place })
             }
+            RingCause::Other { why, flash } => {
+                write!(f, "{}", OtherWords(flash_kind(*why), *flash))
+            }
+            RingCause::Clear { flash } => write!(f, "{}", OtherWords(CauseKind::Clear, *flash)),
+            RingCause::Cleared { flash } => write!(f, "{}", OtherWords(CauseKind::Cleared, *flash)),
             RingCause::NoFlash => f.write_str(kind_words(CauseKind::Bare)),
             RingCause::Oblique => {
                 let words = kind_words(CauseKind::Oblique);

@@ -15,15 +15,14 @@ use Rattle.std.proofs.lemmas.List.Kept.{AllPairs-cons}
 use Rattle.std.proofs.lemmas.List.Sorted.{All-permutation, Contains-permutation, IsPermutation-sym}
 use Rattle.grid_units.specs.Holes.{GridHole}
 use Rattle.grid_units.specs.Points.{GridPoint, square}
-use Rattle.layer_image.specs.declared.flash.Flash.{Flash}
-use Rattle.layer_image.specs.declared.flash.What.{What}
-use Rattle.layer_image.specs.declared.flash.What.TheVariants as what
+use Rattle.further_copper.specs.Features.{is_pad_row}
+use Rattle.further_copper.specs.declared.feature.FeatureRow.{FeatureRow}
 use Rattle.ring_rules.specs.Cores.{positive_part, range_distance}
 use Rattle.grid_units.proofs.TriangleInequalities.{square-le}
 use Rattle.ring_rules.proofs.CoreLemmas.{positive_part_is}
 use Rattle.ring_rules.proofs.SortedPairs.{contains_cases, contains_first, pairs_head, pairs_tail}
-use Rattle.report.proofs.PlacesLemmas.{at_head}
-use Rattle.report.specs.Causes.{IsGroup, IsWithin, is_in_hole, other_flash, other_in, others}
+use Rattle.report.proofs.PlacesLemmas.{at_head, if_other}
+use Rattle.report.specs.Causes.{IsGroup, IsWithin, is_in_hole, other_in, other_row, others}
 use Rattle.report.specs.Inner.FirstInHole.{HasPassed, IsFirstIn}
 use Rattle.report.specs.declared.bounds.Bounds.{Bounds}
 use Rattle.report.specs.declared.groups.Group.{Group}
@@ -268,28 +267,22 @@ has_passed all h e first s ends is inside found = record {
   first = subst (λ (n : ℕ). IsFirstIn (take n all) h s.first) (sym ends) (subst (IsFirstIn (take e all) h) (sym is) found);
 }
 
--- ---- the flashes of a layer are in order of their places
+-- ---- the rows of a layer are in order of their places
 
-low_from : (k : ℕ) (flashes : List Flash) → All (λ other. k ≤ other.place) (filter_map (λ f. other_flash f.0 f.1.at f.1.what) (enumerate_from k flashes))
+low_from : (k : ℕ) (rows : List FeatureRow) → All (λ other. k ≤ other.place) (filter_map other_row (enumerate_from k rows))
 low_from k [] = λ i d lt. absurd (omega (arith, lt))
-low_from k (f ∷ fs) =
-    at_head (λ other. k ≤ other.place) (other_flash k f.at f.what) _ (here f.at f.what) (All-weaker (λ other. k + 1 ≤ other.place) (λ other. k ≤ other.place) (λ other l. omega (arith, l)) _ (low_from (k + 1) fs))
-  where
-    here : (at : GridPoint) (w : What) → IfSome (other_flash k at w) (λ other. k ≤ other.place)
-    here at (what.Pad pad) = tt
-    here at (what.Other why) = omega arith
+low_from k (r ∷ rs) =
+    at_head (λ other. k ≤ other.place) (other_row (k, r)) _ (if_other (λ other. k ≤ other.place) k r (is_pad_row r.what) refl (λ not_pad. omega arith))
+    (All-weaker (λ other. k + 1 ≤ other.place) (λ other. k ≤ other.place) (λ other l. omega (arith, l)) _ (low_from (k + 1) rs))
 
 pairs_prefix : (k : ℕ) (x : Option Other) (xs : List Other) → IfSome x (λ other. other.place ≡ k) → All (λ other. k + 1 ≤ other.place) xs → AllPairs (λ a b. a.place < b.place) xs → AllPairs (λ a b. a.place < b.place) (cons_option x xs)
 pairs_prefix k None xs is low up = up
 pairs_prefix k (Some x) xs is low up = AllPairs-cons (λ a b. a.place < b.place) x xs (All-weaker (λ other. k + 1 ≤ other.place) (λ other. x.place < other.place) (λ other l. omega (arith, l, is)) xs low) up
 
-places_rise_from : (k : ℕ) (flashes : List Flash) → AllPairs (λ a b. a.place < b.place) (filter_map (λ f. other_flash f.0 f.1.at f.1.what) (enumerate_from k flashes))
+places_rise_from : (k : ℕ) (rows : List FeatureRow) → AllPairs (λ a b. a.place < b.place) (filter_map other_row (enumerate_from k rows))
 places_rise_from k [] = λ i j d l m. absurd (omega (arith, m))
-places_rise_from k (f ∷ fs) = pairs_prefix k (other_flash k f.at f.what) _ (here f.at f.what) (low_from (k + 1) fs) (places_rise_from (k + 1) fs)
-  where
-    here : (at : GridPoint) (w : What) → IfSome (other_flash k at w) (λ other. other.place ≡ k)
-    here at (what.Pad pad) = tt
-    here at (what.Other why) = refl
+places_rise_from k (r ∷ rs) =
+    pairs_prefix k (other_row (k, r)) _ (if_other (λ other. other.place ≡ k) k r (is_pad_row r.what) refl (λ not_pad. refl)) (low_from (k + 1) rs) (places_rise_from (k + 1) rs)
 
 -- ---- the flash that is found
 
@@ -316,9 +309,9 @@ find_least p (x ∷ xs) first up among inside least =
     by false e (inr later) rest = rest later
 
 -- the earliest of all, in whatever order they are listed, is the first of the layer
-pub first_is_found : (flashes : List Flash) (all : List Other) (h : GridHole) (first : Option Other) → IsPermutation (others flashes) all → IsFirstIn all h first → first ≡ other_in flashes h
-first_is_found flashes all h None moved out = sym (find_none (λ other. is_in_hole h other.at) (others flashes) (All-permutation (λ other. is_in_hole h other.at ≡ false) all (others flashes) (IsPermutation-sym (others flashes) all moved) out))
-first_is_found flashes all h (Some first) moved is =
-    (let back = IsPermutation-sym (others flashes) all moved in
-    sym (find_least (λ other. is_in_hole h other.at) (others flashes) first (places_rise_from 0 flashes) (Contains-permutation all (others flashes) first back is.0) is.1
-    (All-permutation (λ other. is_in_hole h other.at ≡ true → first.place ≤ other.place) all (others flashes) back is.2)))
+pub first_is_found : (rows : List FeatureRow) (all : List Other) (h : GridHole) (first : Option Other) → IsPermutation (others rows) all → IsFirstIn all h first → first ≡ other_in rows h
+first_is_found rows all h None moved out = sym (find_none (λ other. is_in_hole h other.at) (others rows) (All-permutation (λ other. is_in_hole h other.at ≡ false) all (others rows) (IsPermutation-sym (others rows) all moved) out))
+first_is_found rows all h (Some first) moved is =
+    (let back = IsPermutation-sym (others rows) all moved in
+    sym (find_least (λ other. is_in_hole h other.at) (others rows) first (places_rise_from 0 rows) (Contains-permutation all (others rows) first back is.0) is.1
+    (All-permutation (λ other. is_in_hole h other.at ≡ true → first.place ≤ other.place) all (others rows) back is.2)))

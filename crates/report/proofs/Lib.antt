@@ -1,6 +1,9 @@
 pub mod PlacesLemmas
-pub mod SamePads
 pub mod FirstInHole
+pub mod MatchedRows
+pub mod PlainBests
+pub mod StrictLemmas
+pub mod CauseLemmas
 pub mod PadSymmetry
 pub mod RoundedDownLemma
 pub mod BareLemmas
@@ -10,4 +13,3 @@ pub mod Slices
 pub mod RescaledLists
 pub mod PairedLists
 pub mod UnitMistakeLemmas
-pub mod PlainBests

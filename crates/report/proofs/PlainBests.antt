@@ -1,44 +1,61 @@
--- The best pads among pads of standard apertures are those of the same pads where all kinds may be.
-use Rattle.std.proofs.Common.{◌≡◌, ◌∙◌, ℕ, ◌<◌, Bool, true, false, List, Option, Some, None, length, get_or, map, sym, ap, subst}
+-- The best pads among plain pads are those of the same pads where all kinds may be.
+use Rattle.std.proofs.Common.{◌≡◌, ◌∙◌, ℕ, ◌<◌, List, length, get_or, map, sym, ap, subst, arith}
+use Rattle.std.specs.Prelude.{pos}
 use Rattle.std.proofs.Math.ListN.{get_or-map}
-use Rattle.std.proofs.lemmas.List.{length-map}
-use Rattle.grid_units.specs.Points.{GridPoint}
+use Rattle.std.proofs.lemmas.List.{get_or_default, length-map}
 use Rattle.grid_units.specs.Holes.{GridHole}
 use Rattle.pad_shapes.specs.Pads.{pad_covers}
 use Rattle.pad_shapes.specs.Shapes.{covers_both_ends}
 use Rattle.pad_shapes.specs.declared.pad.Pad.{Pad}
+use Rattle.pad_shapes.specs.declared.pad.Pad.TheVariants.{Disc}
 use Rattle.wide_pads.specs.WidePads.{wide_pad_covers}
 use Rattle.wide_pads.specs.declared.wide_pad.WidePad.{WidePad}
 use Rattle.wide_pads.specs.declared.wide_pad.WidePad.TheVariants.{Plain}
-use Rattle.ring_rules.specs.Places.{hole_at}
-use Rattle.ring_rules.specs.declared.finding.Drilled.{Drilled}
-use Rattle.margins.specs.BestPads.{AreBestPads, IsBestPad, IsDeepest, NoneCovers}
+use Rattle.margins.specs.BestPads.{IsDeepest, NoneCovers}
 use Rattle.margins.specs.declared.best.BestPad.{BestPad}
 
-abbrev plain : Pad → WidePad
+abbrev pub plain : Pad → WidePad
 plain p = Plain p
 
-module _ (pads : List Pad) (h : GridHole) where
-  size : length (map plain pads) ≡ length pads
+-- any pad will do as the default of `get_or`
+pub some_pad : Pad
+some_pad = Disc (record { centre = record { x = pos 0; y = pos 0 }; radius = 0 })
+
+module _ (pads : List Pad) where
+  pub size : length (map plain pads) ≡ length pads
   size = length-map pads plain
 
-  alike : (p : Pad) (k reach : ℕ) → covers_both_ends pad_covers (get_or pads k p) h.from h.to reach ≡ covers_both_ends wide_pad_covers (get_or (map plain pads) k (plain p)) h.from h.to reach
-  alike p k reach = ap (λ (w : WidePad). covers_both_ends wide_pad_covers w h.from h.to reach) (sym (get_or-map plain pads k p))
+  -- a plain pad by its place
+  pub plain_at : (k : ℕ) (w : WidePad) (p : Pad) → k < length pads → get_or (map plain pads) k w ≡ plain (get_or pads k p)
+  plain_at k w p below = get_or_default (map plain pads) k w (plain p) (subst (λ (n : ℕ). k < n) (sym size) below) ∙ get_or-map plain pads k p
 
-  plain_best : (b : Option BestPad) → IsBestPad wide_pad_covers (map plain pads) h b → IsBestPad pad_covers pads h b
-  plain_best None none = λ p k reach below. alike p k reach ∙ none (plain p) k reach (subst (λ (n : ℕ). k < n) (sym size) below)
-  plain_best (Some best) found = record {
-    inside = subst (λ (n : ℕ). best.pad < n) size found.inside;
-    in_range = found.in_range;
-    covered = λ p. alike p best.pad best.depth ∙ found.covered (plain p);
-    deepest = λ p k reach below covered. found.deepest (plain p) k reach (subst (λ (n : ℕ). k < n) (sym size) below) (sym (alike p k reach) ∙ covered);
-    first = λ p k before. alike p k best.depth ∙ found.first (plain p) k before;
-  }
+  module _ (h : GridHole) where
+    alike : (k reach : ℕ) (w : WidePad) (p : Pad) → k < length pads → covers_both_ends wide_pad_covers (get_or (map plain pads) k w) h.from h.to reach ≡ covers_both_ends pad_covers (get_or pads k p) h.from h.to reach
+    alike k reach w p below = ap (λ (v : WidePad). covers_both_ends wide_pad_covers v h.from h.to reach) (plain_at k w p below)
 
-pub plain_bests : (pads : List Pad) (all : List WidePad) (holes : List Drilled) (bests : List (Option BestPad)) → all ≡ map plain pads → AreBestPads wide_pad_covers all holes bests → AreBestPads pad_covers pads holes bests
-plain_bests pads all holes bests is h = record {
-  size = h.size;
-  each = λ k below.
-      let hole = hole_at holes k in
-      plain_best pads hole (get_or bests k None) (subst (λ (ps : List WidePad). IsBestPad wide_pad_covers ps hole (get_or bests k None)) is (h.each k below));
-}
+    pub none_of_plain : NoneCovers wide_pad_covers (map plain pads) (length (map plain pads)) h → NoneCovers pad_covers pads (length pads) h
+    none_of_plain none = λ p k reach below. sym (alike k reach (plain some_pad) p below) ∙ none (plain some_pad) k reach (subst (λ (n : ℕ). k < n) (sym size) below)
+
+    pub none_of_wide : NoneCovers pad_covers pads (length pads) h → NoneCovers wide_pad_covers (map plain pads) (length (map plain pads)) h
+    none_of_wide none = λ w k reach below. (let here = subst (λ (n : ℕ). k < n) size below in alike k reach w some_pad here ∙ none some_pad k reach here)
+
+    pub plain_deepest : (best : BestPad) → IsDeepest wide_pad_covers (map plain pads) (length (map plain pads)) h best → IsDeepest pad_covers pads (length pads) h best
+    plain_deepest best found = record {
+      inside = inside;
+      in_range = found.in_range;
+      covered = λ p. sym (alike best.pad best.depth (plain some_pad) p inside) ∙ found.covered (plain some_pad);
+      deepest = λ p k reach below covered. found.deepest (plain some_pad) k reach (subst (λ (n : ℕ). k < n) (sym size) below) (alike k reach (plain some_pad) p below ∙ covered);
+      first = λ p k before. sym (alike k best.depth (plain some_pad) p (omega (arith, before, inside))) ∙ found.first (plain some_pad) k before;
+    }
+      where
+        inside : best.pad < length pads
+        inside = subst (λ (n : ℕ). best.pad < n) size found.inside
+
+    pub wide_deepest : (best : BestPad) → IsDeepest pad_covers pads (length pads) h best → IsDeepest wide_pad_covers (map plain pads) (length (map plain pads)) h best
+    wide_deepest best found = record {
+      inside = subst (λ (n : ℕ). best.pad < n) (sym size) found.inside;
+      in_range = found.in_range;
+      covered = λ w. alike best.pad best.depth w some_pad found.inside ∙ found.covered some_pad;
+      deepest = λ w k reach below covered. (let here = subst (λ (n : ℕ). k < n) size below in found.deepest some_pad k reach here (sym (alike k reach w some_pad here) ∙ covered));
+      first = λ w k before. (let inside = found.inside in alike k best.depth w some_pad (omega (arith, before, inside)) ∙ found.first some_pad k before);
+    }

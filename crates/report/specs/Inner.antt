@@ -1,2 +1,3 @@
+pub mod CauseParts
 pub mod FirstInHole
 pub mod RescaledCounts

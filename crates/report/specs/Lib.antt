@@ -1,4 +1,5 @@
 pub mod Acceptances
 pub mod Causes
 pub mod Inner
+pub mod StrictCauses
 pub mod UnitMistakes

@@ -12,7 +12,12 @@ pub fn lack_of(cause: &RingCause) -> Option<i64>
 {
     match cause {
         RingCause::TooSmall(place) | RingCause::OffCentre(place) => Some(place.lack),
-        RingCause::Other { .. } | RingCause::NoFlash | RingCause::Oblique => None,
+        RingCause::Edge(place) => Some(place.lack),
+        RingCause::Other { .. }
+        | RingCause::Clear { .. }
+        | RingCause::Cleared { .. }
+        | RingCause::NoFlash
+        | RingCause::Oblique => None,
     }
 }
 

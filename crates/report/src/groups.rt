@@ -2,7 +2,7 @@
 
 ghost use Rattle.std.specs.Prelude.{◌≡◌, ◌<◌, ◌≤◌, List, Some, length, true, IfOk, OnOk};
 ghost use Rattle.std.specs.List.Sorted.{IsPermutation};
-ghost use Rattle.layer_image.specs.declared.flash.Flash.{Flash as TheFlash};
+ghost use Rattle.further_copper.specs.declared.feature.FeatureRow.{FeatureRow as TheRow};
 ghost use Rattle.report.specs.Causes.{AreGroups, IsGroup, other_in, others};
 ghost use Rattle.report.specs.Inner.FirstInHole.{HasPassed};
 ghost use Rattle.report.specs.declared.other.Other.{Other as TheOther};
@@ -163,7 +163,7 @@ impl Search {
 /// groups of them.
 pub(crate) fn first_in(all: &[Other], groups: &[Group], hole: &Hole) -> Option<Other>
     requires { AreGroups all.now groups.now }
-    ensures { (flashes : List TheFlash) → IsPermutation (others flashes) all.now → result ≡ other_in flashes hole.now }
+    ensures { (rows : List TheRow) → IsPermutation (others rows) all.now → result ≡ other_in rows hole.now }
 {
     let mut search = Search {
         next: 0,

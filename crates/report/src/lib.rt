@@ -6,6 +6,7 @@
 mod bare;
 mod bounds;
 mod cause;
+pub mod cause_laws;
 mod counts;
 mod fewest;
 mod figures;
@@ -123,7 +124,7 @@ pub struct Measure {
     pub meets: Meets,
 }
 
-/// The best pad of a hole, in which it lies deepest, and the hole's ring there.
+/// The best pad of a hole, in which it lies deepest, where it is plain, and the hole's ring there.
 #[derive(Clone, Copy, Debug, PartialEq, Eq)]
 pub struct RingInPad {
     /// The number of its flash on the layer, from 1.
@@ -136,13 +137,26 @@ pub struct RingInPad {
     pub lack: i64,
 }
 
+/// The best pad of a hole, where it is a rounded polygon, and the hole's ring there.
+#[derive(Clone, Copy, Debug, PartialEq, Eq)]
+pub struct RingAtEdge {
+    /// The number of its flash or contour on the layer, from 1.
+    pub flash: usize,
+    /// The ring in pm, from -5 m to 10 m. Below 0 the hole's edge lies outside the pad.
+    pub ring: i64,
+    /// The required ring less this one, in pm: from 1 pm to 15 m.
+    pub lack: i64,
+}
+
 /// Why a hole lacks its ring on a layer: the first cause that applies.
 #[derive(Clone, Copy, Debug, PartialEq, Eq)]
 pub enum RingCause {
-    /// The pad is too small for the hole and its ring, wherever the hole stands in it.
+    /// The best pad is plain, and too small for the hole and its ring, wherever the hole stands in it.
     TooSmall(RingInPad),
-    /// The pad is large enough, but the hole stands off its centre.
+    /// The best pad is plain and large enough, but the hole stands off its centre.
     OffCentre(RingInPad),
+    /// The best pad is a rounded polygon, and the hole lies too near its edge.
+    Edge(RingAtEdge),
     /// The hole lies in no pad, but a flash that is no pad has its point in the hole.
     Other {
         /// Why the flash is no pad.
@@ -150,9 +164,19 @@ pub enum RingCause {
         /// The number of the flash on the layer, from 1.
         flash: usize,
     },
+    /// The hole lies in no pad, but a flash in clear polarity has its point in the hole.
+    Clear {
+        /// The number of the flash on the layer, from 1.
+        flash: usize,
+    },
+    /// The hole lies in no pad, but a flash that clear polarity takes away has its point in the hole.
+    Cleared {
+        /// The number of the flash on the layer, from 1.
+        flash: usize,
+    },
     /// The hole lies in no pad, and no other flash has its point in it.
     NoFlash,
-    /// The hole is a plated slot that lies along no axis.
+    /// The hole is a plated slot that lies along no axis, which the strict profile refuses.
     Oblique,
 }
 

@@ -1,50 +1,49 @@
-//! The flashes of a layer that are no pads, and the first of them in a hole.
+//! The rows of a layer that are no pads, and the first of them in a hole.
 
 ghost use Rattle.std.specs.Prelude.{◌≡◌, ◌++◌, ◌∷◌, [], List, nat_lt, IfOk, if◌then◌else◌};
 ghost use Rattle.std.specs.List.Sorted.{IsPermutation};
 ghost use Rattle.std.specs.Option.{option_map_or};
-ghost use Rattle.report.specs.Causes.{other_flash, others};
+ghost use Rattle.report.specs.Causes.{other_row, others};
 ghost use Rattle.report.specs.Inner.FirstInHole.{IsFirstIn};
 
 use crate::cause::is_in_hole;
+use further_copper::{FeatureRow, RowKind};
 use grid_units::{Hole, Point};
-use layer_image::{Flash, What, Why};
 use std::alloc::{AllocError, Global};
 use std::cmp::Ordering;
 
-/// A flash that is no pad.
+/// A row that is no pad.
 #[derive(Clone, Copy, Debug, PartialEq, Eq)]
 pub(crate) struct Other {
     /// Its place on the layer, from 0.
     pub(crate) place: usize,
     /// Its coordinates.
     pub(crate) at: Point,
-    /// Why it is no pad, such as a macro aperture.
-    pub(crate) why: Why,
+    /// What it is, such as a flash in clear polarity.
+    pub(crate) what: RowKind,
 }
 
-/// A flash with its place, if it is no pad.
-fn other_flash(place: usize, flash: &Flash) -> Option<Other>
-    ensures { result ≡ other_flash place flash.now.at flash.now.what }
+/// A row with its place, if it is no pad.
+fn other_row(place: usize, row: &FeatureRow) -> Option<Other>
+    ensures { result ≡ other_row (place, row.now) }
 {
-    match flash.what {
-        What::Pad(_) => None,
-        What::Other(why) => Some(Other {
-            place,
-            at: flash.at,
-            why,
-        }),
+    if row.what.is_pad() {
+        return None;
     }
+    Some(Other {
+        place,
+        at: row.at,
+        what: row.what,
+    })
 }
 
-/// The flashes that are no pads, in order.
-fn in_order(alloc: Global, flashes: &[Flash]) -> Result<Vec<Other>, AllocError>
-    ensures { IfOk result (λ found. found.items ≡ others flashes.now) }
+/// The rows that are no pads, in order.
+fn in_order(alloc: Global, rows: &[FeatureRow]) -> Result<Vec<Other>, AllocError>
+    ensures { IfOk result (λ found. found.items ≡ others rows.now) }
 {
-    flashes
-        .iter()
+    rows.iter()
         .enumerate()
-        .filter_map(|(place, flash)| other_flash(place, flash))
+        .filter_map(|(place, row)| other_row(place, row))
         .collect(alloc)
 }
 
@@ -66,11 +65,11 @@ fn along_curve(a: Point, b: Point) -> Ordering {
     }
 }
 
-/// The flashes that are no pads, ordered so that neighbours mostly stand together.
-pub(crate) fn others(alloc: Global, flashes: &[Flash]) -> Result<Vec<Other>, AllocError>
-    ensures { IfOk result (λ found. IsPermutation (others flashes.now) found.items) }
+/// The rows that are no pads, ordered so that neighbours mostly stand together.
+pub(crate) fn others(alloc: Global, rows: &[FeatureRow]) -> Result<Vec<Other>, AllocError>
+    ensures { IfOk result (λ found. IsPermutation (others rows.now) found.items) }
 {
-    let mut found = in_order(alloc, flashes)?;
+    let mut found = in_order(alloc, rows)?;
     found.sort_by(|a, b| along_curve(a.at, b.at))?;
     Ok(found)
 }

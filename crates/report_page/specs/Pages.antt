@@ -16,7 +16,7 @@ use Rattle.report.specs.declared.RingCause.{RingCause}
 use Rattle.report.specs.declared.RingCause.TheVariants as causes
 use Rattle.report.specs.declared.RingLack.{RingLack}
 use Rattle.print_text.specs.Causes.{kind_of, kind_words}
-use Rattle.print_text.specs.Texts.{number_of, rule_words, waived_words}
+use Rattle.print_text.specs.Texts.{number_of, profile_words, rule_words, waived_words}
 use Rattle.package_check.specs.Boards.{BoardView}
 use Rattle.picture.specs.Escapes.{escaped}
 use Rattle.layer_image.specs.declared.drawn.Drawn.{Drawn}
@@ -40,9 +40,10 @@ count_words findings = if findings == 1 then codes "1 finding" else decimal find
 abbrev pub verdict : ℕ → ℕ → List ℕ
 verdict findings waived = verdict_word findings waived ++ (codes ": " ++ (count_words findings ++ waived_words waived))
 
--- the rules: `rules: annular ring 0.15 mm, hole to hole 0.25 mm`
-abbrev pub rules_words : ℤ → ℤ → List ℕ
-rules_words ring gap = rule_words (codes "rules: annular ring ") ring ++ rule_words (codes ", hole to hole ") gap
+-- the rules and the profile, as in the text of a report: `rules: annular ring 0.15 mm, hole to hole 0.25 mm`, in the wide profile with `, profile wide`
+abbrev pub rules_words : GridRules → List ℕ
+rules_words rules =
+    rule_words (codes "rules: annular ring ") (pos rules.ring) ++ (rule_words (codes ", hole to hole ") (pos rules.gap) ++ profile_words rules.profile)
 
 -- ---- the buttons of the layers
 
@@ -78,7 +79,10 @@ diameter_words hole = short_millimetres (pos (2 * hole.radius))
 abbrev pub ring_words : RingCause → List ℕ
 ring_words (causes.TooSmall place) = short_millimetres place.ring
 ring_words (causes.OffCentre place) = short_millimetres place.ring
+ring_words (causes.Edge at_edge) = short_millimetres at_edge.ring
 ring_words (causes.Other why flash) = codes "not judged"
+ring_words (causes.Clear flash) = codes "not judged"
+ring_words (causes.Cleared flash) = codes "not judged"
 ring_words causes.NoFlash = codes "no pad"
 ring_words causes.Oblique = codes "not judged"
 
@@ -86,7 +90,10 @@ ring_words causes.Oblique = codes "not judged"
 abbrev pub flash_words : RingCause → List ℕ
 flash_words (causes.TooSmall place) = codes ": flash " ++ decimal place.flash
 flash_words (causes.OffCentre place) = codes ": flash " ++ decimal place.flash
+flash_words (causes.Edge at_edge) = codes ": flash " ++ decimal at_edge.flash
 flash_words (causes.Other why flash) = codes ": flash " ++ decimal flash
+flash_words (causes.Clear flash) = codes ": flash " ++ decimal flash
+flash_words (causes.Cleared flash) = codes ": flash " ++ decimal flash
 flash_words causes.NoFlash = []
 flash_words causes.Oblique = []
 
@@ -179,7 +186,7 @@ finding_count report = length report.rings.items + length report.gaps.items
 abbrev pub head_text : GridRules → ℕ → ℕ → List ℕ
 head_text rules findings waived =
     (HEAD.now ++ (verdict findings waived ++ (BEFORE_STYLE.now ++ (STYLE.now ++ BODY.now))))
-    ++ (verdict findings waived ++ (BEFORE_RULES.now ++ rules_words (pos rules.ring) (pos rules.gap)))
+    ++ (verdict findings waived ++ (BEFORE_RULES.now ++ rules_words rules))
 
 -- the picture: the buttons of the layers, and the element `svg` of the drawing
 abbrev pub picture_text : List (List ℕ) → List LayerHead → List ℕ → List ℕ

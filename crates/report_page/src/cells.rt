@@ -127,8 +127,10 @@ impl Display for RingWords<'_> {
             RingCause::TooSmall(place) | RingCause::OffCentre(place) => {
                 write!(f, "{}", ShortMillimetres(place.ring))
             }
+            RingCause::Edge(at_edge) => write!(f, "{}", ShortMillimetres(at_edge.ring)),
             RingCause::NoFlash => f.write_str("no pad"),
             RingCause::Other { .. } | RingCause::Oblique => f.write_str("not judged"),
+            RingCause::Clear { .. } | RingCause::Cleared { .. } => f.write_str("not judged"),
         }
     }
 }
@@ -140,6 +142,7 @@ fn cause_word(cause: &RingCause) -> &'static str
     match cause {
         RingCause::TooSmall(_) => "pad too small",
         RingCause::OffCentre(_) => "off centre",
+        RingCause::Edge(_) => "in a rounded pad or contour, too near its edge",
         RingCause::Other { why, .. } => match why {
             Why::Macro => "only a macro flash",
             Why::Polygon => "only a polygon flash",
@@ -147,6 +150,8 @@ fn cause_word(cause: &RingCause) -> &'static str
             Why::Scaled => "only a scaled flash",
             Why::Turned => "only a turned flash",
         },
+        RingCause::Clear { .. } => "only a clear flash",
+        RingCause::Cleared { .. } => "only a cleared flash",
         RingCause::NoFlash => "no pad at the hole",
         RingCause::Oblique => "oblique slot",
     }
@@ -160,7 +165,9 @@ fn write_flash<W: fmt::Write>(f: &mut Formatter<W>, cause: &RingCause) -> fmt::R
         RingCause::TooSmall(place) | RingCause::OffCentre(place) => {
             write!(f, ": flash {}", place.flash)
         }
+        RingCause::Edge(at_edge) => write!(f, ": flash {}", at_edge.flash),
         RingCause::Other { flash, .. } => write!(f, ": flash {flash}"),
+        RingCause::Clear { flash } | RingCause::Cleared { flash } => write!(f, ": flash {flash}"),
         RingCause::NoFlash | RingCause::Oblique => Ok(()),
     }
 }

@@ -2,10 +2,10 @@
 
 ghost use Rattle.std.specs.Prelude.{◌≡◌, ◌≤◌, ◌++◌, ◌∷◌, pos, Some, codes};
 ghost use Rattle.std.specs.Fmt.{DisplaysOnOk};
-ghost use Rattle.print_text.specs.Texts.{rule_words, waived_words};
+ghost use Rattle.print_text.specs.Texts.{profile_words, rule_words, waived_words};
 ghost use Rattle.report_page.specs.Pages.{count_words, rules_words, verdict, verdict_word};
 
-use grid_units::Rules;
+use grid_units::{Profile, Rules};
 use printing::ShortMillimetres;
 use std::fmt;
 use std::fmt::{Display, Formatter};
@@ -88,12 +88,22 @@ impl Display for RuleWords {
     }
 }
 
-/// The rules: `rules: annular ring 0.15 mm, hole to hole 0.25 mm`.
+/// The profile at the end of the rules: `, profile wide`; nothing of the strict one.
+fn profile_words(profile: Profile) -> &'static str
+    ensures { result.now ≡ profile_words profile }
+{
+    match profile {
+        Profile::Strict => "",
+        Profile::Wide => ", profile wide",
+    }
+}
+
+/// The rules and the profile: `rules: annular ring 0.15 mm, hole to hole 0.25 mm`, in the wide profile with `, profile wide`.
 #[derive(Clone, Copy)]
 pub(crate) struct RulesWords<'a>(pub(crate) &'a Rules);
 
 impl Display for RulesWords<'_> {
-    ghost output = { λ rules. Some (rules_words (pos rules.0.now.ring) (pos rules.0.now.gap)) };
+    ghost output = { λ rules. Some (rules_words rules.0.now) };
 
     fn fmt<W: fmt::Write>(&self, f: &mut Formatter<W>) -> fmt::Result {
         let ring = RuleWords {
@@ -104,6 +114,7 @@ impl Display for RulesWords<'_> {
             words: ", hole to hole ",
             rule: self.0.gap(),
         };
-        write!(f, "{ring}{gap}")
+        let profile = profile_words(self.0.profile());
+        write!(f, "{ring}{gap}{profile}")
     }
 }

@@ -1,12 +1,16 @@
 //! Causes of worked examples, in pm.
 
-use crate::rows::{Form, RowFail, pad_at, what_at};
+ghost use Rattle.std.specs.Prelude.{IfOk};
+ghost use Rattle.report.specs.Causes.{HoldsRowsAndBests};
+
+use crate::rows::{Form, RowFail, what_at};
+use further_copper::{FeatureRow, RowKind};
 use grid_units::{Hole, Point, Rules};
-use layer_image::{Flash, Why};
+use layer_image::{What, Why};
 use margins::best_pads;
 use report::{RingCause, *};
 use ring_rules::Drilled;
-use std::alloc::Global;
+use std::alloc::{AllocError, Global};
 use wide_pads::WidePad;
 
 /// What is flashed, and where.
@@ -20,27 +24,55 @@ type CauseRow = (&'static str, usize, i64, i64);
 
 const NO_CAUSE: CauseRow = ("nothing", 0, 0, 0);
 
-fn push_flash(flashes: &mut Vec<Flash>, row: FlashRow) -> Result<(), RowFail> {
-    let (form, x, y) = row;
-    let at = Point::new(x, y).ok_or(RowFail::Figures)?;
-    let what = what_at(form, at).ok_or(RowFail::Figures)?;
-    match flashes.push(Flash { at, what }) {
-        Ok(_) => Ok(()),
-        Err(_) => Err(RowFail::Memory),
+/// The copper of a layer: its rows, and the pads of those that are pads.
+#[derive(Drop)]
+struct Copper {
+    rows: Vec<FeatureRow>,
+    pads: Vec<WidePad>,
+}
+
+impl Copper {
+    fn new(alloc: Global) -> Copper {
+        Copper {
+            rows: Vec::new(alloc),
+            pads: Vec::new(alloc),
+        }
+    }
+
+    /// Adds what is flashed at a point to the rows, and to the pads where it is one.
+    fn push(&mut self, row: FlashRow) -> Result<(), RowFail> {
+        let (form, x, y) = row;
+        let at = Point::new(x, y).ok_or(RowFail::Figures)?;
+        match what_at(form, at).ok_or(RowFail::Figures)? {
+            What::Pad(pad) => {
+                self.push_pad(WidePad::Plain(pad))?;
+                self.push_row(at, RowKind::Pad)
+            }
+            What::Other(why) => self.push_row(at, RowKind::Other(why)),
+        }
+    }
+
+    fn push_pad(&mut self, pad: WidePad) -> Result<(), RowFail> {
+        match self.pads.push(pad) {
+            Ok(_) => Ok(()),
+            Err(_) => Err(RowFail::Memory),
+        }
+    }
+
+    fn push_row(&mut self, at: Point, what: RowKind) -> Result<(), RowFail> {
+        match self.rows.push(FeatureRow { at, what }) {
+            Ok(_) => Ok(()),
+            Err(_) => Err(RowFail::Memory),
+        }
     }
 }
 
-fn push_flashes(flashes: &mut Vec<Flash>, rows: &[FlashRow]) -> Result<(), RowFail> {
+fn copper_of(alloc: Global, rows: &[FlashRow]) -> Result<Copper, RowFail> {
+    let mut copper = Copper::new(alloc);
     for row in rows {
-        push_flash(flashes, *row)?;
+        copper.push(*row)?;
     }
-    Ok(())
-}
-
-fn flashes_of(alloc: Global, rows: &[FlashRow]) -> Result<Vec<Flash>, RowFail> {
-    let mut flashes = Vec::new(alloc);
-    push_flashes(&mut flashes, rows)?;
-    Ok(flashes)
+    Ok(copper)
 }
 
 /// A plated hole.
@@ -58,26 +90,24 @@ fn row_of(cause: RingCause) -> CauseRow {
     match cause {
         RingCause::TooSmall(pad) => ("small", pad.flash, pad.ring, pad.lack),
         RingCause::OffCentre(pad) => ("off", pad.flash, pad.ring, pad.lack),
+        RingCause::Edge(pad) => ("edge", pad.flash, pad.ring, pad.lack),
         RingCause::Other { why, flash } => match why {
             Why::Macro => ("macro", flash, 0, 0),
             _ => ("another", flash, 0, 0),
         },
+        RingCause::Clear { flash } => ("clear", flash, 0, 0),
+        RingCause::Cleared { flash } => ("cleared", flash, 0, 0),
         RingCause::NoFlash => NO_CAUSE,
         RingCause::Oblique => ("oblique", 0, 0, 0),
     }
 }
 
 /// The cause of a hole among some flashes, for a required ring.
-fn cause_of(
-    alloc: Global,
-    flashes: &[Flash],
-    hole: HoleRow,
-    ring: i64,
-) -> Result<CauseRow, RowFail> {
+fn cause_of(alloc: Global, copper: &Copper, hole: HoleRow, ring: i64) -> Result<CauseRow, RowFail> {
     let rules = Rules::new(ring, 1)?;
     let holes = [drilled(hole).ok_or(RowFail::Figures)?];
-    let known = CauseFinder::new(alloc, flashes, &holes)?;
-    Ok(row_of(known.cause(flashes, &holes, 0, rules)))
+    let known = CauseFinder::new(alloc, &copper.rows, &copper.pads, &holes)?;
+    Ok(row_of(known.cause(&copper.rows, &copper.pads, &holes, 0, rules)))
 }
 
 /// The cause of a hole among the flashes of some rows.
@@ -87,8 +117,8 @@ fn cause_in(
     hole: HoleRow,
     ring: i64,
 ) -> Result<CauseRow, RowFail> {
-    let flashes = flashes_of(alloc, rows)?;
-    cause_of(alloc, &flashes, hole, ring)
+    let copper = copper_of(alloc, rows)?;
+    cause_of(alloc, &copper, hole, ring)
 }
 
 /// A square that is 1 nm off the origin.
@@ -210,19 +240,19 @@ fn causes_of_holes(rt: HostRuntime) {
 }
 
 /// Adds 40 macro flashes along x, a millimetre apart, from 39 mm down to 0.
-fn push_row_of_flashes(flashes: &mut Vec<Flash>) -> Result<(), RowFail> {
+fn push_row_of_flashes(copper: &mut Copper) -> Result<(), RowFail> {
     for place in (0..40_u8).rev() {
         let x = i64::from(place) * 1_000_000_000;
-        push_flash(flashes, (Form::Other(Why::Macro), x, 0))?;
+        copper.push((Form::Other(Why::Macro), x, 0))?;
     }
     Ok(())
 }
 
 /// The cause of a hole in a row of flashes, for a required ring of 0.1 mm.
 fn cause_in_a_row(alloc: Global, hole: HoleRow) -> Result<CauseRow, RowFail> {
-    let mut flashes = Vec::new(alloc);
-    push_row_of_flashes(&mut flashes)?;
-    cause_of(alloc, &flashes, hole, 100_000_000)
+    let mut copper = Copper::new(alloc);
+    push_row_of_flashes(&mut copper)?;
+    cause_of(alloc, &copper, hole, 100_000_000)
 }
 
 /// Holes over a row of flashes, and their causes. Those with one, some and all of the flashes in them, where the flashes from 30 mm to
@@ -247,32 +277,39 @@ fn holes_in_a_row_of_flashes(rt: HostRuntime) {
     }
 }
 
-/// The cause of the first of these holes among some flashes, for a ring of 0.125 mm, with its best pad given.
+/// The data of a layer for its causes, by best pads that are given.
+fn known_by_bests(
+    alloc: Global,
+    rows: &[FeatureRow],
+    pads: &[WidePad],
+    holes: &[Drilled],
+) -> Result<CauseFinder, AllocError>
+    ensures { IfOk result (HoldsRowsAndBests rows.now pads.now holes.now) }
+{
+    let bests = best_pads(alloc, pads, holes)?;
+    CauseFinder::with_bests(alloc, rows, &bests)
+}
+
+/// The cause of the first of these holes on a layer, for a ring of 0.125 mm, by best pads that are given.
 fn cause_by_pads(
     alloc: Global,
-    flashes: &[Flash],
-    holes: &[Drilled; 1],
+    rows: &[FeatureRow],
     pads: &[WidePad],
+    holes: &[Drilled; 1],
 ) -> Result<CauseRow, RowFail> {
     let rules = Rules::new(125_000_000, 1)?;
-    let bests = best_pads(alloc, pads, holes)?;
-    let known = CauseFinder::with_bests(alloc, flashes, holes, pads, &bests)?;
-    Ok(row_of(known.cause(flashes, holes, 0, rules)))
+    let known = known_by_bests(alloc, rows, pads, holes)?;
+    Ok(row_of(known.cause(rows, pads, holes, 0, rules)))
 }
 
-/// The cause of a hole of 0.4 mm at the origin in a square 1 nm off it, with its best pad given: this form round a point.
-fn cause_by_best(alloc: Global, form: Form, centre: (i64, i64)) -> Result<CauseRow, RowFail> {
-    let pad = pad_at(form, centre).ok_or(RowFail::Figures)?;
+/// The cause of a hole of 0.4 mm at the origin in a square 1 nm off it, by best pads that are given.
+fn cause_by_best(alloc: Global) -> Result<CauseRow, RowFail> {
     let hole = drilled(((0, 0), (0, 0), 200_000_000)).ok_or(RowFail::Figures)?;
-    let flashes = flashes_of(alloc, &[MOVED])?;
-    cause_by_pads(alloc, &flashes, &[hole], &[WidePad::Plain(pad)])
+    let copper = copper_of(alloc, &[MOVED])?;
+    cause_by_pads(alloc, &copper.rows, &copper.pads, &[hole])
 }
 
-/// The best pad is that of the layer, or of another.
 #[test]
 fn best_pads_are_known(rt: HostRuntime) {
-    for &(form, x, y) in &[MOVED, (Form::Disc(1_000_000_000), 0, 0)] {
-        let cause = cause_by_best(rt.alloc(), form, (x, y));
-        assert!(rt; cause == Ok(("off", 1, 124_999_000, 1_000)), "{x}");
-    }
+    assert!(rt; cause_by_best(rt.alloc()) == Ok(("off", 1, 124_999_000, 1_000)));
 }

@@ -248,6 +248,7 @@ fn measures_in_the_wide_profile_are_printed(rt: HostRuntime) {
 /// A report on a package of one layer, under a ring of 0.1 mm and a gap of 0.25 mm, on a board with a bare hole.
 const NOTHING: ReportRow = ReportRow {
     rules: (100_000_000, 250_000_000),
+    profile: Profile::Strict,
     layers: &[LayerHead { file: 0, needed: 1 }],
     rings: &[],
     gaps: &[],
@@ -352,6 +353,30 @@ fn reports_are_printed(rt: HostRuntime) {
     assert!(rt; is_printed(rt.alloc(), &ONE_BARE, "findings", finding));
 }
 
+/// The JSON of a report in the wide profile, where a copper file has its contours too.
+const WIDE: &str =
+    "{\"format\":\"ringcheck\",\"version\":2,\"profile\":\"wide\",\"result\":\"pass\",\"rules\":{\"ring_pm\":100000000,\"gap_pm\":250000000},\"meets\":{\"ring_pm\":\"none\",\"gap_pm\":1046051224,\"held_pm\":275000000},\"files\":[{\"number\":1,\"role\":\"copper\",\"name\":\"top_layer\",\"pads\":242,\"other\":3,\"contours\":0}],\"scales\":[],\"findings\":[]}\n";
+
+/// Whether a report without findings has this JSON in the wide profile.
+fn is_printed_in_wide(alloc: Global, text: &str) -> bool {
+    let row = ReportRow {
+        profile: Profile::Wide,
+        ..NOTHING
+    };
+    let Ok(report) = report_of(alloc, &row) else {
+        return false;
+    };
+    match json_of(alloc, &report, &no_acceptances()) {
+        Ok(written) => written.as_str() == text,
+        Err(_) => false,
+    }
+}
+
+#[test]
+fn a_report_in_the_wide_profile_is_printed(rt: HostRuntime) {
+    assert!(rt; is_printed_in_wide(rt.alloc(), WIDE));
+}
+
 /// Whether the JSON of a report on a drill file that goes from layer 2 to layer 3 has this part.
 fn has_part(alloc: Global, report: &BoardReport, part: &str) -> bool {
     let files = &[FileSum::Drill {
@@ -395,7 +420,7 @@ const SLOT: HoleRow = (1, 2, (0, 0), (1_000_000, 2_000_000), 400_000_000);
 const DISC_FORM: Form = Form::Disc(200_000_000);
 
 /// A hole that lacks its ring, and what is printed after the number of its drill file.
-const CAUSES: [(HoleRow, CauseRow, &str); 4] = [
+const CAUSES: [(HoleRow, CauseRow, &str); 7] = [
     (
         ROUND,
         CauseRow::TooSmall(1, DISC_FORM, (0, 0), 0, 100_000_000),
@@ -415,6 +440,21 @@ const CAUSES: [(HoleRow, CauseRow, &str); 4] = [
         SLOT,
         CauseRow::Oblique,
         "2,\"from_pm\":[0,0],\"to_pm\":[1000000,2000000],\"diameter_pm\":400000000},\"has_pm\":null,\"lacks_pm\":null,\"cause\":\"oblique\",\"flash\":null",
+    ),
+    (
+        ROUND,
+        CauseRow::Edge(1, 0, 100_000_000),
+        "1,\"from_pm\":[0,0],\"to_pm\":[0,0],\"diameter_pm\":400000000},\"has_pm\":0,\"lacks_pm\":100000000,\"cause\":\"edge\",\"flash\":1",
+    ),
+    (
+        SLOT,
+        CauseRow::Clear(3),
+        "2,\"from_pm\":[0,0],\"to_pm\":[1000000,2000000],\"diameter_pm\":400000000},\"has_pm\":null,\"lacks_pm\":null,\"cause\":\"clear\",\"flash\":3",
+    ),
+    (
+        SLOT,
+        CauseRow::Cleared(3),
+        "2,\"from_pm\":[0,0],\"to_pm\":[1000000,2000000],\"diameter_pm\":400000000},\"has_pm\":null,\"lacks_pm\":null,\"cause\":\"cleared\",\"flash\":3",
     ),
 ];
 

@@ -3,6 +3,7 @@
 use crate::rows::{
     CauseRow, Form, GapRow, HoleRow, ReportRow, RingRow, RowFail, add_ring, after, report_of,
 };
+use grid_units::Profile;
 use layer_image::Why;
 use print_text::*;
 use report::{UnitFactor, UnitMistake, *};
@@ -13,6 +14,7 @@ use std::fmt::Write;
 /// A report without layers and findings, on a package that meets its rules.
 const NOTHING: ReportRow = ReportRow {
     rules: (0, 1),
+    profile: Profile::Strict,
     layers: &[],
     rings: &[],
     gaps: &[],
@@ -28,7 +30,7 @@ fn text_of(
     limit: Option<usize>,
     accepted: &Acceptances,
 ) -> Result<String, AllocError> {
-    let text = ReportText::new(alloc, names, report, limit, accepted)?;
+    let text = ReportText::new(alloc, names, report, 0, limit, accepted)?;
     format!(in alloc; "{text}")
 }
 
@@ -215,7 +217,7 @@ const OBLIQUE: NamedHole = (
 );
 
 /// Holes that lack their ring, why, and their lines. A slot is off by its middle.
-const LINES: [(NamedHole, CauseRow, &str); 11] = [
+const LINES: [(NamedHole, CauseRow, &str); 14] = [
     (
         (
             "drill",
@@ -306,6 +308,22 @@ const LINES: [(NamedHole, CauseRow, &str); 11] = [
         SLOT,
         CauseRow::Other(Why::Turned, 7),
         "  #1 hole 1 of pth, 0.5 at 0,0 to 2,0: annular ring not judged, only a turned flash: flash 7\n",
+    ),
+    // A hole of 0.4 mm in a rounded square of 1 mm: 0.5 - 0.175001 - 0.2.
+    (
+        ("pth", 1, (175_001_000, 0), (175_001_000, 0), 400_000_000),
+        CauseRow::Edge(1, 124_999_000, 1_000),
+        "  #1 hole 1 of pth, 0.4 at 0.175001,0: annular ring 0.124999 (rule 0), in a rounded pad or contour, too near its edge: flash 1\n",
+    ),
+    (
+        SLOT,
+        CauseRow::Clear(7),
+        "  #1 hole 1 of pth, 0.5 at 0,0 to 2,0: annular ring not judged, only a clear flash: flash 7\n",
+    ),
+    (
+        SLOT,
+        CauseRow::Cleared(7),
+        "  #1 hole 1 of pth, 0.5 at 0,0 to 2,0: annular ring not judged, only a cleared flash: flash 7\n",
     ),
 ];
 
@@ -434,11 +452,24 @@ const ANY: ReportRow = ReportRow {
     ..NOTHING
 };
 
+/// Profiles, and the text of a package that passes in them.
+const PASSES: [(Profile, &str); 2] = [
+    (
+        Profile::Strict,
+        "rules: annular ring 0 mm, hole to hole 0.000000001 mm\nhole to hole: 0 gaps too small\nthis board meets annular ring any, hole to hole any\nPASS\n",
+    ),
+    (
+        Profile::Wide,
+        "rules: annular ring 0 mm, hole to hole 0.000000001 mm, profile wide\nhole to hole: 0 gaps too small\nthis board meets annular ring any, hole to hole any\nPASS\n",
+    ),
+];
+
 #[test]
 fn a_package_that_passes_is_printed(rt: HostRuntime) {
-    let text =
-        "rules: annular ring 0 mm, hole to hole 0.000000001 mm\nhole to hole: 0 gaps too small\nthis board meets annular ring any, hole to hole any\nPASS\n";
-    assert!(rt; is_printed(rt.alloc(), &[], &ANY, Some(0), text));
+    for &(profile, text) in &PASSES {
+        let row = ReportRow { profile, ..ANY };
+        assert!(rt; is_printed(rt.alloc(), &[], &row, Some(0), text), "{text}");
+    }
 }
 
 /// A hole that lacks its ring.
@@ -464,6 +495,9 @@ const EACH_CAUSE: ReportRow = ReportRow {
         (9, UNSEEN, CauseRow::Other(Why::Macro, 1)),
         (9, UNSEEN, CauseRow::Oblique),
         (9, UNSEEN, CauseRow::NoFlash),
+        (9, UNSEEN, CauseRow::Cleared(1)),
+        (9, UNSEEN, CauseRow::Clear(1)),
+        (9, UNSEEN, CauseRow::Edge(1, 100_000_000, 50_000_000)),
         (
             9,
             UNSEEN,
@@ -488,16 +522,19 @@ fn causes_and_scales_are_printed(rt: HostRuntime) {
         hole to hole: 0 gaps too small\n\
         1 pad too small: the pad's own radius or half side is less than the hole's radius and the ring\n\
         1 off centre: the pad is large enough for a hole at its centre; drill files are rounded: see `ringcheck explain ring`\n\
+        1 in a rounded pad or contour, too near its edge: move the hole or enlarge the pad: rings in rounded pads and contours are measured to their edge\n\
         2 only a macro flash: flashes by a macro are not judged: choose circle, oval or rectangle: see `ringcheck explain macro`\n\
         1 only a polygon flash: polygon flashes are not judged\n\
         1 only a holed flash: flashes with a hole are not judged\n\
         1 only a scaled flash: scaled flashes are not judged\n\
         1 only a turned flash: flashes turned by other than quarters are not judged\n\
+        1 only a clear flash: a flash in clear polarity takes copper away\n\
+        1 only a cleared flash: copper drawn before a clear object does not count\n\
         1 no pad at the hole: none was flashed here, or its copper is drawn or of a shape that is not judged, or origin or format differ: see `ringcheck explain none`\n\
         1 oblique slot: plated slots that lie along no axis are not judged\n\
         smallest ring 0.099394596 (rule 0.15)\n\
         this board meets annular ring none, hole to hole 1.046051224; where a pad is, annular ring 0.275\n\
-        FINDINGS 10\n";
+        FINDINGS 13\n";
     assert!(rt; is_printed(rt.alloc(), &["top", "pth"], &EACH_CAUSE, None, text));
 }
 
@@ -705,7 +742,7 @@ fn is_text_cut_at(text: &ReportText, fails_at: usize) -> bool {
 
 /// Whether the text of a report is so.
 fn is_cut_at(alloc: Global, report: &BoardReport, fails_at: usize) -> bool {
-    match ReportText::new(alloc, &HOLED, report, None, &ALL) {
+    match ReportText::new(alloc, &HOLED, report, 1, None, &ALL) {
         Ok(text) => is_text_cut_at(&text, fails_at),
         Err(_) => false,
     }
@@ -716,6 +753,46 @@ fn nothing_is_printed_after_a_write_that_fails(rt: HostRuntime) -> Result<(), Ro
     let report = report_of(rt.alloc(), &THREE_OF_EACH)?;
     for fails_at in 1..=100 {
         assert!(rt; is_cut_at(rt.alloc(), &report, fails_at), "at {fails_at}");
+    }
+    Ok(())
+}
+
+/// The last lines of a report with six findings, by how many of these the wide profile does not have.
+const FEWER: [(u128, &str); 3] = [
+    (0, "\nFINDINGS 6\n"),
+    (
+        1,
+        "\n1 of these is not there with --profile wide\nFINDINGS 6\n",
+    ),
+    (
+        4,
+        "\n4 of these are not there with --profile wide\nFINDINGS 6\n",
+    ),
+];
+
+/// Whether the text of a report ends so where the wide profile does not have this many of its findings.
+fn ends_with(alloc: Global, report: &BoardReport, fewer: u128, end: &str) -> bool {
+    match ReportText::new(alloc, &HOLED, report, fewer, None, &no_acceptances()) {
+        Ok(text) => is_ended_so(alloc, &text, end),
+        Err(_) => false,
+    }
+}
+
+/// Whether a text ends so.
+fn is_ended_so(alloc: Global, text: &ReportText, end: &str) -> bool {
+    match format!(in alloc; "{text}") {
+        Ok(written) => written.as_str().ends_with(end),
+        Err(_) => false,
+    }
+}
+
+#[test]
+fn findings_that_the_wide_profile_does_not_have_are_counted(
+    rt: HostRuntime,
+) -> Result<(), RowFail> {
+    let report = report_of(rt.alloc(), &THREE_OF_EACH)?;
+    for (fewer, end) in FEWER {
+        assert!(rt; ends_with(rt.alloc(), &report, fewer, end), "{fewer}");
     }
     Ok(())
 }

@@ -1,11 +1,11 @@
 //! Flashes, holes and reports as rows of figures, in pm.
 
-use grid_units::{Hole, Point, Reason, Rules};
+use grid_units::{Hole, Point, Profile, Reason, Rules};
 use layer_image::{What, Why};
 use pad_shapes::{Disc, Obround, Pad, Rect};
 use report::{
-    BoardReport, GapLack, HolePlace, LayerHead, Meets, Met, PlacedHole, RingCause, RingInPad,
-    RingLack, UnitMistake,
+    BoardReport, GapLack, HolePlace, LayerHead, Meets, Met, PlacedHole, RingAtEdge, RingCause,
+    RingInPad, RingLack, UnitMistake,
 };
 use std::alloc::{AllocError, Global};
 
@@ -56,12 +56,15 @@ pub(crate) fn pad_at(form: Form, centre: (i64, i64)) -> Option<Pad> {
     }
 }
 
-/// Why a hole lacks its ring. For a hole in a pad: the number of its flash, its form and centre, the ring and the lack.
+/// Why a hole lacks its ring. For a hole in a pad: the number of its flash, its form and centre unless it is rounded, the ring and the lack.
 #[derive(Clone, Copy)]
 pub(crate) enum CauseRow {
     TooSmall(usize, Form, (i64, i64), i64, i64),
     OffCentre(usize, Form, (i64, i64), i64, i64),
+    Edge(usize, i64, i64),
     Other(Why, usize),
+    Clear(usize),
+    Cleared(usize),
     NoFlash,
     Oblique,
 }
@@ -84,7 +87,12 @@ fn cause_of(row: CauseRow) -> Option<RingCause> {
         CauseRow::OffCentre(flash, form, centre, ring, lack) => {
             Some(RingCause::OffCentre(in_pad(flash, pad_at(form, centre), ring, lack)?))
         }
+        CauseRow::Edge(flash, ring, lack) => {
+            Some(RingCause::Edge(RingAtEdge { flash, ring, lack }))
+        }
         CauseRow::Other(why, flash) => Some(RingCause::Other { why, flash }),
+        CauseRow::Clear(flash) => Some(RingCause::Clear { flash }),
+        CauseRow::Cleared(flash) => Some(RingCause::Cleared { flash }),
         CauseRow::NoFlash => Some(RingCause::NoFlash),
         CauseRow::Oblique => Some(RingCause::Oblique),
     }
@@ -118,11 +126,12 @@ fn gap_of(row: GapRow) -> Option<GapLack> {
     })
 }
 
-/// A report: the required ring and gap, the layers, the findings, and the ring, the gap and the ring of holes in pads that the
+/// A report: the required ring and gap, the profile, the layers, the findings, and the ring, the gap and the ring of holes in pads that the
 /// package meets.
 #[derive(Clone, Copy)]
 pub(crate) struct ReportRow<'a> {
     pub(crate) rules: (i64, i64),
+    pub(crate) profile: Profile,
     pub(crate) layers: &'a [LayerHead],
     pub(crate) rings: &'a [RingRow],
     pub(crate) gaps: &'a [GapRow],
@@ -179,7 +188,7 @@ fn fill(report: &mut BoardReport, row: &ReportRow) -> Result<(), RowFail> {
 /// The report of a row.
 pub(crate) fn report_of(alloc: Global, row: &ReportRow) -> Result<BoardReport, RowFail> {
     let rules = Rules::new(row.rules.0, row.rules.1)?;
-    let mut report = report_under(alloc, rules, row.meets);
+    let mut report = report_under(alloc, rules.in_profile(row.profile), row.meets);
     fill(&mut report, row)?;
     Ok(report)
 }

@@ -1,7 +1,7 @@
 //! Files of waivers, and findings with the figures of the worked examples.
 
 use crate::rows::{CauseRow, Form, GapRow, HoleRow, ReportRow, RingRow, report_of};
-use grid_units::{Fail, Reason};
+use grid_units::{Fail, Profile, Reason};
 use manifest::Name;
 use manifest::rows::read_records;
 use report::{BoardReport, LayerHead, Met};
@@ -323,6 +323,7 @@ const NAMES: [&str; 4] = ["top_layer", "bottom_layer", "pic_programmer-PTH", "dr
 /// A report of two layers without findings.
 const NOTHING: ReportRow = ReportRow {
     rules: (100_000_000, 250_000_000),
+    profile: Profile::Strict,
     layers: &[
         LayerHead {
             file: 0,
@@ -431,6 +432,26 @@ fn slots_and_names_are_printed_as_they_are(rt: HostRuntime) {
         ring,\"\"\"top\"\"\",\"p,th, 0.5 at 0,0 to 2,1\",,none,\n\
         ring,,\", 0.4 at 0,0\",,none,\n";
     assert!(rt; is_printed(rt, &["\"top\"", "p,th"], &SLOT_AND_UNSEEN, expected));
+}
+
+/// A hole near the edge of a rounded pad, one over a clear flash, and one over a flash that is cleared.
+const FURTHER: ReportRow = ReportRow {
+    profile: Profile::Wide,
+    rings: &[
+        (0, OFF, CauseRow::Edge(1, 99_999_000, 1_000)),
+        (0, BARE, CauseRow::Clear(2)),
+        (1, BARE, CauseRow::Cleared(3)),
+    ],
+    ..NOTHING
+};
+
+#[test]
+fn causes_of_the_wide_profile_are_printed(rt: HostRuntime) {
+    let expected = "kind,layer,hole,and,has,why\n\
+        ring,top_layer,\"pic_programmer-PTH, 1 at 0,0\",,0.099999,\n\
+        ring,top_layer,\"pic_programmer-PTH, 0.75 at 142.24,-97.79\",,none,\n\
+        ring,bottom_layer,\"pic_programmer-PTH, 0.75 at 142.24,-97.79\",,none,\n";
+    assert!(rt; is_printed(rt, &NAMES, &FURTHER, expected));
 }
 
 /// Adds the text of the seven findings, each with a reason.

@@ -23,7 +23,7 @@ use Rattle.ringcheck.specs.declared.refusals.Halt.TheVariants as halt
 use Rattle.ringcheck.specs.declared.refusals.RefusalStyle.{RefusalStyle}
 use Rattle.ringcheck.specs.Inner.Halting.{AfterHalt, Halts, OfFiles, OfTaken, refusal, refusal_of}
 use Rattle.ringcheck.specs.Refusals.{Refusal, PrintsRefusal, of_archive}
-use Rattle.ringcheck.specs.CheckStatus.{HasFiles, HasTable, HoldsForPackage, RefusedFile, IsPackageRefusal, SaysPackage, Checks, IsCheckStatus, IsLegalStatus, bad_file, long_file, refused_file, refused_manifest, setting_in, sources, status_of}
+use Rattle.ringcheck.specs.CheckStatus.{HasFiles, HasTable, HoldsForPackage, RefusedFile, IsPackageRefusal, RefusedAmong, SaysPackage, Checks, IsCheckStatus, IsLegalStatus, bad_file, long_file, refused_file, refused_manifest, setting_in, sources, status_of}
 use Rattle.ringcheck.proofs.LoadSteps.{has_files_along, names_among, read_in, same_length}
 
 -- ---- findings
@@ -67,6 +67,13 @@ module _ (has : List ℕ → List ℕ → Type 0) (profile : Profile) (entries :
   pub taken : (r : Result (Result Bool Halt) Failure) → IfOk r (OfTaken Holds (sources profile entries files)) → IfOk r (OfFiles has profile entries Risen Holds)
   taken r h = IfOk-weaker r (OfTaken Holds (sources profile entries files)) (OfFiles has profile entries Risen Holds) of_taken h
 
+-- a file that was taken is refused, so a file that was loaded is
+pub refused_among : (has : List ℕ → List ℕ → Type 0) (profile : Profile) (entries : List Entry) (Risen : Type 0) (files : List (List ℕ)) → HasFiles (within file_limit has) entries files → (h : Halt)
+    → Halts (RefusedAmong (sources profile entries files)) ⊥ h → Halts (RefusedFile has profile entries) Risen h
+refused_among has profile entries Risen files held (halt.Refused what why) h = bad_file files held h
+refused_among has profile entries Risen files held (halt.Archive what why name) h = bad_file files held h
+refused_among has profile entries Risen files held (halt.Unread what) h = absurd h
+
 -- files were loaded, and something was done with the reader that has taken them
 module _ (has : List ℕ → List ℕ → Type 0) (profile : Profile) (entries : List Entry) (Risen : Type 0) (Holds : Bool → List FileView → Type 0) where
   pub done_with : {R : Type 0} (stands : R → List FileView → Type 0) (reader : R) (names : List (Bor (List ℕ))) → map (λ (n : Bor (List ℕ)). n.now) names ≡ map (λ (e : Entry). e.name) entries
@@ -100,6 +107,12 @@ pub risen_since : (old middle new : ℕ) → old ≤ middle → HasRisen middle 
 risen_since old middle new le (inl more) = inl (omega arith)
 risen_since old middle new le (inr last) = inr last
 
+-- what could not be read later was not read
+pub unread_since : (Is : Refusal → Type 0) (old middle new : ℕ) → old ≤ middle → (h : Halt) → Halts (λ why. ⊥) (HasRisen middle new) h → Halts Is (HasRisen old new) h
+unread_since Is old middle new le (halt.Refused what why) h = absurd h
+unread_since Is old middle new le (halt.Archive what why name) h = absurd h
+unread_since Is old middle new le (halt.Unread what) h = risen_since old middle new le h
+
 -- what is held or refused by a loader that has no more is so by one that has more
 module _ (later has : List ℕ → List ℕ → Type 0) (to : (n b : List ℕ) → later n b → has n b) where
   pub files_along : (entries : List Entry) (files : List (List ℕ)) → HasFiles (within file_limit later) entries files → HasFiles (within file_limit has) entries files
@@ -112,13 +125,13 @@ module _ (later has : List ℕ → List ℕ → Type 0) (to : (n b : List ℕ) �
   file_along profile entries why (bad_file files held refused) = bad_file files (files_along entries files held) refused
 
   module _ (profile : Profile) (name : List ℕ) where
-    listed_along : (entries : List Entry) → HasTable manifest later name entries → HasTable manifest has name entries
+    pub listed_along : (entries : List Entry) → HasTable manifest later name entries → HasTable manifest has name entries
     listed_along entries h = (h.0, to name h.0 h.1, h.2, h.3)
 
-    package_along : (Holds : List FileView → Type 0) → HoldsForPackage later profile name Holds → HoldsForPackage has profile name Holds
+    pub package_along : (Holds : List FileView → Type 0) → HoldsForPackage later profile name Holds → HoldsForPackage has profile name Holds
     package_along Holds h = record { entries = h.entries; listed = listed_along h.entries h.listed; files = h.files; loaded = files_along h.entries h.files h.loaded; holds = h.holds }
 
-    refused_along : (why : Refusal) → IsPackageRefusal later profile name why → IsPackageRefusal has profile name why
+    pub refused_along : (why : Refusal) → IsPackageRefusal later profile name why → IsPackageRefusal has profile name why
     refused_along why (refused_manifest h) = refused_manifest (h.0, to name h.0 h.1, h.2)
     refused_along why (refused_file entries listed file) = refused_file entries (listed_along entries listed) (file_along profile entries why file)
 
@@ -138,8 +151,17 @@ worked has profile name Holds refusal_style before after entries files listed lo
 worked has profile name Holds refusal_style before after entries files listed loaded false h = record { entries = entries; listed = listed; files = files; loaded = loaded; holds = h }
 
 -- what holds of all files of which something else holds, holds of a package
-package_weaker : (has : List ℕ → List ℕ → Type 0) (profile : Profile) (name : List ℕ) (P Q : List FileView → Type 0) → ((all : List FileView) → P all → Q all) → HoldsForPackage has profile name P → HoldsForPackage has profile name Q
+pub package_weaker : (has : List ℕ → List ℕ → Type 0) (profile : Profile) (name : List ℕ) (P Q : List FileView → Type 0) → ((all : List FileView) → P all → Q all) → HoldsForPackage has profile name P → HoldsForPackage has profile name Q
 package_weaker has profile name P Q weaker h = record { entries = h.entries; listed = h.listed; files = h.files; loaded = h.loaded; holds = weaker (sources profile h.entries h.files) h.holds }
+
+-- what is said of a package by what holds of its files, is said by what then holds of them too
+pub says_weaker : (has : List ℕ → List ℕ → Type 0) (profile : Profile) (name : List ℕ) (P Q : Bool → List FileView → Type 0) → ((passes : Bool) (all : List FileView) → P passes all → Q passes all) → (refusal_style : RefusalStyle) (before after : Option (List ℕ)) (s : Status)
+    → SaysPackage has profile name P refusal_style before after s → SaysPackage has profile name Q refusal_style before after s
+says_weaker has profile name P Q weaker refusal_style before after status.Pass h = package_weaker has profile name (P true) (Q true) (weaker true) h
+says_weaker has profile name P Q weaker refusal_style before after status.Findings h = package_weaker has profile name (P false) (Q false) (weaker false) h
+says_weaker has profile name P Q weaker refusal_style before after status.Refused h = h
+says_weaker has profile name P Q weaker refusal_style before after status.Usage h = h
+says_weaker has profile name P Q weaker refusal_style before after status.Device h = h
 
 -- of a package that was checked each file is of the profile
 pub checked_is_legal : (has : List ℕ → List ℕ → Type 0) (name : List ℕ) (rules : GridRules) (before after : Option (List ℕ)) (s : Status) → IsCheckStatus has name rules before after s → IsLegalStatus has rules.profile name s

@@ -17,9 +17,9 @@ pub check_status : (has : Relation) (r g : List ℕ) (p : Option (List ℕ)) (m 
     → IsCheck r g p m request → IsRequestStatus request has failed_before failed_after before after s → IsParsedCheckStatus has m (parse_check p r g) before after s
 check_status has r g p m (Check ring gap profile manifest) failed_before failed_after before after s (er, eg, ep, em) says = rw (sym er, sym eg, sym ep, sym em) says
 check_status has r g p m (Measure profile format manifest) failed_before failed_after before after s h says = absurd h
-check_status has r g p m (Report ring gap limit waive outline format manifest) failed_before failed_after before after s h says = absurd h
-check_status has r g p m (Draw ring gap outline manifest) failed_before failed_after before after s h says = absurd h
-check_status has r g p m (Show kind file) failed_before failed_after before after s h says = absurd h
+check_status has r g p m (Report ring gap profile limit waive outline format manifest) failed_before failed_after before after s h says = absurd h
+check_status has r g p m (Draw ring gap profile outline manifest) failed_before failed_after before after s h says = absurd h
+check_status has r g p m (Show kind profile file) failed_before failed_after before after s h says = absurd h
 check_status has r g p m (Rewrite kind file) failed_before failed_after before after s h says = absurd h
 check_status has r g p m (Manifest why files) failed_before failed_after before after s h says = absurd h
 check_status has r g p m (Explain word) failed_before failed_after before after s h says = absurd h
@@ -28,35 +28,35 @@ check_status has r g p m (Explain word) failed_before failed_after before after 
 pub legal_status : (has : Relation) (r g : List ℕ) (p : Option (List ℕ)) (m : List ℕ) (request : Request) (s : Status) → IsCheck r g p m request → IsLegalRequest request has s → IsParsedLegalStatus has m (profile_of p) s
 legal_status has r g p m (Check ring gap profile manifest) s (er, eg, ep, em) says = rw (sym ep, sym em) says
 legal_status has r g p m (Measure profile format manifest) s h says = absurd h
-legal_status has r g p m (Report ring gap limit waive outline format manifest) s h says = absurd h
-legal_status has r g p m (Draw ring gap outline manifest) s h says = absurd h
-legal_status has r g p m (Show kind file) s h says = absurd h
+legal_status has r g p m (Report ring gap profile limit waive outline format manifest) s h says = absurd h
+legal_status has r g p m (Draw ring gap profile outline manifest) s h says = absurd h
+legal_status has r g p m (Show kind profile file) s h says = absurd h
 legal_status has r g p m (Rewrite kind file) s h says = absurd h
 legal_status has r g p m (Manifest why files) s h says = absurd h
 legal_status has r g p m (Explain word) s h says = absurd h
 
 -- of a report
-pub report_status : (has : Relation) (r g : List ℕ) (n v l o : Option (List ℕ)) (m : List ℕ) (request : Request) (failed_before failed_after : ℕ) (before after : Option (List ℕ)) (s : Status)
-    → IsReport r g n v l o m request → IsRequestStatus request has failed_before failed_after before after s → IsParsedReportStatus has m (parse_report r g n v l o) (below_report r g n (is_some l) o) v l before after s
-report_status has r g n v l o m (Report ring gap limit waive outline format manifest) failed_before failed_after before after s (er, eg, en, ev, el, eo, em) says =
-    rw (sym er, sym eg, sym en, sym ev, sym el, sym eo, sym em) says
-report_status has r g n v l o m (Check ring gap profile manifest) failed_before failed_after before after s h says = absurd h
-report_status has r g n v l o m (Measure profile format manifest) failed_before failed_after before after s h says = absurd h
-report_status has r g n v l o m (Draw ring gap outline manifest) failed_before failed_after before after s h says = absurd h
-report_status has r g n v l o m (Show kind file) failed_before failed_after before after s h says = absurd h
-report_status has r g n v l o m (Rewrite kind file) failed_before failed_after before after s h says = absurd h
-report_status has r g n v l o m (Manifest why files) failed_before failed_after before after s h says = absurd h
-report_status has r g n v l o m (Explain word) failed_before failed_after before after s h says = absurd h
+pub report_status : (has : Relation) (r g : List ℕ) (p n v l o : Option (List ℕ)) (m : List ℕ) (request : Request) (failed_before failed_after : ℕ) (before after : Option (List ℕ)) (s : Status)
+    → IsReport r g p n v l o m request → IsRequestStatus request has failed_before failed_after before after s → IsParsedReportStatus has m (parse_report p r g n v l o) (below_report p r g n (is_some l) o) v l before after s
+report_status has r g p n v l o m (Report ring gap profile limit waive outline format manifest) failed_before failed_after before after s (er, eg, ep, en, ev, el, eo, em) says =
+    rw (sym er, sym eg, sym ep, sym en, sym ev, sym el, sym eo, sym em) says
+report_status has r g p n v l o m (Check ring gap profile manifest) failed_before failed_after before after s h says = absurd h
+report_status has r g p n v l o m (Measure profile format manifest) failed_before failed_after before after s h says = absurd h
+report_status has r g p n v l o m (Draw ring gap profile outline manifest) failed_before failed_after before after s h says = absurd h
+report_status has r g p n v l o m (Show kind profile file) failed_before failed_after before after s h says = absurd h
+report_status has r g p n v l o m (Rewrite kind file) failed_before failed_after before after s h says = absurd h
+report_status has r g p n v l o m (Manifest why files) failed_before failed_after before after s h says = absurd h
+report_status has r g p n v l o m (Explain word) failed_before failed_after before after s h says = absurd h
 
 -- of a picture
-pub draw_status : (has : Relation) (o : Option (List ℕ × List ℕ)) (l : Option (List ℕ)) (m : List ℕ) (request : Request) (failed_before failed_after : ℕ) (before after : Option (List ℕ)) (s : Status)
-    → IsDraw o l m request → IsRequestStatus request has failed_before failed_after before after s
-    → IsParsedDrawStatus has m (parse_draw (option_map (λ both. both.0) o) (option_map (λ both. both.1) o)) l before after s
-draw_status has o l m (Draw ring gap outline manifest) failed_before failed_after before after s (er, eg, el, em) says = rw (sym er, sym eg, sym el, sym em) says
-draw_status has o l m (Check ring gap profile manifest) failed_before failed_after before after s h says = absurd h
-draw_status has o l m (Measure profile format manifest) failed_before failed_after before after s h says = absurd h
-draw_status has o l m (Report ring gap limit waive outline format manifest) failed_before failed_after before after s h says = absurd h
-draw_status has o l m (Show kind file) failed_before failed_after before after s h says = absurd h
-draw_status has o l m (Rewrite kind file) failed_before failed_after before after s h says = absurd h
-draw_status has o l m (Manifest why files) failed_before failed_after before after s h says = absurd h
-draw_status has o l m (Explain word) failed_before failed_after before after s h says = absurd h
+pub draw_status : (has : Relation) (o : Option (List ℕ × List ℕ)) (p l : Option (List ℕ)) (m : List ℕ) (request : Request) (failed_before failed_after : ℕ) (before after : Option (List ℕ)) (s : Status)
+    → IsDraw o p l m request → IsRequestStatus request has failed_before failed_after before after s
+    → IsParsedDrawStatus has m (parse_draw p (option_map (λ both. both.0) o) (option_map (λ both. both.1) o)) l before after s
+draw_status has o p l m (Draw ring gap profile outline manifest) failed_before failed_after before after s (er, eg, ep, el, em) says = rw (sym er, sym eg, sym ep, sym el, sym em) says
+draw_status has o p l m (Check ring gap profile manifest) failed_before failed_after before after s h says = absurd h
+draw_status has o p l m (Measure profile format manifest) failed_before failed_after before after s h says = absurd h
+draw_status has o p l m (Report ring gap profile limit waive outline format manifest) failed_before failed_after before after s h says = absurd h
+draw_status has o p l m (Show kind profile file) failed_before failed_after before after s h says = absurd h
+draw_status has o p l m (Rewrite kind file) failed_before failed_after before after s h says = absurd h
+draw_status has o p l m (Manifest why files) failed_before failed_after before after s h says = absurd h
+draw_status has o p l m (Explain word) failed_before failed_after before after s h says = absurd h

@@ -4,10 +4,8 @@ use Rattle.std.specs.List.{Contains}
 use Rattle.grid_units.specs.Holes.{GridRules}
 use Rattle.grid_units.specs.declared.fault.Reason.{Reason}
 use Rattle.grid_units.specs.declared.profile.Profile.{Profile}
-use Rattle.grid_units.specs.declared.profile.Profile.TheVariants.{Strict}
 use Rattle.manifest.specs.declared.Entry.{Entry}
 use Rattle.manifest.specs.Manifest.{manifest}
-use Rattle.board_report.specs.BoardReport.{in_strict}
 use Rattle.board_report.specs.Measures.{PackagePasses}
 use Rattle.report.specs.declared.Measure.{Measure}
 use Rattle.package_check.specs.Package.{FileView}
@@ -82,9 +80,9 @@ met_of_three below m l d (Ok order) before after status.Device says is = cc
 
 -- the files that the manifest names are sound, where a report has no finding
 pub report_of_three : (below : List ℕ) (m l d : List ℕ) (r : Result (GridRules × Option ℕ × ReportFormat) Reason) (before after : Option (List ℕ)) (s : Status) → IsParsedReportStatus (has_three_files m l d) (codes "m.csv") r below None None before after s → s ≡ status.Pass
-    → (unparsed : GridRules × Option ℕ × ReportFormat) × (r ≡ Ok unparsed) × (entries : List Entry) × (manifest m ≡ Ok entries) × (files : List (List ℕ)) × HasFiles (has_three_files m l d) entries files × IsSound (sources Strict entries files) (in_strict unparsed.0)
+    → (unparsed : GridRules × Option ℕ × ReportFormat) × (r ≡ Ok unparsed) × (entries : List Entry) × (manifest m ≡ Ok entries) × (files : List (List ℕ)) × HasFiles (has_three_files m l d) entries files × IsSound (sources unparsed.0.profile entries files) unparsed.0
 report_of_three below m l d (Err why) before after s says is = absurd (explained_never_passes why below before after s says is)
-report_of_three below m l d (Ok (rules, limit, form)) before after status.Pass says is = let (entries, listed, files, loaded, holds) = held m l d Strict _ says in ((rules, limit, form), refl, entries, listed, files, loaded, holds.sound (sym holds.judged.0))
+report_of_three below m l d (Ok (rules, limit, form)) before after status.Pass says is = let (entries, listed, files, loaded, holds) = held m l d rules.profile _ says in ((rules, limit, form), refl, entries, listed, files, loaded, holds.sound (sym holds.judged.0))
 report_of_three below m l d (Ok (rules, limit, form)) before after status.Findings says is = cc
 report_of_three below m l d (Ok (rules, limit, form)) before after status.Refused says is = cc
 report_of_three below m l d (Ok (rules, limit, form)) before after status.Usage says is = cc

@@ -2,7 +2,7 @@
 use Rattle.std.specs.Prelude.{◌≡◌, ◌⊎◌, ℕ, Bool, true, List, [], map, Option, None, Some, Result, Ok, Err}
 use Rattle.std.specs.Io.KnownBytes.{Appends}
 use Rattle.grid_units.specs.Holes.{GridRules}
-use Rattle.grid_units.specs.declared.profile.Profile.TheVariants.{Strict}
+use Rattle.grid_units.specs.declared.profile.Profile.{Profile}
 use Rattle.grid_units.specs.declared.fault.Reason.{Reason}
 use Rattle.drawing.specs.Drawings.{IsDrawn}
 use Rattle.layer_image.specs.declared.drawn.Drawn.{Drawn}
@@ -28,19 +28,19 @@ pub record PrintsPicture (rules : Option GridRules) (outline : List Drawn) (befo
   pub sound : (required : GridRules) → rules ≡ Some required → board_findings required board ≡ [] → IsSound all required
   pub passed : passes ≡ true
 
--- what a status says of the picture of a package, read in the strict profile, with an outline of these parts; it is never Findings
-abbrev pub IsDrawStatus : Relation → List ℕ → Option GridRules → List Drawn → Option (List ℕ) → Option (List ℕ) → Status → Type 0
-IsDrawStatus has name rules outline before after s = SaysPackage has Strict name (PrintsPicture rules outline before after) style.Line before after s
+-- what a status says of the picture of a package, read in a profile, with an outline of these parts; it is never Findings
+abbrev pub IsDrawStatus : Relation → List ℕ → Profile → Option GridRules → List Drawn → Option (List ℕ) → Option (List ℕ) → Status → Type 0
+IsDrawStatus has name profile rules outline before after s = SaysPackage has profile name (PrintsPicture rules outline before after) style.Line before after s
 
 -- what a status says of a picture for which the file of an outline may be named: without one the picture has no outline; with one that
 -- file is refused, or the status is Device, or the file has an outline and the picture is made with it
-abbrev pub IsOutlinedDrawStatus : Relation → List ℕ → Option GridRules → Option (List ℕ) → Option (List ℕ) → Option (List ℕ) → Status → Type 0
-IsOutlinedDrawStatus has name rules None before after s = IsDrawStatus has name rules [] before after s
-IsOutlinedDrawStatus has name rules (Some file) before after s =
+abbrev pub IsOutlinedDrawStatus : Relation → List ℕ → Profile → Option GridRules → Option (List ℕ) → Option (List ℕ) → Option (List ℕ) → Status → Type 0
+IsOutlinedDrawStatus has name profile rules None before after s = IsDrawStatus has name profile rules [] before after s
+IsOutlinedDrawStatus has name profile rules (Some file) before after s =
     ((s ≡ status.Refused) × PrintsOutlineRefusal has file before after)
-    ⊎ ((s ≡ status.Device) ⊎ ((outline : List Drawn) × HasOutline has file outline × IsDrawStatus has name rules outline before after s))
+    ⊎ ((s ≡ status.Device) ⊎ ((outline : List Drawn) × HasOutline has file outline × IsDrawStatus has name profile rules outline before after s))
 
--- what a status says of a picture under the rules that words name, or where these are refused; `outline` is the file of an outline, if there is one
-abbrev pub IsParsedDrawStatus : Relation → List ℕ → Result (Option GridRules) Reason → Option (List ℕ) → Option (List ℕ) → Option (List ℕ) → Status → Type 0
-IsParsedDrawStatus has name (Ok rules) outline before after s = IsOutlinedDrawStatus has name rules outline before after s
+-- what a status says of a picture in the profile and under the rules that words name, or where these are refused; `outline` is the file of an outline, if there is one
+abbrev pub IsParsedDrawStatus : Relation → List ℕ → Result (Profile × Option GridRules) Reason → Option (List ℕ) → Option (List ℕ) → Option (List ℕ) → Status → Type 0
+IsParsedDrawStatus has name (Ok (profile, rules)) outline before after s = IsOutlinedDrawStatus has name profile rules outline before after s
 IsParsedDrawStatus has name (Err why) outline before after s = IsUsageStatus why before after s

@@ -2,3 +2,4 @@ pub mod Halting
 pub mod Jobs
 pub mod Loading
 pub mod Outlines
+pub mod Reporting

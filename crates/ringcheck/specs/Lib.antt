@@ -6,6 +6,7 @@ pub mod Outlining
 pub mod ParsedWords
 pub mod Refusals
 pub mod ReportStatus
+pub mod ShowStatus
 pub mod RequestStatus
 pub mod RewrittenPackages
 pub mod Sentences

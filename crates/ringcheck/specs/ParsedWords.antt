@@ -85,15 +85,24 @@ measured_in (Some profile) form = parse_format form >>= λ f. Ok (record { profi
 abbrev pub parse_measure : Option (List ℕ) → Option (List ℕ) → Result MeasureOrder Reason
 parse_measure profile form = measured_in (profile_of profile) form
 
--- the rules, the limit of findings and the format of a report, or the first refusal in this order; `waive` is the file of waivers and
--- `outline` that of an outline, if there is one
-unfoldable pub parse_report : List ℕ → List ℕ → Option (List ℕ) → Option (List ℕ) → Option (List ℕ) → Option (List ℕ) → Result (GridRules × Option ℕ × ReportFormat) Reason
-parse_report ring gap limit waive outline form =
-    parse_rules ring gap >>= λ rules. (parse_limit limit >>= λ n. (parse_report_format (is_some waive) (is_some outline) form >>= λ f. Ok (rules, n, f)))
+-- the rules in a profile, the limit of findings and the format of a report, or the first refusal in this order, of which that of the profile is
+-- the first; `waive` is the file of waivers and `outline` that of an outline, if there is one
+unfoldable pub parse_report : Option (List ℕ) → List ℕ → List ℕ → Option (List ℕ) → Option (List ℕ) → Option (List ℕ) → Option (List ℕ) → Result (GridRules × Option ℕ × ReportFormat) Reason
+parse_report profile ring gap limit waive outline form =
+    parse_check profile ring gap >>= λ rules. (parse_limit limit >>= λ n. (parse_report_format (is_some waive) (is_some outline) form >>= λ f. Ok (rules, n, f)))
 
--- the rules of a picture: those of a ring and a gap, or none; one of these alone is BadRule
-unfoldable pub parse_draw : Option (List ℕ) → Option (List ℕ) → Result (Option GridRules) Reason
-parse_draw None None = Ok None
-parse_draw (Some ring) (Some gap) = parse_rules ring gap >>= λ rules. Ok (Some rules)
-parse_draw (Some ring) None = Err BadRule
-parse_draw None (Some gap) = Err BadRule
+-- the rules of a picture in a profile: those of a ring and a gap, or none; one of these alone is BadRule
+unfoldable pub drawn_under : Profile → Option (List ℕ) → Option (List ℕ) → Result (Option GridRules) Reason
+drawn_under profile None None = Ok None
+drawn_under profile (Some ring) (Some gap) = parse_rules ring gap >>= λ rules. Ok (Some (in_profile profile rules))
+drawn_under profile (Some ring) None = Err BadRule
+drawn_under profile None (Some gap) = Err BadRule
+
+-- the profile and the rules of a picture; where there is no profile BadRole, whatever the two words are
+unfoldable pub drawn_in : Option Profile → Option (List ℕ) → Option (List ℕ) → Result (Profile × Option GridRules) Reason
+drawn_in None ring gap = Err BadRole
+drawn_in (Some profile) ring gap = drawn_under profile ring gap >>= λ rules. Ok (profile, rules)
+
+-- the profile and the rules of a picture, by the words for them, if there are any
+abbrev pub parse_draw : Option (List ℕ) → Option (List ℕ) → Option (List ℕ) → Result (Profile × Option GridRules) Reason
+parse_draw profile ring gap = drawn_in (profile_of profile) ring gap

@@ -1,11 +1,14 @@
 -- What a status says of a report for people (docs/FORMATS.md, Report for people; JSON; Waivers).
-use Rattle.std.specs.Prelude.{◌≡◌, ◌⊎◌, ◌==◌, ◌&&◌, ℕ, Bool, true, List, [], Option, Some, None, Result, Ok, Err, length, map}
+use Rattle.std.specs.Prelude.{◌≡◌, ◌⊎◌, ◌==◌, ◌&&◌, ◌+◌, ◌-◌, ℕ, Bool, true, false, not, List, [], Option, Some, None, Result, Ok, Err, length, map}
 use Rattle.std.specs.Io.KnownBytes.{Appends}
 use Rattle.grid_units.specs.Holes.{GridRules}
-use Rattle.grid_units.specs.declared.profile.Profile.TheVariants.{Strict}
+use Rattle.grid_units.specs.declared.fault.Fault.{Fault}
 use Rattle.grid_units.specs.declared.fault.Reason.{Reason}
+use Rattle.grid_units.specs.declared.profile.Profile.{Profile}
+use Rattle.grid_units.specs.declared.profile.Profile.TheVariants.{Strict, Wide}
 use Rattle.layer_image.specs.declared.drawn.Drawn.{Drawn}
-use Rattle.package_check.specs.Package.{FileView}
+use Rattle.package_check.specs.Package.{FileView, IsFirstRefused, IsReport}
+use Rattle.package_check.specs.Reports.{ReportView}
 use Rattle.package_check.specs.Soundness.{IsSound}
 use Rattle.layer_image.specs.declared.keep.Keep.{Keep}
 use Rattle.layer_image.specs.declared.keep.Keep.TheVariants as keep
@@ -15,7 +18,7 @@ use Rattle.print_json.specs.Values.{json_text}
 use Rattle.print_text.specs.Texts.{waived_report_text}
 use Rattle.report.specs.declared.BoardReport.{BoardReport}
 use Rattle.report.specs.declared.Acceptances.{Acceptances}
-use Rattle.board_report.specs.BoardReport.{AgreesWithCheck, IsBoardReportOf, in_strict}
+use Rattle.board_report.specs.BoardReport.{AgreesWithCheck, IsBoardReportOf}
 use Rattle.ringcheck_files.specs.declared.Status.{Status}
 use Rattle.ringcheck_files.specs.declared.Status.TheVariants as status
 use Rattle.report_page.specs.Pages.{IsHtmlPage}
@@ -26,7 +29,7 @@ use Rattle.ringcheck.specs.declared.refusals.RefusalStyle.TheVariants as style
 use Rattle.ringcheck.specs.Refusals.{Refusal, PrintsRefusal}
 use Rattle.ringcheck_files.specs.LoaderRelation.{Relation}
 use Rattle.ringcheck_files.specs.Words.{IsExplainedUsage}
-use Rattle.ringcheck.specs.CheckStatus.{SaysPackage}
+use Rattle.ringcheck.specs.CheckStatus.{HoldsForPackage, IsPackageRefusal, SaysPackage}
 use Rattle.ringcheck.specs.Outlining.{HasOutline, PrintsOutlineRefusal}
 use Rattle.ringcheck.specs.Waiving.{HasWaivers, RefusedWaivers}
 use Rattle.waivers.specs.Findings.{findings_text}
@@ -38,17 +41,47 @@ use Rattle.waivers.specs.declared.waiving.Waived.{Waived}
 abbrev pub PrintsPage : List (List ℕ) → BoardView → List Drawn → BoardReport → Acceptances → Option (List ℕ) → Option (List ℕ) → Type 0
 PrintsPage names board outline report accepted before after = (page : List ℕ) × IsHtmlPage names board outline report accepted page × Appends before after page
 
--- the writer got just a report on a board with the reasons why findings are waived: its text with at most `limit` findings, or its page with an
--- outline of these parts, its JSON or its file of waivers with all of them
-abbrev pub PrintsReport : ReportFormat → List (List ℕ) → BoardView → List Drawn → BoardReport → Option ℕ → Acceptances → Option (List ℕ) → Option (List ℕ) → Type 0
-PrintsReport format.Text names board outline report limit accepted before after = Appends before after (waived_report_text names report limit accepted)
-PrintsReport format.Html names board outline report limit accepted before after = PrintsPage names board outline report accepted before after
-PrintsReport format.Json names board outline report limit accepted before after = Appends before after (json_text (waived_report_value names board.files report accepted))
-PrintsReport format.Waivers names board outline report limit accepted before after = Appends before after (findings_text names report)
+-- the writer got just a report on a board with the reasons why findings are waived: its text with at most `limit` findings, and with how many of
+-- them the wide profile does not have, or its page with an outline of these parts, its JSON or its file of waivers with all of them
+abbrev pub PrintsReport : ReportFormat → List (List ℕ) → BoardView → List Drawn → BoardReport → ℕ → Option ℕ → Acceptances → Option (List ℕ) → Option (List ℕ) → Type 0
+PrintsReport format.Text names board outline report fewer limit accepted before after = Appends before after (waived_report_text names report fewer limit accepted)
+PrintsReport format.Html names board outline report fewer limit accepted before after = PrintsPage names board outline report accepted before after
+PrintsReport format.Json names board outline report fewer limit accepted before after = Appends before after (json_text (waived_report_value names board.files report accepted))
+PrintsReport format.Waivers names board outline report fewer limit accepted before after = Appends before after (findings_text names report)
+
+-- a report as a text in the strict profile
+abbrev pub is_strict_text : ReportFormat → Profile → Bool
+is_strict_text format.Text Strict = true
+is_strict_text _ _ = false
 
 -- whether a report has no finding
 abbrev pub has_none : BoardReport → Bool
 has_none report = (length report.rings.items == 0) && (length report.gaps.items == 0)
+
+-- how many findings a report has
+abbrev pub finding_count : BoardReport → ℕ
+finding_count report = length report.rings.items + length report.gaps.items
+
+-- the same ring and gap in the wide profile
+abbrev pub in_wide : GridRules → GridRules
+in_wide rules = record { ring = rules.ring; gap = rules.gap; profile = Wide }
+
+-- a report says how many of its findings the wide profile does not have: a text in the strict profile that has a finding
+abbrev pub asks_wide : ReportFormat → GridRules → BoardReport → Bool
+asks_wide form rules report = is_strict_text form rules.profile && not (has_none report)
+
+-- how many findings of a report the wide profile does not have: those that a check of these files in that profile has fewer, or 0 where one of them
+-- is refused
+abbrev pub FindsFewer : GridRules → BoardReport → ℕ → List FileView → Type 0
+FindsFewer rules report fewer all =
+    ((wide : ReportView) × IsReport all (in_wide rules) wide × (fewer ≡ finding_count report - length wide.findings))
+    ⊎ ((fewer ≡ 0) × ((index : ℕ) × (fault : Fault) × IsFirstRefused all index fault))
+
+-- the same of the package under a name, as the loader has it when it is asked again; 0 where the package is refused, or the report does not ask
+abbrev pub IsFewer : Relation → List ℕ → Bool → GridRules → BoardReport → ℕ → Type 0
+IsFewer has name true rules report fewer =
+    HoldsForPackage has Wide name (FindsFewer rules report fewer) ⊎ ((fewer ≡ 0) × ((why : Refusal) × IsPackageRefusal has Wide name why))
+IsFewer has name false rules report fewer = fewer ≡ 0
 
 -- whether a report passes, and its reasons: without a file of waivers it passes where it has no finding, and has no reason; with one it
 -- passes where each finding is waived, and has the reasons of the records that waive them
@@ -63,18 +96,20 @@ kept_for format.Html = keep.All
 kept_for format.Json = keep.Flashes
 kept_for format.Waivers = keep.Flashes
 
--- the writer got just the report of the files under the rules, in the strict profile, in a format, judged with the waivers of a file, if there is one; its findings
+-- the writer got just the report of the files under the rules, in a format, judged with the waivers of a file, if there is one; its findings
 -- are those of the check of them, one for one, and without a finding they are sound; a page shows what the copper files draw, and an outline
--- of these parts
-pub record Reports (rules : GridRules) (limit : Option ℕ) (form : ReportFormat) (waivers : Option (List Waiver)) (outline : List Drawn) (before after : Option (List ℕ)) (passes : Bool) (all : List FileView) : Type 0 where
+-- of these parts, and a text says how many of the findings the wide profile does not have
+pub record Reports (has : Relation) (name : List ℕ) (rules : GridRules) (limit : Option ℕ) (form : ReportFormat) (waivers : Option (List Waiver)) (outline : List Drawn) (before after : Option (List ℕ)) (passes : Bool) (all : List FileView) : Type 0 where
   pub report : BoardReport
-  pub is : IsBoardReportOf all (in_strict rules) report
+  pub is : IsBoardReportOf all rules report
   pub drawn : form ≡ format.Html → IsDrawnBoard all is.board
-  pub as_check : AgreesWithCheck all (in_strict rules) report
-  pub sound : has_none report ≡ true → IsSound all (in_strict rules)
+  pub as_check : AgreesWithCheck all rules report
+  pub sound : has_none report ≡ true → IsSound all rules
+  pub fewer : ℕ
+  pub is_fewer : IsFewer has name (asks_wide form rules report) rules report fewer
   pub accepted : Acceptances
   pub judged : Judges waivers (map (λ source. source.name) all) report passes accepted
-  pub written : PrintsReport form (map (λ source. source.name) all) is.board outline report limit accepted before after
+  pub written : PrintsReport form (map (λ source. source.name) all) is.board outline report fewer limit accepted before after
 
 -- how a refusal is printed in place of a report or a measure: by a line with its page, as JSON, or by a line alone
 abbrev pub report_style : ReportFormat → RefusalStyle
@@ -87,9 +122,9 @@ report_style format.Waivers = style.Line
 abbrev pub PrintsWaiversRefusal : Relation → List ℕ → RefusalStyle → Option (List ℕ) → Option (List ℕ) → Type 0
 PrintsWaiversRefusal has file refusal_style before after = (why : Refusal) × RefusedWaivers has file why × PrintsRefusal refusal_style why before after
 
--- what a status says of the report on a package, read in the strict profile
+-- what a status says of the report on a package, read in the profile of the rules
 abbrev pub IsReportStatus : Relation → List ℕ → GridRules → Option ℕ → ReportFormat → Option (List Waiver) → List Drawn → Option (List ℕ) → Option (List ℕ) → Status → Type 0
-IsReportStatus has name rules limit form waivers outline before after s = SaysPackage has Strict name (Reports rules limit form waivers outline before after) (report_style form) before after s
+IsReportStatus has name rules limit form waivers outline before after s = SaysPackage has rules.profile name (Reports has name rules limit form waivers outline before after) (report_style form) before after s
 
 -- what a status says of a report for which the file of an outline may be named: that file is refused, or the status is Device, or the file
 -- has an outline and the report is made with it

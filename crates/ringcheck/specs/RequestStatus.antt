@@ -19,7 +19,8 @@ use Rattle.ringcheck.specs.ParsedWords.{parse_check, parse_draw, parse_measure, 
 use Rattle.ringcheck_files.specs.FileStatus.{IsParsedFileStatus, parse_kind}
 use Rattle.ringcheck.specs.ReportStatus.{IsParsedReportStatus}
 use Rattle.ringcheck.specs.CheckStatus.{IsParsedCheckStatus, IsParsedLegalStatus}
-use Rattle.ringcheck.specs.Sentences.{below_measure, below_report}
+use Rattle.ringcheck.specs.Sentences.{below_measure, below_report, below_show}
+use Rattle.ringcheck.specs.ShowStatus.{IsParsedShowStatus}
 use Rattle.ringcheck_files.specs.LoaderRelation.{Relation}
 
 -- the bytes of a word that may be left out
@@ -32,12 +33,13 @@ IsRequestStatus (Check ring gap profile manifest) has failed_before failed_after
     IsParsedCheckStatus has manifest.now (parse_check (word_bytes profile) ring.now gap.now) before after s
 IsRequestStatus (Measure profile format manifest) has failed_before failed_after before after s =
     IsParsedMeasureStatus has manifest.now (parse_measure (word_bytes profile) (word_bytes format)) (below_measure (word_bytes profile) (word_bytes format)) before after s
-IsRequestStatus (Report ring gap limit waive outline format manifest) has failed_before failed_after before after s =
-    IsParsedReportStatus has manifest.now (parse_report ring.now gap.now (word_bytes limit) (word_bytes waive) (word_bytes outline) (word_bytes format))
-    (below_report ring.now gap.now (word_bytes limit) (is_some (word_bytes outline)) (word_bytes format)) (word_bytes waive) (word_bytes outline) before after s
-IsRequestStatus (Draw ring gap outline manifest) has failed_before failed_after before after s =
-    IsParsedDrawStatus has manifest.now (parse_draw (word_bytes ring) (word_bytes gap)) (word_bytes outline) before after s
-IsRequestStatus (Show kind file) has failed_before failed_after before after s = IsParsedFileStatus job.Show (parse_kind kind.now) has file.now before after s
+IsRequestStatus (Report ring gap profile limit waive outline format manifest) has failed_before failed_after before after s =
+    IsParsedReportStatus has manifest.now (parse_report (word_bytes profile) ring.now gap.now (word_bytes limit) (word_bytes waive) (word_bytes outline) (word_bytes format))
+    (below_report (word_bytes profile) ring.now gap.now (word_bytes limit) (is_some (word_bytes outline)) (word_bytes format)) (word_bytes waive) (word_bytes outline) before after s
+IsRequestStatus (Draw ring gap profile outline manifest) has failed_before failed_after before after s =
+    IsParsedDrawStatus has manifest.now (parse_draw (word_bytes profile) (word_bytes ring) (word_bytes gap)) (word_bytes outline) before after s
+IsRequestStatus (Show kind profile file) has failed_before failed_after before after s =
+    IsParsedShowStatus (profile_of (word_bytes profile)) (below_show (word_bytes profile)) (parse_kind kind.now) has file.now before after s
 IsRequestStatus (Rewrite kind file) has failed_before failed_after before after s = IsParsedFileStatus job.Rewrite (parse_kind kind.now) has file.now before after s
 IsRequestStatus (Manifest why files) has failed_before failed_after before after s =
     IsManifestStatus why has failed_before failed_after (map (λ file. file.now) files.items) before after s
@@ -47,9 +49,9 @@ IsRequestStatus (Explain word) has failed_before failed_after before after s = I
 abbrev pub IsLegalRequest : Request → Relation → Status → Type 0
 IsLegalRequest (Check ring gap profile manifest) has s = IsParsedLegalStatus has manifest.now (profile_of (word_bytes profile)) s
 IsLegalRequest (Measure profile format manifest) has s = ⊤
-IsLegalRequest (Report ring gap limit waive outline format manifest) has s = ⊤
-IsLegalRequest (Draw ring gap outline manifest) has s = ⊤
-IsLegalRequest (Show kind file) has s = ⊤
+IsLegalRequest (Report ring gap profile limit waive outline format manifest) has s = ⊤
+IsLegalRequest (Draw ring gap profile outline manifest) has s = ⊤
+IsLegalRequest (Show kind profile file) has s = ⊤
 IsLegalRequest (Rewrite kind file) has s = ⊤
 IsLegalRequest (Manifest why files) has s = ⊤
 IsLegalRequest (Explain word) has s = ⊤

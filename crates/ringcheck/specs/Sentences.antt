@@ -59,10 +59,16 @@ measure_format_sentence (Some word) = codes "--format is text or json, not " ++ 
 abbrev pub outline_sentence : List ℕ
 outline_sentence = codes "--outline belongs to the picture of --format html; draw has it too"
 
+-- what is said of a word that names no profile
+abbrev pub profile_sentence : Option (List ℕ) → List ℕ
+profile_sentence None = codes "--profile is strict or wide"
+profile_sentence (Some word) = codes "--profile is strict or wide, not " ++ word
+
 -- what is said of the words of a report that are refused, by the first of them that is; `outlined` says whether an outline is given
-abbrev pub report_sentence : List ℕ → List ℕ → Option (List ℕ) → Bool → Option (List ℕ) → List ℕ
-report_sentence ring gap limit outlined form =
-    if not (is_ok (parse_rules ring gap)) then rules_sentence ring gap
+abbrev pub report_sentence : Option (List ℕ) → List ℕ → List ℕ → Option (List ℕ) → Bool → Option (List ℕ) → List ℕ
+report_sentence profile ring gap limit outlined form =
+    if not (is_some (profile_of profile)) then profile_sentence profile
+    else if not (is_ok (parse_rules ring gap)) then rules_sentence ring gap
     else if not (is_ok (parse_limit limit)) then count_sentence limit
     else if outlined then outline_sentence else report_format_sentence form
 
@@ -72,13 +78,12 @@ is_for_people None = true
 is_for_people (Some word) = not (bytes_eq word (codes "html")) && (not (bytes_eq word (codes "json")) && not (bytes_eq word (codes "waivers")))
 
 -- what stands below the line of a report whose words are refused
-abbrev pub below_report : List ℕ → List ℕ → Option (List ℕ) → Bool → Option (List ℕ) → List ℕ
-below_report ring gap limit outlined form = if is_for_people form then sentence_line (report_sentence ring gap limit outlined form) else []
+abbrev pub below_report : Option (List ℕ) → List ℕ → List ℕ → Option (List ℕ) → Bool → Option (List ℕ) → List ℕ
+below_report profile ring gap limit outlined form = if is_for_people form then sentence_line (report_sentence profile ring gap limit outlined form) else []
 
--- what is said of a word that names no profile
-abbrev pub profile_sentence : Option (List ℕ) → List ℕ
-profile_sentence None = codes "--profile is strict or wide"
-profile_sentence (Some word) = codes "--profile is strict or wide, not " ++ word
+-- what stands below the line of a table whose profile is refused
+abbrev pub below_show : Option (List ℕ) → List ℕ
+below_show profile = sentence_line (profile_sentence profile)
 
 -- what is said of the words of a measure that are refused, by the first of them that is
 abbrev pub measure_sentence : Option (List ℕ) → Option (List ℕ) → List ℕ

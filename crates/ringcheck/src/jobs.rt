@@ -7,7 +7,7 @@ ghost use Rattle.ringcheck.specs.ReportStatus.{kept_for, report_style};
 
 use crate::parsed_words::{MeasureFormat, MeasureOrder, ReportFormat};
 use crate::refusals::RefusalStyle;
-use grid_units::Rules;
+use grid_units::{Profile, Rules};
 use layer_image::Drawn;
 use package_check::Keep;
 use waivers::Waiver;
@@ -29,6 +29,8 @@ pub(crate) struct Order {
 /// What a picture is asked for.
 #[derive(Drop)]
 pub(crate) struct PictureOrder {
+    /// The profile in which the files are read.
+    pub(crate) profile: Profile,
     /// The ring and the gap under which findings are drawn, in pm, if there are any.
     pub(crate) rules: Option<Rules>,
     /// What the file of the board's outline draws; nothing where none was named.

@@ -3,6 +3,7 @@
 
 mod checks;
 mod drawings;
+mod fewer;
 mod jobs;
 mod load_package;
 mod measures;
@@ -14,6 +15,7 @@ mod refusals;
 mod reports;
 pub mod rewritten_packages;
 mod sentences;
+mod tables;
 
 pub use manifest::{Entry, Name, Role, read_manifest};
 pub use package_check::{

@@ -61,6 +61,7 @@ pub(crate) fn load_table<'a, L: Loader, R: Row + Drop>(
     subject: Subject<'a>,
 ) -> Result<Result<Vec<R>, Halt<'a>>, Failure>
     ensures keeps { (n b : List ℕ) → L.has loader.new n b → L.has loader.old n b }
+    ensures kept { (n b : List ℕ) → L.has loader.old n b → L.has loader.new n b }
     ensures counts { L.failed loader.old ≤ L.failed loader.new }
     ensures loaded { IfOk result (OfTable R.rows (L.has loader.old) name.now subject.entry (HasRisen (L.failed loader.old) (L.failed loader.new))) }
 {
@@ -210,7 +211,10 @@ pub(crate) fn take_files<'a, L: Loader>(
     loader: &mut L,
     entries: &'a [Entry],
 ) -> Result<Result<PackageReader, Halt<'a>>, Failure>
-    ensures { IfOk result (OfFiles (L.has loader.old) profile entries.now (HasRisen (L.failed loader.old) (L.failed loader.new)) (λ reader. HasTakenAll reader keep)) }
+    ensures keeps { (n b : List ℕ) → L.has loader.new n b → L.has loader.old n b }
+    ensures kept { (n b : List ℕ) → L.has loader.old n b → L.has loader.new n b }
+    ensures counts { L.failed loader.old ≤ L.failed loader.new }
+    ensures loaded { IfOk result (OfFiles (L.has loader.old) profile entries.now (HasRisen (L.failed loader.old) (L.failed loader.new)) (λ reader. HasTakenAll reader keep)) }
 {
     let mut reader = PackageReader::keeping(alloc, layer_count(entries), profile, keep);
     let drills = take_kind(alloc, loader, entries, false, &mut reader)?;

@@ -1,28 +1,32 @@
 //! The commands on the package of a manifest: each does a job on it, or prints why it cannot be done.
 
-ghost use Rattle.std.specs.Prelude.{◌≡◌, ◌++◌, [], ℕ, IfErr, IfOk, OnOk, Some, is_some, map, option_map, slice_get};
+ghost use Rattle.std.specs.Prelude.{◌≡◌, ◌++◌, [], ℕ, List, IfErr, IfOk, OnOk, Some, is_some, map, option_map, slice_get};
 ghost use Rattle.std.specs.Io.KnownBytes.{Appends};
 ghost use Rattle.manifest.specs.declared.Entry.{Entry as TheEntry};
 ghost use Rattle.ringcheck_files.specs.Outcomes.{HasCause, HasRisen};
 ghost use Rattle.ringcheck.specs.DrawStatus.{IsDrawStatus, IsOutlinedDrawStatus, IsParsedDrawStatus};
 ghost use Rattle.ringcheck.specs.Inner.Halting.{IsUnreadAt, OfFiles};
 ghost use Rattle.ringcheck.specs.Inner.Jobs.{Holds, SaysJob, given, job_profile};
+ghost use Rattle.manifest.specs.Manifest.{manifest};
+ghost use Rattle.ringcheck.specs.declared.jobs.Job.TheVariants as jobs;
 ghost use Rattle.ringcheck.specs.MeasureStatus.{IsParsedMeasureStatus};
 ghost use Rattle.ringcheck.specs.ParsedWords as named;
 ghost use Rattle.ringcheck.specs.ReportStatus.{IsOutlinedReportStatus, IsParsedReportStatus};
-ghost use Rattle.ringcheck.specs.CheckStatus.{IsParsedCheckStatus, IsParsedLegalStatus, status_of};
+ghost use Rattle.ringcheck.specs.CheckStatus.{HasTable, IsParsedCheckStatus, IsParsedLegalStatus, status_of};
 ghost use Rattle.ringcheck.specs.Sentences.{below_measure, below_report};
 ghost use Rattle.ringcheck_files.specs.Words.{usage_line};
 
+use crate::fewer::fewer_findings;
 use crate::jobs::{Job, Order, PictureOrder, kept_for, report_style};
 use crate::load_package::{check_files, load_table, take_files};
 use crate::outlines::{load_outline, print_no_outline};
 use crate::parsed_words::{
-    ReportFormat, ReportWords, parse_check, parse_draw, parse_measure, parse_report,
+    PictureWords, ReportFormat, ReportWords, parse_check, parse_draw, parse_measure, parse_report,
 };
 use crate::refusals::{Halt, Subject, print_halt};
+use crate::reports::{Reported, print_judged, report_on_taken};
 use crate::sentences::{NoMeasure, NoReport, is_for_people};
-use crate::{Entry, Loader, checks, drawings, measures, reports};
+use crate::{Entry, Loader, checks, drawings, measures};
 use grid_units::{Profile, Reason, Rules};
 use package_check::Keep;
 use ringcheck_files::{Failure, Status, refuse_word};
@@ -41,6 +45,42 @@ fn names_of<'a>(alloc: Global, entries: &'a [Entry]) -> Result<Vec<&'a str>, All
     Ok(names)
 }
 
+/// Loads the files of these entries, which have these names, prints the report on them, and returns whether it passes.
+fn report_files<'a, L: Loader, W: Write>(
+    alloc: Global,
+    options: &Order,
+    entries: &'a [Entry],
+    names: &[&'a str],
+    loader: &mut L,
+    out: &mut W,
+) -> Result<Result<bool, Halt<'a>>, Failure>
+    ensures answers { (name : List ℕ) → HasTable manifest (L.has loader.old) name entries.now → map (λ name. name.now) names.now ≡ map (λ entry. entry.name) entries.now
+        → IfOk result (OfFiles (L.has loader.old) options.now.rules.profile entries.now (HasRisen (L.failed loader.old) (L.failed loader.new)) (Holds (jobs.Report options.now) (L.has loader.old) name (W.contents out.old) (W.contents out.new))) }
+    ensures silent { IfOk result (λ done. IfErr done (λ halt. W.contents out.new ≡ W.contents out.old)) }
+{
+    let keep = kept_for(options.format);
+    let reader = match take_files(alloc, options.rules.profile(), keep, loader, entries)? {
+        Ok(reader) => reader,
+        Err(halt) => return Ok(Err(halt)),
+    };
+    let (board, report) = match report_on_taken(alloc, reader, names, options)? {
+        Ok(found) => found,
+        Err(halt) => return Ok(Err(halt)),
+    };
+    let fewer = match fewer_findings(alloc, options, &report, loader, entries)? {
+        Ok(fewer) => fewer,
+        Err(halt) => return Ok(Err(halt)),
+    };
+    let reported = Reported {
+        names,
+        board: &board,
+        report: &report,
+        fewer,
+    };
+    let passes = print_judged(alloc, &reported, options, out)?;
+    Ok(Ok(passes))
+}
+
 /// Loads the files of these entries, does a job on them, and returns whether it passes.
 fn answer<'a, L: Loader, W: Write>(
     alloc: Global,
@@ -49,7 +89,7 @@ fn answer<'a, L: Loader, W: Write>(
     loader: &mut L,
     out: &mut W,
 ) -> Result<Result<bool, Halt<'a>>, Failure>
-    ensures answers { IfOk result (OfFiles (L.has loader.old) (job_profile job.now) entries.now (HasRisen (L.failed loader.old) (L.failed loader.new)) (Holds job.now (W.contents out.old) (W.contents out.new))) }
+    ensures answers { (name : List ℕ) → HasTable manifest (L.has loader.old) name entries.now → IfOk result (OfFiles (L.has loader.old) (job_profile job.now) entries.now (HasRisen (L.failed loader.old) (L.failed loader.new)) (Holds job.now (L.has loader.old) name (W.contents out.old) (W.contents out.new))) }
     ensures silent { IfOk result (λ done. IfErr done (λ halt. W.contents out.new ≡ W.contents out.old)) }
 {
     let names = names_of(alloc, entries)?;
@@ -65,15 +105,9 @@ fn answer<'a, L: Loader, W: Write>(
                 Err(halt) => Ok(Err(halt)),
             }
         }
-        Job::Report(options) => {
-            let keep = kept_for(options.format);
-            match take_files(alloc, Profile::Strict, keep, loader, entries)? {
-                Ok(reader) => reports::report(alloc, reader, names, options, out),
-                Err(halt) => Ok(Err(halt)),
-            }
-        }
+        Job::Report(options) => report_files(alloc, options, entries, names, loader, out),
         Job::Draw(order) => {
-            match take_files(alloc, Profile::Strict, Keep::All, loader, entries)? {
+            match take_files(alloc, order.profile, Keep::All, loader, entries)? {
                 Ok(reader) => drawings::draw(alloc, reader, names, order, out),
                 Err(halt) => Ok(Err(halt)),
             }
@@ -165,7 +199,7 @@ fn refuse_report<W: Write>(
     reason: Reason,
     unparsed: &ReportWords,
 ) -> Result<(), Failure>
-    ensures { OnOk result (Appends (W.contents out.old) (W.contents out.new) (usage_line reason ++ below_report unparsed.now.ring.now unparsed.now.gap.now (option_map (λ w. w.now) unparsed.now.limit) (is_some (option_map (λ w. w.now) unparsed.now.outline)) (option_map (λ w. w.now) unparsed.now.format))) }
+    ensures { OnOk result (Appends (W.contents out.old) (W.contents out.new) (usage_line reason ++ below_report (option_map (λ w. w.now) unparsed.now.profile) unparsed.now.ring.now unparsed.now.gap.now (option_map (λ w. w.now) unparsed.now.limit) (is_some (option_map (λ w. w.now) unparsed.now.outline)) (option_map (λ w. w.now) unparsed.now.format))) }
 {
     refuse_word(out, reason)?;
     if is_for_people(unparsed.format) {
@@ -221,15 +255,17 @@ pub(crate) fn measure<L: Loader, W: Write>(
 /// Prints the picture of the package of a manifest, without an outline.
 fn draw_plain<L: Loader, W: Write>(
     alloc: Global,
-    rules: Option<Rules>,
+    named: (Profile, Option<Rules>),
     name: &str,
     loader: &mut L,
     out: &mut W,
 ) -> Result<Status, Failure>
-    ensures says { IfOk result (IsDrawStatus (L.has loader.old) name.now rules [] (W.contents out.old) (W.contents out.new)) }
+    ensures says { IfOk result (IsDrawStatus (L.has loader.old) name.now named.0 named.1 [] (W.contents out.old) (W.contents out.new)) }
     ensures cause { IfOk result (HasCause (L.failed loader.old) (L.failed loader.new)) }
 {
+    let (profile, rules) = named;
     let order = PictureOrder {
+        profile,
         rules,
         outline: Vec::new(alloc),
     };
@@ -239,18 +275,23 @@ fn draw_plain<L: Loader, W: Write>(
 /// Prints the picture of the package of a manifest, with the outline of a file, which is loaded first.
 fn draw_outlined<L: Loader, W: Write>(
     alloc: Global,
-    rules: Option<Rules>,
+    named: (Profile, Option<Rules>),
     file: &str,
     name: &str,
     loader: &mut L,
     out: &mut W,
 ) -> Result<Status, Failure>
-    ensures says { IfOk result (IsOutlinedDrawStatus (L.has loader.old) name.now rules (Some file.now) (W.contents out.old) (W.contents out.new)) }
+    ensures says { IfOk result (IsOutlinedDrawStatus (L.has loader.old) name.now named.0 named.1 (Some file.now) (W.contents out.old) (W.contents out.new)) }
     ensures cause { IfOk result (HasCause (L.failed loader.old) (L.failed loader.new)) }
 {
+    let (profile, rules) = named;
     match load_outline(alloc, loader, file)? {
         Ok(outline) => {
-            let order = PictureOrder { rules, outline };
+            let order = PictureOrder {
+                profile,
+                rules,
+                outline,
+            };
             run_job(alloc, &Job::Draw(order), name, loader, out)
         }
         Err(why) => print_no_outline(out, why),
@@ -260,18 +301,18 @@ fn draw_outlined<L: Loader, W: Write>(
 /// Prints the picture of the package of a manifest, with the outline of a file, if one is named.
 fn draw_under<L: Loader, W: Write>(
     alloc: Global,
-    rules: Option<Rules>,
+    named: (Profile, Option<Rules>),
     outline: Option<&str>,
     name: &str,
     loader: &mut L,
     out: &mut W,
 ) -> Result<Status, Failure>
-    ensures says { IfOk result (IsOutlinedDrawStatus (L.has loader.old) name.now rules (option_map (λ w. w.now) outline.entry) (W.contents out.old) (W.contents out.new)) }
+    ensures says { IfOk result (IsOutlinedDrawStatus (L.has loader.old) name.now named.0 named.1 (option_map (λ w. w.now) outline.entry) (W.contents out.old) (W.contents out.new)) }
     ensures cause { IfOk result (HasCause (L.failed loader.old) (L.failed loader.new)) }
 {
     match outline {
-        Some(file) => draw_outlined(alloc, rules, file, name, loader, out),
-        None => draw_plain(alloc, rules, name, loader, out),
+        Some(file) => draw_outlined(alloc, named, file, name, loader, out),
+        None => draw_plain(alloc, named, name, loader, out),
     }
 }
 
@@ -279,18 +320,16 @@ fn draw_under<L: Loader, W: Write>(
 /// outline of a file, if one is named.
 pub(crate) fn draw<L: Loader, W: Write>(
     alloc: Global,
-    ring: Option<&str>,
-    gap: Option<&str>,
-    outline: Option<&str>,
+    unparsed: &PictureWords,
     name: &str,
     loader: &mut L,
     out: &mut W,
 ) -> Result<Status, Failure>
-    ensures says { IfOk result (IsParsedDrawStatus (L.has loader.old) name.now (named.parse_draw (option_map (λ w. w.now) ring.entry) (option_map (λ w. w.now) gap.entry)) (option_map (λ w. w.now) outline.entry) (W.contents out.old) (W.contents out.new)) }
+    ensures says { IfOk result (IsParsedDrawStatus (L.has loader.old) name.now (named.parse_draw (option_map (λ w. w.now) unparsed.now.profile) (option_map (λ w. w.now) unparsed.now.ring) (option_map (λ w. w.now) unparsed.now.gap)) (option_map (λ w. w.now) unparsed.now.outline) (W.contents out.old) (W.contents out.new)) }
     ensures cause { IfOk result (HasCause (L.failed loader.old) (L.failed loader.new)) }
 {
-    match parse_draw(ring, gap) {
-        Ok(rules) => draw_under(alloc, rules, outline, name, loader, out),
+    match parse_draw(unparsed) {
+        Ok(named) => draw_under(alloc, named, unparsed.outline, name, loader, out),
         Err(reason) => {
             refuse_word(out, reason)?;
             Ok(Status::Usage)
@@ -349,7 +388,7 @@ pub(crate) fn report<L: Loader, W: Write>(
     loader: &mut L,
     out: &mut W,
 ) -> Result<Status, Failure>
-    ensures says { IfOk result (IsParsedReportStatus (L.has loader.old) name.now (named.parse_report unparsed.now.ring.now unparsed.now.gap.now (option_map (λ w. w.now) unparsed.now.limit) (option_map (λ w. w.now) unparsed.now.waive) (option_map (λ w. w.now) unparsed.now.outline) (option_map (λ w. w.now) unparsed.now.format)) (below_report unparsed.now.ring.now unparsed.now.gap.now (option_map (λ w. w.now) unparsed.now.limit) (is_some (option_map (λ w. w.now) unparsed.now.outline)) (option_map (λ w. w.now) unparsed.now.format)) (option_map (λ w. w.now) unparsed.now.waive) (option_map (λ w. w.now) unparsed.now.outline) (W.contents out.old) (W.contents out.new)) }
+    ensures says { IfOk result (IsParsedReportStatus (L.has loader.old) name.now (named.parse_report (option_map (λ w. w.now) unparsed.now.profile) unparsed.now.ring.now unparsed.now.gap.now (option_map (λ w. w.now) unparsed.now.limit) (option_map (λ w. w.now) unparsed.now.waive) (option_map (λ w. w.now) unparsed.now.outline) (option_map (λ w. w.now) unparsed.now.format)) (below_report (option_map (λ w. w.now) unparsed.now.profile) unparsed.now.ring.now unparsed.now.gap.now (option_map (λ w. w.now) unparsed.now.limit) (is_some (option_map (λ w. w.now) unparsed.now.outline)) (option_map (λ w. w.now) unparsed.now.format)) (option_map (λ w. w.now) unparsed.now.waive) (option_map (λ w. w.now) unparsed.now.outline) (W.contents out.old) (W.contents out.new)) }
     ensures cause { IfOk result (HasCause (L.failed loader.old) (L.failed loader.new)) }
 {
     let named = match parse_report(unparsed) {

@@ -158,6 +158,7 @@ pub(crate) fn parse_limit(word: Option<&str>) -> Result<Option<usize>, Reason>
 /// The words of the options of a report.
 #[derive(Clone, Copy, Debug)]
 pub(crate) struct ReportWords<'a> {
+    pub(crate) profile: Option<&'a str>,
     pub(crate) ring: &'a str,
     pub(crate) gap: &'a str,
     pub(crate) limit: Option<&'a str>,
@@ -166,28 +167,52 @@ pub(crate) struct ReportWords<'a> {
     pub(crate) format: Option<&'a str>,
 }
 
-/// The rules, the limit of findings and the format of a report, read in this order.
+/// The rules in their profile, the limit of findings and the format of a report, read in this order.
 #[tactic(auto, unfolding(crate::specs::ParsedWords::parse_report))]
 pub(crate) fn parse_report(
     unparsed: &ReportWords,
 ) -> Result<(Rules, Option<usize>, ReportFormat), Reason>
-    ensures { result ≡ words.parse_report unparsed.now.ring.now unparsed.now.gap.now (option_map (λ w. w.now) unparsed.now.limit) (option_map (λ w. w.now) unparsed.now.waive) (option_map (λ w. w.now) unparsed.now.outline) (option_map (λ w. w.now) unparsed.now.format) }
+    ensures { result ≡ words.parse_report (option_map (λ w. w.now) unparsed.now.profile) unparsed.now.ring.now unparsed.now.gap.now (option_map (λ w. w.now) unparsed.now.limit) (option_map (λ w. w.now) unparsed.now.waive) (option_map (λ w. w.now) unparsed.now.outline) (option_map (λ w. w.now) unparsed.now.format) }
 {
-    let rules = parse_rules(unparsed.ring, unparsed.gap)?;
+    let rules = parse_check(unparsed.profile, unparsed.ring, unparsed.gap)?;
     let limit = parse_limit(unparsed.limit)?;
     let (waives, outlined) = (unparsed.waive.is_some(), unparsed.outline.is_some());
     let format = parse_report_format(waives, outlined, unparsed.format)?;
     Ok((rules, limit, format))
 }
 
-/// The rules of a picture: a ring and a gap, or neither. One of them alone is refused.
-#[tactic(auto, unfolding(crate::specs::ParsedWords::parse_draw))]
-pub(crate) fn parse_draw(ring: Option<&str>, gap: Option<&str>) -> Result<Option<Rules>, Reason>
-    ensures { result ≡ words.parse_draw (option_map (λ w. w.now) ring.entry) (option_map (λ w. w.now) gap.entry) }
+/// The rules of a picture in a profile: a ring and a gap, or neither. One of them alone is refused.
+#[tactic(auto, unfolding(crate::specs::ParsedWords::drawn_under))]
+fn drawn_under(
+    profile: Profile,
+    ring: Option<&str>,
+    gap: Option<&str>,
+) -> Result<Option<Rules>, Reason>
+    ensures { result ≡ words.drawn_under profile (option_map (λ w. w.now) ring.entry) (option_map (λ w. w.now) gap.entry) }
 {
     match (ring, gap) {
         (None, None) => Ok(None),
-        (Some(ring), Some(gap)) => Ok(Some(parse_rules(ring, gap)?)),
+        (Some(ring), Some(gap)) => Ok(Some(parse_rules(ring, gap)?.in_profile(profile))),
         (Some(_), None) | (None, Some(_)) => Err(Reason::BadRule),
+    }
+}
+
+/// The words of the options of a picture.
+#[derive(Clone, Copy, Debug)]
+pub(crate) struct PictureWords<'a> {
+    pub(crate) profile: Option<&'a str>,
+    pub(crate) ring: Option<&'a str>,
+    pub(crate) gap: Option<&'a str>,
+    pub(crate) outline: Option<&'a str>,
+}
+
+/// The profile and the rules of a picture. The profile is read first.
+#[tactic(auto, unfolding(crate::specs::ParsedWords::drawn_in))]
+pub(crate) fn parse_draw(unparsed: &PictureWords) -> Result<(Profile, Option<Rules>), Reason>
+    ensures { result ≡ words.parse_draw (option_map (λ w. w.now) unparsed.now.profile) (option_map (λ w. w.now) unparsed.now.ring) (option_map (λ w. w.now) unparsed.now.gap) }
+{
+    match profile_of(unparsed.profile) {
+        Some(profile) => Ok((profile, drawn_under(profile, unparsed.ring, unparsed.gap)?)),
+        None => Err(Reason::BadRole),
     }
 }

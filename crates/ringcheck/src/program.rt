@@ -2,7 +2,7 @@
 
 ghost use Rattle.std.specs.Prelude.{◌≡◌, ◌++◌, ◌∷◌, ◌⊎◌, [], map, true, ℕ, Bool, IfOk, IfSome, List, Option, Some, None, codes, is_some, option_map};
 ghost use Rattle.std.specs.Io.KnownBytes.{Appends};
-ghost use Rattle.command_line.specs.ProgramArgs.{are_plain_rules, are_plain_words, check_words, draw_words, explain_words, file_words, is_plain_if_some, is_plain_word, manifest_words, measure_words, report_words};
+ghost use Rattle.command_line.specs.ProgramArgs.{are_plain_rules, are_plain_words, check_words, draw_words, explain_words, is_plain_if_some, is_plain_word, manifest_words, measure_words, report_words, rewrite_words, show_words};
 ghost use Rattle.ringcheck.specs.RequestStatus.{IsLegalRequest, IsProgramStatus, IsRequestStatus};
 ghost use Rattle.ringcheck.specs.DrawStatus.{IsParsedDrawStatus};
 ghost use Rattle.ringcheck_files.specs.Outcomes.{HasCause};
@@ -12,11 +12,13 @@ ghost use Rattle.ringcheck.specs.ParsedWords as named;
 ghost use Rattle.ringcheck_files.specs.FileStatus.{IsParsedFileStatus, parse_kind};
 ghost use Rattle.ringcheck.specs.ReportStatus.{IsParsedReportStatus};
 ghost use Rattle.ringcheck.specs.CheckStatus.{IsParsedCheckStatus, IsParsedLegalStatus};
-ghost use Rattle.ringcheck.specs.Sentences.{below_measure, below_report};
+ghost use Rattle.ringcheck.specs.Sentences.{below_measure, below_report, below_show};
+ghost use Rattle.ringcheck.specs.ShowStatus.{IsParsedShowStatus};
 
 use crate::Loader;
 use crate::packages::{check, draw, measure, report};
-use crate::parsed_words::ReportWords;
+use crate::parsed_words::{PictureWords, ReportWords};
+use crate::tables::show;
 use command_line::{Refusal, Request, VERSION_LINE, parse};
 use ringcheck_files::{Failure, FileJob, Status, explain, print, print_manifest};
 use std::alloc::Global;
@@ -28,20 +30,39 @@ use std::io::Write;
 fn report_words<'a>(
     ring: &'a str,
     gap: &'a str,
+    profile: Option<&'a str>,
     limit: Option<&'a str>,
     waive: Option<&'a str>,
     outline: Option<&'a str>,
     format: Option<&'a str>,
 ) -> ReportWords<'a>
-    ensures { result ≡ record { ring = ring.entry; gap = gap.entry; limit = limit.entry; waive = waive.entry; outline = outline.entry; format = format.entry } }
+    ensures { result ≡ record { profile = profile.entry; ring = ring.entry; gap = gap.entry; limit = limit.entry; waive = waive.entry; outline = outline.entry; format = format.entry } }
 {
     ReportWords {
+        profile,
         ring,
         gap,
         limit,
         waive,
         outline,
         format,
+    }
+}
+
+/// The words of a picture's options.
+fn picture_words<'a>(
+    ring: Option<&'a str>,
+    gap: Option<&'a str>,
+    profile: Option<&'a str>,
+    outline: Option<&'a str>,
+) -> PictureWords<'a>
+    ensures { result ≡ record { profile = profile.entry; ring = ring.entry; gap = gap.entry; outline = outline.entry } }
+{
+    PictureWords {
+        profile,
+        ring,
+        gap,
+        outline,
     }
 }
 
@@ -66,13 +87,14 @@ fn carry_out<L: Loader, W: Write>(
         Request::Report {
             ring,
             gap,
+            profile,
             limit,
             waive,
             outline,
             format,
             manifest,
         } => {
-            let unparsed = report_words(ring, gap, *limit, *waive, *outline, *format);
+            let unparsed = report_words(ring, gap, *profile, *limit, *waive, *outline, *format);
             report(alloc, &unparsed, manifest, loader, out)
         }
         Request::Measure {
@@ -83,14 +105,20 @@ fn carry_out<L: Loader, W: Write>(
         Request::Draw {
             ring,
             gap,
+            profile,
             outline,
             manifest,
-        } => draw(alloc, *ring, *gap, *outline, manifest, loader, out),
-        Request::Show { kind, file } => print(alloc, FileJob::Show, kind, file, loader, out),
-        Request::Rewrite { kind, file } => print(alloc, FileJob::Rewrite, kind, file, loader, out),
-        Request::Manifest { why, files } => {
-            print_manifest(alloc, *why, files.as_slice(), loader, out)
+        } => {
+            let unparsed = picture_words(*ring, *gap, *profile, *outline);
+            draw(alloc, &unparsed, manifest, loader, out)
         }
+        Request::Show {
+            kind,
+            profile,
+            file,
+        } => show(alloc, kind, *profile, file, loader, out),
+        Request::Rewrite { kind, file } => print(alloc, FileJob::Rewrite, kind, file, loader, out),
+        Request::Manifest { why, files } => print_manifest(alloc, *why, files, loader, out),
         Request::Explain { word } => explain(*word, out),
     }
 }
@@ -146,16 +174,16 @@ pub fn run<L: Loader, W: Write>(
         → is_plain_if_some profile ≡ true → is_plain_word m ≡ true → IsParsedCheckStatus (L.has loader.old) m (named.parse_check profile r g) (W.contents out.old) (W.contents out.new) result }
     ensures legal { (r g : List ℕ) (profile : Option (List ℕ)) (m : List ℕ) → map (λ w. w.now) words.now ≡ check_words r g profile m → is_plain_word r ≡ true → is_plain_word g ≡ true
         → is_plain_if_some profile ≡ true → is_plain_word m ≡ true → IsParsedLegalStatus (L.has loader.old) m (named.profile_of profile) result }
-    ensures report { (r g : List ℕ) (limit waive outline format : Option (List ℕ)) (m : List ℕ) → map (λ w. w.now) words.now ≡ report_words r g limit waive outline format m → is_plain_word r ≡ true → is_plain_word g ≡ true
-        → is_plain_if_some limit ≡ true → is_plain_if_some waive ≡ true → is_plain_if_some outline ≡ true → is_plain_if_some format ≡ true → is_plain_word m ≡ true
-        → IsParsedReportStatus (L.has loader.old) m (named.parse_report r g limit waive outline format) (below_report r g limit (is_some outline) format) waive outline (W.contents out.old) (W.contents out.new) result }
+    ensures report { (r g : List ℕ) (profile limit waive outline format : Option (List ℕ)) (m : List ℕ) → map (λ w. w.now) words.now ≡ report_words r g profile limit waive outline format m → is_plain_word r ≡ true → is_plain_word g ≡ true
+        → is_plain_if_some profile ≡ true → is_plain_if_some limit ≡ true → is_plain_if_some waive ≡ true → is_plain_if_some outline ≡ true → is_plain_if_some format ≡ true → is_plain_word m ≡ true
+        → IsParsedReportStatus (L.has loader.old) m (named.parse_report profile r g limit waive outline format) (below_report profile r g limit (is_some outline) format) waive outline (W.contents out.old) (W.contents out.new) result }
     ensures measure { (profile format : Option (List ℕ)) (m : List ℕ) → map (λ w. w.now) words.now ≡ measure_words profile format m → is_plain_if_some profile ≡ true → is_plain_if_some format ≡ true
         → is_plain_word m ≡ true → IsParsedMeasureStatus (L.has loader.old) m (named.parse_measure profile format) (below_measure profile format) (W.contents out.old) (W.contents out.new) result }
-    ensures draw { (rules : Option (List ℕ × List ℕ)) (outline : Option (List ℕ)) (m : List ℕ) → map (λ w. w.now) words.now ≡ draw_words rules outline m → are_plain_rules rules ≡ true
-        → is_plain_if_some outline ≡ true → is_plain_word m ≡ true → IsParsedDrawStatus (L.has loader.old) m (named.parse_draw (option_map (λ both. both.0) rules) (option_map (λ both. both.1) rules)) outline (W.contents out.old) (W.contents out.new) result }
-    ensures show { (k f : List ℕ) → map (λ w. w.now) words.now ≡ file_words (codes "show") k f → is_plain_word k ≡ true → is_plain_word f ≡ true
-        → IsParsedFileStatus FileJob.Show (parse_kind k) (L.has loader.old) f (W.contents out.old) (W.contents out.new) result }
-    ensures rewrite { (k f : List ℕ) → map (λ w. w.now) words.now ≡ file_words (codes "rewrite") k f → is_plain_word k ≡ true → is_plain_word f ≡ true
+    ensures draw { (rules : Option (List ℕ × List ℕ)) (profile outline : Option (List ℕ)) (m : List ℕ) → map (λ w. w.now) words.now ≡ draw_words rules profile outline m → are_plain_rules rules ≡ true → is_plain_if_some profile ≡ true
+        → is_plain_if_some outline ≡ true → is_plain_word m ≡ true → IsParsedDrawStatus (L.has loader.old) m (named.parse_draw profile (option_map (λ both. both.0) rules) (option_map (λ both. both.1) rules)) outline (W.contents out.old) (W.contents out.new) result }
+    ensures show { (k : List ℕ) (profile : Option (List ℕ)) (f : List ℕ) → map (λ w. w.now) words.now ≡ show_words k profile f → is_plain_word k ≡ true → is_plain_if_some profile ≡ true
+        → is_plain_word f ≡ true → IsParsedShowStatus (named.profile_of profile) (below_show profile) (parse_kind k) (L.has loader.old) f (W.contents out.old) (W.contents out.new) result }
+    ensures rewrite { (k f : List ℕ) → map (λ w. w.now) words.now ≡ rewrite_words k f → is_plain_word k ≡ true → is_plain_word f ≡ true
         → IsParsedFileStatus FileJob.Rewrite (parse_kind k) (L.has loader.old) f (W.contents out.old) (W.contents out.new) result }
     ensures manifest { (why : Bool) (fs : List (List ℕ)) → map (λ w. w.now) words.now ≡ manifest_words why fs → are_plain_words fs ≡ true
         → IsManifestStatus why (L.has loader.old) (L.failed loader.old) (L.failed loader.new) fs (W.contents out.old) (W.contents out.new) result }

@@ -1,12 +1,13 @@
 //! Reports on a package: each finding under the rules, what is lacking, why, and whether it is waived.
 
-ghost use Rattle.std.specs.Prelude.{◌≡◌, ◌==◌, ◌&&◌, Bool, List, IfErr, IfOk, OnOk, length, map};
+ghost use Rattle.std.specs.Prelude.{◌≡◌, ◌==◌, ◌&&◌, Bool, List, IfOk, OnOk, length, map};
 ghost use Rattle.package_check.specs.Holding.{HasTakenAll};
 ghost use Rattle.package_check.specs.Package.{FileView};
 ghost use Rattle.report.specs.declared.Acceptances.{Acceptances as TheAcceptances};
 ghost use Rattle.ringcheck.specs.Inner.Halting.{OfTaken};
 ghost use Rattle.ringcheck.specs.Inner.Jobs.{given};
-ghost use Rattle.ringcheck.specs.ReportStatus.{Judges, PrintsPage, PrintsReport, Reports, has_none, kept_for};
+ghost use Rattle.ringcheck.specs.Inner.Reporting.{IsReportOn};
+ghost use Rattle.ringcheck.specs.ReportStatus.{Judges, PrintsPage, PrintsReport, has_none, kept_for};
 
 use crate::jobs::Order;
 use crate::parsed_words::ReportFormat;
@@ -25,18 +26,32 @@ use std::alloc::Global;
 use std::io::Write;
 use waivers::{Waiver, WaiverText, idle, reasons, waive};
 
+/// What is printed of a package: the names of its files, its board, the report on it, and how many of the findings the wide profile does not
+/// have.
+#[derive(Clone, Copy)]
+pub(crate) struct Reported<'a> {
+    pub(crate) names: &'a [&'a str],
+    pub(crate) board: &'a Board,
+    pub(crate) report: &'a BoardReport,
+    pub(crate) fewer: u128,
+}
+
 /// Prints the page of a report on a board, with its outline and the reasons why findings are waived.
 fn print_page<W: Write>(
     alloc: Global,
-    names: &[&str],
-    board: &Board,
+    reported: &Reported,
     outline: &[Drawn],
-    report: &BoardReport,
     accepted: &Acceptances,
     out: &mut W,
 ) -> Result<(), Failure>
-    ensures { OnOk result (PrintsPage (map (λ name. name.now) names.now) board.now outline.now report.now accepted.now (W.contents out.old) (W.contents out.new)) }
+    ensures { OnOk result (PrintsPage (map (λ name. name.now) reported.now.names.now) reported.now.board.now outline.now reported.now.report.now accepted.now (W.contents out.old) (W.contents out.new)) }
 {
+    let Reported {
+        names,
+        board,
+        report,
+        ..
+    } = *reported;
     let page = HtmlReport::new(alloc, names, board, outline, report, accepted)?;
     write!(out, "{page}")?;
     Ok(())
@@ -45,23 +60,27 @@ fn print_page<W: Write>(
 /// Prints a report, with the reasons why findings are waived, in its format. Only the text has a limit of findings.
 fn print<W: Write>(
     alloc: Global,
-    names: &[&str],
-    board: &Board,
-    report: &BoardReport,
+    reported: &Reported,
     options: &Order,
     accepted: &Acceptances,
     out: &mut W,
 ) -> Result<(), Failure>
-    ensures { OnOk result (PrintsReport options.now.format (map (λ name. name.now) names.now) board.now options.now.outline.items report.now options.now.limit accepted.now (W.contents out.old) (W.contents out.new)) }
+    ensures { OnOk result (PrintsReport options.now.format (map (λ name. name.now) reported.now.names.now) reported.now.board.now options.now.outline.items reported.now.report.now reported.now.fewer options.now.limit accepted.now (W.contents out.old) (W.contents out.new)) }
 {
+    let Reported {
+        names,
+        board,
+        report,
+        fewer,
+    } = *reported;
     match options.format {
         ReportFormat::Text => {
-            let text = ReportText::new(alloc, names, report, options.limit, accepted)?;
+            let text = ReportText::new(alloc, names, report, fewer, options.limit, accepted)?;
             write!(out, "{text}")?;
         }
         ReportFormat::Html => {
             let outline = options.outline.as_slice();
-            print_page(alloc, names, board, outline, report, accepted, out)?;
+            print_page(alloc, reported, outline, accepted, out)?;
         }
         ReportFormat::Json => {
             let json = ReportJson {
@@ -78,7 +97,7 @@ fn print<W: Write>(
 }
 
 /// Whether a report has no finding.
-fn has_none(report: &BoardReport) -> bool
+pub(crate) fn has_none(report: &BoardReport) -> bool
     ensures { result ≡ has_none report.now }
 {
     report.rings.is_empty() && report.gaps.is_empty()
@@ -87,17 +106,15 @@ fn has_none(report: &BoardReport) -> bool
 /// Prints a report with these waivers, and returns whether each finding is waived.
 fn print_waived<W: Write>(
     alloc: Global,
-    names: &[&str],
-    board: &Board,
-    report: &BoardReport,
+    reported: &Reported,
     options: &Order,
     waivers: &[Waiver],
     out: &mut W,
 ) -> Result<bool, Failure>
-    ensures { IfOk result (λ passes. (accepted : TheAcceptances) × Judges (Some waivers.now) (map (λ name. name.now) names.now) report.now passes accepted
-        × PrintsReport options.now.format (map (λ name. name.now) names.now) board.now options.now.outline.items report.now options.now.limit accepted (W.contents out.old) (W.contents out.new)) }
+    ensures { IfOk result (λ passes. (accepted : TheAcceptances) × Judges (Some waivers.now) (map (λ name. name.now) reported.now.names.now) reported.now.report.now passes accepted
+        × PrintsReport options.now.format (map (λ name. name.now) reported.now.names.now) reported.now.board.now options.now.outline.items reported.now.report.now reported.now.fewer options.now.limit accepted (W.contents out.old) (W.contents out.new)) }
 {
-    let waived = waive(alloc, names, report, waivers)?;
+    let waived = waive(alloc, reported.names, reported.report, waivers)?;
     let rings = reasons(alloc, waivers, waived.rings.as_slice())?;
     let gaps = reasons(alloc, waivers, waived.gaps.as_slice())?;
     let idle = idle(alloc, &waived, waivers)?;
@@ -106,57 +123,43 @@ fn print_waived<W: Write>(
         gaps: gaps.as_slice(),
         idle: idle.as_slice(),
     };
-    print(alloc, names, board, report, options, &accepted, out)?;
+    print(alloc, reported, options, &accepted, out)?;
     Ok(waived.all())
 }
 
 /// Prints a report with the waivers that it is asked for, if there are any, and returns whether it passes.
-fn print_judged<W: Write>(
+pub(crate) fn print_judged<W: Write>(
     alloc: Global,
-    names: &[&str],
-    board: &Board,
-    report: &BoardReport,
+    reported: &Reported,
     options: &Order,
     out: &mut W,
 ) -> Result<bool, Failure>
-    ensures { IfOk result (λ passes. (accepted : TheAcceptances) × Judges (given options.now.waivers) (map (λ name. name.now) names.now) report.now passes accepted
-        × PrintsReport options.now.format (map (λ name. name.now) names.now) board.now options.now.outline.items report.now options.now.limit accepted (W.contents out.old) (W.contents out.new)) }
+    ensures { IfOk result (λ passes. (accepted : TheAcceptances) × Judges (given options.now.waivers) (map (λ name. name.now) reported.now.names.now) reported.now.report.now passes accepted
+        × PrintsReport options.now.format (map (λ name. name.now) reported.now.names.now) reported.now.board.now options.now.outline.items reported.now.report.now reported.now.fewer options.now.limit accepted (W.contents out.old) (W.contents out.new)) }
 {
     match &options.waivers {
-        Some(waivers) => {
-            print_waived(
-                alloc,
-                names,
-                board,
-                report,
-                options,
-                waivers.as_slice(),
-                out,
-            )
-        }
+        Some(waivers) => print_waived(alloc, reported, options, waivers.as_slice(), out),
         None => {
             let accepted = Acceptances {
                 rings: &[],
                 gaps: &[],
                 idle: &[],
             };
-            print(alloc, names, board, report, options, &accepted, out)?;
-            Ok(has_none(report))
+            print(alloc, reported, options, &accepted, out)?;
+            Ok(has_none(reported.report))
         }
     }
 }
 
-/// Prints the report on the files of these names, which a reader has taken, and returns whether it passes.
-pub(crate) fn report<'a, W: Write>(
+/// The board of the files of these names, which a reader has taken, and the report on it; or the first file that is refused.
+pub(crate) fn report_on_taken<'a>(
     alloc: Global,
     reader: PackageReader,
     names: &[&'a str],
     options: &Order,
-    out: &mut W,
-) -> Result<Result<bool, Halt<'a>>, Failure>
-    ensures answers { (all : List FileView) → map (λ name. name.now) names.now ≡ map (λ source. source.name) all → HasTakenAll reader (kept_for options.now.format) all
-        → IfOk result (OfTaken (Reports options.now.rules options.now.limit options.now.format (given options.now.waivers) options.now.outline.items (W.contents out.old) (W.contents out.new)) all) }
-    ensures silent { IfOk result (λ done. IfErr done (λ halt. W.contents out.new ≡ W.contents out.old)) }
+) -> Result<Result<(Board, BoardReport), Halt<'a>>, Failure>
+    ensures { (all : List FileView) → map (λ name. name.now) names.now ≡ map (λ source. source.name) all → HasTakenAll reader (kept_for options.now.format) all
+        → IfOk result (OfTaken (λ found. IsReportOn options.now.rules options.now.format found.0 found.1) all) }
 {
     report_agrees_with_check();
     let board = match reader.board() {
@@ -167,6 +170,5 @@ pub(crate) fn report<'a, W: Write>(
         }
     };
     let report = report_on(alloc, &board, options.rules)?;
-    let passes = print_judged(alloc, names, &board, &report, options, out)?;
-    Ok(Ok(passes))
+    Ok(Ok((board, report)))
 }

@@ -124,7 +124,7 @@ impl Display for NoMeasureFormat<'_> {
 
 /// What is said of a word that names no profile.
 #[derive(Clone, Copy)]
-struct NoProfile<'a>(Option<&'a str>);
+pub(crate) struct NoProfile<'a>(pub(crate) Option<&'a str>);
 
 impl Display for NoProfile<'_> {
     ghost output = { λ it. Some (sentences.profile_sentence (option_map (λ w. w.now) it.0)) };
@@ -160,12 +160,14 @@ impl Display for NoMeasure<'_> {
 pub(crate) struct NoReport<'a>(pub(crate) &'a ReportWords<'a>);
 
 impl Display for NoReport<'_> {
-    ghost output = { λ it. Some (sentences.report_sentence it.0.now.ring.now it.0.now.gap.now (option_map (λ w. w.now) it.0.now.limit) (is_some (option_map (λ w. w.now) it.0.now.outline)) (option_map (λ w. w.now) it.0.now.format)) };
+    ghost output = { λ it. Some (sentences.report_sentence (option_map (λ w. w.now) it.0.now.profile) it.0.now.ring.now it.0.now.gap.now (option_map (λ w. w.now) it.0.now.limit) (is_some (option_map (λ w. w.now) it.0.now.outline)) (option_map (λ w. w.now) it.0.now.format)) };
 
     fn fmt<W: fmt::Write>(&self, f: &mut Formatter<W>) -> fmt::Result {
         let words = self.0;
         let (ring, gap) = (words.ring, words.gap);
-        if parse_rules(ring, gap).is_err() {
+        if profile_of(words.profile).is_none() {
+            write!(f, "{}", NoProfile(words.profile))
+        } else if parse_rules(ring, gap).is_err() {
             write!(f, "{}", NoRules { ring, gap })
         } else if parse_limit(words.limit).is_err() {
             write!(f, "{}", NoCount(words.limit))

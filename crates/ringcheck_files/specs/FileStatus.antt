@@ -5,6 +5,7 @@ use Rattle.std.specs.Io.KnownBytes.{Appends}
 use Rattle.grid_units.specs.declared.fault.Fault.{Fault}
 use Rattle.grid_units.specs.declared.fault.Reason.TheVariants.{BadRole}
 use Rattle.grid_units.specs.Reasons.{reason_name}
+use Rattle.grid_units.specs.declared.profile.Profile.{Profile}
 use Rattle.single_files.specs.declared.kind.Kind.{Kind}
 use Rattle.single_files.specs.declared.kind.Kind.TheVariants as kind
 use Rattle.single_files.specs.Rewriting.{Rewrites}
@@ -21,14 +22,14 @@ use Rattle.grid_units.specs.Ascii as ascii
 abbrev pub parse_kind : List ℕ → Option Kind
 parse_kind word = if bytes_eq word (codes "layer") then Some kind.Layer else if bytes_eq word (codes "drill") then Some kind.Drill else None
 
--- the table of the bytes, which are read as a file of this kind, or their fault
-abbrev pub Shows : Kind → List ℕ → Result (List ℕ) Fault → Type 0
-Shows kind.Layer bytes answer = ShowsLayer bytes answer
-Shows kind.Drill bytes answer = ShowsDrill bytes answer
+-- the table of the bytes, which are read in this profile as a file of this kind, or their fault
+abbrev pub Shows : Profile → Kind → List ℕ → Result (List ℕ) Fault → Type 0
+Shows profile kind.Layer bytes answer = ShowsLayer profile bytes answer
+Shows profile kind.Drill bytes answer = ShowsDrill profile bytes answer
 
 -- what a task prints of the bytes, which are read as a file of this kind, or their fault
 abbrev pub Prints : FileJob → Kind → List ℕ → Result (List ℕ) Fault → Type 0
-Prints job.Show kind bytes answer = Shows kind bytes answer
+Prints (job.Show profile) kind bytes answer = Shows profile kind bytes answer
 Prints job.Rewrite kind bytes answer = Rewrites kind bytes answer
 
 -- the line of a single file that is refused: `refused place=0 byte=0 reason=TooLong`

@@ -10,7 +10,7 @@ ghost use Rattle.ringcheck_files.specs.FileStatus as printing;
 use crate::limits::{ABOVE_LIMIT, FILE_LIMIT};
 use crate::outcomes::{Failure, refuse_word};
 use crate::{LoadFault, Loader, Status};
-use grid_units::{Fail, Fault, Reason};
+use grid_units::{Fail, Fault, Profile, Reason};
 use single_files::{Kind, rewrite_bytes, show_drill, show_layer};
 use std::alloc::Global;
 use std::io::Write;
@@ -18,8 +18,8 @@ use std::io::Write;
 /// What is printed of a file.
 #[derive(Clone, Copy, Debug, PartialEq, Eq)]
 pub enum FileJob {
-    /// Its table.
-    Show,
+    /// Its table, where it is read in this profile.
+    Show(Profile),
     /// Its canonical text.
     Rewrite,
 }
@@ -35,12 +35,13 @@ fn parse_kind(word: &str) -> Option<Kind>
     }
 }
 
-fn show(alloc: Global, kind: Kind, bytes: &[u8]) -> Result<Vec<u8>, Fail>
-    ensures { Answers (λ text. text.items) (Shows kind bytes.now) result }
+/// The table of bytes that are read in a profile as a file of this kind.
+fn show(alloc: Global, profile: Profile, kind: Kind, bytes: &[u8]) -> Result<Vec<u8>, Fail>
+    ensures { Answers (λ text. text.items) (Shows profile kind bytes.now) result }
 {
     match kind {
-        Kind::Layer => show_layer(alloc, bytes),
-        Kind::Drill => show_drill(alloc, bytes),
+        Kind::Layer => show_layer(alloc, profile, bytes),
+        Kind::Drill => show_drill(alloc, profile, bytes),
     }
 }
 
@@ -49,7 +50,7 @@ fn text_of(alloc: Global, job: FileJob, kind: Kind, bytes: &[u8]) -> Result<Vec<
     ensures { Answers (λ text. text.items) (Prints job kind bytes.now) result }
 {
     match job {
-        FileJob::Show => show(alloc, kind, bytes),
+        FileJob::Show(profile) => show(alloc, profile, kind, bytes),
         FileJob::Rewrite => rewrite_bytes(alloc, kind, bytes),
     }
 }

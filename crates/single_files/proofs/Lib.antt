@@ -1,5 +1,7 @@
 pub mod Plain
 pub mod Numbered
+pub mod StrictRows
+pub mod SideLemmas
 pub mod Pieces
 pub mod Ranges
 pub mod Typed

@@ -1,17 +1,18 @@
-//! The fields of a flash and of a hole.
+//! The fields of a flash or a contour, and of a hole.
 
-ghost use Rattle.std.specs.Prelude.{decimal, ◌≡◌, ◌≤◌, ◌^◌, ◌++◌, pos, unsigned_abs, IfOk};
-ghost use Rattle.grid_units.specs.Spellings.{millimetres};
+ghost use Rattle.std.specs.Prelude.{decimal, ◌≡◌, ◌++◌, IfOk};
 ghost use Rattle.single_files.specs.Rows.{NeedsNoQuotes, row};
-ghost use Rattle.single_files.specs.Tables.{flash_fields, height_of, hole_fields, pad_height, pad_width, shape_word, flash_word, reason_word, width_of};
+ghost use Rattle.single_files.specs.Tables.{feature_fields, feature_word, hole_fields, pad_word, reason_word, shape_word};
 
+use crate::sides::{height_of, length_field, width_of};
 use crate::table::Table;
-use arrayvec::ArrayString;
-use grid_units::{Hole, write_mm};
+use further_copper::{Feature, FeatureKind};
+use grid_units::Hole;
 use itoa::Buffer;
-use layer_image::{Flash, What, Why};
+use layer_image::Why;
 use pad_shapes::Pad;
 use std::alloc::AllocError;
+use wide_pads::WidePad;
 
 fn shape_word(pad: &Pad) -> &'static str
     ensures text { result.now ≡ shape_word pad.now }
@@ -37,48 +38,27 @@ fn reason_word(why: Why) -> &'static str
     }
 }
 
-fn flash_word(what: &What) -> &'static str
-    ensures text { result.now ≡ flash_word what.now }
+fn pad_word(pad: &WidePad) -> &'static str
+    ensures text { result.now ≡ pad_word pad.now }
+    ensures plain { NeedsNoQuotes result.now }
+{
+    match pad {
+        WidePad::Plain(pad) => shape_word(pad),
+        WidePad::Rounded(_) => "rounded",
+    }
+}
+
+fn feature_word(what: &FeatureKind) -> &'static str
+    ensures text { result.now ≡ feature_word what.now }
     ensures plain { NeedsNoQuotes result.now }
 {
     match what {
-        What::Pad(pad) => shape_word(pad),
-        What::Other(why) => reason_word(*why),
+        FeatureKind::Pad(pad) => pad_word(pad),
+        FeatureKind::Contour(_) => "contour",
+        FeatureKind::Other(why) => reason_word(*why),
+        FeatureKind::Clear => "clear",
+        FeatureKind::Cleared => "cleared",
     }
-}
-
-/// The width of a pad in pm: its side along x, of a disc the diameter.
-fn pad_width(pad: &Pad) -> i64
-    ensures value { result ≡ pos (pad_width pad.now) }
-    ensures within { pad_width pad.now ≤ 10 ^ 13 }
-{
-    match pad {
-        Pad::Disc(disc) => 2 * disc.radius(),
-        Pad::Rect(rect) => 2 * rect.half_x(),
-        Pad::Obround(obround) => 2 * obround.half_x(),
-    }
-}
-
-/// The height of a pad in pm: its side along y, of a disc the diameter.
-fn pad_height(pad: &Pad) -> i64
-    ensures value { result ≡ pos (pad_height pad.now) }
-    ensures within { pad_height pad.now ≤ 10 ^ 13 }
-{
-    match pad {
-        Pad::Disc(disc) => 2 * disc.radius(),
-        Pad::Rect(rect) => 2 * rect.half_y(),
-        Pad::Obround(obround) => 2 * obround.half_y(),
-    }
-}
-
-/// A length in pm as a field: millimetres with nine decimals, such as `0.650000000`.
-#[tactic(auto, using(crate::proofs::Plain::short_plain, crate::proofs::Plain::same_plain))]
-fn length_field(length: i64) -> ArrayString<16>
-    requires { unsigned_abs length ≤ 10 ^ 13 }
-    ensures text { result.bytes ≡ millimetres length }
-    ensures plain { NeedsNoQuotes result.bytes }
-{
-    write_mm(length)
 }
 
 /// A number as a field.
@@ -90,38 +70,20 @@ fn number_field(number: u64, digits: &mut Buffer) -> &[u8]
     digits.format(number).as_bytes()
 }
 
-/// The field of a flash's width: empty where it is no pad.
-fn width_of(what: &What) -> ArrayString<16>
-    ensures text { result.bytes ≡ width_of what.now }
-    ensures plain { NeedsNoQuotes result.bytes }
-{
-    match what {
-        What::Pad(pad) => length_field(pad_width(pad)),
-        What::Other(_) => ArrayString::new(),
-    }
-}
-
-/// The field of a flash's height: empty where it is no pad.
-fn height_of(what: &What) -> ArrayString<16>
-    ensures text { result.bytes ≡ height_of what.now }
-    ensures plain { NeedsNoQuotes result.bytes }
-{
-    match what {
-        What::Pad(pad) => length_field(pad_height(pad)),
-        What::Other(_) => ArrayString::new(),
-    }
-}
-
-/// The table with the row of a flash.
-pub(crate) fn with_flash(table: Table, number: u64, flash: &Flash) -> Result<Table, AllocError>
-    ensures { IfOk result (λ more. more ≡ table ++ row (flash_fields number flash.now)) }
+/// The table with the row of a flash or a contour.
+pub(crate) fn with_feature(
+    table: Table,
+    number: u64,
+    feature: &Feature,
+) -> Result<Table, AllocError>
+    ensures { IfOk result (λ more. more ≡ table ++ row (feature_fields number feature.now)) }
 {
     let mut digits = Buffer::new();
-    let (x, y) = (length_field(flash.at.x()), length_field(flash.at.y()));
-    let (width, height) = (width_of(&flash.what), height_of(&flash.what));
+    let (x, y) = (length_field(feature.at.x()), length_field(feature.at.y()));
+    let (width, height) = (width_of(&feature.what), height_of(&feature.what));
     table.with_row(&[
         number_field(number, &mut digits),
-        flash_word(&flash.what).as_bytes(),
+        feature_word(&feature.what).as_bytes(),
         x.as_str().as_bytes(),
         y.as_str().as_bytes(),
         width.as_str().as_bytes(),

@@ -1,4 +1,4 @@
-//! The table of a layer's flashes and that of a drill file's holes, as comma-separated rows.
+//! The table of a layer's flashes and contours and that of a drill file's holes, as comma-separated rows, and canonical texts.
 #![tactic(auto)]
 
 mod fields;
@@ -8,6 +8,7 @@ mod layer_writer;
 mod lines;
 mod rewrite;
 mod show;
+mod sides;
 mod table;
 
 pub use kind::Kind;

@@ -1,26 +1,28 @@
 //! The tables of a layer and of a drill file, from their bytes.
 
-ghost use Rattle.std.specs.Prelude.{◌≡◌, IfOk};
+ghost use Rattle.std.specs.Prelude.{◌≡◌, IfOk, map};
 ghost use Rattle.grid_units.specs.Results.{Answers};
+ghost use Rattle.grid_units.specs.declared.profile.Profile.TheVariants.{Strict, Wide};
 ghost use Rattle.drill_text.specs.Outcome.{file_of};
-ghost use Rattle.drill_text.specs.Texts.{ReadsAs};
 ghost use Rattle.drill_text.specs.declared.kept.Keep.TheVariants as drill_keep;
 ghost use Rattle.layer_image.specs.Layers.{ReadsKept};
 ghost use Rattle.layer_image.specs.declared.keep.Keep.TheVariants as layer_keep;
-ghost use Rattle.single_files.specs.Tables.{ShowsDrill, ShowsLayer, drill_header, drill_table, layer_header, layer_table};
+ghost use Rattle.single_files.specs.Tables.{ReadsDrill, ShowsDrill, ShowsLayer, drill_header, drill_table, layer_header, layer_table, strict_feature, strict_kind};
 
-use crate::fields::{with_flash, with_hole};
+use crate::fields::{with_feature, with_hole};
 use crate::table::Table;
-use drill_text::laws::faults_stay;
-use drill_text::{Drill, DrillReader};
-use grid_units::{Fail, Hole};
-use layer_image::{Flash, Layer, LayerReader, shown_faults};
+use drill_text::{Drill, DrillReader, readings_in_profiles};
+use further_copper::{Feature, FeatureKind};
+use grid_units::{Fail, Hole, Profile};
+use layer_image::{Flash, Layer, LayerReader, What, shown_faults};
 use std::alloc::{AllocError, Global};
+use wide_layers::read_wide_layer;
+use wide_pads::WidePad;
 
 /// How many bytes of a layer are read at a time, so that no more of its commands are held.
 const PIECE: usize = 65_536;
 
-/// The header of a table of flashes.
+/// The header of a table of flashes and contours.
 fn layer_header(alloc: Global) -> Result<Table, AllocError>
     ensures { IfOk result (λ table. table ≡ layer_header) }
 {
@@ -34,14 +36,47 @@ fn layer_header(alloc: Global) -> Result<Table, AllocError>
     ])
 }
 
-/// The table of flashes, numbered from 1.
-fn layer_table(alloc: Global, flashes: &[Flash]) -> Result<Vec<u8>, AllocError>
-    ensures { IfOk result (λ text. text.items ≡ layer_table flashes.now) }
+/// What a flash is in the strict profile.
+fn strict_kind(what: &What) -> FeatureKind
+    ensures { result ≡ strict_kind what.now }
+{
+    match what {
+        What::Pad(pad) => FeatureKind::Pad(WidePad::Plain(*pad)),
+        What::Other(why) => FeatureKind::Other(*why),
+    }
+}
+
+/// A flash of the strict profile at its point.
+fn strict_feature(flash: &Flash) -> Feature
+    ensures { result ≡ strict_feature flash.now }
+{
+    Feature {
+        at: flash.at,
+        what: strict_kind(&flash.what),
+    }
+}
+
+/// The table of the flashes of the strict profile, numbered from 1.
+fn strict_table(alloc: Global, flashes: &[Flash]) -> Result<Vec<u8>, AllocError>
+    ensures { IfOk result (λ text. text.items ≡ layer_table (map strict_feature flashes.now)) }
 {
     let mut table = layer_header(alloc)?;
     let mut number: u64 = 1;
     for flash in flashes {
-        table = with_flash(table, number, flash)?;
+        table = with_feature(table, number, &strict_feature(flash))?;
+        number += 1;
+    }
+    table.into_bytes()
+}
+
+/// The table of flashes and contours, numbered from 1.
+fn layer_table(alloc: Global, features: &[Feature]) -> Result<Vec<u8>, AllocError>
+    ensures { IfOk result (λ text. text.items ≡ layer_table features.now) }
+{
+    let mut table = layer_header(alloc)?;
+    let mut number: u64 = 1;
+    for feature in features {
+        table = with_feature(table, number, feature)?;
         number += 1;
     }
     table.into_bytes()
@@ -86,42 +121,63 @@ fn read_layer(alloc: Global, bytes: &[u8]) -> Result<Layer, Fail>
     reader.finish()
 }
 
-/// The drill file that the bytes are, of which no command is kept.
-fn read_drill(alloc: Global, bytes: &[u8]) -> Result<Drill, Fail>
-    ensures { Answers (λ drill. drill) (ReadsAs (file_of drill_keep.Holes) bytes.now) result }
+/// The drill file that the bytes are in a profile, of which no command is kept.
+fn read_drill(alloc: Global, profile: Profile, bytes: &[u8]) -> Result<Drill, Fail>
+    ensures { Answers (λ drill. drill) (ReadsDrill profile (file_of drill_keep.Holes) bytes.now) result }
 {
-    faults_stay();
-    let mut reader = DrillReader::keeping(alloc, drill_text::Keep::Holes);
+    readings_in_profiles();
+    let mut reader = DrillReader::in_profile(alloc, drill_text::Keep::Holes, profile);
     reader.feed(bytes)?;
     reader.finish()
 }
 
-/// The table of a layer's flashes: a row for each, numbered from 1, with what it leaves, its point, and the width
-/// and height of a pad, in millimetres with nine decimals.
-///
-/// # Errors
-///
-/// The first fault of the text; `Memory` where an allocation failed.
-pub fn show_layer(alloc: Global, bytes: &[u8]) -> Result<Vec<u8>, Fail>
-    ensures exact { Answers (λ text. text.items) (ShowsLayer bytes.now) result }
+/// The table of a layer in the strict profile.
+fn show_strict_layer(alloc: Global, bytes: &[u8]) -> Result<Vec<u8>, Fail>
+    ensures { Answers (λ text. text.items) (ShowsLayer Strict bytes.now) result }
 {
     let layer = read_layer(alloc, bytes)?;
-    match layer_table(alloc, layer.flashes()) {
+    match strict_table(alloc, layer.flashes()) {
         Ok(text) => Ok(text),
         Err(_) => Err(Fail::Memory),
     }
 }
 
-/// The table of a drill file's holes: a row for each, numbered from 1, with its two ends and its diameter, in
-/// millimetres with nine decimals.
+/// The table of a layer in the wide profile.
+fn show_wide_layer(alloc: Global, bytes: &[u8]) -> Result<Vec<u8>, Fail>
+    ensures { Answers (λ text. text.items) (ShowsLayer Wide bytes.now) result }
+{
+    let layer = read_wide_layer(alloc, bytes)?;
+    match layer_table(alloc, layer.features()) {
+        Ok(text) => Ok(text),
+        Err(_) => Err(Fail::Memory),
+    }
+}
+
+/// The table of a layer that is read in a profile: a row for each flash, numbered from 1, with what it leaves, its point, and the
+/// width and height of a pad, in millimetres with nine decimals. In the wide profile contours have rows too, where their region ends.
 ///
 /// # Errors
 ///
 /// The first fault of the text; `Memory` where an allocation failed.
-pub fn show_drill(alloc: Global, bytes: &[u8]) -> Result<Vec<u8>, Fail>
-    ensures exact { Answers (λ text. text.items) (ShowsDrill bytes.now) result }
+pub fn show_layer(alloc: Global, profile: Profile, bytes: &[u8]) -> Result<Vec<u8>, Fail>
+    ensures exact { Answers (λ text. text.items) (ShowsLayer profile bytes.now) result }
 {
-    let drill = read_drill(alloc, bytes)?;
+    match profile {
+        Profile::Strict => show_strict_layer(alloc, bytes),
+        Profile::Wide => show_wide_layer(alloc, bytes),
+    }
+}
+
+/// The table of the holes of a drill file that is read in a profile: a row for each, numbered from 1, with its two ends and its
+/// diameter, in millimetres with nine decimals.
+///
+/// # Errors
+///
+/// The first fault of the text; `Memory` where an allocation failed.
+pub fn show_drill(alloc: Global, profile: Profile, bytes: &[u8]) -> Result<Vec<u8>, Fail>
+    ensures exact { Answers (λ text. text.items) (ShowsDrill profile bytes.now) result }
+{
+    let drill = read_drill(alloc, profile, bytes)?;
     match drill_table(alloc, drill.holes()) {
         Ok(text) => Ok(text),
         Err(_) => Err(Fail::Memory),

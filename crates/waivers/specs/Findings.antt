@@ -26,7 +26,10 @@ layer_field names layers place = option_map_or (λ head. name_of names head.file
 abbrev pub has_field : RingCause → List ℕ
 has_field (causes.TooSmall place) = short_millimetres place.ring
 has_field (causes.OffCentre place) = short_millimetres place.ring
+has_field (causes.Edge at_edge) = short_millimetres at_edge.ring
 has_field (causes.Other why flash) = codes "none"
+has_field (causes.Clear flash) = codes "none"
+has_field (causes.Cleared flash) = codes "none"
 has_field causes.NoFlash = codes "none"
 has_field causes.Oblique = codes "none"
 

@@ -112,9 +112,12 @@ impl Display for RingField {
             RingCause::TooSmall(place) | RingCause::OffCentre(place) => {
                 write!(f, "{}", LengthField(place.ring))
             }
-            RingCause::Other { .. } | RingCause::NoFlash | RingCause::Oblique => {
-                f.write_str("none")
-            }
+            RingCause::Edge(at_edge) => write!(f, "{}", LengthField(at_edge.ring)),
+            RingCause::Other { .. }
+            | RingCause::Clear { .. }
+            | RingCause::Cleared { .. }
+            | RingCause::NoFlash
+            | RingCause::Oblique => f.write_str("none"),
         }
     }
 }

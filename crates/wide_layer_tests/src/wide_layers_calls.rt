@@ -1,130 +1,132 @@
-//! What counts of layers in the wide profile: pads, macros, contours and other flashes, in whole texts and in pieces.
+//! The flashes and contours of layers in the wide profile, in whole texts and in pieces.
 
+use further_copper::{Feature, FeatureKind};
 use grid_units::{Fail, Profile, Reason};
 use layer_image::{Keep, LayerReader};
 use std::alloc::Global;
 use wide_layers::{WideLayer, read_wide_layer, wide_layer};
+use wide_pads::WidePad;
 
-/// What is written after the head of a layer, and how many pads of standard apertures, flashes of macros, contours and other flashes
-/// it has.
-const LAYERS: [(&[u8], [usize; 4]); 24] = [
+/// What is written after the head of a layer, and a letter for each flash and contour in the order of the text: `p` a pad of a standard
+/// aperture, `m` one of a macro, `c` a contour, `o` no pad, `l` a flash in clear polarity, `x` one that is cleared.
+const LAYERS: [(&[u8], &[u8]); 24] = [
     // A rounded rectangle, which is no pad of a standard aperture.
     (
         b"%AMRoundRect*0 Rectangle with rounded corners*4,1,4,$2,$3,$4,$5,$6,$7,$8,$9,$2,$3,0*1,1,$1+$1,$2,$3*1,1,$1+$1,$4,$5*1,1,$1+$1,$6,$7*1,1,$1+$1,$8,$9*20,1,$1+$1,$2,$3,$4,$5,0*20,1,$1+$1,$4,$5,$6,$7,0*20,1,$1+$1,$6,$7,$8,$9,0*20,1,$1+$1,$8,$9,$2,$3,0*%\n%ADD10RoundRect,0.25X-0.25X0.25X-0.25X-0.25X0.25X-0.25X0.25X0.25X0*%\nD10*\nX0Y0D03*\n",
-        [0, 1, 0, 0],
+        b"m",
     ),
     // A contour.
     (
         b"G36*\nX-1000000Y-1000000D02*\nX1000000D01*\nY1000000D01*\nX-1000000D01*\nY-1000000D01*\nG37*\n",
-        [0, 0, 1, 0],
+        b"c",
     ),
     // Something clear before the flash takes nothing away.
     (
         b"%ADD10C,0.65*%\n%ADD11C,0.1*%\n%LPC*%\nD11*\nX5000000Y0D02*\nX6000000Y0D01*\n%LPD*%\nD10*\nX0Y0D03*\n",
-        [1, 0, 0, 0],
+        b"p",
     ),
     // Something clear after it does.
     (
         b"%ADD10C,0.65*%\n%ADD11C,0.1*%\nD10*\nX0Y0D03*\n%LPC*%\nD11*\nX5000000Y0D02*\nX6000000Y0D01*\n%LPD*%\n",
-        [0, 0, 0, 1],
+        b"x",
     ),
     // A move draws nothing.
     (
         b"%ADD10C,0.65*%\n%ADD11C,0.1*%\nD10*\nX0Y0D03*\n%LPC*%\nD11*\nX1Y1D02*\n",
-        [1, 0, 0, 0],
+        b"p",
     ),
     // A clear flash is none that counts, nor is the one before it.
     (
         b"%ADD10C,0.65*%\n%ADD11C,0.1*%\nD10*\nX0Y0D03*\n%LPC*%\nX1Y1D03*\n%LPD*%\nX0Y0D03*\n",
-        [1, 0, 0, 2],
+        b"xlp",
     ),
     // Polarity stays as it is until it is set again.
     (
         b"%ADD10C,0.65*%\n%ADD11C,0.1*%\n%LPC*%\nD10*\nX0Y0D03*\nX1Y1D03*\n",
-        [0, 0, 0, 2],
+        b"ll",
     ),
     // In a block of one copy nothing clear comes after the dark flash.
     (
         b"%ADD10C,0.65*%\n%ADD11C,0.1*%\n%SRX1Y1I5.0J0*%\n%LPC*%\nD11*\nX0Y0D03*\n%LPD*%\nD10*\nX0Y0D03*\n%SR*%\n",
-        [1, 0, 0, 1],
+        b"lp",
     ),
     // In one of two copies that of the second copy does.
     (
         b"%ADD10C,0.65*%\n%ADD11C,0.1*%\n%SRX2Y1I5.0J0*%\n%LPC*%\nD11*\nX0Y0D03*\n%LPD*%\nD10*\nX0Y0D03*\n%SR*%\n",
-        [0, 0, 0, 4],
+        b"llxx",
     ),
     // After such a block flashes count again.
     (
         b"%ADD10C,0.65*%\n%ADD11C,0.1*%\n%SRX2Y1I5.0J0*%\n%LPC*%\nD11*\nX0Y0D03*\n%LPD*%\nD10*\nX0Y0D03*\n%SR*%\nX9000000Y0D03*\n",
-        [1, 0, 0, 4],
+        b"llxxp",
     ),
     // So they do in the block after it.
     (
         b"%ADD10C,0.65*%\n%ADD11C,0.1*%\n%SRX2Y1I5.0J0*%\n%LPC*%\nD11*\nX0Y0D03*\n%LPD*%\n%SRX3Y1I5.0J0*%\nD10*\nX0Y0D03*\n%SR*%\n",
-        [3, 0, 0, 2],
+        b"llppp",
     ),
     // In a block of two copies all is taken away, after the clear flash too.
     (
         b"%ADD10C,0.65*%\n%ADD11C,0.1*%\n%SRX1Y2I0J5.0*%\nD10*\nX0Y0D03*\n%LPC*%\nD11*\nX0Y0D03*\n%LPD*%\nD10*\nX1Y1D03*\n%SR*%\n",
-        [0, 0, 0, 6],
+        b"xxllxx",
     ),
     // A contour is taken away as a flash is.
     (
         b"%ADD10C,0.65*%\n%ADD11C,0.1*%\nG36*\nX-1000000Y-1000000D02*\nX1000000D01*\nY1000000D01*\nX-1000000D01*\nY-1000000D01*\nG37*\n%LPC*%\nD11*\nX5000000Y0D02*\nX6000000Y0D01*\n%LPD*%\n",
-        [0, 0, 0, 0],
+        b"",
     ),
     // One after it counts.
     (
         b"%ADD10C,0.65*%\n%ADD11C,0.1*%\n%LPC*%\nD11*\nX5000000Y0D02*\nX6000000Y0D01*\n%LPD*%\nG36*\nX-1000000Y-1000000D02*\nX1000000D01*\nY1000000D01*\nX-1000000D01*\nY-1000000D01*\nG37*\n",
-        [0, 0, 1, 0],
+        b"c",
     ),
     // A clear region is no contour, and takes away what stands before it.
     (
         b"%ADD10C,0.65*%\n%ADD11C,0.1*%\nD10*\nX0Y0D03*\nG36*\nX-1000000Y-1000000D02*\nX1000000D01*\nY1000000D01*\nX-1000000D01*\nY-1000000D01*\nG37*\n%LPC*%\nG36*\nX-1000000Y-1000000D02*\nX1000000D01*\nY1000000D01*\nX-1000000D01*\nY-1000000D01*\nG37*\n%LPD*%\n",
-        [0, 0, 0, 1],
+        b"x",
     ),
     // A clear region without a plot takes nothing away.
     (
         b"%ADD10C,0.65*%\n%ADD11C,0.1*%\nD10*\nX0Y0D03*\n%LPC*%\nG36*\nX0Y0D02*\nG37*\n",
-        [1, 0, 0, 0],
+        b"p",
     ),
     // In a block of two copies with a clear flash no contour counts.
     (
         b"%ADD10C,0.65*%\n%ADD11C,0.1*%\n%SRX2Y1I5.0J0*%\n%LPC*%\nD11*\nX0Y0D03*\n%LPD*%\nG36*\nX-1000000Y-1000000D02*\nX1000000D01*\nY1000000D01*\nX-1000000D01*\nY-1000000D01*\nG37*\n%SR*%\n",
-        [0, 0, 0, 2],
+        b"ll",
     ),
     // A macro is taken away as well.
     (
         b"%AMT*4,1,3,0,0,3,0,0,2,0,0,0*%\n%ADD10T*%\n%ADD11C,0.1*%\nD10*\nX0Y0D03*\n%LPC*%\nD11*\nX5000000Y0D02*\nX6000000Y0D01*\n%LPD*%\n",
-        [0, 0, 0, 1],
+        b"x",
     ),
     // And counts after it.
     (
         b"%AMT*4,1,3,0,0,3,0,0,2,0,0,0*%\n%ADD10T*%\n%ADD11C,0.1*%\n%LPC*%\nD11*\nX5000000Y0D02*\nX6000000Y0D01*\n%LPD*%\nD10*\nX0Y0D03*\n",
-        [0, 1, 0, 0],
+        b"m",
     ),
     // A macro that is turned by another angle is no pad.
     (
         b"%AMT*4,1,3,0,0,3,0,0,2,0,0,0*%\n%ADD10T*%\n%LR45*%\nD10*\nX0Y0D03*\n",
-        [0, 0, 0, 1],
+        b"o",
     ),
     // Copies of flashes, macros and contours.
     (
         b"%AMT*4,1,3,0,0,3,0,0,2,0,0,0*%\n%ADD10T*%\n%ADD11C,0.1*%\n%SRX2Y1I5.0J0*%\nD10*\nX0Y0D03*\nD11*\nX0Y0D03*\nG36*\nX-1000000Y-1000000D02*\nX1000000D01*\nY1000000D01*\nX-1000000D01*\nY-1000000D01*\nG37*\n%SR*%\n",
-        [2, 2, 2, 0],
+        b"mmppcc",
     ),
     // A macro that is not judged, one with a hole and a polygon are no pads.
     (
         b"%AMA*4,1,5,0.5,-0.75,-0.65,-0.75,-0.15,0,-0.65,0.75,0.5,0.75,0.5,-0.75,0*%\n%ADD10A*%\n%ADD11C,0.6X0.2*%\n%ADD12P,1X6*%\nD10*\nX0Y0D03*\nD11*\nX0Y0D03*\nD12*\nX0Y0D03*\n",
-        [0, 0, 0, 3],
+        b"ooo",
     ),
     // A contour twice, by a block.
     (
         b"%SRX2Y1I5.0J0*%\nG36*\nX-1000000Y-1000000D02*\nX1000000D01*\nY1000000D01*\nX-1000000D01*\nY-1000000D01*\nG37*\n%SR*%\n",
-        [0, 0, 2, 0],
+        b"cc",
     ),
     // Nothing at all.
-    (b"", [0, 0, 0, 0]),
+    (b"", b""),
 ];
 
 /// Layers that are refused: the place, the byte and the reason.
@@ -145,12 +147,42 @@ fn layer_text(alloc: Global, body: &[u8]) -> Option<Vec<u8>> {
     pieces.concat(alloc).ok()
 }
 
-/// Whether a layer has these numbers.
-fn has_numbers(layer: &WideLayer, [pads, flashed, contours, other]: [usize; 4]) -> bool {
-    layer.pads().len() == pads
-        && layer.flashed().len() == flashed
-        && layer.contours().len() == contours
-        && layer.other() == other
+/// The letter of a flash or contour.
+fn letter(what: &FeatureKind) -> u8 {
+    match what {
+        FeatureKind::Pad(WidePad::Plain(_)) => b'p',
+        FeatureKind::Pad(WidePad::Rounded(_)) => b'm',
+        FeatureKind::Contour(_) => b'c',
+        FeatureKind::Other(_) => b'o',
+        FeatureKind::Clear => b'l',
+        FeatureKind::Cleared => b'x',
+    }
+}
+
+/// How often one of these letters stands in a text.
+fn count(letters: &[u8], text: &[u8]) -> usize {
+    text.iter().filter(|byte| letters.contains(*byte)).count()
+}
+
+/// Whether the flashes and contours of a layer have these letters.
+fn has_letters(features: &[Feature], letters: &[u8]) -> bool {
+    if features.len() != letters.len() {
+        return false;
+    }
+    for i in 0..features.len() {
+        if letter(&features[i].what) != letters[i] {
+            return false;
+        }
+    }
+    true
+}
+
+/// Whether a layer has these flashes and contours, and counts them so.
+fn is_layer(layer: &WideLayer, letters: &[u8]) -> bool {
+    has_letters(layer.features(), letters)
+        && layer.flashed_count() == count(b"pm", letters)
+        && layer.contour_count() == count(b"c", letters)
+        && layer.other_count() == count(b"olx", letters)
 }
 
 /// The layer of a text that comes in pieces of one byte.
@@ -164,15 +196,13 @@ fn read_bytes(alloc: Global, text: &[u8]) -> Result<WideLayer, Fail> {
     Ok(wide)
 }
 
-/// Whether the layer has these numbers, read whole and in pieces.
-fn counts(alloc: Global, body: &[u8], numbers: [usize; 4]) -> bool {
+/// Whether the layer has these flashes and contours, read whole and in pieces.
+fn reads_as(alloc: Global, body: &[u8], letters: &[u8]) -> bool {
     let Some(text) = layer_text(alloc, body) else {
         return false;
     };
     match (read_wide_layer(alloc, &text), read_bytes(alloc, &text)) {
-        (Ok(whole), Ok(in_pieces)) => {
-            has_numbers(&whole, numbers) && has_numbers(&in_pieces, numbers)
-        }
+        (Ok(whole), Ok(in_pieces)) => { is_layer(&whole, letters) && is_layer(&in_pieces, letters) }
         _ => false,
     }
 }
@@ -192,8 +222,8 @@ fn is_refused(alloc: Global, body: &[u8], place: u64, byte: u64, reason: Reason)
 
 #[test]
 fn clear_polarity_takes_away_what_stands_before_it(rt: HostRuntime) {
-    for (place, &(body, numbers)) in LAYERS.iter().enumerate() {
-        assert!(rt; counts(rt.alloc(), body, numbers), "at {place}");
+    for (place, &(body, letters)) in LAYERS.iter().enumerate() {
+        assert!(rt; reads_as(rt.alloc(), body, letters), "at {place}");
     }
 }
 

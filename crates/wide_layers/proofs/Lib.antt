@@ -1,4 +1,2 @@
-pub mod FlashCounts
-pub mod LastFlashes
 pub mod Readings
 pub mod StrictReading

@@ -1,8 +1,16 @@
--- A text has one reading. One of the strict profile has no clear polarity, so all of its pads are left.
-use Rattle.std.proofs.Common.{◌≡◌, ◌∙◌, ◌&&◌, ◌||◌, Bool, true, false, not, List, [], ◌∷◌, Result, Ok, Err, refl, sym, ap}
-use Rattle.std.specs.List.{flat_map, list_any}
+-- A text has one reading. One of the strict profile has no clear polarity, so its flashes are those of the strict profile.
+use Rattle.std.proofs.Common.{◌≡◌, ◌∙◌, ◌&&◌, ◌||◌, Bool, true, false, not, List, [], ◌∷◌, ◌++◌, map, Option, None, Some, Result, Ok, Err, refl, sym, ap, append-nil}
+use Rattle.std.specs.Prelude.{if◌then◌else◌}
+use Rattle.std.specs.Option.{option_map_or}
+use Rattle.std.specs.List.{cons_option, flat_map, list_any}
+use Rattle.std.proofs.lemmas.List.Concat.{flat_map-cons}
+use Rattle.std.proofs.lemmas.List.Elements.{filter_map-append}
+use Rattle.grid_units.specs.Lists.{with_prefixes_from}
+use Rattle.grid_units.specs.Points.{GridPoint}
+use Rattle.pad_shapes.specs.Rounded.{GridRounded}
+use Rattle.wide_pads.specs.declared.wide_pad.WidePad.TheVariants.{Rounded}
 use Rattle.grid_units.specs.declared.fault.Fault.{Fault}
-use Rattle.grid_units.proofs.BoolLemmas.{both_true}
+use Rattle.grid_units.proofs.BoolLemmas.{both_true, or_is_false}
 use Rattle.gerber_commands.specs.declared.command.Command.{Command}
 use Rattle.gerber_commands.specs.declared.command.Command.TheVariants as command
 use Rattle.grid_units.specs.declared.profile.Profile.TheVariants.{Wide}
@@ -10,12 +18,21 @@ use Rattle.gerber_text.specs.Sayable.{has_valid_fields, is_finish, is_sayable}
 use Rattle.gerber_text.specs.Writing.{sayable, without_places}
 use Rattle.gerber_text.proofs.ProfileLemmas.{spells_more}
 use Rattle.gerber_text.proofs.TextIsSayable.{text_sayable}
-use Rattle.layer_image.specs.Flashes.{added_flashes, pads_of}
+use Rattle.layer_image.specs.declared.flash.Flash.{Flash}
+use Rattle.layer_image.specs.declared.flash.What.{What}
+use Rattle.layer_image.specs.declared.flash.What.TheVariants as what
+use Rattle.layer_image.specs.Flashes.{added_flashes, flashes_of, pad_in, pads_of}
 use Rattle.layer_image.specs.Layers.{LayerImage}
 use Rattle.layer_image.specs.Lookback.{state_after}
 use Rattle.layer_image.proofs.UniqueReading.{one_layer}
-use Rattle.further_copper.proofs.ClearingLemmas.{all_uncleared, is_clear}
-use Rattle.wide_layers.specs.WideLayers.{ReadingIsUnique, StrictLayers, wide_image_of}
+use Rattle.further_copper.specs.declared.feature.Feature.{Feature}
+use Rattle.further_copper.specs.declared.feature.FeatureKind.TheVariants as kind
+use Rattle.further_copper.specs.Clearing.{is_clear_after}
+use Rattle.further_copper.specs.FurtherPads.{CopperState, contours_in, copper_state_after, flashed_pad}
+use Rattle.further_copper.specs.Features.{contour_feature, dark_kind, features_at, features_of, flash_feature}
+use Rattle.further_copper.proofs.ClearingLemmas.{is_clear, stays_dark_after}
+use Rattle.further_copper.proofs.DarkLayers.{all_features}
+use Rattle.wide_layers.specs.WideLayers.{ReadingIsUnique, StrictLayers, plain_pad, plain_pads, wide_image_of}
 
 -- a sayable command is not `%LPC*%`
 not_clear : (c : Command) → is_sayable c ≡ true → is_clear c ≡ false
@@ -31,13 +48,54 @@ none_clear (c ∷ d ∷ cs) h =
     let rest = both_true (not (is_finish c)) (sayable (d ∷ cs)) first.1 in
     λ i. not_clear c first.0 i || none_clear (d ∷ cs) rest.1 i
 
+-- ---- the pads of standard apertures
+
+plain_contours : (pads : List GridRounded) → plain_pads (map contour_feature pads) ≡ []
+plain_contours [] = refl
+plain_contours (p ∷ ps) = plain_contours ps
+
+-- a flash in dark polarity is the pad of a standard aperture just where the strict profile says so
+plain_kind : (s : CopperState) (at : GridPoint) (w : What) → plain_pad (dark_kind s at w) ≡ pad_in w
+plain_kind s at (what.Pad pad) = refl
+plain_kind s at (what.Other why) = by (flashed_pad s at)
+  where
+    by : (o : Option GridRounded) → plain_pad (option_map_or (λ pad. kind.Pad (Rounded pad)) o (kind.Other why)) ≡ None
+    by (Some pad) = refl
+    by None = refl
+
+plain_flashes : (s : CopperState) (flashes : List Flash) → s.clearing.clear ≡ false → plain_pads (map (flash_feature s) flashes) ≡ pads_of flashes
+plain_flashes s [] dark = refl
+plain_flashes s (f ∷ fs) dark = λ i. cons_option ((ap (λ (b : Bool). plain_pad (if b then kind.Clear else dark_kind s f.at f.what)) dark ∙ plain_kind s f.at f.what) i) (plain_flashes s fs dark i)
+
+plain_added : (p : List Command × Command) → is_clear_after p.0 ≡ false → plain_pads (features_at p) ≡ pads_of (added_flashes (state_after p.0) p.1)
+plain_added p dark =
+    let s = copper_state_after p.0 in
+    let flashes = added_flashes (state_after p.0) p.1 in
+    filter_map-append (λ (f : Feature). plain_pad f.what) (map (flash_feature s) flashes) (map contour_feature (contours_in s p.1))
+    ∙ (λ i. plain_flashes s flashes dark i ++ plain_contours (contours_in s p.1) i) ∙ append-nil (pads_of flashes)
+
+plain_from : (before cs : List Command) → is_clear_after before ≡ false → list_any is_clear cs ≡ false
+    → plain_pads (flat_map features_at (with_prefixes_from before cs)) ≡ pads_of (flat_map (λ p. added_flashes (state_after p.0) p.1) (with_prefixes_from before cs))
+plain_from before [] dark h = refl
+plain_from before (c ∷ cs) dark h =
+    let both = or_is_false (is_clear c) (list_any is_clear cs) h in
+    let rest = with_prefixes_from (before ++ c ∷ []) cs in
+    let still : is_clear_after (before ++ c ∷ []) ≡ false = stays_dark_after before c dark both.0 in
+    ap plain_pads (flat_map-cons features_at (before, c) rest)
+    ∙ filter_map-append (λ (f : Feature). plain_pad f.what) (features_at (before, c)) (flat_map features_at rest)
+    ∙ (λ i. plain_added (before, c) dark i ++ plain_from (before ++ c ∷ []) cs still both.1 i)
+    ∙ sym (filter_map-append (λ (f : Flash). pad_in f.what) (added_flashes (state_after before) c) (flat_map (λ p. added_flashes (state_after p.0) p.1) rest))
+    ∙ sym (ap pads_of (flat_map-cons (λ p. added_flashes (state_after p.0) p.1) (before, c) rest))
+
+plain_of_dark : (commands : List Command) → list_any is_clear commands ≡ false → plain_pads (features_of commands) ≡ pads_of (flashes_of commands)
+plain_of_dark commands h = ap plain_pads (all_features commands h) ∙ plain_from [] commands refl h
+
 pub strict_read : StrictLayers
 strict_read text layer h =
-    let commands = without_places layer.commands in
-    let left = all_uncleared commands (none_clear commands (text_sayable text layer.commands h.0.spells)) in (
+    let commands = without_places layer.commands in (
       wide_image_of commands,
       (layer, (record { spells = spells_more text layer.commands h.0.spells; legal = h.0.legal }, h.1), refl),
-      ap (λ (l : List (List Command × Command)). pads_of (flat_map (λ p. added_flashes (state_after p.0) p.1) l)) left ∙ sym (ap (λ (l : LayerImage). l.pads) h.1),
+      plain_of_dark commands (none_clear commands (text_sayable text layer.commands h.0.spells)) ∙ sym (ap (λ (l : LayerImage). l.pads) h.1),
       sym (ap (λ (l : LayerImage). l.file_function) h.1),
     )
 

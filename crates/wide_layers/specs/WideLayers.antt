@@ -1,55 +1,55 @@
 -- Layers in the wide profile: what a whole text says, or its first fault (docs/FORMATS.md, Layers in the wide profile).
-use Rattle.std.specs.Prelude.{◌≡◌, ℕ, ◌+◌, ◌-◌, List, length, Option, Result, Ok, Err}
-use Rattle.std.specs.List.{flat_map}
+use Rattle.std.specs.Prelude.{◌≡◌, ℕ, List, count_by, Option, None, Some, Result, Ok, Err}
+use Rattle.std.specs.List.{filter_map}
 use Rattle.grid_units.specs.declared.fault.Fault.{Fault}
-use Rattle.pad_shapes.specs.Rounded.{GridRounded}
-use Rattle.pad_shapes.specs.declared.pad.Pad.{Pad}
-use Rattle.gerber_commands.specs.declared.command.Command.{Command}
 use Rattle.grid_units.specs.declared.profile.Profile.TheVariants.{Wide}
+use Rattle.pad_shapes.specs.declared.pad.Pad.{Pad}
+use Rattle.wide_pads.specs.declared.wide_pad.WidePad.TheVariants.{Plain}
 use Rattle.gerber_text.specs.Writing.{without_places}
-use Rattle.layer_image.specs.declared.flash.Flash.{Flash}
-use Rattle.layer_image.specs.Lookback.{state_after}
-use Rattle.layer_image.specs.Flashes.{added_flashes, flashes_of, pads_of}
+use Rattle.gerber_commands.specs.declared.command.Command.{Command}
 use Rattle.layer_image.specs.FileFunction.{file_function_of}
 use Rattle.layer_image.specs.Layers.{LayerImage, ReadsLayer, ReadsLayerIn}
-use Rattle.further_copper.specs.Clearing.{uncleared}
-use Rattle.further_copper.specs.FurtherPads.{contours_of, flashed_pads_of}
+use Rattle.further_copper.specs.declared.feature.Feature.{Feature}
+use Rattle.further_copper.specs.declared.feature.FeatureKind.{FeatureKind}
+use Rattle.further_copper.specs.declared.feature.FeatureKind.TheVariants as kind
+use Rattle.further_copper.specs.Features.{features_of, is_contour, is_flashed_pad, is_other}
 
--- a layer in the wide profile: the pads of standard apertures, the flashes of macros and the contours that count as pads, each in order;
--- how many flashes are no pads; the text after `.FileFunction,`, if it is named
+-- a layer in the wide profile: its flashes and contours, in the order of the text; the text after `.FileFunction,`, if it is named
 pub record WideImage : Type 0 where
-  pub pads : List Pad
-  pub flashed : List GridRounded
-  pub contours : List GridRounded
-  pub other : ℕ
+  pub features : List Feature
   pub file_function : Option (List ℕ)
-
--- the flashes that no clear polarity takes away, in order
-abbrev pub flashes_left : List Command → List Flash
-flashes_left commands = flat_map (λ p. added_flashes (state_after p.0) p.1) (uncleared commands)
-
--- the pads of standard apertures that no clear polarity takes away, in order
-abbrev pub pads_left : List Command → List Pad
-pads_left commands = pads_of (flashes_left commands)
-
--- how many flashes are no pads: neither such pads nor flashes of macros that count as pads
-abbrev pub other_flashes : List Command → ℕ
-other_flashes commands = length (flashes_of commands) - length (pads_left commands) - length (flashed_pads_of commands)
 
 -- the layer of some commands
 abbrev pub wide_image_of : List Command → WideImage
-wide_image_of commands = record {
-  pads = pads_left commands;
-  flashed = flashed_pads_of commands;
-  contours = contours_of commands;
-  other = other_flashes commands;
-  file_function = file_function_of commands;
-}
+wide_image_of commands = record { features = features_of commands; file_function = file_function_of commands }
 
 -- In the wide profile a text reads as the layer of its commands, where it is a layer's text of them; or it has this fault.
 abbrev pub ReadsWideLayer : List ℕ → Result WideImage Fault → Type 0
 ReadsWideLayer text (Ok image) = (layer : LayerImage) × ReadsLayerIn Wide text (Ok layer) × (image ≡ wide_image_of (without_places layer.commands))
 ReadsWideLayer text (Err f) = ReadsLayerIn Wide text (Err f)
+
+-- ---- kinds of flashes and contours
+
+-- how many flashes are pads
+abbrev pub flashed_count : List Feature → ℕ
+flashed_count features = count_by (λ f. is_flashed_pad f.what) features
+
+-- how many contours there are
+abbrev pub contour_count : List Feature → ℕ
+contour_count features = count_by (λ f. is_contour f.what) features
+
+-- how many flashes are no pads
+abbrev pub other_count : List Feature → ℕ
+other_count features = count_by (λ f. is_other f.what) features
+
+-- the pad of a standard aperture, if it is one
+abbrev pub plain_pad : FeatureKind → Option Pad
+plain_pad (kind.Pad (Plain pad)) = Some pad
+plain_pad _ = None
+
+-- the pads of standard apertures, in order
+abbrev pub plain_pads : List Feature → List Pad
+plain_pads features = filter_map (λ f. plain_pad f.what) features
 
 -- ---- laws
 
@@ -61,8 +61,4 @@ ReadingIsUnique = (text : List ℕ) (a b : Result WideImage Fault) → ReadsWide
 -- same file function
 abbrev pub StrictLayers : Type 0
 StrictLayers = (text : List ℕ) (layer : LayerImage) → ReadsLayer text (Ok layer)
-    → (wide : WideImage) × ReadsWideLayer text (Ok wide) × (wide.pads ≡ layer.pads) × (wide.file_function ≡ layer.file_function)
-
--- each flash is counted once: as a pad of a standard aperture, as a flash of a macro that counts as one, or among those that are no pads
-abbrev pub FlashesAreCounted : Type 0
-FlashesAreCounted = (commands : List Command) → length (pads_left commands) + length (flashed_pads_of commands) + other_flashes commands ≡ length (flashes_of commands)
+    → (wide : WideImage) × ReadsWideLayer text (Ok wide) × (plain_pads wide.features ≡ layer.pads) × (wide.file_function ≡ layer.file_function)

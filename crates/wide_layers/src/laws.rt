@@ -1,6 +1,6 @@
 //! Laws of layers in the wide profile. A call of one does nothing; its clauses are what is proved.
 
-ghost use Rattle.wide_layers.specs.WideLayers.{FlashesAreCounted, ReadingIsUnique, StrictLayers};
+ghost use Rattle.wide_layers.specs.WideLayers.{ReadingIsUnique, StrictLayers};
 
 /// A text reads as one layer in the wide profile, or has one fault.
 pub fn unique_reading()
@@ -11,9 +11,4 @@ pub fn unique_reading()
 /// same file function.
 pub fn strict_layers()
     ensures { StrictLayers }
-{}
-
-/// Each flash is counted once: as a pad of a standard aperture, as a flash of a macro that counts as one, or among those that are no pads.
-pub fn counted_flashes()
-    ensures { FlashesAreCounted }
 {}

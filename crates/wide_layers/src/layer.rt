@@ -2,26 +2,23 @@
 
 ghost use Rattle.std.specs.Prelude.{◌≡◌, ℕ, List, Ok, IfOk};
 ghost use Rattle.std.specs.Option.{option_copied};
-ghost use Rattle.grid_units.specs.declared.profile.Profile.{Profile};
+ghost use Rattle.grid_units.specs.declared.profile.Profile.TheVariants.{Wide};
 ghost use Rattle.gerber_text.specs.Writing.{without_places};
 ghost use Rattle.layer_image.specs.Layers.{ReadsLayerIn};
-ghost use Rattle.wide_layers.specs.WideLayers.{wide_image_of};
+ghost use Rattle.further_copper.specs.Features.{pads_of, rows_of};
+ghost use Rattle.wide_layers.specs.WideLayers.{contour_count, flashed_count, other_count, wide_image_of};
 
-use crate::pads::last_pads;
-use further_copper::further_pads;
+use further_copper::{Feature, FeatureRow, features};
 use grid_units::Text;
 use layer_image::Layer;
-use pad_shapes::{Pad, PlacedRounded};
 use std::alloc::{AllocError, Global};
 use std::marker::Model;
+use wide_pads::WidePad;
 
-/// A layer in the wide profile. Contracts see its pads and its file function as lists.
+/// A layer in the wide profile. Contracts see its flashes and contours and its file function as lists.
 #[derive(Debug, Drop)]
 pub struct WideLayer {
-    pads: Vec<Pad>,
-    flashed: Vec<PlacedRounded>,
-    contours: Vec<PlacedRounded>,
-    other: usize,
+    features: Vec<Feature>,
     file_function: Option<Text>,
 }
 
@@ -30,60 +27,73 @@ impl Model for WideLayer {
 
     ghost Value = { WideImage };
 
-    ghost view = { λ l. record { pads = l.pads.items; flashed = l.flashed.items; contours = l.contours.items; other = l.other; file_function = l.file_function } };
-}
-
-/// The pads of a layer in the wide profile.
-#[derive(Debug, Drop)]
-pub struct WidePads {
-    /// The pads of standard apertures, in order.
-    pub pads: Vec<Pad>,
-    /// The flashes of macros that count as pads, in order.
-    pub flashed: Vec<PlacedRounded>,
-    /// The contours of regions that count as pads, in order.
-    pub contours: Vec<PlacedRounded>,
+    ghost view = { λ l. record { features = l.features.items; file_function = l.file_function } };
 }
 
 impl WideLayer {
-    /// The pads of standard apertures that no clear polarity takes away, in order, one for each copy in a step and repeat block.
-    pub fn pads(&self) -> &[Pad]
-        ensures { result.now ≡ self.now.pads }
+    /// The flashes and contours, in the order of the text, one for each copy in a step and repeat block.
+    pub fn features(&self) -> &[Feature]
+        ensures { result.now ≡ self.now.features }
     {
-        &self.pads
+        &self.features
     }
 
-    /// The flashes of macros that count as pads, in order, one for each copy in a step and repeat block.
-    pub fn flashed(&self) -> &[PlacedRounded]
-        ensures { result.now ≡ self.now.flashed }
+    /// How many flashes are pads.
+    pub fn flashed_count(&self) -> usize
+        ensures { result ≡ flashed_count self.now.features }
     {
-        &self.flashed
+        self.features
+            .iter()
+            .filter(|feature| feature.what.is_flashed_pad())
+            .count()
     }
 
-    /// The contours of regions that count as pads, in order, one for each copy in a step and repeat block.
-    pub fn contours(&self) -> &[PlacedRounded]
-        ensures { result.now ≡ self.now.contours }
+    /// How many contours count as pads.
+    pub fn contour_count(&self) -> usize
+        ensures { result ≡ contour_count self.now.features }
     {
-        &self.contours
-    }
-
-    /// The pads alone.
-    pub fn into_pads(self) -> WidePads
-        ensures pads { result.pads.items ≡ self.pads }
-        ensures flashed { result.flashed.items ≡ self.flashed }
-        ensures contours { result.contours.items ≡ self.contours }
-    {
-        WidePads {
-            pads: self.pads,
-            flashed: self.flashed,
-            contours: self.contours,
-        }
+        self.features
+            .iter()
+            .filter(|feature| feature.what.is_contour())
+            .count()
     }
 
     /// How many flashes are no pads.
-    pub fn other(&self) -> usize
-        ensures { result ≡ self.now.other }
+    pub fn other_count(&self) -> usize
+        ensures { result ≡ other_count self.now.features }
     {
-        self.other
+        self.features
+            .iter()
+            .filter(|feature| feature.what.is_other())
+            .count()
+    }
+
+    /// The pads, in the order of the text: flashes and contours.
+    ///
+    /// # Errors
+    ///
+    /// An `AllocError` where there is no memory for the list.
+    pub fn into_pads(self, alloc: Global) -> Result<Vec<WidePad>, AllocError>
+        ensures { IfOk result (λ pads. pads.items ≡ pads_of self.features) }
+    {
+        self.features
+            .into_iter()
+            .filter_map(|feature| feature.what.into_pad())
+            .collect(alloc)
+    }
+
+    /// The rows of the flashes and contours, in the order of the text.
+    ///
+    /// # Errors
+    ///
+    /// An `AllocError` where there is no memory for the list.
+    pub fn rows(&self, alloc: Global) -> Result<Vec<FeatureRow>, AllocError>
+        ensures { IfOk result (λ rows. rows.items ≡ rows_of self.now.features) }
+    {
+        self.features
+            .iter()
+            .map(|feature| feature.row())
+            .collect(alloc)
     }
 
     /// What follows `.FileFunction,` in the last file attribute or comment that names it, such as `Copper,L1,Top`.
@@ -113,21 +123,12 @@ fn owned(alloc: Global, text: Option<&[u8]>) -> Result<Option<Text>, AllocError>
 ///
 /// An `AllocError` where there is no memory for it.
 pub fn wide_layer(alloc: Global, layer: &Layer) -> Result<WideLayer, AllocError>
-    ensures { (profile : Profile) (text : List ℕ) → ReadsLayerIn profile text (Ok layer.now) → IfOk result (λ wide. wide ≡ wide_image_of (without_places layer.now.commands)) }
+    ensures { (text : List ℕ) → ReadsLayerIn Wide text (Ok layer.now) → IfOk result (λ wide. wide ≡ wide_image_of (without_places layer.now.commands)) }
 {
-    let further = further_pads(alloc, layer.commands())?;
-    let flashes = layer.flashes();
-    let pads = last_pads(alloc, flashes, further.flashes)?;
+    let features = features(alloc, layer.commands(), layer.flashes())?;
     let file_function = owned(alloc, layer.file_function())?;
-    let other = flashes
-        .len()
-        .saturating_sub(pads.len())
-        .saturating_sub(further.flashed.len());
     Ok(WideLayer {
-        pads,
-        flashed: further.flashed,
-        contours: further.contours,
-        other,
+        features,
         file_function,
     })
 }

@@ -1,12 +1,10 @@
-//! Layers in the wide profile: the pads of standard apertures, the flashes of macros and the contours that count as pads, where clear
-//! polarity takes none of them away.
+//! Layers in the wide profile: their flashes and contours, in the order of the text, and which of these are pads.
 #![tactic(auto)]
 
 mod laws;
 mod layer;
-mod pads;
 mod reading;
 
-pub use laws::{counted_flashes, strict_layers, unique_reading};
-pub use layer::{WideLayer, WidePads, wide_layer};
+pub use laws::{strict_layers, unique_reading};
+pub use layer::{WideLayer, wide_layer};
 pub use reading::read_wide_layer;

@@ -6,14 +6,14 @@ use Rattle.margins.specs.declared.best.BestPad.{BestPad}
 use Rattle.package_check.specs.Boards.{BoardView}
 use Rattle.board_report.specs.Measures.{AreLayerBests}
 use Rattle.board_report.specs.Rows.{AreFilesWithHoles}
-use Rattle.report.specs.Causes.{HoldsFlashesAndBests}
-use Rattle.board_report.specs.BoardReport.{layer_flashes}
+use Rattle.report.specs.Causes.{HoldsRowsAndBests}
+use Rattle.board_report.specs.BoardReport.{layer_pads, layer_rows}
 use Rattle.board_report.specs.declared.rings.CurrentLayer.{CurrentLayer}
 use Rattle.board_report.specs.declared.rings.BoardData.{BoardData}
 
--- the data kept of a layer belong to its flashes and to the holes of the board
+-- the data kept of a layer belong to its rows and pads and to the holes of the board
 abbrev pub IsCurrentLayer : BoardView → CurrentLayer → Type 0
-IsCurrentLayer board current = HoldsFlashesAndBests (layer_flashes board current.layer) board.holes current.causes
+IsCurrentLayer board current = HoldsRowsAndBests (layer_rows board current.layer) (layer_pads board current.layer) board.holes current.causes
 
 -- the best pads of each layer of a board, for each of its holes
 abbrev pub AreBoardBests : BoardView → List (Vec (Option BestPad)) → Type 0

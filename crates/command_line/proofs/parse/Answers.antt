@@ -29,9 +29,9 @@ returns-in-Some c =
           c.in-Some.ensures.check r g f m (rows_of all) (parsed.1 ∙ ap₂ subcommand_of c.in-Ok.ensures e ∙ (λ i. (check_answer r g f m p q t s i).1))
           (first_is (codes "ring") all, first_is (codes "gap") all, first_is (codes "profile") all, first_is (codes "manifest") all);
       measure = λ p o m e q t s. is_measure p o m c.in-Some.request (asks _ _ e (measure_answer p o m q t s));
-      report = λ r g n v l o m e p q t w x u s. is_report r g n v l o m c.in-Some.request (asks _ _ e (report_answer r g n v l o m p q t w x u s));
-      draw = λ o l m e p t s. is_draw o l m c.in-Some.request (asks _ _ e (draw_answer o l m p t s));
-      show = λ k f e p q. is_show k f c.in-Some.request (asks _ _ e (show_answer k f p q));
+      report = λ r g f n v l o m e p q y t w x u s. is_report r g f n v l o m c.in-Some.request (asks _ _ e (report_answer r g f n v l o m p q y t w x u s));
+      draw = λ o f l m e p y t s. is_draw o f l m c.in-Some.request (asks _ _ e (draw_answer o f l m p y t s));
+      show = λ k p f e q t s. is_show k p f c.in-Some.request (asks _ _ e (show_answer k p f q t s));
       rewrite = λ k f e p q. is_rewrite k f c.in-Some.request (asks _ _ e (rewrite_answer k f p q));
       manifest = λ why fs e p.
           let few = few_files c.args.words.now why fs e (omega (arith, c.word_count-count.ensures)) in
@@ -53,9 +53,9 @@ returns c =
       exact = exact;
       check = λ r g f m e p q t s. rw (memory _ _ e (check_answer r g f m p q t s)) tt;
       measure = λ p o m e q t s. rw (memory _ _ e (measure_answer p o m q t s)) tt;
-      report = λ r g n v l o m e p q t w x u s. rw (memory _ _ e (report_answer r g n v l o m p q t w x u s)) tt;
-      draw = λ o l m e p t s. rw (memory _ _ e (draw_answer o l m p t s)) tt;
-      show = λ k f e p q. rw (memory _ _ e (show_answer k f p q)) tt;
+      report = λ r g f n v l o m e p q y t w x u s. rw (memory _ _ e (report_answer r g f n v l o m p q y t w x u s)) tt;
+      draw = λ o f l m e p y t s. rw (memory _ _ e (draw_answer o f l m p y t s)) tt;
+      show = λ k p f e q t s. rw (memory _ _ e (show_answer k p f q t s)) tt;
       rewrite = λ k f e p q. rw (memory _ _ e (rewrite_answer k f p q)) tt;
       manifest = λ why fs e p.
           let few = few_files c.args.words.now why fs e (omega (arith, c.word_count-count.ensures)) in

@@ -1,7 +1,7 @@
 -- The program and its command `report`, as they are built up part by part.
 use Rattle.std.specs.Prelude.{codes}
 use Rattle.clap.specs.Words.{App, with_rule, with_subcommand}
-use Rattle.command_line.specs.ProgramArgs.{check_app, draw_app, explain_app, file_app, manifest_app, optional_option, measure_app, positional, report_app}
+use Rattle.command_line.specs.ProgramArgs.{check_app, draw_app, explain_app, manifest_app, optional_option, measure_app, positional, report_app, rewrite_app, show_app}
 
 -- a program with the commands `check`, `report`, `measure` and `draw` added
 abbrev pub package_commands_of : App → App
@@ -10,7 +10,7 @@ package_commands_of a = with_subcommand (with_subcommand (with_subcommand (with_
 -- a program with the commands `manifest`, `explain`, `show` and `rewrite` added
 abbrev pub file_commands_of : App → App
 file_commands_of a =
-    with_subcommand (with_subcommand (with_subcommand (with_subcommand a manifest_app.top) explain_app.top) (file_app (codes "show")).top) (file_app (codes "rewrite")).top
+    with_subcommand (with_subcommand (with_subcommand (with_subcommand a manifest_app.top) explain_app.top) show_app.top) rewrite_app.top
 
 -- a command with `[--max N] [--waive FILE] [--outline FILE] [--format F] MANIFEST` added
 abbrev pub report_args_of : App → App

@@ -1,7 +1,6 @@
 -- The last members of objects that are printed in two parts.
 use Rattle.std.specs.Prelude.{ℕ, List, [], ◌∷◌, codes, map, Option}
 use Rattle.grid_units.specs.declared.profile.Profile.{Profile}
-use Rattle.grid_units.specs.declared.profile.Profile.TheVariants.{Strict}
 use Rattle.std.specs.Borrow.{Bor}
 use Rattle.json.specs.Json.{Json}
 use Rattle.report.specs.declared.Measure.{Measure}
@@ -26,8 +25,8 @@ measure_rest profile names board measure =
     (codes "files", array_of (file_values profile names board.files)) ∷ (codes "scales", array_of (map scale_value measure.scales.items))
     ∷ (codes "rings", array_of (map row_value measure.rings.items)) ∷ (codes "gap", or_null (least_gap_value board.files board.holes) measure.gap) ∷ []
 
--- those of a report with waivers
-abbrev pub report_rest : List (List ℕ) → List FileSum → BoardReport → Acceptances → List (List ℕ × Json)
-report_rest names files report accepted =
-    (codes "files", array_of (file_values Strict names files)) ∷ (codes "scales", array_of (map scale_value report.scales.items))
+-- those of a report with waivers in a profile
+abbrev pub report_rest : Profile → List (List ℕ) → List FileSum → BoardReport → Acceptances → List (List ℕ × Json)
+report_rest profile names files report accepted =
+    (codes "files", array_of (file_values profile names files)) ∷ (codes "scales", array_of (map scale_value report.scales.items))
     ∷ (codes "findings", array_of (finding_values report accepted.rings.now accepted.gaps.now)) ∷ []

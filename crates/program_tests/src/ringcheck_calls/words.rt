@@ -130,6 +130,28 @@ fn a_profile_is_read_before_the_rules(rt: HostRuntime) {
     }
 }
 
+/// Whether a table in the profile of a word, of a kind that there is not, prints just this as usage, and loads no file.
+fn refuses_table(alloc: Global, word: &str, text: &str) -> bool {
+    let mut shelf = Shelf::new(&[("top.gbr", LAYER)]);
+    let words = ["show", "--kind", "via", "--profile", word, "top.gbr"];
+    prints(alloc, &mut shelf, &words, Status::Usage, text) && shelf.calls == 0
+}
+
+/// What is printed where a word names no profile.
+fn profile_refusal(alloc: Global, word: &str) -> Result<String, AllocError> {
+    format!(in alloc; "usage reason=BadRole\n  --profile is strict or wide, not {word}\n")
+}
+
+#[test]
+fn the_profile_of_a_table_is_read_before_its_kind(rt: HostRuntime) -> Result<(), Failure> {
+    for &word in &NO_PROFILES {
+        let text = profile_refusal(rt.alloc(), word)?;
+        assert!(rt; refuses_table(rt.alloc(), word, text.as_str()), "{word}");
+    }
+    assert!(rt; refuses_table(rt.alloc(), "wide", "usage reason=BadRole\n"));
+    Ok(())
+}
+
 /// Whether a run asks once for its file, which is not there, and says so.
 fn lacks_file(alloc: Global, words: &[&str]) -> bool {
     let mut shelf = Shelf::new(&[]);

@@ -65,6 +65,6 @@ OfFiles has profile entries Risen Holds (Ok it) = (files : List (List ℕ)) × H
 OfFiles has profile entries Risen Holds (Err halt) = Halts (RefusedFile has profile entries) Risen halt
 
 -- what came of files that a reader has taken: `Holds` is true of them, or one of them is refused
-abbrev pub OfTaken : (Bool → List FileView → Type 0) → List FileView → Result Bool Halt → Type 0
-OfTaken Holds all (Ok passes) = Holds passes all
+abbrev pub OfTaken : {A : Type 0} → (A → List FileView → Type 0) → List FileView → Result A Halt → Type 0
+OfTaken Holds all (Ok it) = Holds it all
 OfTaken Holds all (Err halt) = Halts (RefusedAmong all) ⊥ halt

@@ -2,7 +2,6 @@
 use Rattle.std.specs.Prelude.{ℕ, Bool, List, Option, option_map}
 use Rattle.std.specs.Global.{Vec}
 use Rattle.grid_units.specs.declared.profile.Profile.{Profile}
-use Rattle.grid_units.specs.declared.profile.Profile.TheVariants.{Strict}
 use Rattle.package_check.specs.Package.{FileView}
 use Rattle.ringcheck_files.specs.LoaderRelation.{Relation}
 use Rattle.ringcheck_files.specs.declared.Status.{Status}
@@ -27,20 +26,20 @@ job_style (job.Measure order) = measure_style order.format
 job_style (job.Report options) = report_style options.format
 job_style (job.Draw order) = style.Line
 
--- the profile in which a job reads the files: that of the rules of a check, that of a measure, and else the strict one
+-- the profile in which a job reads the files: that of the rules of a check or a report, that of a measure or a picture
 abbrev pub job_profile : Job → Profile
 job_profile (job.Check rules) = rules.profile
 job_profile (job.Measure order) = order.profile
-job_profile (job.Report options) = Strict
-job_profile (job.Draw order) = Strict
+job_profile (job.Report options) = options.rules.profile
+job_profile (job.Draw order) = order.profile
 
--- what is said of files where a job on them passes, or does not
-abbrev pub Holds : Job → Option (List ℕ) → Option (List ℕ) → Bool → List FileView → Type 0
-Holds (job.Check rules) before after = Checks rules before after
-Holds (job.Measure order) before after = PrintsMeasure order before after
-Holds (job.Report options) before after = Reports options.rules options.limit options.format (given options.waivers) options.outline.items before after
-Holds (job.Draw order) before after = PrintsPicture order.rules order.outline.items before after
+-- what is said of the files of the package under a name where a job on them passes, or does not
+abbrev pub Holds : Job → Relation → List ℕ → Option (List ℕ) → Option (List ℕ) → Bool → List FileView → Type 0
+Holds (job.Check rules) has name before after = Checks rules before after
+Holds (job.Measure order) has name before after = PrintsMeasure order before after
+Holds (job.Report options) has name before after = Reports has name options.rules options.limit options.format (given options.waivers) options.outline.items before after
+Holds (job.Draw order) has name before after = PrintsPicture order.rules order.outline.items before after
 
 -- what a status says of a job on the package under a name
 abbrev pub SaysJob : Job → Relation → List ℕ → Option (List ℕ) → Option (List ℕ) → Status → Type 0
-SaysJob job has name before after s = SaysPackage has (job_profile job) name (Holds job before after) (job_style job) before after s
+SaysJob job has name before after s = SaysPackage has (job_profile job) name (Holds job has name before after) (job_style job) before after s

@@ -3,20 +3,18 @@ use Rattle.std.specs.Global.{Vec}
 use Rattle.std.specs.List.{All}
 use Rattle.std.proofs.lemmas.List.Elements.{All-append}
 use Rattle.std.proofs.lemmas.Result.{IfOk-weaker}
-use Rattle.grid_units.specs.declared.profile.Profile.TheVariants.{Strict}
 use Rattle.wide_pads.specs.WidePads.{wide_pad_covers}
 use Rattle.ring_rules.specs.Findings.{gap_findings, ring_findings}
 use Rattle.ring_rules.specs.WithoutFindings.{NamesPlaces}
 use Rattle.ring_rules.specs.declared.finding.Finding.{Finding}
 use Rattle.package_check.specs.Boards.{board_findings}
-use Rattle.board_report.specs.BoardReport.{in_strict}
 use Rattle.board_report.proofs.board_report.findings_on.Goals as goal
 
 pub returns-clause-places : goal.returns-clause-places
 returns-clause-places c =
     let board = c.args.board.now in
-    let rules = in_strict c.args.rules in
-    let named = All-append (NamesPlaces (length board.layers) (length board.holes)) (ring_findings wide_pad_covers Strict rules.ring board.layers board.holes) (gap_findings rules.gap board.holes)
-    (c.findings_name_places.ensures.rings Strict rules.ring board.layers board.holes) (c.findings_name_places.ensures.gaps rules.gap (length board.layers) board.holes) in
+    let rules = c.args.rules in
+    let named = All-append (NamesPlaces (length board.layers) (length board.holes)) (ring_findings wide_pad_covers rules.profile rules.ring board.layers board.holes) (gap_findings rules.gap board.holes)
+    (c.findings_name_places.ensures.rings rules.profile rules.ring board.layers board.holes) (c.findings_name_places.ensures.gaps rules.gap (length board.layers) board.holes) in
     IfOk-weaker c.rings_and_gaps.result (λ (found : Vec Finding). found.items ≡ board_findings rules board) (λ (found : Vec Finding). All (NamesPlaces (length board.layers) (length board.holes)) found.items)
     (λ found e. subst (λ (xs : List Finding). All (NamesPlaces (length board.layers) (length board.holes)) xs) (sym e) named) c.rings_and_gaps.ensures

@@ -2,21 +2,23 @@ use Rattle.std.proofs.Common.{◌∙◌, List, refl, subst}
 use Rattle.std.specs.Prelude.{not}
 use Rattle.std.specs.List.{AllZip, filter}
 use Rattle.ring_rules.specs.declared.finding.Finding.{Finding}
-use Rattle.board_report.specs.BoardReport.{IsGapEntry, IsRingEntry, in_strict, is_gap}
+use Rattle.grid_units.specs.declared.profile.Profile.{Profile}
+use Rattle.board_report.specs.Measures.{IsMeasure}
+use Rattle.board_report.specs.BoardReport.{IsGapEntry, IsRingEntry, is_gap}
 use Rattle.board_report.proofs.board_report.report_on.Goals as goal
 
 pub returns : goal.returns
 returns c =
     let board = c.args.board.now in
-    let required = in_strict c.args.rules in
+    let required = c.args.rules in
     let found = c.in_ok-findings.ensures.are in
     record {
-      rules = c.in_profile.ensures;
+      rules = refl;
       layers = c.in_ok-heads.ensures;
-      rings = subst (λ (fs : List Finding). AllZip (IsRingEntry board required.ring) (filter (λ finding. not (is_gap finding)) fs) c.in_ok-ring_lacks.field-0.items) (c.deref-4.ensures.value ∙ found) c.in_ok-ring_lacks.ensures;
+      rings = subst (λ (fs : List Finding). AllZip (IsRingEntry board required) (filter (λ finding. not (is_gap finding)) fs) c.in_ok-ring_lacks.field-0.items) (c.deref-4.ensures.value ∙ found) c.in_ok-ring_lacks.ensures;
       gaps = subst (λ (fs : List Finding). AllZip (IsGapEntry board required.gap) (filter is_gap fs) c.in_ok-gap_lacks.field-0.items) (c.deref-6.ensures.value ∙ found) c.in_ok-gap_lacks.ensures;
       measure = c.in_ok-measure.measure;
-      measured = c.in_ok-measure.ensures.exact;
+      measured = subst (λ (p : Profile). IsMeasure p board c.in_ok-measure.measure) c.profile.ensures c.in_ok-measure.ensures.exact;
       scales = refl;
       meets = refl;
     }

@@ -13,6 +13,6 @@ loop-finding-preserved c =
     let all = c.args.findings.now in
     record {
       current = c.in_ok-current.ensures.current;
-      output = subst (λ (xs : List Finding). AllZip (IsRingEntry c.args.board.now c.args.board_data.now.rules.ring) (filter (λ finding. not (is_gap finding)) xs) c.push.new.output.items) (sym (take_more all i _ c.loop-finding-test.true))
-          (added (IsRingEntry c.args.board.now c.args.board_data.now.rules.ring) (λ finding. not (is_gap finding)) (take i all) _ c.loop-finding.output.items c.push.new.output.items c.loop-finding.invariant.output c.in_ok-current.ensures.adds);
+      output = subst (λ (xs : List Finding). AllZip (IsRingEntry c.args.board.now c.args.board_data.now.rules) (filter (λ finding. not (is_gap finding)) xs) c.push.new.output.items) (sym (take_more all i _ c.loop-finding-test.true))
+          (added (IsRingEntry c.args.board.now c.args.board_data.now.rules) (λ finding. not (is_gap finding)) (take i all) _ c.loop-finding.output.items c.push.new.output.items c.loop-finding.invariant.output c.in_ok-current.ensures.adds);
     }

@@ -2,7 +2,7 @@ use Rattle.std.proofs.Common.{OnOk, subst, sym}
 use Rattle.grid_units.specs.Results.{Answers}
 use Rattle.grid_units.specs.declared.profile.Profile.{Profile}
 use Rattle.layer_image.specs.Holding.{LayerStandsIn}
-use Rattle.package_check.specs.FileTexts.{Draws, HasFlashes, ReadsLayer}
+use Rattle.package_check.specs.FileTexts.{Draws, HasRows, ReadsLayer}
 use Rattle.package_check.specs.LayerViews.{LayerView}
 use Rattle.package_check.specs.OpenFiles.{keep_in}
 use Rattle.package_check.proofs.readers.read_layer_view.Goals as goal
@@ -14,7 +14,7 @@ returns-in-Strict-clause-image c = λ text stands.
 
 pub returns-in-Strict-clause-flashes : goal.returns-in-Strict-clause-flashes
 returns-in-Strict-clause-flashes c = λ text stands keeps.
-    subst (λ (p : Profile). OnOk c.read_strict.result (HasFlashes p text c.read_strict.new.shown.flashes.items)) (sym c.in-Strict.is)
+    subst (λ (p : Profile). OnOk c.read_strict.result (HasRows p text c.read_strict.new.shown.rows.items)) (sym c.in-Strict.is)
     (c.read_strict.ensures.flashes text (subst (λ (p : Profile). LayerStandsIn c.args.reader p (keep_in p c.args.keep) text) c.in-Strict.is stands) keeps)
 
 pub returns-in-Strict-clause-drawn : goal.returns-in-Strict-clause-drawn
@@ -29,10 +29,10 @@ returns-in-Wide-clause-image c = λ text stands.
 
 pub returns-in-Wide-clause-flashes : goal.returns-in-Wide-clause-flashes
 returns-in-Wide-clause-flashes c = λ text stands keeps.
-    subst (λ (p : Profile). OnOk c.read_wide.result (HasFlashes p text c.read_wide.new.shown.flashes.items)) (sym c.in-Wide.is)
-    (c.read_wide.ensures.flashes text (subst (λ (p : Profile). LayerStandsIn c.args.reader p (keep_in p c.args.keep) text) c.in-Wide.is stands))
+    subst (λ (p : Profile). OnOk c.read_wide.result (HasRows p text c.read_wide.new.shown.rows.items)) (sym c.in-Wide.is)
+    (c.read_wide.ensures.flashes text (subst (λ (p : Profile). LayerStandsIn c.args.reader p (keep_in p c.args.keep) text) c.in-Wide.is stands) keeps)
 
 pub returns-in-Wide-clause-drawn : goal.returns-in-Wide-clause-drawn
 returns-in-Wide-clause-drawn c = λ text stands keeps.
     subst (λ (p : Profile). OnOk c.read_wide.result (Draws p text c.read_wide.new.shown.drawn.items)) (sym c.in-Wide.is)
-    (c.read_wide.ensures.drawn text (subst (λ (p : Profile). LayerStandsIn c.args.reader p (keep_in p c.args.keep) text) c.in-Wide.is stands))
+    (c.read_wide.ensures.drawn text (subst (λ (p : Profile). LayerStandsIn c.args.reader p (keep_in p c.args.keep) text) c.in-Wide.is stands) keeps)

@@ -15,14 +15,16 @@ returns-in_err-layer-clause-image c = λ text stands.
     rw (p.1, p.2) (layer_fault Wide keep.All text c.in_err-layer.field-0.0 (c.in_err-layer.ensures.exact_in Wide keep.All text stands))
 
 pub returns-clause-image : goal.returns-clause-image
-returns-clause-image c = λ text stands. c.in_ok-view.ensures text (whole_read text c.in_ok-layer.layer (c.in_ok-layer.ensures.exact_in Wide keep.All text stands))
+returns-clause-image c = λ text stands.
+    let read = whole_read text c.in_ok-layer.layer (c.in_ok-layer.ensures.exact_in Wide keep.All text stands) in
+    (c.in_ok-wide.wide, (c.in_ok-layer.layer, read, c.in_ok-wide.ensures text read), c.in_ok-view.ensures)
 
 pub returns-clause-flashes : goal.returns-clause-flashes
-returns-clause-flashes c = λ text stands.
-    let read = c.in_ok-layer.ensures.exact_in Wide keep.All text stands in
-    (read.0, read.1, c.into_flashes.ensures ∙ flashes_kept keep.All read.0 _ refl read.2)
+returns-clause-flashes c = λ text stands keeps.
+    let read = whole_read text c.in_ok-layer.layer (c.in_ok-layer.ensures.exact_in Wide keep.All text stands) in
+    (c.in_ok-wide.wide, (c.in_ok-layer.layer, read, c.in_ok-wide.ensures text read), c.in_ok-show_wide.ensures.rows keeps)
 
 pub returns-clause-drawn : goal.returns-clause-drawn
-returns-clause-drawn c = λ text stands.
+returns-clause-drawn c = λ text stands keeps.
     let read = c.in_ok-layer.ensures.exact_in Wide keep.All text stands in
-    (read.0, read.1, c.in_ok-shown.ensures ∙ ap (λ commands. drawn_of (without_places commands)) (commands_kept keep.All read.0 _ refl read.2))
+    (read.0, read.1, c.in_ok-show_wide.ensures.drawn keeps ∙ ap (λ commands. drawn_of (without_places commands)) (commands_kept keep.All read.0 _ refl read.2))

@@ -5,8 +5,8 @@ use Rattle.package_check.proofs.TakeSteps.{all_taken}
 use Rattle.ringcheck.proofs.LoadedFiles.{both_passes, first_of, passes_all, passes_halt}
 use Rattle.ringcheck.proofs.load_package.take_files.Goals as goal
 
-pub returns-in-Some : goal.returns-in-Some
-returns-in-Some g c =
+pub returns-in-Some-clause-loaded : goal.returns-in-Some-clause-loaded
+returns-in-Some-clause-loaded g c =
     let has = g.L.Loader.has c.args.loader.now in
     let later = g.L.Loader.has c.take_kind.new.loader in
     let failed = g.L.Loader.failed in
@@ -22,8 +22,8 @@ returns-in-Some g c =
     passes_halt has later (λ n b. (one.keeps n b).0) c.args.profile all (HasTaken c.take_kind-2.new.reader c.args.keep) drills.end copper.end (failed c.args.loader.now) (failed c.take_kind.new.loader) (failed c.take_kind-2.new.loader)
     one.counts two.counts one.within two.within loaded drills.halt copper.halt c.in-Some.halt one.ends two.ends (sym c.or.ensures ∙ c.in-Some.is)
 
-pub returns : goal.returns
-returns g c =
+pub returns-clause-loaded : goal.returns-clause-loaded
+returns-clause-loaded g c =
     let has = g.L.Loader.has c.args.loader.now in
     let later = g.L.Loader.has c.take_kind.new.loader in
     let failed = g.L.Loader.failed in

@@ -1,10 +1,9 @@
 use Rattle.std.proofs.Common.{Some, inr}
 use Rattle.std.proofs.lemmas.Result.{IfOk-weaker}
-use Rattle.grid_units.specs.declared.profile.Profile.TheVariants.{Strict}
 use Rattle.ringcheck.specs.CheckStatus.{SaysPackage}
 use Rattle.ringcheck.specs.Inner.Jobs.{given}
 use Rattle.ringcheck.specs.ReportStatus.{IsOutlinedReportStatus, Reports, report_style}
-use Rattle.ringcheck.proofs.Outcomes.{says_along}
+use Rattle.ringcheck.proofs.OutlinedReports.{report_along}
 use Rattle.ringcheck.proofs.packages.report_outlined.Goals as goal
 
 pub returns-in-Ok-clause-says : goal.returns-in-Ok-clause-says
@@ -18,8 +17,8 @@ returns-in-Ok-clause-says g c =
     let waivers = given c.args.waivers in
     let outline = c.in-Ok.outline.items in
     let listed = rw c.in-Ok.is at c.in_ok-outline-in-Some.ensures.loaded in
-    let holds = Reports rules limit form waivers outline before after in
+    let holds = Reports later name rules limit form waivers outline before after in
     rw (c.in-Some.is)
-    (IfOk-weaker c.run_job-in-Ok.result (SaysPackage later Strict name holds (report_style form) before after) (IsOutlinedReportStatus has name rules limit form waivers (Some c.in-Some.file.now) before after)
-    (λ s status_of_outcome. inr (inr (outline, listed, says_along later has c.in_ok-outline-in-Some.ensures.keeps Strict name holds (report_style form) before after s status_of_outcome)))
+    (IfOk-weaker c.run_job-in-Ok.result (SaysPackage later rules.profile name holds (report_style form) before after) (IsOutlinedReportStatus has name rules limit form waivers (Some c.in-Some.file.now) before after)
+    (λ s status_of_outcome. inr (inr (outline, listed, report_along later has c.in_ok-outline-in-Some.ensures.keeps name rules limit form waivers outline before after s status_of_outcome)))
     c.run_job-in-Ok.ensures.says)

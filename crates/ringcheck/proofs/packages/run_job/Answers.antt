@@ -1,10 +1,11 @@
 use Rattle.manifest.specs.Manifest.{manifest}
-use Rattle.ringcheck_files.specs.Outcomes.{HasRisen}
+use Rattle.ringcheck_files.specs.Outcomes.{HasCause, HasRisen}
 use Rattle.ringcheck.specs.declared.refusals.Subject.TheVariants as subject
 use Rattle.ringcheck.specs.Inner.Halting.{RefusesTable}
 use Rattle.ringcheck.specs.Inner.Jobs.{Holds, SaysJob, job_profile, job_style}
-use Rattle.ringcheck.specs.CheckStatus.{RefusedFile, refused_file, refused_manifest}
-use Rattle.ringcheck.proofs.Outcomes.{file_along, files_along, halted, worked}
+use Rattle.ringcheck.specs.CheckStatus.{RefusedFile, refused_file, refused_manifest, sources}
+use Rattle.ringcheck.proofs.Outcomes.{file_along, files_along, halted, listed_along, risen_since, worked}
+use Rattle.ringcheck.proofs.OutlinedReports.{holds_along}
 use Rattle.ringcheck.proofs.packages.run_job.Goals as goal
 
 pub returns-in-Err-clause-says : goal.returns-in-Err-clause-says
@@ -28,9 +29,11 @@ returns-in-Ok-2-clause-says g c =
     let after = g.W.Write.contents c.answer.new.out in
     let entries = c.in-Ok.entries.items in
     let listed = rw c.in-Ok.is at c.in_ok-entries.ensures.loaded in
-    let (files, held, holds) = rw (c.in-Ok-2.is, c.as_slice.ensures.value) at c.in_ok-passes.ensures.answers in
+    let known = listed_along has later c.in_ok-entries.ensures.kept (job_profile job) c.args.name.now entries listed in
+    let (files, held, holds) = rw (c.in-Ok-2.is, c.as_slice.ensures.value) at c.in_ok-passes.ensures.answers c.args.name.now known in
     let has_files_along = files_along later has c.in_ok-entries.ensures.keeps entries files held in
-    rw c.status_of.ensures (worked has (job_profile job) c.args.name.now (Holds job before after) (job_style job) before after entries files listed has_files_along c.in-Ok-2.passes holds)
+    rw c.status_of.ensures (worked has (job_profile job) c.args.name.now (Holds job has c.args.name.now before after) (job_style job) before after entries files listed has_files_along c.in-Ok-2.passes
+    (holds_along later has c.in_ok-entries.ensures.keeps c.args.name.now job before after c.in-Ok-2.passes (sources (job_profile job) entries files) holds))
 
 pub returns-clause-says : goal.returns-clause-says
 returns-clause-says g c =
@@ -46,4 +49,20 @@ returns-clause-says g c =
     halted (RefusedFile later (job_profile job) entries) (HasRisen (failed c.load_table.new.loader) (failed c.answer.new.loader)) (job_style job) c.path_of-path.result.now c.is_unread_folder-is_folder-in-Err-2.result before after
     (SaysJob job has c.args.name.now before after) (λ risen. tt)
     (λ why is printed. record { why = why; refused = refused_file entries listed (file_along later has c.in_ok-entries.ensures.keeps (job_profile job) entries why is); printed = printed })
-    c.in-Err-2.halt (rw (c.in-Err-2.is, c.as_slice.ensures.value) at c.in_ok-passes.ensures.answers) c.print_halt-in-Err-2.result (rw (c.style-in-Err-2.ensures, silent) at c.print_halt-in-Err-2.ensures)
+    c.in-Err-2.halt (rw (c.in-Err-2.is, c.as_slice.ensures.value) at c.in_ok-passes.ensures.answers c.args.name.now (listed_along has later c.in_ok-entries.ensures.kept (job_profile job) c.args.name.now entries listed)) c.print_halt-in-Err-2.result (rw (c.style-in-Err-2.ensures, silent) at c.print_halt-in-Err-2.ensures)
+
+pub returns-clause-cause : goal.returns-clause-cause
+returns-clause-cause g c =
+    let has = g.L.Loader.has c.args.loader.now in
+    let later = g.L.Loader.has c.load_table.new.loader in
+    let failed = g.L.Loader.failed in
+    let job = c.args.job.now in
+    let before = g.W.Write.contents c.args.out.now in
+    let after = g.W.Write.contents c.print_halt-in-Err-2.new.out in
+    let entries = c.in-Ok.entries.items in
+    let listed = rw c.in-Ok.is at c.in_ok-entries.ensures.loaded in
+    let silent = rw c.in-Err-2.is at c.in_ok-passes.ensures.silent in
+    halted (RefusedFile later (job_profile job) entries) (HasRisen (failed c.load_table.new.loader) (failed c.answer.new.loader)) (job_style job) c.path_of-path.result.now c.is_unread_folder-is_folder-in-Err-2.result before after
+    (HasCause (failed c.args.loader.now) (failed c.answer.new.loader))
+    (risen_since (failed c.args.loader.now) (failed c.load_table.new.loader) (failed c.answer.new.loader) c.in_ok-entries.ensures.counts) (λ why is printed. tt)
+    c.in-Err-2.halt (rw (c.in-Err-2.is, c.as_slice.ensures.value) at c.in_ok-passes.ensures.answers c.args.name.now (listed_along has later c.in_ok-entries.ensures.kept (job_profile job) c.args.name.now entries listed)) c.print_halt-in-Err-2.result (rw (c.style-in-Err-2.ensures, silent) at c.print_halt-in-Err-2.ensures)

@@ -1,10 +1,10 @@
 use Rattle.std.proofs.Common.{◌≡◌, ◌++◌, ◌+◌, drop}
 use Rattle.single_files.specs.Rows.{rows_from}
-use Rattle.single_files.specs.Tables.{flash_fields}
+use Rattle.single_files.specs.Tables.{feature_fields}
 use Rattle.single_files.proofs.show.layer_table.Given as goal
 
-abbrev pub invariant-loop-flash : goal.invariant-loop-flash
-invariant-loop-flash l = record {
-  number : l.number ≡ l.flash-index + 1;
-  rows : l.initial.table ++ rows_from flash_fields 1 l.flashes ≡ l.table ++ rows_from flash_fields l.number (drop l.flash-index l.flashes);
+abbrev pub invariant-loop-feature : goal.invariant-loop-feature
+invariant-loop-feature l = record {
+  number : l.number ≡ l.feature-index + 1;
+  rows : l.initial.table ++ rows_from feature_fields 1 l.features ≡ l.table ++ rows_from feature_fields l.number (drop l.feature-index l.features);
 }

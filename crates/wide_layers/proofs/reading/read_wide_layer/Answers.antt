@@ -22,4 +22,4 @@ returns c =
     let text = c.args.bytes.now in
     let read = c.in_ok-layer.ensures.exact_in Wide keep.All text (c.in_ok-feed.ensures.ok_in Wide keep.All [] [] c.in_profile-reader.ensures) in
     let whole = subst (λ (l : LayerImage). ReadsLayerIn Wide text (Ok l)) (sym read.2) read.1 in
-    (c.in_ok-layer.layer, whole, c.in_ok-wide.ensures Wide text whole)
+    (c.in_ok-layer.layer, whole, c.in_ok-wide.ensures text whole)

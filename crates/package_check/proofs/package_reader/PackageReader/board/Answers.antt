@@ -14,7 +14,7 @@ pub returns-in-Ok-clause-exact : goal.returns-in-Ok-clause-exact
 returns-in-Ok-clause-exact c keep sources all = board_read c.args.self keep sources all c.in-None.is c.in-Ok.board c.in-Ok.ensures
 
 pub returns-in-Ok-clause-flashes : goal.returns-in-Ok-clause-flashes
-returns-in-Ok-clause-flashes c keep sources all keeps = flashed_board_read c.args.self keep sources all c.in-None.is c.in-Ok.board c.in-Ok.ensures c.readings_in_profiles.ensures.unique keeps
+returns-in-Ok-clause-flashes c keep sources all keeps = flashed_board_read c.args.self keep sources all c.in-None.is c.in-Ok.board c.in-Ok.ensures keeps
 
 pub returns-in-Ok-clause-drawn : goal.returns-in-Ok-clause-drawn
 returns-in-Ok-clause-drawn c keep sources all keeps = drawn_board_read c.args.self keep sources all c.in-None.is c.in-Ok.board c.in-Ok.ensures c.readings_in_profiles.ensures.unique keeps

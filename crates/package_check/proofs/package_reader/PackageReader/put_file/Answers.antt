@@ -10,7 +10,7 @@ returns-clause-read c = λ text h.
       one,
       record {
         content = read.content role layers text h;
-        flashes = λ keeps copper. read.flashes role layers text h keeps copper;
+        rows = λ keeps copper. read.flashes role layers text h keeps copper;
         drawn = λ keeps copper. read.drawn role layers text h keeps copper;
       },
       c.in_ok-put.ensures.put,

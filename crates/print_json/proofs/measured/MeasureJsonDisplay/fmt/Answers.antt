@@ -1,4 +1,4 @@
-use Rattle.std.proofs.Common.{map, refl}
+use Rattle.std.proofs.Common.{map}
 use Rattle.std.proofs.Output.{has_written_of_eq}
 use Rattle.print_json.specs.Packages.{measure_value}
 use Rattle.print_json.proofs.Texts.{line_text}

@@ -10,15 +10,16 @@ use Rattle.print_text.proofs.report_text.ReportTextDisplay.fmt.Goals as goal
 pub returns-clause-writes : goal.returns-clause-writes
 returns-clause-writes g c = λ plain ok.
     let report = c.self.inside.report.now in
+    let fewer = c.self.inside.fewer in
     let limit = c.self.inside.limit in
     let accepted = c.self.inside.accepted.now in
     let names : List (List ℕ) = map (λ name. name.now) c.self.inside.names.now in
-    let text = waived_report_text names report limit accepted in
+    let text = waived_report_text names report fewer limit accepted in
     let by = λ (rings : List RingLack) (before : ℕ) (gaps : List GapLack) (layers : List LayerHead).
     (head_text names report
     ++ (flat_map (layer_text names report.rules limit rings accepted.rings.now) (enumerate_from 0 layers)
     ++ (gaps_text names report.rules limit before gaps accepted.gaps.now ++ summary_text names (length rings + length gaps) layers rings)))
-    ++ (causes_text report ++ last_lines report accepted.rings.now accepted.gaps.now accepted.idle.now) in
+    ++ (causes_text report ++ last_lines report fewer accepted.rings.now accepted.gaps.now accepted.idle.now) in
     let rings : c.deref.result.now ≡ report.rings.items = c.deref.ensures.value in
     let gaps : c.deref-2.result.now ≡ report.gaps.items = c.deref-2.ensures.value in
     let layers : c.deref-4.result.now ≡ report.layers.items = c.deref-4.ensures.value in

@@ -1,7 +1,6 @@
 use Rattle.std.proofs.Common.{◌≡◌, None, Option, get_or, length, sym, subst, ◌∙◌, arith}
 use Rattle.std.proofs.lemmas.List.{get_or_default}
-use Rattle.layer_image.specs.Flashes.{pads_of}
-use Rattle.pad_shapes.specs.Pads.{pad_covers}
+use Rattle.wide_pads.specs.WidePads.{wide_pad_covers}
 use Rattle.ring_rules.specs.Places.{default_hole}
 use Rattle.ring_rules.specs.declared.finding.Drilled.{Drilled}
 use Rattle.margins.specs.BestPads.{IsBestPad}
@@ -10,8 +9,9 @@ use Rattle.report.proofs.layer.CauseFinder.cause.Goals as goal
 
 pub cause_of-requires-clause-best : goal.cause_of-requires-clause-best
 cause_of-requires-clause-best c =
+    let pads = c.args.pads.now in
     let size : length c.args.self.now.bests.items ≡ length c.args.holes.now = c.requires.known.bests.size in
     let best_is : c.index.result.now ≡ get_or c.args.self.now.bests.items c.args.place None = c.index.ensures ∙ get_or_default c.args.self.now.bests.items c.args.place c.index.result.now None (omega (arith, size, c.requires.place)) in
-    subst (λ (o : Option BestPad). IsBestPad pad_covers (pads_of c.args.flashes.now) (get_or c.args.holes.now c.args.place c.index-holes-place.result).hole o) (sym best_is)
-    (subst (λ (d : Drilled). IsBestPad pad_covers (pads_of c.args.flashes.now) d.hole (get_or c.args.self.now.bests.items c.args.place None)) (sym (get_or_default c.args.holes.now c.args.place c.index-holes-place.result default_hole c.requires.place))
+    subst (λ (o : Option BestPad). IsBestPad wide_pad_covers pads (get_or c.args.holes.now c.args.place c.index-holes-place.result).hole o) (sym best_is)
+    (subst (λ (d : Drilled). IsBestPad wide_pad_covers pads d.hole (get_or c.args.self.now.bests.items c.args.place None)) (sym (get_or_default c.args.holes.now c.args.place c.index-holes-place.result default_hole c.requires.place))
     (c.requires.known.bests.each c.args.place c.requires.place))

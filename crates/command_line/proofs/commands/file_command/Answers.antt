@@ -1,9 +1,0 @@
-use Rattle.std.proofs.Common.{◌∙◌, ap₂}
-use Rattle.std.proofs.lemmas.Result.{IfOk-weaker}
-use Rattle.clap.specs.Words.{with_rule}
-use Rattle.command_line.proofs.commands.file_command.Goals as goal
-
-pub returns : goal.returns
-returns c =
-    let kind = c.in_ok-arg.ensures.shape c.required_option_arg.ensures.global ∙ ap₂ with_rule c.new_command.ensures c.required_option_arg.ensures.rule in
-    IfOk-weaker c.arg-2.result _ _ (λ x h. h.shape c.required_arg.ensures.global ∙ ap₂ with_rule kind c.required_arg.ensures.rule) c.arg-2.ensures

@@ -1,0 +1,10 @@
+use Rattle.std.proofs.Common.{◌∙◌, ap₂}
+use Rattle.std.proofs.lemmas.Result.{IfOk-weaker}
+use Rattle.clap.specs.Words.{with_rule}
+use Rattle.command_line.proofs.commands.show.Goals as goal
+
+pub returns : goal.returns
+returns c =
+    let kind = c.in_ok-arg.ensures.shape c.kind_arg.ensures.global ∙ ap₂ with_rule c.new_command.ensures c.kind_arg.ensures.rule in
+    let profile = c.in_ok-arg-2.ensures.shape c.profile_arg.ensures.global ∙ ap₂ with_rule kind c.profile_arg.ensures.rule in
+    IfOk-weaker c.arg-3.result _ _ (λ x h. h.shape c.required_arg.ensures.global ∙ ap₂ with_rule profile c.required_arg.ensures.rule) c.arg-3.ensures

@@ -1,0 +1,7 @@
+use Rattle.std.proofs.Common.{◌≡◌, take}
+use Rattle.std.specs.List.{flat_map, fold}
+use Rattle.drawing.specs.Boxes.{cross_extent, joined_to}
+use Rattle.drawing.proofs.bounds.with_rows.Given as goal
+
+abbrev pub invariant-loop-row : goal.invariant-loop-row
+invariant-loop-row l = l.all ≡ fold joined_to l.fn.before (flat_map cross_extent (take l.row-index l.rows))

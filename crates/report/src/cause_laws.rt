@@ -1,0 +1,14 @@
+//! What follows from the definitions of causes alone. A call of a law does nothing; its clause is what is proved.
+
+ghost use Rattle.report.specs.StrictCauses.{RowsAreMatched, StrictCausesAreByFlashes, StrictRowsAreMatched};
+
+/// Over the rows of flashes of the strict profile and their pads, the causes are those by the flashes.
+pub fn strict_causes_are_by_flashes()
+    ensures { StrictCausesAreByFlashes }
+{}
+
+/// As many rows of a layer are pads as it has pads: in the strict profile, and in the wide one.
+pub fn rows_are_matched()
+    ensures strict { StrictRowsAreMatched }
+    ensures wide { RowsAreMatched }
+{}

@@ -1,0 +1,22 @@
+-- Sides of pads, as they are spelled.
+use Rattle.std.proofs.Common.{◌≡◌, ◌∙◌, ◌<◌, ◌++◌, ◌∷◌, ◌/◌, ◌%◌, ◌^◌, ℕ, pos, List, ap, ap₂, sym, arith, lit<}
+use Rattle.std.specs.Prelude.{decimal}
+use Rattle.std.proofs.lemmas.Fmt.{decimal_digit}
+use Rattle.grid_units.specs.Spellings.{millimetres, places}
+
+-- less than a millimetre: its whole part is 0
+pub below_one : (n : ℕ) → n < 10 ^ 9 → millimetres (pos n) ≡ 48 ∷ 46 ∷ places 9 n
+unfolding millimetres
+below_one n lt =
+    let none : n / 1000000000 ≡ 0 = omega (arith, lt) in
+    let rest : n % 1000000000 ≡ n = omega (arith, lt) in
+    ap₂ (λ (q r : ℕ). decimal q ++ 46 ∷ places 9 r) none rest ∙ ap (λ (t : List ℕ). t ++ 46 ∷ places 9 n) (decimal_digit 0 (lit< tt))
+
+-- what follows the zero of such a length: a point and its decimals
+pub behind_zero : (n : ℕ) → n < 10 ^ 9 → (spelled rest : List ℕ) → spelled ≡ millimetres (pos n) → spelled ≡ 48 ∷ rest → rest ≡ 46 ∷ places 9 n
+behind_zero n lt spelled rest is split = let both : 48 ∷ rest ≡ 48 ∷ 46 ∷ places 9 n = sym split ∙ is ∙ below_one n lt in cc
+
+-- a whole part and its decimals
+pub side_is : (n : ℕ) (whole text : List ℕ) → whole ≡ decimal (n / 1000000000) → text ≡ whole ++ 46 ∷ places 9 (n % 1000000000) → text ≡ millimetres (pos n)
+unfolding millimetres
+side_is n whole text first is = is ∙ ap (λ (t : List ℕ). t ++ 46 ∷ places 9 (n % 1000000000)) first
