@@ -8,7 +8,7 @@
 A package has a manifest m.csv, its files, and a file `rules` with the words of the ring and the gap. Its pads are macros of the bodies that
 exporters write (rounded and oblong rectangles, lines, outlines, two arms), bodies that are nearly such, contours that are convex, nearly convex, open, or
 painted with arcs, and usual pads; turned, mirrored, repeated, and cleared before or after. Its holes and slots, at any angle, are just held by such a pad,
-or lack a picometre or a step; slots are written by G85 or by routing. `compare` runs `PROGRAM check --profile wide` on each, and a slow program
+or lack a picometre or a step; slots are written by G85 or by routing, and some drill files say in comments what is plated, or nearly do. `compare` runs `PROGRAM check --profile wide` on each, and a slow program
 that is not in this repository (oracle_wide.py in the folder of --oracle), and prints where they differ. `measures` runs `PROGRAM measure` on each in both profiles, and
 `PROGRAM check` at the ring and the gap that the measure says are met, one step below the limit and one above, and prints where a check is not as measured.
 """
@@ -187,11 +187,29 @@ def put_hole(rng, lines, hole, routed):
         lines.append(f"X{mm(x)}Y{mm(y)}G85X{mm(u)}Y{mm(v)}")
 
 
-def make_drill(rng, holes):
+# What a comment may say of the plating of the tools after it, and comments that are nearly such.
+PLATINGS = [";TYPE=PLATED", ";TYPE=NON_PLATED", "; #@! TA.AperFunction,Plated,PTH,ViaDrill", "; #@! TA.AperFunction,NonPlated,NPTH,ComponentDrill"]
+NEAR_PLATINGS = ["; #@! TD", ";#@! TD.AperFunction,", "; #@! TA.AperFunction", "; #@! TA.AperFunctions,Plated", "; TYPE=PLATED", ";TYPE=PLATED,", "; #@! TF.FileFunction,Plated,1,2,PTH", "; a comment"]
+
+
+def plating_words(rng):
+    """The comments before a tool of a mixed file: mostly one that says what its holes are."""
+    chosen = [rng.choice(PLATINGS)] if rng.random() < 0.9 else []
+    if rng.random() < 0.15:
+        chosen.insert(rng.randrange(len(chosen) + 1), rng.choice(NEAR_PLATINGS))
+    return chosen
+
+
+def make_drill(rng, holes, mixed):
     if rng.random() < 0.04:
         return "%\nM30\n"
     tools = sorted({hole[4] for hole in holes})
-    lines = ["M48", "METRIC", *(f"T{n}C{mm(2 * radius)}" for n, radius in enumerate(tools, 1)), "%"]
+    lines = ["M48", "METRIC"]
+    for n, radius in enumerate(tools, 1):
+        lines += [*(plating_words(rng) if mixed else []), f"T{n}C{mm(2 * radius)}"]
+    lines.append("%")
+    if mixed and rng.random() < 0.1:
+        lines.append(rng.choice(PLATINGS + NEAR_PLATINGS))
     for n, radius in enumerate(tools, 1):
         lines.append(f"T{n}")
         mine = [hole for hole in holes if hole[4] == radius]
@@ -241,8 +259,9 @@ def package(rng):
                 layer.body.append("%SR*%")
         files[f"l{number}.gbr"] = layer.text()
         rows.append(f"copper,l{number},l{number}.gbr")
-    files["d.drl"] = make_drill(rng, holes)
-    rows.append(f"{rng.choice(['plated'] * 9 + ['unplated'])},d,d.drl")
+    role = rng.choice(["plated"] * 7 + ["unplated"] + ["mixed"] * 3)
+    files["d.drl"] = make_drill(rng, holes, role == "mixed")
+    rows.append(f"{role},d,d.drl")
     files["m.csv"] = "\n".join(rows) + "\n"
     return files, ["--ring", mm(ring), "--gap", mm(gap)]
 

@@ -10,10 +10,11 @@ use Rattle.package_check.specs.declared.FileSum.{FileSum}
 use Rattle.package_check.specs.declared.FileSum.TheVariants as sum
 use Rattle.package_check.specs.Boards.{holes_before}
 
--- a drill file whose holes are plated
+-- a drill file whose holes are plated; the holes of a mixed file are not tried
 abbrev pub is_plated : FileSum → Bool
 is_plated (sum.Layer pads other contours) = false
 is_plated (sum.Drill plated span round slots) = plated
+is_plated (sum.Mixed span round slots unplated) = false
 
 -- the holes of a file, in order
 abbrev pub holes_in : BoardView → ℕ → List Drilled

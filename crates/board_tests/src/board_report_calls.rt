@@ -1,7 +1,7 @@
 //! Reports on small packages, with the figures of the worked examples, in pm.
 
 use board_report::*;
-use grid_units::Rules;
+use grid_units::{Profile, Rules};
 use package_check::{File, Role};
 use report::{RingCause, RingLack};
 use std::test::Fail;
@@ -34,12 +34,18 @@ fn file<'a>(role: Role, bytes: &'a [u8]) -> File<'a> {
     }
 }
 
-/// The report on a layer and a plated drill file, under a ring in pm and a gap of 0.25 mm.
-fn report_on(rt: HostRuntime, layer: &[u8], drill: &[u8], ring: i64) -> Result<BoardReport, Fail> {
+/// The report on a layer and a plated drill file in a profile, under a ring in pm and a gap of 0.25 mm.
+fn report_in(
+    rt: HostRuntime,
+    profile: Profile,
+    layer: &[u8],
+    drill: &[u8],
+    ring: i64,
+) -> Result<BoardReport, Fail> {
     let files = [file(Role::Copper, layer), file(Role::Plated, drill)];
     let rules = Rules::new(ring, 250_000_000).ok().ok_or("rules")?;
     Ok(
-        report_bytes(rt.alloc(), &files, rules)
+        report_bytes(rt.alloc(), &files, rules.in_profile(profile))
             .ok()
             .ok_or("refused")?,
     )
@@ -104,8 +110,70 @@ const REPORTS: [(&[u8], &[u8], i64, RingRow, (usize, i64, i64)); 4] = [
 #[test]
 fn reports_have_their_rings_and_gaps(rt: HostRuntime) -> Result<(), Fail> {
     for &(layer, drill, ring, first, gap) in &REPORTS {
-        let report = report_on(rt, layer, drill, ring)?;
+        let report = report_in(rt, Profile::Strict, layer, drill, ring)?;
         assert!(rt; first_ring(&report) == first && first_gap(&report) == gap);
+    }
+    Ok(())
+}
+
+/// A square of 1 mm whose corners have a radius of 0.25 mm, by a macro.
+const ROUNDED: &[u8] =
+    b"%FSLAX46Y46*%\n%MOMM*%\nG01*\n%AMRoundRect*4,1,4,$2,$3,$4,$5,$6,$7,$8,$9,$2,$3,0*1,1,$1+$1,$2,$3*1,1,$1+$1,$4,$5*1,1,$1+$1,$6,$7*1,1,$1+$1,$8,$9*20,1,$1+$1,$2,$3,$4,$5,0*20,1,$1+$1,$4,$5,$6,$7,0*20,1,$1+$1,$6,$7,$8,$9,0*20,1,$1+$1,$8,$9,$2,$3,0*%\n%ADD10RoundRect,0.25X-0.25X0.25X-0.25X-0.25X0.25X-0.25X0.25X0.25*%\nD10*\nX0Y0D03*\nM02*\n";
+
+/// A line from -0.5,-0.5 mm to 0.5,0.5 mm with round ends of a radius of 0.5 mm, by a macro.
+const OVAL: &[u8] =
+    b"%FSLAX46Y46*%\n%MOMM*%\nG01*\n%AMHorizOval*20,1,$1,$2,$3,$4,$5,0*1,1,$1,$2,$3*1,1,$1,$4,$5*%\n%ADD10HorizOval,1.0X-0.5X-0.5X0.5X0.5*%\nD10*\nX0Y0D03*\nM02*\n";
+
+/// The contour of a diamond whose sides are 1.2 mm from its centre.
+const DIAMOND: &[u8] =
+    b"%FSLAX46Y46*%\n%MOMM*%\nG01*\nG36*\nX1500000Y0D02*\nX0Y2000000D01*\nX-1500000Y0D01*\nX0Y-2000000D01*\nX1500000Y0D01*\nG37*\nM02*\n";
+
+/// A disc of 0.65 mm at the origin, which a clear flash at 5 mm may take away, and these the other way round.
+const CLEARED: &[u8] =
+    b"%FSLAX46Y46*%\n%MOMM*%\nG01*\n%ADD10C,0.65*%\nD10*\nX0Y0D03*\n%LPC*%\nX5000000Y0D03*\nM02*\n";
+
+const CLEAR: &[u8] =
+    b"%FSLAX46Y46*%\n%MOMM*%\nG01*\n%ADD10C,0.65*%\nD10*\nX5000000Y0D03*\n%LPC*%\nX0Y0D03*\nM02*\n";
+
+/// A layer, a drill file, and the number and the first of the rings in the wide profile under a ring of 0.125 mm.
+const WIDE_REPORTS: [(&[u8], &[u8], RingRow); 7] = [
+    // 0.5 - 0.175 - 0.2 is the ring, and 0.5 - 0.175001 - 0.2 is less.
+    (
+        ROUNDED,
+        b"M48\nMETRIC\nT1C0.4\n%\nT1\nX0.175Y0.175\nM30\n",
+        NO_RING,
+    ),
+    (
+        ROUNDED,
+        b"M48\nMETRIC\nT1C0.4\n%\nT1\nX0.175001Y0.0\nM30\n",
+        (1, ("edge", 1, 124_999_000, 1_000)),
+    ),
+    // 1.2 - 1.075001
+    (
+        DIAMOND,
+        b"M48\nMETRIC\nT1C2.150002\n%\nT1\nX0.0Y0.0\nM30\n",
+        (1, ("edge", 1, 124_999_000, 1_000)),
+    ),
+    // An oblique slot whose ends are just held, and one that is wider by 1 nm on each side.
+    (
+        OVAL,
+        b"M48\nMETRIC\nT1C0.75\n%\nT1\nX-0.5Y-0.5G85X0.5Y0.5\nM30\n",
+        NO_RING,
+    ),
+    (
+        OVAL,
+        b"M48\nMETRIC\nT1C0.750002\n%\nT1\nX-0.5Y-0.5G85X0.5Y0.5\nM30\n",
+        (1, ("edge", 1, 124_999_000, 1_000)),
+    ),
+    (CLEARED, HIT, (1, ("cleared", 1, 0, 0))),
+    (CLEAR, HIT, (1, ("clear", 2, 0, 0))),
+];
+
+#[test]
+fn reports_in_the_wide_profile_have_their_causes(rt: HostRuntime) -> Result<(), Fail> {
+    for &(layer, drill, first) in &WIDE_REPORTS {
+        let report = report_in(rt, Profile::Wide, layer, drill, 125_000_000)?;
+        assert!(rt; first_ring(&report) == first, "of {} bytes", layer.len());
     }
     Ok(())
 }

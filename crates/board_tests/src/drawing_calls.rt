@@ -324,9 +324,14 @@ fn with_copper<'a>(copper: &'a [u8]) -> [File<'a>; 2] {
 }
 
 /// The page of a copper file and a drill file without a hole, read so.
-fn page_of_copper(rt: HostRuntime, copper: &[u8], keep: Keep) -> Result<String, Fail> {
+fn page_of_copper(
+    rt: HostRuntime,
+    profile: Profile,
+    copper: &[u8],
+    keep: Keep,
+) -> Result<String, Fail> {
     let files = with_copper(copper);
-    let board = read_package(rt.alloc(), Profile::Strict, &files, keep)
+    let board = read_package(rt.alloc(), profile, &files, keep)
         .ok()
         .ok_or("refused")?;
     let drawing = Drawing::new(rt.alloc(), &["top", "pth"], &board, &[], None)?;
@@ -336,7 +341,47 @@ fn page_of_copper(rt: HostRuntime, copper: &[u8], keep: Keep) -> Result<String, 
 #[test]
 fn pages_show_what_is_drawn(rt: HostRuntime) -> Result<(), Fail> {
     for &(copper, words) in &COPPER {
-        let page = page_of_copper(rt, copper, Keep::All)?;
+        let page = page_of_copper(rt, Profile::Strict, copper, Keep::All)?;
+        assert!(rt; page.contains(words), "{words}");
+    }
+    Ok(())
+}
+
+/// A square of 1 mm whose corners have a radius of 0.25 mm, twice in a panel.
+const ROUNDED: &[u8] =
+    b"%FSLAX46Y46*%\n%MOMM*%\nG01*\n%AMRoundRect*4,1,4,$2,$3,$4,$5,$6,$7,$8,$9,$2,$3,0*1,1,$1+$1,$2,$3*1,1,$1+$1,$4,$5*1,1,$1+$1,$6,$7*1,1,$1+$1,$8,$9*20,1,$1+$1,$2,$3,$4,$5,0*20,1,$1+$1,$4,$5,$6,$7,0*20,1,$1+$1,$6,$7,$8,$9,0*20,1,$1+$1,$8,$9,$2,$3,0*%\n%ADD10RoundRect,0.25X-0.25X0.25X-0.25X-0.25X0.25X-0.25X0.25X0.25*%\nD10*\n%SRX2Y1I5.0J0*%\nX0Y0D03*\n%SR*%\nM02*\n";
+
+/// The contour of a square of 2 mm twice in a panel, after a disc by a macro and before one by a standard aperture.
+const CONTOURS: &[u8] =
+    b"%FSLAX46Y46*%\n%MOMM*%\nG01*\n%AMSPOT*1,1,1.0,0,0*%\n%ADD10SPOT*%\n%ADD11C,0.5*%\nD10*\nX-2000000Y0D03*\n%SRX2Y1I5.0J0*%\nG36*\nX-1000000Y-1000000D02*\nX1000000D01*\nY1000000D01*\nX-1000000D01*\nY-1000000D01*\nG37*\n%SR*%\nD11*\nX3000000Y0D03*\nM02*\n";
+
+/// A disc of 0.65 mm at the origin, a clear one at 5 mm, and one after it at 10 mm.
+const CLEAR: &[u8] =
+    b"%FSLAX46Y46*%\n%MOMM*%\nG01*\n%ADD10C,0.65*%\nD10*\nX0Y0D03*\n%LPC*%\nX5000000Y0D03*\n%LPD*%\nX10000000Y0D03*\nM02*\n";
+
+/// Copper files, and what stands in their page in the wide profile where the board has no more than their flashes.
+const WIDE_PADS: [(&[u8], &str); 3] = [
+    // A path round the corners of each copy, with a line of twice the radius.
+    (
+        ROUNDED,
+        ">2 pads, 0 other</text>\n<rect class=\"board\" x=\"-0.5\" y=\"-0.5\" width=\"6\" height=\"1\"/>\n<path stroke-width=\"0.5\" stroke-linejoin=\"round\" class=\"pad\" stroke=\"#d8a35d\" d=\"M-0.25 0.25L0.25 0.25L0.25 -0.25L-0.25 -0.25z\"/>\n<path stroke-width=\"0.5\" stroke-linejoin=\"round\" class=\"pad\" stroke=\"#d8a35d\" d=\"M4.75 0.25L5.25 0.25L5.25 -0.25L4.75 -0.25z\"/>\n</g>\n",
+    ),
+    // Pads of standard apertures come first, then in the order of the text a pad of one corner and the contours, which have no such line.
+    (
+        CONTOURS,
+        ">4 pads, 0 other</text>\n<rect class=\"board\" x=\"-2.5\" y=\"-1\" width=\"8.5\" height=\"2\"/>\n<path class=\"line\" stroke-width=\"0.5\" d=\"M3 0h0\"><title>disc 0.5x0.5</title></path>\n<path class=\"line\" stroke-width=\"1\" d=\"M-2 0L-2 0\"/>\n<path stroke-width=\"0\" stroke-linejoin=\"round\" class=\"pad\" d=\"M1 1L1 -1L-1 -1L-1 1z\"/>\n<path stroke-width=\"0\" stroke-linejoin=\"round\" class=\"pad\" d=\"M6 1L6 -1L4 -1L4 1z\"/>\n</g>\n",
+    ),
+    // What is cleared and what is clear are crosses: a third and a fifth of a 75th of 10.825 mm.
+    (
+        CLEAR,
+        ">1 pad, 2 other</text>\n<rect class=\"board\" x=\"-0.5\" y=\"-0.5\" width=\"10.825\" height=\"1\"/>\n<path class=\"line\" stroke-width=\"0.65\" d=\"M10 0h0\"><title>disc 0.65x0.65</title></path>\n<path class=\"other\" stroke-width=\"0.028866666\" d=\"M-0.048111111 0h0.096222222M0 -0.048111111v0.096222222M4.951888889 0h0.096222222M5 -0.048111111v0.096222222\">",
+    ),
+];
+
+#[test]
+fn pages_of_the_wide_profile_show_rounded_pads(rt: HostRuntime) -> Result<(), Fail> {
+    for &(copper, words) in &WIDE_PADS {
+        let page = page_of_copper(rt, Profile::Wide, copper, Keep::Flashes)?;
         assert!(rt; page.contains(words), "{words}");
     }
     Ok(())
@@ -377,7 +422,7 @@ const SHOWN: [(usize, Keep, bool); 4] = [
 #[test]
 fn more_than_a_panel_draws_is_left_out(rt: HostRuntime) -> Result<(), Fail> {
     for &(count, keep, is_shown) in &SHOWN {
-        let page = page_of_copper(rt, &dots(rt, count)?, keep)?;
+        let page = page_of_copper(rt, Profile::Strict, &dots(rt, count)?, keep)?;
         let is_there = page.contains("<svg class=\"drawn\"");
         assert!(rt; is_there == is_shown, "of {count}");
     }

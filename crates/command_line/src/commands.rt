@@ -43,9 +43,9 @@ const CHECK_USAGE: &str = "ringcheck check --ring <MM> --gap <MM> [--profile <st
                        <MANIFEST>";
 
 const CHECK: &str = "A manifest is a CSV file with the first record role,name,file and one for each
-file; a role is copper, plated or unplated. With role,name,file,first,last a
-drill file may name the first and the last layer that it goes through. File
-names are taken from the working directory.
+file; a role is copper, plated or unplated, and mixed in the wide profile. With
+role,name,file,first,last a drill file may name the first and the last layer
+that it goes through. File names are taken from the working directory.
 Example:  ringcheck check --ring 0.125 --gap 0.25 board.csv";
 
 // After `Usage: ` it stands on two lines.

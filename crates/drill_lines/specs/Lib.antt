@@ -1,6 +1,7 @@
 pub mod Formats
 pub mod Lines
 pub mod Header
+pub mod Plating
 pub mod Tools
 pub mod HoleLines
 pub mod Meaning

@@ -8,6 +8,7 @@ mod hole_lines;
 mod laws;
 mod line;
 mod line_reader;
+mod plating;
 mod route;
 mod tools;
 
@@ -17,3 +18,4 @@ pub use header::file_format;
 pub use laws::line_grammar;
 pub use line::read_line;
 pub use line_reader::LineReader;
+pub use plating::{Plating, said_plating};

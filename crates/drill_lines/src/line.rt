@@ -35,7 +35,7 @@ pub(crate) fn trimmed_len(line: &[u8]) -> usize
 }
 
 /// Whether a line begins with these bytes.
-fn begins(word: &[u8], line: &[u8]) -> bool
+pub(crate) fn begins(word: &[u8], line: &[u8]) -> bool
     ensures { result ≡ bytes_eq (take (length word.now) line.now) word.now }
 {
     line.strip_prefix(word).is_some()

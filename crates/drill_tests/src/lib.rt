@@ -9,3 +9,5 @@ mod drill_profiles;
 mod drill_text_calls;
 #[cfg(test)]
 mod drill_writing;
+#[cfg(test)]
+mod mixed_files;

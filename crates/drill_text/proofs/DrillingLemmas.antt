@@ -21,7 +21,7 @@ use Rattle.drill_lines.specs.Writing.{is_sayable}
 use Rattle.drill_text.specs.Lookback.{StateView, state_after, part_after, header, ends_header, unit_set, tool_set, diameter_set, points_of}
 use Rattle.drill_text.specs.Holes.{DrillPath, unit_or, unit_after, coordinate_in, point_at, diameter_after, path_at, hole_of, holes_at, holes_of}
 use Rattle.drill_text.specs.Rules.{drills, applies, first_broken, broken_rule, rules, lacks_unit, has_bad_size}
-use Rattle.drill_text.specs.Writing.{part_with, part_from, are_sayable, is_after_end, drill_sayable}
+use Rattle.drill_text.specs.Writing.{part_with, part_from, are_sayable, is_after_end}
 use Rattle.drill_text.specs.Drilling.{IsPath, IsHoleOf, AreHoles}
 use Rattle.drill_text.specs.Laws.{ListedHolesAreDrilled, DrilledHolesAreListed, DrillsAtMostOneList}
 use Rattle.drill_text.specs.Inner.StateSteps.{given_last}

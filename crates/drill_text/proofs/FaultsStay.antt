@@ -3,7 +3,6 @@ use Rattle.std.proofs.Common.{◌≡◌, ℕ, zero, suc, ◌-◌, ◌<◌, cond,
 use Rattle.std.proofs.lemmas.List.{take-append-le, length-append}
 use Rattle.std.proofs.lemmas.Bool.{lt-ltb, ltb-true}
 use Rattle.drill_lines.specs.declared.command.DrillCommand.{DrillCommand}
-use Rattle.grid_units.specs.declared.profile.Profile.{Profile}
 use Rattle.grid_units.specs.declared.profile.Profile.TheVariants.{Strict}
 use Rattle.grid_units.specs.declared.fault.Fault.{Fault}
 use Rattle.grid_units.specs.declared.fault.Reason.TheVariants.{TooLong}
@@ -11,7 +10,7 @@ use Rattle.drill_text.specs.Lines.{Splits}
 use Rattle.grid_units.specs.Results.{◌>>=◌, fault}
 use Rattle.grid_units.proofs.ResultLemmas.{bind_err, guard_err}
 use Rattle.drill_text.specs.Reading.{Shows, Reads}
-use Rattle.drill_text.specs.Profiles.{shown_by, ShowsIn, ReadsIn}
+use Rattle.drill_text.specs.Profiles.{Kind, plain, shown_by, ShowsBy, ReadsBy}
 use Rattle.drill_text.specs.Holding.{HasFault}
 use Rattle.drill_text.proofs.PieceLemmas.{fault_stays}
 use Rattle.drill_text.proofs.ProfileLemmas.{shows_strictly, strictly_shows, reads_strictly}
@@ -28,7 +27,7 @@ take_both (suc n) [] ys = let all : suc n - 0 ≡ suc n = omega arith in rw all 
 take_both (suc n) (x ∷ xs) ys = let less : suc n - suc (length xs) ≡ n - length xs = omega arith in rw less (ap (λ (l : List ℕ). x ∷ l) (take_both n xs ys))
 
 -- the fault of the lines within the limit
-within_limit : (p : Profile) (text : List ℕ) (f : Fault) → HasFault p (take text_limit text) f → ShowsIn p text (Err f)
+within_limit : (p : Kind) (text : List ℕ) (f : Fault) → HasFault p (take text_limit text) f → ShowsBy p text (Err f)
 unfolding checks_len
 within_limit p text f h = record {
   lines = h.lines;
@@ -37,7 +36,7 @@ within_limit p text f h = record {
   answer_is = sym (ap (λ r. r >>= checks_len (length text) h.lines) h.fault);
 }
 
-pub shows_stay_in : (p : Profile) (text more : List ℕ) (f : Fault) → ShowsIn p text (Err f) → ShowsIn p (text ++ more) (Err f)
+pub shows_stay_in : (p : Kind) (text more : List ℕ) (f : Fault) → ShowsBy p text (Err f) → ShowsBy p (text ++ more) (Err f)
 unfolding checks_len
 shows_stay_in p text more f s =
     elim (bind_err (shown_by p s.lines s.rest) (checks_len (length text) s.lines) f (sym s.answer_is)) [
@@ -57,11 +56,11 @@ shows_stay_in p text more f s =
           })
     ]
 
-pub shown_is_read_in : (p : Profile) (text more : List ℕ) (f : Fault) → ShowsIn p text (Err f) → ReadsIn p (text ++ more) (Err f)
+pub shown_is_read_in : (p : Kind) (text more : List ℕ) (f : Fault) → ShowsBy p text (Err f) → ReadsBy p (text ++ more) (Err f)
 shown_is_read_in p text more f s = shows_reads p (text ++ more) f (shows_stay_in p text more f s)
 
 pub shows_stay : (text more : List ℕ) (f : Fault) → Shows text (Err f) → Shows (text ++ more) (Err f)
-shows_stay text more f s = shows_strictly (text ++ more) (Err f) (shows_stay_in Strict text more f (strictly_shows text (Err f) s))
+shows_stay text more f s = shows_strictly (text ++ more) (Err f) (shows_stay_in (plain Strict) text more f (strictly_shows text (Err f) s))
 
 pub shown_is_read : (text more : List ℕ) (f : Fault) → Shows text (Err f) → Reads (text ++ more) (Err f)
-shown_is_read text more f s = reads_strictly (text ++ more) (Err f) (shown_is_read_in Strict text more f (strictly_shows text (Err f) s))
+shown_is_read text more f s = reads_strictly (text ++ more) (Err f) (shown_is_read_in (plain Strict) text more f (strictly_shows text (Err f) s))

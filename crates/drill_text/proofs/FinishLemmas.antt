@@ -8,14 +8,13 @@ use Rattle.grid_units.specs.declared.fault.Fault.{Fault}
 use Rattle.grid_units.specs.declared.fault.Fail.{Fail}
 use Rattle.grid_units.specs.declared.fault.Fail.TheVariants as fails
 use Rattle.grid_units.specs.declared.fault.Reason.TheVariants.{TooLong, Truncated}
-use Rattle.grid_units.specs.declared.profile.Profile.{Profile}
 use Rattle.grid_units.specs.declared.profile.Profile.TheVariants.{Strict}
 use Rattle.drill_text.specs.declared.kept.Keep.{Keep}
 use Rattle.drill_text.specs.declared.reader.Progress.{Progress}
 use Rattle.drill_text.specs.Lines.{Splits}
 use Rattle.grid_units.specs.Results.{◌>>=◌, fault, Answers, IfFault}
 use Rattle.drill_text.specs.Reading.{ended, is_finish, place_after_count, Shows}
-use Rattle.drill_text.specs.Profiles.{shown_by, with_rest, ReadsIn, ReadsAsIn, ShowsIn}
+use Rattle.drill_text.specs.Profiles.{Kind, plain, shown_by, with_rest, ReadsBy, ReadsAsBy, ShowsBy}
 use Rattle.drill_text.specs.Outcome.{DrillFile, file_of}
 use Rattle.drill_text.specs.Texts.{ReadsAs}
 use Rattle.drill_text.specs.Holding.{Holds}
@@ -23,12 +22,12 @@ use Rattle.grid_units.proofs.ResultLemmas.{bind_err, guard_err}
 use Rattle.grid_units.specs.Limits.{text_limit}
 use Rattle.drill_text.proofs.ProfileLemmas.{strictly_shows, reads_strictly}
 
-ends_with : Profile → ℕ → List (List ℕ) → List ℕ → List DrillCommand → Result (List DrillCommand) Fault
+ends_with : Kind → ℕ → List (List ℕ) → List ℕ → List DrillCommand → Result (List DrillCommand) Fault
 ends_with p len lines rest commands = cond (ltb text_limit len) (Err (fault (suc (length lines)) text_limit TooLong)) (with_rest p lines rest commands >>= ended len lines rest)
 
 -- a whole text reads as its last line leaves it
-pub reads_is : {p : Profile} {keep : Keep} (r : Progress) (text : List ℕ) (h : Holds r p keep text) (answer : Result (List DrillCommand) Fault) → r.offset ≤ text_limit
-    → (with_rest p h.lines r.line.items h.commands >>= ended (length text) h.lines r.line.items) ≡ answer → ReadsIn p text answer
+pub reads_is : {p : Kind} {keep : Keep} (r : Progress) (text : List ℕ) (h : Holds r p keep text) (answer : Result (List DrillCommand) Fault) → r.offset ≤ text_limit
+    → (with_rest p h.lines r.line.items h.commands >>= ended (length text) h.lines r.line.items) ≡ answer → ReadsBy p text answer
 unfolding ends_with
 reads_is {p = p} r text h answer le e =
     let short : length text ≤ text_limit = omega (arith, h.offset, le) in
@@ -43,18 +42,18 @@ reads_is {p = p} r text h answer le e =
     }
 
 -- the last line has a fault
-pub reads_fault : (p : Profile) (keep : Keep) (r : Progress) (text : List ℕ) (e : Fail) → r.offset ≤ text_limit → (h : Holds r p keep text)
-    → IfFault (λ f. with_rest p h.lines r.line.items h.commands ≡ Err f) e → Answers (λ (d : DrillFile). d) (ReadsAsIn p (file_of keep) text) (Err e)
+pub reads_fault : (p : Kind) (keep : Keep) (r : Progress) (text : List ℕ) (e : Fail) → r.offset ≤ text_limit → (h : Holds r p keep text)
+    → IfFault (λ f. with_rest p h.lines r.line.items h.commands ≡ Err f) e → Answers (λ (d : DrillFile). d) (ReadsAsBy p (file_of keep) text) (Err e)
 reads_fault p keep r text fails.Memory le h k = tt
 reads_fault p keep r text (fails.Refused f) le h k = reads_is r text h (Err f) le (ap (λ s. s >>= ended (length text) h.lines r.line.items) k)
 
 -- the last line leaves the end of the file among the commands, or not
-pub reads_ended : {p : Profile} {keep : Keep} (r : Progress) (text : List ℕ) (h : Holds r p keep text) (new : List DrillCommand) → r.offset ≤ text_limit → with_rest p h.lines r.line.items h.commands ≡ Ok new → list_any is_finish new ≡ true → ReadsIn p text (Ok new)
+pub reads_ended : {p : Kind} {keep : Keep} (r : Progress) (text : List ℕ) (h : Holds r p keep text) (new : List DrillCommand) → r.offset ≤ text_limit → with_rest p h.lines r.line.items h.commands ≡ Ok new → list_any is_finish new ≡ true → ReadsBy p text (Ok new)
 reads_ended r text h new le e some =
     reads_is r text h (Ok new) le (ap (λ s. s >>= ended (length text) h.lines r.line.items) e ∙ ap (λ t. cond t (Ok new) (Err (fault (place_after_count (length h.lines) r.line.items) (length text) Truncated))) some)
 
-pub reads_truncated : {p : Profile} {keep : Keep} (r : Progress) (text : List ℕ) (h : Holds r p keep text) (new : List DrillCommand) → r.offset ≤ text_limit → with_rest p h.lines r.line.items h.commands ≡ Ok new → list_any is_finish new ≡ false
-    → ReadsIn p text (Err (fault (place_after_count r.lines r.line.items) r.offset Truncated))
+pub reads_truncated : {p : Kind} {keep : Keep} (r : Progress) (text : List ℕ) (h : Holds r p keep text) (new : List DrillCommand) → r.offset ≤ text_limit → with_rest p h.lines r.line.items h.commands ≡ Ok new → list_any is_finish new ≡ false
+    → ReadsBy p text (Err (fault (place_after_count r.lines r.line.items) r.offset Truncated))
 reads_truncated r text h new le e none =
     reads_is r text h (Err (fault (place_after_count r.lines r.line.items) r.offset Truncated)) le (ap (λ s. s >>= ended (length text) h.lines r.line.items) e
     ∙ (ap (λ t. cond t (Ok new) (Err (fault (place_after_count (length h.lines) r.line.items) (length text) Truncated))) none
@@ -64,7 +63,7 @@ checks_len : ℕ → List (List ℕ) → List DrillCommand → Result (List Dril
 checks_len len lines commands = cond (ltb text_limit len) (Err (fault (suc (length lines)) text_limit TooLong)) (Ok commands)
 
 -- a fault that a text shows is the one that it has
-pub shows_reads : (p : Profile) (text : List ℕ) (f : Fault) → ShowsIn p text (Err f) → ReadsIn p text (Err f)
+pub shows_reads : (p : Kind) (text : List ℕ) (f : Fault) → ShowsBy p text (Err f) → ReadsBy p text (Err f)
 unfolding checks_len ends_with
 shows_reads p text f s = record {
   lines = s.lines;
@@ -80,4 +79,4 @@ shows_reads p text f s = record {
 -- a fault that a text shows refuses it, however its commands would be seen
 pub shown_refused : {T V : Type 0} (view : T → V) (see : List DrillCommand → V) (text : List ℕ) (e : Fail) → IfFault (λ f. Shows text (Err f)) e → Answers view (ReadsAs see text) (Err e)
 shown_refused view see text fails.Memory h = tt
-shown_refused view see text (fails.Refused f) h = reads_strictly text (Err f) (shows_reads Strict text f (strictly_shows text (Err f) h))
+shown_refused view see text (fails.Refused f) h = reads_strictly text (Err f) (shows_reads (plain Strict) text f (strictly_shows text (Err f) h))

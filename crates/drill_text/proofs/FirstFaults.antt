@@ -20,8 +20,7 @@ use Rattle.drill_text.specs.Texts.{spelled_after, AreWithinLimit}
 use Rattle.drill_text.specs.Faults.{SpellLegally, IsRefused, HasRefusedLine, HasFaultWithin, HasFaultBeyond, IsFirstFault, HasAnswer}
 use Rattle.drill_text.proofs.SplitsLemmas.{commands_from-push}
 use Rattle.drill_text.proofs.ShowsLemmas.{shown_ok, show_ok, show_long, show_err, shown_err}
-use Rattle.grid_units.specs.declared.profile.Profile.{Profile}
-use Rattle.drill_text.specs.Profiles.{ReadsIn, read_by}
+use Rattle.drill_text.specs.Profiles.{Kind, ReadsBy, read_by}
 use Rattle.drill_text.proofs.SpellsTextLemmas.{all_kept, all_spelled, reads_drill_text}
 use Rattle.grid_units.specs.Limits.{text_limit, line_limit}
 use Rattle.grid_units.specs.Lists.{IsLegal}
@@ -334,7 +333,7 @@ has_answer text =
     by (Err f) h = inr (f, err_first text f h)
 
 -- in each profile each text has an answer
-pub each_read_in : (profile : Profile) (text : List ℕ) → (answer : Result (List DrillCommand) Fault) × ReadsIn profile text answer
-each_read_in profile text =
+pub each_read_in : (kind : Kind) (text : List ℕ) → (answer : Result (List DrillCommand) Fault) × ReadsBy kind text answer
+each_read_in kind text =
     let c = cut (take text_limit text) in
-    (read_by profile (length text) c.lines c.rest, record { lines = c.lines; rest = c.rest; splits = c.splits; answer_is = refl })
+    (read_by kind (length text) c.lines c.rest, record { lines = c.lines; rest = c.rest; splits = c.splits; answer_is = refl })

@@ -1,5 +1,6 @@
 pub mod SpelledLemmas
 pub mod Lookbacks
+pub mod PlatingLemmas
 pub mod ShowsLemmas
 pub mod ProfileLemmas
 pub mod PieceLemmas
@@ -26,3 +27,5 @@ pub mod GrammarLemmas
 pub mod GrammarExamples
 pub mod WideGrammarLemmas
 pub mod WideReadings
+pub mod MixedLemmas
+pub mod CalledLemmas

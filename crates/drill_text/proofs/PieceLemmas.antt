@@ -5,17 +5,16 @@ use Rattle.std.proofs.lemmas.Bool.{eqb-true, eqb-false}
 use Rattle.grid_units.specs.declared.fault.Fault.{Fault}
 use Rattle.grid_units.specs.declared.fault.Fail.{Fail}
 use Rattle.grid_units.specs.declared.fault.Fail.TheVariants as fails
-use Rattle.grid_units.specs.declared.profile.Profile.{Profile}
 use Rattle.drill_text.specs.declared.kept.Keep.{Keep}
 use Rattle.drill_text.specs.declared.reader.Progress.{Progress}
-use Rattle.drill_text.specs.Profiles.{spelled_in, shown_by}
+use Rattle.drill_text.specs.Profiles.{Kind, spelled_in, shown_by}
 use Rattle.drill_text.specs.Holding.{Holds, HasFault, Advances, Refuses}
 use Rattle.drill_text.proofs.SplitsLemmas.{Splits-grow, Splits-close}
 use Rattle.drill_text.proofs.ProfileLemmas.{shown_by_ok, shown_by_err, show_by_err, show_by_long, show_by_push, show_by_push_err, too_long}
 
 -- ---- a fault stays
 
-fault_grows : (p : Profile) (text : List ℕ) (b : ℕ) (f : Fault) → b ≢ 10 → HasFault p text f → HasFault p (text ++ b ∷ []) f
+fault_grows : (p : Kind) (text : List ℕ) (b : ℕ) (f : Fault) → b ≢ 10 → HasFault p text f → HasFault p (text ++ b ∷ []) f
 fault_grows p text b f inside h = record {
   lines = h.lines;
   rest = h.rest ++ b ∷ [];
@@ -26,7 +25,7 @@ fault_grows p text b f inside h = record {
   ];
 }
 
-fault_closes : (p : Profile) (text : List ℕ) (f : Fault) → HasFault p text f → HasFault p (text ++ 10 ∷ []) f
+fault_closes : (p : Kind) (text : List ℕ) (f : Fault) → HasFault p text f → HasFault p (text ++ 10 ∷ []) f
 fault_closes p text f h = record {
   lines = h.lines ++ h.rest ∷ [];
   rest = [];
@@ -37,11 +36,11 @@ fault_closes p text f h = record {
   ];
 }
 
-one_more : (t : Bool) (p : Profile) (text : List ℕ) (b : ℕ) (f : Fault) → eqb b 10 ≡ t → HasFault p text f → HasFault p (text ++ b ∷ []) f
+one_more : (t : Bool) (p : Kind) (text : List ℕ) (b : ℕ) (f : Fault) → eqb b 10 ≡ t → HasFault p text f → HasFault p (text ++ b ∷ []) f
 one_more true p text b f e h = subst (λ c. HasFault p (text ++ c ∷ []) f) (sym (eqb-true b 10 e)) (fault_closes p text f h)
 one_more false p text b f e h = fault_grows p text b f (eqb-false b 10 e) h
 
-pub fault_stays : (p : Profile) (text more : List ℕ) (f : Fault) → HasFault p text f → HasFault p (text ++ more) f
+pub fault_stays : (p : Kind) (text more : List ℕ) (f : Fault) → HasFault p text f → HasFault p (text ++ more) f
 fault_stays p text [] f h = subst (λ (x : List ℕ). HasFault p x f) (sym (append-nil text)) h
 fault_stays p text (b ∷ more) f h =
     subst (λ (x : List ℕ). HasFault p x f) (append_assoc text (b ∷ []) more)
@@ -50,7 +49,7 @@ fault_stays p text (b ∷ more) f h =
 -- ---- readers
 
 -- what is shown with one more line, by a reader that holds this text
-pub closed : {p : Profile} {keep : Keep} (old : Progress) (text line : List ℕ) (h : Holds old p keep text) → shown_by p (h.lines ++ line ∷ []) [] ≡ spelled_in p h.lines line h.commands
+pub closed : {p : Kind} {keep : Keep} (old : Progress) (text line : List ℕ) (h : Holds old p keep text) → shown_by p (h.lines ++ line ∷ []) [] ≡ spelled_in p h.lines line h.commands
 closed {p = p} old text line h = show_by_push p h.lines line h.commands (shown_by_ok p h.lines old.line.items h.commands h.spelled).0
 
 pub Refuses-longer : (old : Progress) (xs ys : List ℕ) (e : Fail) → Refuses old xs e → Refuses old (xs ++ ys) e

@@ -1,5 +1,5 @@
 -- A line that is read and judged.
-use Rattle.std.proofs.Common.{◌≡◌, ℕ, ◌<◌, List, [], ◌∷◌, ◌++◌, length, map, None, Some, Result, Ok, Err, sym, ap, subst, ◌∙◌, refl, arith}
+use Rattle.std.proofs.Common.{◌≡◌, ℕ, ◌<◌, Bool, List, [], ◌∷◌, ◌++◌, length, map, None, Some, Result, Ok, Err, sym, ap, subst, ◌∙◌, refl, arith}
 use Rattle.std.proofs.lemmas.List.{map-append}
 use Rattle.grid_units.specs.declared.fault.Reason.{Reason}
 use Rattle.grid_units.specs.declared.fault.Fault.{Fault}
@@ -11,21 +11,22 @@ use Rattle.grid_units.specs.declared.profile.Profile.{Profile}
 use Rattle.drill_lines.specs.declared.line_reader.LineReader.{LineReader}
 use Rattle.drill_lines.specs.Lines.{trimmed}
 use Rattle.drill_lines.specs.LineReading.{HasReadLines}
+use Rattle.drill_text.specs.declared.judge.Judge.{Judge}
 use Rattle.drill_text.specs.declared.state.DrillState.{DrillState}
 use Rattle.drill_text.specs.declared.kept.Keep.{Keep}
 use Rattle.drill_text.specs.declared.kept.KeptCommands.{KeptCommands}
 use Rattle.drill_text.specs.Lookback.{StateView, settings_after}
-use Rattle.drill_text.specs.Rules.{broken_rule}
-use Rattle.drill_text.specs.Reading.{add_unless, checked}
-use Rattle.drill_text.specs.Profiles.{spelled_in, with_rest}
+use Rattle.drill_text.specs.Plating.{rule_in}
+use Rattle.drill_text.specs.Reading.{add_unless, checked_by}
+use Rattle.drill_text.specs.Profiles.{Kind, spelled_in, with_rest}
 use Rattle.drill_text.specs.Inner.StateSteps.{IsStateAfter}
 use Rattle.drill_text.specs.Keeping.{ResultsIn, ResultsInLine}
 
-pub checked_kept : (before : List DrillCommand) (place byte : ℕ) (c : DrillCommand) → broken_rule before c ≡ None → with_place place byte (checked before (Some c)) ≡ Ok (before ++ c ∷ [])
-checked_kept before place byte c legal = ap (λ o. with_place place byte (add_unless o before c)) legal
+pub checked_kept : (mixed : Bool) (before : List DrillCommand) (place byte : ℕ) (c : DrillCommand) → rule_in mixed before c ≡ None → with_place place byte (checked_by (rule_in mixed) before (Some c)) ≡ Ok (before ++ c ∷ [])
+checked_kept mixed before place byte c legal = ap (λ o. with_place place byte (add_unless o before c)) legal
 
-pub checked_broken : (before : List DrillCommand) (place byte : ℕ) (c : DrillCommand) (r : Reason) → broken_rule before c ≡ Some r → with_place place byte (checked before (Some c)) ≡ Err (fault place byte r)
-checked_broken before place byte c r broken = ap (λ o. with_place place byte (add_unless o before c)) broken
+pub checked_broken : (mixed : Bool) (before : List DrillCommand) (place byte : ℕ) (c : DrillCommand) (r : Reason) → rule_in mixed before c ≡ Some r → with_place place byte (checked_by (rule_in mixed) before (Some c)) ≡ Err (fault place byte r)
+checked_broken mixed before place byte c r broken = ap (λ o. with_place place byte (add_unless o before c)) broken
 
 -- the settings of a judge are those after its commands
 pub settings_are : (state : DrillState) (before : List DrillCommand) → IsStateAfter state before → state.settings ≡ settings_after before
@@ -40,18 +41,18 @@ pub lines_more : (reader : LineReader) (p : Profile) (s : Settings) (earlier : L
 lines_more reader p s earlier line h = subst (λ (e : List (List ℕ)). HasReadLines reader p s e) (sym (trimmed_more earlier line)) h
 
 -- the judged command of a line that was read
-pub line_results : {X : Type 0} (result : Result X Fail) (reader : LineReader) (state : DrillState) (kept : KeptCommands) (p : Profile) (keep : Keep) (earlier : List (List ℕ)) (line : List ℕ) (judged read : Result (List DrillCommand) Fault)
-    → read ≡ judged → ((after : List DrillCommand) → HasReadLines reader p (settings_after after) (map trimmed (earlier ++ line ∷ []))) → ResultsIn result state kept keep judged → ResultsInLine result reader state kept p keep earlier line read
-line_results (Ok x) reader state kept p keep earlier line judged read same lines h = (h.0, same ∙ h.1, record { lines = lines h.0; has_read = h.2 })
-line_results (Err e) reader state kept p keep earlier line judged read same lines h = subst (λ r. IfFault (λ f. r ≡ Err f) e) (sym same) h
+pub line_results : {X : Type 0} (result : Result X Fail) (reader : LineReader) (judge : Judge) (kept : KeptCommands) (p : Kind) (keep : Keep) (earlier : List (List ℕ)) (line : List ℕ) (judged read : Result (List DrillCommand) Fault)
+    → read ≡ judged → ((after : List DrillCommand) → HasReadLines reader p.profile (settings_after after) (map trimmed (earlier ++ line ∷ []))) → ResultsIn result judge kept p.mixed keep judged → ResultsInLine result reader judge kept p keep earlier line read
+line_results (Ok x) reader judge kept p keep earlier line judged read same lines h = (h.0, same ∙ h.1, record { lines = lines h.0; has_read = h.2 })
+line_results (Err e) reader judge kept p keep earlier line judged read same lines h = subst (λ r. IfFault (λ f. r ≡ Err f) e) (sym same) h
 
 -- a rest with a byte is a line
-pub rest_is_line : (p : Profile) (lines : List (List ℕ)) (rest : List ℕ) (commands : List DrillCommand) → 0 < length rest → with_rest p lines rest commands ≡ spelled_in p lines rest commands
+pub rest_is_line : (p : Kind) (lines : List (List ℕ)) (rest : List ℕ) (commands : List DrillCommand) → 0 < length rest → with_rest p lines rest commands ≡ spelled_in p lines rest commands
 rest_is_line p lines [] commands some = absurd (omega arith)
 rest_is_line p lines (b ∷ bs) commands some = refl
 
 -- what a last line leaves
-pub rest_results : {X : Type 0} (result : Result X Fail) (reader : LineReader) (state : DrillState) (kept : KeptCommands) (p : Profile) (keep : Keep) (earlier : List (List ℕ)) (line : List ℕ) (read rest : Result (List DrillCommand) Fault)
-    → rest ≡ read → ResultsInLine result reader state kept p keep earlier line read → ResultsIn result state kept keep rest
-rest_results (Ok x) reader state kept p keep earlier line read rest same h = (h.0, same ∙ h.1, h.2.has_read)
-rest_results (Err e) reader state kept p keep earlier line read rest same h = subst (λ r. IfFault (λ f. r ≡ Err f) e) (sym same) h
+pub rest_results : {X : Type 0} (result : Result X Fail) (reader : LineReader) (judge : Judge) (kept : KeptCommands) (p : Kind) (keep : Keep) (earlier : List (List ℕ)) (line : List ℕ) (read rest : Result (List DrillCommand) Fault)
+    → rest ≡ read → ResultsInLine result reader judge kept p keep earlier line read → ResultsIn result judge kept p.mixed keep rest
+rest_results (Ok x) reader judge kept p keep earlier line read rest same h = (h.0, same ∙ h.1, h.2.has_read)
+rest_results (Err e) reader judge kept p keep earlier line read rest same h = subst (λ r. IfFault (λ f. r ≡ Err f) e) (sym same) h

@@ -76,8 +76,11 @@ nil_prefix : {A : Type 0} (xs ys : List A) → xs ++ ys ≡ [] → xs ≡ []
 nil_prefix [] ys e = refl
 nil_prefix (x ∷ xs) ys e = absurd cc
 
+pub legal_start : (rule : List DrillCommand → DrillCommand → Option Reason) (cs ds : List DrillCommand) → IsLegal rule (cs ++ ds) → IsLegal rule cs
+legal_start rule cs ds legal = nil_prefix (violations rule cs) (filter_map (violation_at rule) (with_prefixes_from cs ds)) (sym (violations-append rule cs ds) ∙ legal)
+
 pub legal_prefix : (cs ds : List DrillCommand) → IsLegal broken_rule (cs ++ ds) → IsLegal broken_rule cs
-legal_prefix cs ds legal = nil_prefix (violations broken_rule cs) (filter_map (violation_at broken_rule) (with_prefixes_from cs ds)) (sym (violations-append broken_rule cs ds) ∙ legal)
+legal_prefix = legal_start broken_rule
 
 -- what lines spell begins with the commands before them
 pub spelled_more : (before : List DrillCommand) (lines : List (List ℕ)) (new : List DrillCommand) → spelled_after before lines ≡ Ok new → (more : List DrillCommand) × (new ≡ before ++ more)
@@ -96,9 +99,12 @@ no_break n None e = refl
 no_break n (Some r) e = absurd cc
 
 -- the last of a legal list breaks no rule
+pub last_keeps : (rule : List DrillCommand → DrillCommand → Option Reason) (before : List DrillCommand) (c : DrillCommand) → IsLegal rule (before ++ c ∷ []) → rule before c ≡ None
+last_keeps rule before c legal =
+    no_break (length before) (rule before c) (nil_back (violations rule before) (filter_map (violation_at rule) (with_prefixes_from before (c ∷ []))) (sym (violations-append rule before (c ∷ [])) ∙ legal))
+
 pub last_legal : (before : List DrillCommand) (c : DrillCommand) → IsLegal broken_rule (before ++ c ∷ []) → broken_rule before c ≡ None
-last_legal before c legal =
-    no_break (length before) (broken_rule before c) (nil_back (violations broken_rule before) (filter_map (violation_at broken_rule) (with_prefixes_from before (c ∷ []))) (sym (violations-append broken_rule before (c ∷ [])) ∙ legal))
+last_legal = last_keeps broken_rule
 
 -- a command that is judged is kept, if the list with it is legal
 pub keeps_judged : (before : List DrillCommand) (command : Option DrillCommand) → IsLegal broken_rule (before ++ option_to_list command) → checked before command ≡ Ok (before ++ option_to_list command)

@@ -6,10 +6,9 @@ use Rattle.std.proofs.lemmas.List.Sums.{fold-append}
 use Rattle.std.proofs.lemmas.Bool.{eqb-true}
 use Rattle.grid_units.specs.declared.fault.Fault.{Fault}
 use Rattle.drill_lines.specs.declared.command.DrillCommand.{DrillCommand}
-use Rattle.grid_units.specs.declared.profile.Profile.{Profile}
 use Rattle.drill_text.specs.Lines.{bytes_of, HasNoBreak, Splits}
 use Rattle.drill_text.specs.Reading.{Shows, Reads, shown_in, read_in}
-use Rattle.drill_text.specs.Profiles.{ShowsIn, ReadsIn, shown_within, read_by}
+use Rattle.drill_text.specs.Profiles.{Kind, ShowsBy, ReadsBy, shown_within, read_by}
 use Rattle.grid_units.specs.Limits.{text_limit}
 
 -- one more byte: the LF of a line, or another
@@ -57,12 +56,12 @@ one_read text a b s t =
     let e = same_parts (take text_limit text) s.lines s.rest t.lines t.rest s.splits t.splits in
     s.answer_is ∙ (ap (λ (p : List (List ℕ) × List ℕ). read_in (length text) p.0 p.1) e ∙ sym t.answer_is)
 
-pub one_shown_in : (p : Profile) (text : List ℕ) (a b : Result (List DrillCommand) Fault) → ShowsIn p text a → ShowsIn p text b → a ≡ b
+pub one_shown_in : (p : Kind) (text : List ℕ) (a b : Result (List DrillCommand) Fault) → ShowsBy p text a → ShowsBy p text b → a ≡ b
 one_shown_in p text a b s t =
     let e = same_parts (take text_limit text) s.lines s.rest t.lines t.rest s.splits t.splits in
     s.answer_is ∙ (ap (λ (q : List (List ℕ) × List ℕ). shown_within p (length text) q.0 q.1) e ∙ sym t.answer_is)
 
-pub one_read_in : (p : Profile) (text : List ℕ) (a b : Result (List DrillCommand) Fault) → ReadsIn p text a → ReadsIn p text b → a ≡ b
+pub one_read_in : (p : Kind) (text : List ℕ) (a b : Result (List DrillCommand) Fault) → ReadsBy p text a → ReadsBy p text b → a ≡ b
 one_read_in p text a b s t =
     let e = same_parts (take text_limit text) s.lines s.rest t.lines t.rest s.splits t.splits in
     s.answer_is ∙ (ap (λ (q : List (List ℕ) × List ℕ). read_by p (length text) q.0 q.1) e ∙ sym t.answer_is)

@@ -10,8 +10,7 @@ use Rattle.grid_units.specs.declared.fault.Fail.TheVariants.{Memory, Refused}
 use Rattle.grid_units.specs.Results.{IfFault}
 use Rattle.drill_text.specs.declared.reader.Progress.{Progress}
 use Rattle.drill_text.specs.Lines.{HasNoBreak, Splits, bytes_of}
-use Rattle.drill_text.specs.Profiles.{shown_by, spelled_in}
-use Rattle.grid_units.specs.declared.profile.Profile.{Profile}
+use Rattle.drill_text.specs.Profiles.{Kind, shown_by, spelled_in}
 use Rattle.drill_text.specs.declared.kept.Keep.{Keep}
 use Rattle.drill_text.specs.Keeping.{HasReadIn}
 use Rattle.drill_text.specs.Holding.{Holds, Refuses}
@@ -27,14 +26,14 @@ no_break (b ∷ bs) h = let k = both_true (not (eqb b 10)) (list_all (λ b. not 
     negated false e = refl
 
 -- the text, followed by this line and its LF
-whole_splits : {p : Profile} {keep : Keep} (old : Progress) (text line : List ℕ) (h : Holds old p keep text) → old.line.items ≡ [] → HasNoBreak line → Splits (text ++ (line ++ 10 ∷ [])) (h.lines ++ line ∷ []) []
+whole_splits : {p : Kind} {keep : Keep} (old : Progress) (text line : List ℕ) (h : Holds old p keep text) → old.line.items ≡ [] → HasNoBreak line → Splits (text ++ (line ++ 10 ∷ [])) (h.lines ++ line ∷ []) []
 whole_splits old text line h none inside =
     let alone : Splits text h.lines [] = subst (λ (x : List ℕ). Splits text h.lines x) none h.splits in
     subst (λ (x : List ℕ). Splits x (h.lines ++ line ∷ []) []) (append_assoc text line (10 ∷ []))
     (Splits-close (text ++ line) h.lines line (Splits-grow text h.lines [] line alone inside))
 
 -- the reader that took the line in
-pub whole_holds : {p : Profile} {keep : Keep} (old new : Progress) (text line : List ℕ) (after : List DrillCommand) (h : Holds old p keep text) → old.line.items ≡ [] → HasNoBreak line → new.line.items ≡ old.line.items → spelled_in p h.lines line h.commands ≡ Ok after → HasReadIn new.reader new.state new.kept p keep (h.lines ++ line ∷ []) after
+pub whole_holds : {p : Kind} {keep : Keep} (old new : Progress) (text line : List ℕ) (after : List DrillCommand) (h : Holds old p keep text) → old.line.items ≡ [] → HasNoBreak line → new.line.items ≡ old.line.items → spelled_in p h.lines line h.commands ≡ Ok after → HasReadIn new.reader new.judge new.kept p keep (h.lines ++ line ∷ []) after
     → new.lines ≡ old.lines + 1 → new.start ≡ new.offset → new.offset ≡ old.offset + (length line + 1) → Holds new p keep (text ++ (line ++ 10 ∷ []))
 whole_holds {p = p} old new text line after h none inside kept spells has_read count start offset =
     let lines : List (List ℕ) = h.lines ++ line ∷ [] in
@@ -51,13 +50,13 @@ whole_holds {p = p} old new text line after h none inside kept spells has_read c
     }
 
 -- the taken bytes are this line and its LF
-pub whole_taken : {p : Profile} {keep : Keep} (old new : Progress) (text line taken : List ℕ) (after : List DrillCommand) (h : Holds old p keep text) → line ++ 10 ∷ [] ≡ taken → old.line.items ≡ [] → HasNoBreak line → new.line.items ≡ old.line.items → spelled_in p h.lines line h.commands ≡ Ok after
-    → HasReadIn new.reader new.state new.kept p keep (h.lines ++ line ∷ []) after → new.lines ≡ old.lines + 1 → new.start ≡ new.offset → new.offset ≡ old.offset + (length line + 1) → Holds new p keep (text ++ taken)
+pub whole_taken : {p : Kind} {keep : Keep} (old new : Progress) (text line taken : List ℕ) (after : List DrillCommand) (h : Holds old p keep text) → line ++ 10 ∷ [] ≡ taken → old.line.items ≡ [] → HasNoBreak line → new.line.items ≡ old.line.items → spelled_in p h.lines line h.commands ≡ Ok after
+    → HasReadIn new.reader new.judge new.kept p keep (h.lines ++ line ∷ []) after → new.lines ≡ old.lines + 1 → new.start ≡ new.offset → new.offset ≡ old.offset + (length line + 1) → Holds new p keep (text ++ taken)
 whole_taken {p = p} {keep = keep} old new text line taken after h is none inside kept spells has_read count start offset =
     subst (λ (x : List ℕ). Holds new p keep (text ++ x)) is (whole_holds old new text line after h none inside kept spells has_read count start offset)
 
 -- the fault that the line shows
 pub whole_refused : (old : Progress) (line : List ℕ) (e : Fail) → old.line.items ≡ [] → HasNoBreak line
-    → ((p : Profile) (keep : Keep) (text : List ℕ) (h : Holds old p keep text) → IfFault (λ f. spelled_in p h.lines line h.commands ≡ Err f) e) → Refuses old (line ++ 10 ∷ []) e
+    → ((p : Kind) (keep : Keep) (text : List ℕ) (h : Holds old p keep text) → IfFault (λ f. spelled_in p h.lines line h.commands ≡ Err f) e) → Refuses old (line ++ 10 ∷ []) e
 whole_refused old line Memory none inside k = tt
 whole_refused old line (Refused f) none inside k = λ p keep text h. record { lines = h.lines ++ line ∷ []; rest = []; splits = whole_splits old text line h none inside; fault = closed old text line h ∙ k p keep text h }

@@ -7,13 +7,12 @@ use Rattle.grid_units.specs.declared.fault.Fault.{Fault}
 use Rattle.grid_units.specs.declared.fault.Fail.{Fail}
 use Rattle.grid_units.specs.declared.fault.Fail.TheVariants as fails
 use Rattle.grid_units.specs.declared.fault.Reason.TheVariants.{TooLong}
-use Rattle.grid_units.specs.declared.profile.Profile.{Profile}
 use Rattle.drill_text.specs.declared.kept.Keep.{Keep}
 use Rattle.drill_text.specs.declared.reader.Progress.{Progress}
 use Rattle.drill_text.specs.Lines.{Splits}
 use Rattle.grid_units.specs.Results.{◌>>=◌}
 use Rattle.grid_units.specs.Results.{fault}
-use Rattle.drill_text.specs.Profiles.{ShowsIn}
+use Rattle.drill_text.specs.Profiles.{Kind, ShowsBy}
 use Rattle.drill_text.specs.Holding.{Holds, HasFault, Refuses, RefusesText}
 use Rattle.grid_units.specs.Limits.{text_limit}
 
@@ -21,7 +20,7 @@ use Rattle.grid_units.specs.Limits.{text_limit}
 checks_len : ℕ → List (List ℕ) → List DrillCommand → Result (List DrillCommand) Fault
 checks_len len items commands = cond (ltb text_limit len) (Err (fault (suc (length items)) text_limit TooLong)) (Ok commands)
 
-pub fault_within : (p : Profile) (text : List ℕ) (f : Fault) → length text ≤ text_limit → HasFault p text f → ShowsIn p text (Err f)
+pub fault_within : (p : Kind) (text : List ℕ) (f : Fault) → length text ≤ text_limit → HasFault p text f → ShowsBy p text (Err f)
 unfolding checks_len
 fault_within p text f le h = record {
   lines = h.lines;
@@ -30,7 +29,7 @@ fault_within p text f le h = record {
   answer_is = sym (ap (λ r. r >>= checks_len (length text) h.lines) h.fault);
 }
 
-pub fault_of_prefix : (p : Profile) (prefix more : List ℕ) (f : Fault) → length prefix ≡ text_limit → HasFault p prefix f → ShowsIn p (prefix ++ more) (Err f)
+pub fault_of_prefix : (p : Kind) (prefix more : List ℕ) (f : Fault) → length prefix ≡ text_limit → HasFault p prefix f → ShowsBy p (prefix ++ more) (Err f)
 unfolding checks_len
 fault_of_prefix p prefix more f e h = record {
   lines = h.lines;
@@ -39,7 +38,7 @@ fault_of_prefix p prefix more f e h = record {
   answer_is = sym (ap (λ r. r >>= checks_len (length (prefix ++ more)) h.lines) h.fault);
 }
 
-pub too_long_text : {p : Profile} {keep : Keep} (r : Progress) (prefix more : List ℕ) → length prefix ≡ text_limit → 0 < length more → Holds r p keep prefix → ShowsIn p (prefix ++ more) (Err (fault (r.lines + 1) text_limit TooLong))
+pub too_long_text : {p : Kind} {keep : Keep} (r : Progress) (prefix more : List ℕ) → length prefix ≡ text_limit → 0 < length more → Holds r p keep prefix → ShowsBy p (prefix ++ more) (Err (fault (r.lines + 1) text_limit TooLong))
 unfolding checks_len
 too_long_text r prefix more e some h =
     let long : text_limit < length (prefix ++ more) = omega (arith, length-append prefix more) in
@@ -58,4 +57,4 @@ refuses_within old piece (fails.Refused f) le h = λ p keep text holds. fault_wi
 pub refuses_beyond : (old : Progress) (prefix more : List ℕ) (e : Fail) → old.offset + length prefix ≡ text_limit → Refuses old prefix e → RefusesText old (prefix ++ more) e
 refuses_beyond old prefix more fails.Memory len h = λ p keep text holds. tt
 refuses_beyond old prefix more (fails.Refused f) len h = λ p keep text holds.
-    subst (λ (t : List ℕ). ShowsIn p t (Err f)) (append_assoc text prefix more) (fault_of_prefix p (text ++ prefix) more f (omega (arith, holds.offset, length-append text prefix)) (h p keep text holds))
+    subst (λ (t : List ℕ). ShowsBy p t (Err f)) (append_assoc text prefix more) (fault_of_prefix p (text ++ prefix) more f (omega (arith, holds.offset, length-append text prefix)) (h p keep text holds))

@@ -1,7 +1,6 @@
 -- The legal commands of a wide text drill in the body alone, and so they drill the holes that are listed of them.
 use Rattle.std.proofs.Common.{◌≡◌, ℕ, Bool, true, List, [], ◌∷◌, ◌++◌, Option, None, Some, inl, inr, refl, sym, subst, ◌∙◌, append_assoc, append-nil}
 use Rattle.std.specs.Option.{option_to_list}
-use Rattle.grid_units.specs.Lists.{IsLegal}
 use Rattle.drill_lines.specs.declared.command.Part.{Part}
 use Rattle.drill_lines.specs.declared.command.Part.TheVariants as part
 use Rattle.drill_lines.specs.declared.command.Settings.{Settings}
@@ -11,7 +10,7 @@ use Rattle.drill_lines.specs.Lines.{trimmed}
 use Rattle.drill_lines.specs.RouteGrammar.{IsAlone}
 use Rattle.drill_lines.specs.Routes.{is_routing}
 use Rattle.drill_text.specs.Lookback.{settings_after, part_after}
-use Rattle.drill_text.specs.Rules.{broken_rule, drills}
+use Rattle.drill_text.specs.Rules.{drills}
 use Rattle.drill_text.specs.WideGrammar.{AreEntries, IsEntry, WideHolesAreDrilled}
 use Rattle.drill_text.proofs.DrillingLemmas.{AreInBody, legal_are_drilled}
 use Rattle.drill_text.proofs.RoundTrip.{part_more}

@@ -29,7 +29,7 @@ use Rattle.drill_text.specs.Lookback.{settings_after}
 use Rattle.drill_text.specs.Rules.{broken_rule}
 use Rattle.drill_text.specs.Reading.{ended, place_after}
 use Rattle.drill_text.specs.Texts.{AreWithinLimit}
-use Rattle.drill_text.specs.Profiles.{spelled_in, commands_by, with_rest}
+use Rattle.drill_text.specs.Profiles.{plain, spelled_in, commands_by, with_rest}
 use Rattle.drill_text.specs.WideGrammar.{AreEntries, lines_in, WrittenIsRead}
 use Rattle.drill_text.proofs.FirstFaults.{cut}
 use Rattle.drill_text.proofs.GrammarLemmas.{same_lines, end_found}
@@ -41,11 +41,11 @@ use Rattle.drill_text.proofs.ProfileLemmas.{commands_by-push, show_by_ok, spelle
 
 -- a line that spells this is taken in, if the commands with it are legal
 taken : (e : List (List ℕ)) (line : List ℕ) (before : List DrillCommand) (c : Option DrillCommand) → length line ≤ line_limit → wide_meaning (map trimmed e) (settings_after before) (trimmed line) ≡ Ok c → IsLegal broken_rule (before ++ option_to_list c)
-    → spelled_in Wide e line before ≡ Ok (before ++ option_to_list c)
-taken e line before c short spells legal = spelled_in_is Wide e line before (Ok c) short spells ∙ ap (with_place (suc (length e)) (length (bytes_of e))) (keeps_judged before c legal)
+    → spelled_in (plain Wide) e line before ≡ Ok (before ++ option_to_list c)
+taken e line before c short spells legal = spelled_in_is (plain Wide) e line before (Ok c) short spells ∙ ap (with_place (suc (length e)) (length (bytes_of e))) (keeps_judged before c legal)
 
-passed : (e : List (List ℕ)) (line : List ℕ) (before : List DrillCommand) → length line ≤ line_limit → wide_meaning (map trimmed e) (settings_after before) (trimmed line) ≡ Ok None → spelled_in Wide e line before ≡ Ok before
-passed e line before short spells = spelled_in_is Wide e line before (Ok None) short spells
+passed : (e : List (List ℕ)) (line : List ℕ) (before : List DrillCommand) → length line ≤ line_limit → wide_meaning (map trimmed e) (settings_after before) (trimmed line) ≡ Ok None → spelled_in (plain Wide) e line before ≡ Ok before
+passed e line before short spells = spelled_in_is (plain Wide) e line before (Ok None) short spells
 
 alone_spells : (s : Settings) (e : List (List ℕ)) (line : List ℕ) (c : Option DrillCommand) → IsFree e → IsAlone s (is_routing e) line c → (wide_meaning e s line ≡ Ok c) × IsFree (e ++ line ∷ [])
 alone_spells s e line c free (inl h) = alone_read s e line c free (written_is_answered s line c h.0) h.1
@@ -71,7 +71,7 @@ four_more e a b c d = simp append_assoc refl
 -- the four lines of a route are taken in as a slot
 route_taken : (e : List (List ℕ)) (before : List DrillCommand) (a b c d : List ℕ) (from to : Coordinates) (rest : List (List ℕ)) → IsFree (map trimmed e) → AreWithinLimit (a ∷ b ∷ c ∷ d ∷ rest)
     → IsRoute (settings_after before) (trimmed a) (trimmed b) (trimmed c) (trimmed d) from to → IsLegal broken_rule (before ++ Slot from to ∷ [])
-    → (commands_by Wide e (a ∷ b ∷ c ∷ d ∷ rest) before ≡ commands_by Wide (e ++ (a ∷ b ∷ c ∷ d ∷ [])) rest (before ++ Slot from to ∷ [])) × IsFree (map trimmed (e ++ (a ∷ b ∷ c ∷ d ∷ [])))
+    → (commands_by (plain Wide) e (a ∷ b ∷ c ∷ d ∷ rest) before ≡ commands_by (plain Wide) (e ++ (a ∷ b ∷ c ∷ d ∷ [])) rest (before ++ Slot from to ∷ [])) × IsFree (map trimmed (e ++ (a ∷ b ∷ c ∷ d ∷ [])))
 route_taken e before a b c d from to rest free short is legal =
     let s = settings_after before in
     let e1 : List (List ℕ) = e ++ a ∷ [] in
@@ -87,20 +87,20 @@ route_taken e before a b c d from to rest free short is legal =
     let three = passed e2 c before short.1.1.0 (ap (λ (l : List (List ℕ)). wide_meaning l s (trimmed c)) m2 ∙ r.three) in
     let four = taken e3 d before (Some (Slot from to)) short.1.1.1.0 (ap (λ (l : List (List ℕ)). wide_meaning l s (trimmed d)) m3 ∙ r.four) legal in
     let whole = four_more e a b c d in (
-      ap (λ r. r >>= commands_by Wide e1 (b ∷ c ∷ d ∷ rest)) one
-          ∙ (ap (λ r. r >>= commands_by Wide e2 (c ∷ d ∷ rest)) two
-          ∙ (ap (λ r. r >>= commands_by Wide e3 (d ∷ rest)) three
-          ∙ (ap (λ r. r >>= commands_by Wide (e3 ++ d ∷ []) rest) four ∙ ap (λ (l : List (List ℕ)). commands_by Wide l rest (before ++ Slot from to ∷ [])) whole))),
+      ap (λ r. r >>= commands_by (plain Wide) e1 (b ∷ c ∷ d ∷ rest)) one
+          ∙ (ap (λ r. r >>= commands_by (plain Wide) e2 (c ∷ d ∷ rest)) two
+          ∙ (ap (λ r. r >>= commands_by (plain Wide) e3 (d ∷ rest)) three
+          ∙ (ap (λ r. r >>= commands_by (plain Wide) (e3 ++ d ∷ []) rest) four ∙ ap (λ (l : List (List ℕ)). commands_by (plain Wide) l rest (before ++ Slot from to ∷ [])) whole))),
       subst (λ (l : List (List ℕ)). IsFree (map trimmed l)) whole (subst IsFree (sym m4) r.free),
     )
 
 entries_read : (e : List (List ℕ)) (before : List DrillCommand) (entries : List (List (List ℕ))) (cs : List DrillCommand) → IsFree (map trimmed e) → AreEntries e before entries cs → AreWithinLimit (lines_in entries) → IsLegal broken_rule cs
-    → commands_by Wide e (lines_in entries) before ≡ Ok cs
+    → commands_by (plain Wide) e (lines_in entries) before ≡ Ok cs
 entries_read e before [] cs free h short legal = ap (λ (x : List DrillCommand). Ok x) (sym h)
 entries_read e before ((line ∷ []) ∷ entries) cs free (spelled, is, rest) short legal =
     let k = alone_spells (settings_after before) (map trimmed e) (trimmed line) spelled free is in
     let now = legal_before (e ++ line ∷ []) (before ++ option_to_list spelled) entries cs rest legal in
-    ap (λ r. r >>= commands_by Wide (e ++ line ∷ []) (lines_in entries)) (taken e line before spelled short.0 k.0 now)
+    ap (λ r. r >>= commands_by (plain Wide) (e ++ line ∷ []) (lines_in entries)) (taken e line before spelled short.0 k.0 now)
     ∙ entries_read (e ++ line ∷ []) (before ++ option_to_list spelled) entries cs (subst IsFree (sym (trimmed_more e line)) k.1) rest short.1 legal
 entries_read e before ((a ∷ b ∷ c ∷ d ∷ []) ∷ entries) cs free (Some (Slot from to), is, rest) short legal =
     let now = legal_before (e ++ (a ∷ b ∷ c ∷ d ∷ [])) (before ++ Slot from to ∷ []) entries cs rest legal in
@@ -127,11 +127,11 @@ empty_spells e s = by (starts (last_line e)) (lowers (last_line e)) (cuts (last_
     by false false true = inr refl
     by false false false = inl (other s.part (is_routing e))
 
-rest_read : (lines : List (List ℕ)) (rest : List ℕ) (before cs : List DrillCommand) → spelled_in Wide lines rest before ≡ Ok cs → with_rest Wide lines rest before ≡ Ok cs
+rest_read : (lines : List (List ℕ)) (rest : List ℕ) (before cs : List DrillCommand) → spelled_in (plain Wide) lines rest before ≡ Ok cs → with_rest (plain Wide) lines rest before ≡ Ok cs
 rest_read lines (b ∷ bs) before cs e = e
 rest_read lines [] before cs e = elim (empty_spells (map trimmed lines) (settings_after before)) [
-  | inl h ↦ sym (spelled_in_is Wide lines [] before (Ok None) (le_zero line_limit) h) ∙ e
-  | inr h ↦ absurd (never (sym (spelled_in_is Wide lines [] before (Err Routed) (le_zero line_limit) h) ∙ e))
+  | inl h ↦ sym (spelled_in_is (plain Wide) lines [] before (Ok None) (le_zero line_limit) h) ∙ e
+  | inr h ↦ absurd (never (sym (spelled_in_is (plain Wide) lines [] before (Err Routed) (le_zero line_limit) h) ∙ e))
 ]
   where
     le_zero : (n : ℕ) → 0 ≤ n
@@ -143,7 +143,7 @@ rest_read lines [] before cs e = elim (empty_spells (map trimmed lines) (setting
 -- ---- texts
 
 ends_by : ℕ → List (List ℕ) → List ℕ → List DrillCommand → Result (List DrillCommand) Fault
-ends_by len lines rest cs = cond (ltb text_limit len) (Err (fault (suc (length lines)) text_limit TooLong)) (with_rest Wide lines rest cs >>= ended len lines rest)
+ends_by len lines rest cs = cond (ltb text_limit len) (Err (fault (suc (length lines)) text_limit TooLong)) (with_rest (plain Wide) lines rest cs >>= ended len lines rest)
 
 pub written_is_read : WrittenIsRead
 unfolding ends_by
@@ -154,14 +154,14 @@ written_is_read text cs within t legal =
     let len = length text in
     let same : lines_in t.entries ≡ lines ++ rest ∷ [] = t.lines ∙ same_lines text lines rest c.splits in
     let short : AreWithinLimit (lines ++ rest ∷ []) = subst AreWithinLimit (same_lines text lines rest c.splits) within.1 in
-    let all : commands_by Wide [] (lines ++ rest ∷ []) [] ≡ Ok cs = subst (λ (l : List (List ℕ)). commands_by Wide [] l [] ≡ Ok cs) same (entries_read [] [] t.entries cs (refl, refl, refl) t.spells (subst AreWithinLimit (sym same) short) legal) in
-    let b = bind_ok (commands_by Wide [] lines []) (spelled_in Wide lines rest) cs (sym (commands_by-push Wide [] lines rest []) ∙ all) in
+    let all : commands_by (plain Wide) [] (lines ++ rest ∷ []) [] ≡ Ok cs = subst (λ (l : List (List ℕ)). commands_by (plain Wide) [] l [] ≡ Ok cs) same (entries_read [] [] t.entries cs (refl, refl, refl) t.spells (subst AreWithinLimit (sym same) short) legal) in
+    let b = bind_ok (commands_by (plain Wide) [] lines []) (spelled_in (plain Wide) lines rest) cs (sym (commands_by-push (plain Wide) [] lines rest []) ∙ all) in
     record {
       lines = lines;
       rest = rest;
       splits = subst (λ (x : List ℕ). Splits x lines rest) (sym (take_all text_limit text within.0)) c.splits;
-      answer_is = sym (ap (λ r. r >>= ends_by len lines rest) (show_by_ok Wide lines rest b.0 b.1 (last_short lines rest short))
-          ∙ (ap (λ x. cond x (Err (fault (suc (length lines)) text_limit TooLong)) (with_rest Wide lines rest b.0 >>= ended len lines rest)) (le-ltb _ _ within.0)
+      answer_is = sym (ap (λ r. r >>= ends_by len lines rest) (show_by_ok (plain Wide) lines rest b.0 b.1 (last_short lines rest short))
+          ∙ (ap (λ x. cond x (Err (fault (suc (length lines)) text_limit TooLong)) (with_rest (plain Wide) lines rest b.0 >>= ended len lines rest)) (le-ltb _ _ within.0)
           ∙ (ap (λ r. r >>= ended len lines rest) (rest_read lines rest b.0 cs b.2)
           ∙ ap (λ x. cond x (Ok cs) (Err (fault (place_after lines rest) len Truncated))) (end_found cs t.ends))));
     }

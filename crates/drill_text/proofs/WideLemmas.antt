@@ -7,7 +7,6 @@ use Rattle.grid_units.specs.Results.{◌>>=◌, fault, with_place}
 use Rattle.grid_units.proofs.ResultLemmas.{bind_ok}
 use Rattle.grid_units.specs.Limits.{line_limit, text_limit}
 use Rattle.drill_lines.specs.declared.command.DrillCommand.{DrillCommand}
-use Rattle.grid_units.specs.declared.profile.Profile.{Profile}
 use Rattle.grid_units.specs.declared.profile.Profile.TheVariants.{Strict, Wide}
 use Rattle.drill_lines.specs.Lines.{trimmed}
 use Rattle.drill_lines.specs.Meaning.{meaning}
@@ -17,7 +16,7 @@ use Rattle.drill_lines.proofs.RouteLemmas.{strict_line}
 use Rattle.drill_text.specs.Lines.{bytes_of}
 use Rattle.drill_text.specs.Lookback.{settings_after}
 use Rattle.drill_text.specs.Reading.{checked, ended, Reads}
-use Rattle.drill_text.specs.Profiles.{step_in, spelled_in, commands_by, shown_by, with_rest, ReadsIn}
+use Rattle.drill_text.specs.Profiles.{Kind, plain, step_in, spelled_in, commands_by, shown_by, with_rest, ReadsIn}
 use Rattle.drill_text.proofs.SpellsTextLemmas.{at_ok}
 use Rattle.drill_text.proofs.SpelledLemmas.{trimmed_more}
 use Rattle.drill_text.proofs.ProfileLemmas.{shown_by_ok, show_by_ok, strictly_reads}
@@ -32,7 +31,7 @@ pub guarded : {A E : Type 0} (t : Bool) (d : E) (r : Result A E) (x : A) → con
 guarded true d r x e = absurd cc
 guarded false d r x e = (refl, e)
 
-step_alike : (earlier : List (List ℕ)) (line : List ℕ) (before cs : List DrillCommand) → IsDrilling earlier → step_in Strict earlier before line ≡ Ok cs → (step_in Wide earlier before line ≡ Ok cs) × IsDrilling (earlier ++ line ∷ [])
+step_alike : (earlier : List (List ℕ)) (line : List ℕ) (before cs : List DrillCommand) → IsDrilling earlier → step_in (plain Strict) earlier before line ≡ Ok cs → (step_in (plain Wide) earlier before line ≡ Ok cs) × IsDrilling (earlier ++ line ∷ [])
 unfolding step_in
 step_alike earlier line before cs h e =
     let s = settings_after before in
@@ -44,25 +43,25 @@ step_alike earlier line before cs h e =
       record { free = subst IsFree same k.1.0; drills = ap is_routing (sym same) ∙ k.1.1 },
     )
 
-line_alike : (earlier : List (List ℕ)) (line : List ℕ) (before cs : List DrillCommand) → IsDrilling earlier → spelled_in Strict earlier line before ≡ Ok cs → (spelled_in Wide earlier line before ≡ Ok cs) × IsDrilling (earlier ++ line ∷ [])
+line_alike : (earlier : List (List ℕ)) (line : List ℕ) (before cs : List DrillCommand) → IsDrilling earlier → spelled_in (plain Strict) earlier line before ≡ Ok cs → (spelled_in (plain Wide) earlier line before ≡ Ok cs) × IsDrilling (earlier ++ line ∷ [])
 line_alike earlier line before cs h e =
-    let k = step_alike earlier line before cs h (at_ok (suc (length earlier)) (length (bytes_of earlier)) (step_in Strict earlier before line) cs e) in
+    let k = step_alike earlier line before cs h (at_ok (suc (length earlier)) (length (bytes_of earlier)) (step_in (plain Strict) earlier before line) cs e) in
     (ap (with_place (suc (length earlier)) (length (bytes_of earlier))) k.0, k.1)
 
-lines_alike : (earlier lines : List (List ℕ)) (before cs : List DrillCommand) → IsDrilling earlier → commands_by Strict earlier lines before ≡ Ok cs → (commands_by Wide earlier lines before ≡ Ok cs) × IsDrilling (earlier ++ lines)
+lines_alike : (earlier lines : List (List ℕ)) (before cs : List DrillCommand) → IsDrilling earlier → commands_by (plain Strict) earlier lines before ≡ Ok cs → (commands_by (plain Wide) earlier lines before ≡ Ok cs) × IsDrilling (earlier ++ lines)
 lines_alike earlier [] before cs h e = (e, subst IsDrilling (sym (append-nil earlier)) h)
 lines_alike earlier (line ∷ lines) before cs h e =
     let next : List (List ℕ) = earlier ++ line ∷ [] in
-    let b = bind_ok (spelled_in Strict earlier line before) (commands_by Strict next lines) cs e in
+    let b = bind_ok (spelled_in (plain Strict) earlier line before) (commands_by (plain Strict) next lines) cs e in
     let first = line_alike earlier line before b.0 h b.1 in
     let rest = lines_alike next lines b.0 cs first.1 b.2 in
-    (ap (λ r. r >>= commands_by Wide next lines) first.0 ∙ rest.0, subst IsDrilling (append_assoc earlier (line ∷ []) lines) rest.1)
+    (ap (λ r. r >>= commands_by (plain Wide) next lines) first.0 ∙ rest.0, subst IsDrilling (append_assoc earlier (line ∷ []) lines) rest.1)
 
-rest_alike : (lines : List (List ℕ)) (rest : List ℕ) (before cs : List DrillCommand) → IsDrilling lines → with_rest Strict lines rest before ≡ Ok cs → with_rest Wide lines rest before ≡ Ok cs
+rest_alike : (lines : List (List ℕ)) (rest : List ℕ) (before cs : List DrillCommand) → IsDrilling lines → with_rest (plain Strict) lines rest before ≡ Ok cs → with_rest (plain Wide) lines rest before ≡ Ok cs
 rest_alike lines [] before cs h e = e
 rest_alike lines (b ∷ bs) before cs h e = (line_alike lines (b ∷ bs) before cs h e).0
 
-ends_by : Profile → ℕ → List (List ℕ) → List ℕ → List DrillCommand → Result (List DrillCommand) Fault
+ends_by : Kind → ℕ → List (List ℕ) → List ℕ → List DrillCommand → Result (List DrillCommand) Fault
 ends_by p len lines rest cs = cond (ltb text_limit len) (Err (fault (suc (length lines)) text_limit TooLong)) (with_rest p lines rest cs >>= ended len lines rest)
 
 pub wide_reads : (text : List ℕ) (cs : List DrillCommand) → Reads text (Ok cs) → ReadsIn Wide text (Ok cs)
@@ -72,16 +71,16 @@ wide_reads text cs reads =
     let lines = r.lines in
     let rest = r.rest in
     let len = length text in
-    let b = bind_ok (shown_by Strict lines rest) (ends_by Strict len lines rest) cs (sym r.answer_is) in
-    let g = guarded (ltb text_limit len) (fault (suc (length lines)) text_limit TooLong) (with_rest Strict lines rest b.0 >>= ended len lines rest) cs b.2 in
-    let c = bind_ok (with_rest Strict lines rest b.0) (ended len lines rest) cs g.1 in
-    let shown = shown_by_ok Strict lines rest b.0 b.1 in
+    let b = bind_ok (shown_by (plain Strict) lines rest) (ends_by (plain Strict) len lines rest) cs (sym r.answer_is) in
+    let g = guarded (ltb text_limit len) (fault (suc (length lines)) text_limit TooLong) (with_rest (plain Strict) lines rest b.0 >>= ended len lines rest) cs b.2 in
+    let c = bind_ok (with_rest (plain Strict) lines rest b.0) (ended len lines rest) cs g.1 in
+    let shown = shown_by_ok (plain Strict) lines rest b.0 b.1 in
     let all = lines_alike [] lines [] b.0 (record { free = (refl, refl, refl); drills = refl }) shown.0 in
     record {
       lines = lines;
       rest = rest;
       splits = r.splits;
-      answer_is = sym (ap (λ s. s >>= ends_by Wide len lines rest) (show_by_ok Wide lines rest b.0 all.0 shown.1)
-          ∙ (ap (λ t. cond t (Err (fault (suc (length lines)) text_limit TooLong)) (with_rest Wide lines rest b.0 >>= ended len lines rest)) g.0
+      answer_is = sym (ap (λ s. s >>= ends_by (plain Wide) len lines rest) (show_by_ok (plain Wide) lines rest b.0 all.0 shown.1)
+          ∙ (ap (λ t. cond t (Err (fault (suc (length lines)) text_limit TooLong)) (with_rest (plain Wide) lines rest b.0 >>= ended len lines rest)) g.0
           ∙ (ap (λ s. s >>= ended len lines rest) (rest_alike lines rest b.0 c.0 all.1 c.1) ∙ c.2)));
     }

@@ -38,7 +38,7 @@ use Rattle.drill_text.specs.Lookback.{part_set, part_after, settings_after}
 use Rattle.drill_text.specs.Rules.{broken_rule}
 use Rattle.drill_text.specs.Reading.{checked, ended, is_finish, place_after}
 use Rattle.drill_text.specs.Texts.{AreWithinLimit}
-use Rattle.drill_text.specs.Profiles.{step_in, spelled_in, commands_by, shown_by, with_rest}
+use Rattle.drill_text.specs.Profiles.{plain, step_in, spelled_in, commands_by, shown_by, with_rest}
 use Rattle.drill_text.specs.Grammar.{lines_of}
 use Rattle.drill_text.specs.WideGrammar.{IsEntry, AreEntries, lines_in, ReadIsWritten}
 use Rattle.drill_text.proofs.SplitsLemmas.{AllR-append}
@@ -213,7 +213,7 @@ ends_after : (before : List DrillCommand) (c : Option DrillCommand) → EndsPart
 ends_after before None h not_after = subst EndsPart (sym (append-nil before)) h
 ends_after before (Some d) h not_after = ends_more before d h (not_after d refl)
 
-parsed_more : (earlier : List (List ℕ)) (before after : List DrillCommand) (line : List ℕ) → IsParsed earlier before → step_in Wide earlier before line ≡ Ok after → IsParsed (earlier ++ line ∷ []) after
+parsed_more : (earlier : List (List ℕ)) (before after : List DrillCommand) (line : List ℕ) → IsParsed earlier before → step_in (plain Wide) earlier before line ≡ Ok after → IsParsed (earlier ++ line ∷ []) after
 unfolding step_in
 parsed_more earlier before after line h e =
     let s = settings_after before in
@@ -232,14 +232,14 @@ parsed_more earlier before after line h e =
       ends = ends_after before c h.ends (λ d same. never_after h.r before line d k.next h.grouped.pending h.grouped.waits (subst (λ (o : Option DrillCommand). IsWritten h.r s (trimmed line) o k.next) same k.written));
     })
 
-line_parsed : (earlier : List (List ℕ)) (before after : List DrillCommand) (line : List ℕ) → IsParsed earlier before → spelled_in Wide earlier line before ≡ Ok after → IsParsed (earlier ++ line ∷ []) after
-line_parsed earlier before after line h e = parsed_more earlier before after line h (at_ok (suc (length earlier)) (length (bytes_of earlier)) (step_in Wide earlier before line) after e)
+line_parsed : (earlier : List (List ℕ)) (before after : List DrillCommand) (line : List ℕ) → IsParsed earlier before → spelled_in (plain Wide) earlier line before ≡ Ok after → IsParsed (earlier ++ line ∷ []) after
+line_parsed earlier before after line h e = parsed_more earlier before after line h (at_ok (suc (length earlier)) (length (bytes_of earlier)) (step_in (plain Wide) earlier before line) after e)
 
-lines_parsed : (earlier lines : List (List ℕ)) (before after : List DrillCommand) → IsParsed earlier before → commands_by Wide earlier lines before ≡ Ok after → IsParsed (earlier ++ lines) after
+lines_parsed : (earlier lines : List (List ℕ)) (before after : List DrillCommand) → IsParsed earlier before → commands_by (plain Wide) earlier lines before ≡ Ok after → IsParsed (earlier ++ lines) after
 lines_parsed earlier [] before after h e = let same : before ≡ after = cc in subst (IsParsed (earlier ++ [])) same (subst (λ (l : List (List ℕ)). IsParsed l before) (sym (append-nil earlier)) h)
 lines_parsed earlier (line ∷ lines) before after h e =
     let next : List (List ℕ) = earlier ++ line ∷ [] in
-    let b = bind_ok (spelled_in Wide earlier line before) (commands_by Wide next lines) after e in
+    let b = bind_ok (spelled_in (plain Wide) earlier line before) (commands_by (plain Wide) next lines) after e in
     subst (λ (l : List (List ℕ)). IsParsed l after) (append_assoc earlier (line ∷ []) lines) (lines_parsed next lines b.0 after (line_parsed earlier before b.0 line h b.1) b.2)
 
 none_parsed : IsParsed [] []
@@ -286,12 +286,12 @@ empty_entry lines cs h some =
     after_empty : (lines : List (List ℕ)) (s : Settings) (routing : Bool) → IsRouteAfter (route.Free routing) s (map trimmed lines) → IsRouteAfter (route.Free routing) s (map trimmed (lines ++ [] ∷ []))
     after_empty lines s routing at = subst (λ (l : List (List ℕ)). IsRouteAfter (route.Free routing) s l) (sym (trimmed_more lines [])) (empty_line s (map trimmed lines) routing at)
 
-rest_parsed : (lines : List (List ℕ)) (rest : List ℕ) (before cs : List DrillCommand) → IsParsed lines before → with_rest Wide lines rest before ≡ Ok cs → list_any is_finish cs ≡ true → IsParsed (lines ++ rest ∷ []) cs
+rest_parsed : (lines : List (List ℕ)) (rest : List ℕ) (before cs : List DrillCommand) → IsParsed lines before → with_rest (plain Wide) lines rest before ≡ Ok cs → list_any is_finish cs ≡ true → IsParsed (lines ++ rest ∷ []) cs
 rest_parsed lines [] before cs h e some = let same : before ≡ cs = cc in empty_entry lines cs (subst (IsParsed lines) same h) some
 rest_parsed lines (b ∷ bs) before cs h e some = line_parsed lines before cs (b ∷ bs) h e
 
 ends_by : ℕ → List (List ℕ) → List ℕ → List DrillCommand → Result (List DrillCommand) Fault
-ends_by len lines rest cs = cond (ltb text_limit len) (Err (fault (suc (length lines)) text_limit TooLong)) (with_rest Wide lines rest cs >>= ended len lines rest)
+ends_by len lines rest cs = cond (ltb text_limit len) (Err (fault (suc (length lines)) text_limit TooLong)) (with_rest (plain Wide) lines rest cs >>= ended len lines rest)
 
 pub read_is_written : ReadIsWritten
 unfolding ends_by
@@ -299,12 +299,12 @@ read_is_written text cs r =
     let lines = r.lines in
     let rest = r.rest in
     let len = length text in
-    let b = bind_ok (shown_by Wide lines rest) (ends_by len lines rest) cs (sym r.answer_is) in
-    let w = within (ltb text_limit len) (fault (suc (length lines)) text_limit TooLong) (with_rest Wide lines rest b.0 >>= ended len lines rest) cs b.2 in
-    let c = bind_ok (with_rest Wide lines rest b.0) (ended len lines rest) cs w.1 in
+    let b = bind_ok (shown_by (plain Wide) lines rest) (ends_by len lines rest) cs (sym r.answer_is) in
+    let w = within (ltb text_limit len) (fault (suc (length lines)) text_limit TooLong) (with_rest (plain Wide) lines rest b.0 >>= ended len lines rest) cs b.2 in
+    let c = bind_ok (with_rest (plain Wide) lines rest b.0) (ended len lines rest) cs w.1 in
     let e = with_end (list_any is_finish c.0) (fault (place_after lines rest) len Truncated) c.0 cs c.2 in
     let some : list_any is_finish cs ≡ true = sym (ap (list_any is_finish) e.1) ∙ e.0 in
-    let first = lines_parsed [] lines [] b.0 none_parsed (shown_by_ok Wide lines rest b.0 b.1).0 in
+    let first = lines_parsed [] lines [] b.0 none_parsed (shown_by_ok (plain Wide) lines rest b.0 b.1).0 in
     let all = subst (IsParsed (lines ++ rest ∷ [])) e.1 (rest_parsed lines rest b.0 c.0 first c.1 e.0) in
     let le : length text ≤ text_limit = ltb-false _ _ w.0 in
     let splits : Splits text lines rest = subst (λ (t : List ℕ). Splits t lines rest) (take_all text_limit text le) r.splits in

@@ -12,49 +12,54 @@ use Rattle.drill_text.specs.declared.reader.DrillReader.{DrillReader}
 use Rattle.drill_text.specs.declared.kept.Keep.{Keep}
 use Rattle.grid_units.specs.Results.{IfFault}
 use Rattle.drill_text.specs.Lines.{bytes_of, Splits}
-use Rattle.drill_text.specs.Profiles.{shown_by, ShowsIn}
+use Rattle.drill_text.specs.Profiles.{Kind, ShowsBy, plain, shown_by}
 use Rattle.drill_text.specs.Keeping.{HasReadIn}
 
 -- The text is cut into lines, which spell the commands that the reader has met, and into a rest, the line that has not ended.
-pub record Holds (reader : Progress) (profile : Profile) (keep : Keep) (text : List ℕ) : Type 0 where
+pub record Holds (reader : Progress) (kind : Kind) (keep : Keep) (text : List ℕ) : Type 0 where
   pub lines : List (List ℕ)
   pub commands : List DrillCommand
   pub splits : Splits text lines reader.line.items
-  pub spelled : shown_by profile lines reader.line.items ≡ Ok commands
-  pub has_read : HasReadIn reader.reader reader.state reader.kept profile keep lines commands
+  pub spelled : shown_by kind lines reader.line.items ≡ Ok commands
+  pub has_read : HasReadIn reader.reader reader.judge reader.kept kind keep lines commands
   pub count : reader.lines ≡ length lines
   pub start : reader.start ≡ length (bytes_of lines)
   pub offset : reader.offset ≡ length text
 
--- the text shows this fault in the profile, whatever bytes follow it
-pub record HasFault (profile : Profile) (text : List ℕ) (f : Fault) : Type 0 where
+-- the text of a file of this kind shows this fault, whatever bytes follow it
+pub record HasFault (kind : Kind) (text : List ℕ) (f : Fault) : Type 0 where
   pub lines : List (List ℕ)
   pub rest : List ℕ
   pub splits : Splits text lines rest
-  pub fault : shown_by profile lines rest ≡ Err f
+  pub fault : shown_by kind lines rest ≡ Err f
 
 -- whatever text the old reader has read, the new one has read that text and these bytes
 abbrev pub Advances : Progress → Progress → List ℕ → Type 0
-Advances old new bytes = (profile : Profile) (keep : Keep) (text : List ℕ) → Holds old profile keep text → Holds new profile keep (text ++ bytes)
+Advances old new bytes = (kind : Kind) (keep : Keep) (text : List ℕ) → Holds old kind keep text → Holds new kind keep (text ++ bytes)
 
 -- whatever text the reader has read, that text with these bytes shows this fault; or memory ran out
 abbrev pub Refuses : Progress → List ℕ → Fail → Type 0
 Refuses old bytes fails.Memory = Unit {0}
-Refuses old bytes (fails.Refused f) = (profile : Profile) (keep : Keep) (text : List ℕ) → Holds old profile keep text → HasFault profile (text ++ bytes) f
+Refuses old bytes (fails.Refused f) = (kind : Kind) (keep : Keep) (text : List ℕ) → Holds old kind keep text → HasFault kind (text ++ bytes) f
 
 -- whatever text the reader has read, that text with this piece shows this fault; or memory ran out
 abbrev pub RefusesText : Progress → List ℕ → Fail → Type 0
-RefusesText old piece e = (profile : Profile) (keep : Keep) (text : List ℕ) → Holds old profile keep text → IfFault (λ f. ShowsIn profile (text ++ piece) (Err f)) e
+RefusesText old piece e = (kind : Kind) (keep : Keep) (text : List ℕ) → Holds old kind keep text → IfFault (λ f. ShowsBy kind (text ++ piece) (Err f)) e
 
 -- the failure of a reader, `None` where it has not failed
 abbrev pub failure : DrillReader → Option Fail
 failure reader = reader.failed
 
--- The reader reads in this profile, has read this text, which shows no fault, and keeps what was asked for.
-pub record StandsIn (reader : DrillReader) (profile : Profile) (keep : Keep) (text : List ℕ) : Type 0 where
+-- The reader reads a file of this kind, has read this text, which shows no fault, and keeps what was asked for.
+pub record StandsBy (reader : DrillReader) (kind : Kind) (keep : Keep) (text : List ℕ) : Type 0 where
   pub sound : failure reader ≡ None
-  pub holds : Holds reader.progress profile keep text
+  pub holds : Holds reader.progress kind keep text
 
--- the reader reads in the strict profile, has read this text, which shows no fault, and keeps what was asked for
+-- the reader reads in this profile a file whose role says whether its holes are plated, has read this text, which shows no fault, and
+-- keeps what was asked for
+abbrev pub StandsIn : DrillReader → Profile → Keep → List ℕ → Type 0
+StandsIn reader profile keep text = StandsBy reader (plain profile) keep text
+
+-- the same in the strict profile
 abbrev pub StandsAfter : DrillReader → Keep → List ℕ → Type 0
 StandsAfter reader keep text = StandsIn reader profile.Strict keep text

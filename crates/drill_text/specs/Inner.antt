@@ -1,2 +1,3 @@
 pub mod FastPath
 pub mod StateSteps
+pub mod JudgeSteps

@@ -2,6 +2,7 @@ pub mod Lines
 pub mod Lookback
 pub mod Holes
 pub mod Rules
+pub mod Plating
 pub mod Drilling
 pub mod Reading
 pub mod Profiles
@@ -13,5 +14,6 @@ pub mod Holding
 pub mod Outcome
 pub mod Faults
 pub mod Laws
+pub mod MixedLaws
 pub mod WideGrammar
 pub mod Inner

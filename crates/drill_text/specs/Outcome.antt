@@ -1,5 +1,5 @@
 -- What a drill file holds: commands or their canonical text, holes and tools.
-use Rattle.std.specs.Prelude.{ℕ, ℤ, List, [], Result}
+use Rattle.std.specs.Prelude.{ℕ, ℤ, Bool, List, [], Result}
 use Rattle.grid_units.specs.Holes.{GridHole}
 use Rattle.grid_units.specs.declared.fault.Fault.{Fault}
 use Rattle.drill_lines.specs.declared.command.DrillCommand.{DrillCommand}
@@ -7,13 +7,16 @@ use Rattle.drill_text.specs.declared.kept.Keep.{Keep}
 use Rattle.drill_text.specs.declared.kept.Keep.TheVariants as keep
 use Rattle.drill_text.specs.Lookback.{tools_of}
 use Rattle.drill_text.specs.Holes.{holes_of}
+use Rattle.drill_text.specs.Plating.{plated_of}
 use Rattle.drill_text.specs.Writing.{canonical_lines, text_or_fault}
 
--- the commands of a drill file, their canonical text, the holes that they drill, and the tools with their diameters in order of definition
+-- the commands of a drill file, their canonical text, the holes that they drill, of each whether the file calls it plated, and the tools with
+-- their diameters in order of definition
 pub record DrillFile : Type 0 where
   pub commands : List DrillCommand
   pub text : Result (List ℕ) Fault
   pub holes : List GridHole
+  pub plated : List Bool
   pub tools : List (ℕ × ℤ)
 
 -- the commands, if they are kept
@@ -32,6 +35,7 @@ file_of keep commands = record {
   commands = kept_commands keep commands;
   text = text_or_fault (kept_text keep commands);
   holes = holes_of commands;
+  plated = plated_of commands;
   tools = tools_of commands;
 }
 

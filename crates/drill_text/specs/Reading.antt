@@ -20,9 +20,13 @@ add_unless None before c = Ok (before ++ c ∷ [])
 add_unless (Some broken) before c = Err broken
 
 -- these commands and the one that a line spells, if it spells one, or the first rule that it breaks
+abbrev pub checked_by : (List DrillCommand → DrillCommand → Option Reason) → List DrillCommand → Option DrillCommand → Result (List DrillCommand) Reason
+checked_by rule before None = Ok before
+checked_by rule before (Some c) = add_unless (rule before c) before c
+
+-- the same by the rules of every drill file
 abbrev pub checked : List DrillCommand → Option DrillCommand → Result (List DrillCommand) Reason
-checked before None = Ok before
-checked before (Some c) = add_unless (broken_rule before c) before c
+checked before = checked_by broken_rule before
 
 -- one more line: TooLong above 1,048,576 bytes; else it is read by what stands before it, and its command is judged
 unfoldable pub step : List DrillCommand → List ℕ → Result (List DrillCommand) Reason

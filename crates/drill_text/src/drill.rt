@@ -1,6 +1,6 @@
 //! A drill file that was read.
 
-ghost use Rattle.std.specs.Prelude.{◌≡◌, List};
+ghost use Rattle.std.specs.Prelude.{◌≡◌, Bool, List};
 ghost use Rattle.grid_units.specs.Results.{AnswersAlways};
 ghost use Rattle.drill_lines.specs.declared.command.DrillCommand.{DrillCommand as TheCommand};
 ghost use Rattle.drill_text.specs.declared.kept.Keep.{Keep};
@@ -8,8 +8,8 @@ ghost use Rattle.drill_text.specs.Keeping.{HasRead};
 ghost use Rattle.drill_text.specs.Outcome.{file_of};
 ghost use Rattle.drill_text.specs.Writing.{vec_bytes};
 
+use crate::judge::Judge;
 use crate::kept::KeptCommands;
-use crate::state::DrillState;
 use crate::writer::too_long;
 use drill_lines::DrillCommand;
 use grid_units::{Dec, Fail, Hole, TEXT_LIMIT};
@@ -23,6 +23,7 @@ pub struct Drill {
     commands: Vec<DrillCommand>,
     text: Vec<u8>,
     holes: Vec<Hole>,
+    plated: Vec<bool>,
     tools: IndexMap<u16, Dec>,
 }
 
@@ -32,20 +33,21 @@ impl Model for Drill {
 
     ghost Value = { DrillFile };
 
-    ghost view = { λ d. record { commands = d.commands.items; text = text_or_fault d.text.items; holes = d.holes.items; tools = d.tools.entries } };
+    ghost view = { λ d. record { commands = d.commands.items; text = text_or_fault d.text.items; holes = d.holes.items; plated = d.plated.items; tools = d.tools.entries } };
 }
 
 impl Drill {
     /// The drill file of the commands that a judge has met, with what was kept of them.
-    pub(crate) fn new(state: DrillState, kept: KeptCommands) -> Drill
-        ensures { (keep : Keep) (commands : List TheCommand) → HasRead state kept keep commands → result ≡ file_of keep commands }
+    pub(crate) fn new(judge: Judge, kept: KeptCommands) -> Drill
+        ensures { (mixed : Bool) (keep : Keep) (commands : List TheCommand) → HasRead judge kept mixed keep commands → result ≡ file_of keep commands }
     {
         let (commands, text) = kept.into_parts();
-        let (holes, tools) = state.into_parts();
+        let (holes, plated, tools) = judge.into_parts();
         Drill {
             commands,
             text,
             holes,
+            plated,
             tools,
         }
     }
@@ -64,12 +66,29 @@ impl Drill {
         &self.holes
     }
 
+    /// Of each hole, in their order, whether the file itself calls it plated: whether the last comment before the definition of its tool
+    /// that says what tools are says so. It matters of a mixed file alone.
+    pub fn plated(&self) -> &[bool]
+        ensures { result.now ≡ self.now.plated }
+    {
+        &self.plated
+    }
+
     /// The holes alone, moved out of the file.
     pub fn into_holes(self) -> Vec<Hole>
         ensures { result.items ≡ self.holes }
     {
         let Drill { holes, .. } = self;
         holes
+    }
+
+    /// The holes, and of each whether the file itself calls it plated, moved out of the file.
+    pub fn into_plated_holes(self) -> (Vec<Hole>, Vec<bool>)
+        ensures holes { result.0.items ≡ self.holes }
+        ensures plated { result.1.items ≡ self.plated }
+    {
+        let Drill { holes, plated, .. } = self;
+        (holes, plated)
     }
 
     /// The canonical text of the commands, as `write_drill` gives it, moved out of the file; no bytes if it was not kept.

@@ -3,18 +3,21 @@
 
 mod drill;
 mod fast_path;
+mod judge;
 mod kept;
 pub mod laws;
+mod platings;
 mod reader;
 mod state;
 mod writer;
 
 pub use drill::Drill;
-pub use drill_lines::{Coordinates, DrillCommand, DrillFormat};
+pub use drill_lines::{Coordinates, DrillCommand, DrillFormat, Plating};
 pub use kept::Keep;
 pub use laws::{
-    drill_texts, drilled_holes, equal_commands, faults_stay, first_faults, readings_in_profiles,
-    sayable_texts, strict_profile, text_grammar, unique_reading, wide_grammar, wide_reads_more,
+    drill_texts, drilled_holes, equal_commands, faults_stay, first_faults, mixed_files,
+    readings_in_profiles, readings_of_kinds, sayable_texts, strict_profile, text_grammar,
+    unique_reading, wide_grammar, wide_reads_more,
 };
 pub use reader::{DrillReader, read_drill};
 pub use writer::{drill_sayable, write_drill};

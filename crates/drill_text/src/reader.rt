@@ -1,13 +1,14 @@
 //! A reader of a drill file that comes in pieces.
 
-ghost use Rattle.std.specs.Prelude.{◌≡◌, ◌≢◌, ◌≤◌, ◌<◌, ◌+◌, true, ℕ, suc, List, All, length, vec_len, take, slice_index, Some, None, Ok, Err, OnOk, IfOk, IfErr, IfSome};
+ghost use Rattle.std.specs.Prelude.{◌≡◌, ◌≢◌, ◌≤◌, ◌<◌, ◌+◌, Bool, true, ℕ, suc, List, All, length, vec_len, take, slice_index, Some, None, Ok, Err, OnOk, IfOk, IfErr, IfSome};
 ghost use Rattle.drill_lines.specs.declared.command.DrillCommand.{DrillCommand as TheCommand};
 ghost use Rattle.grid_units.specs.declared.fault.Fault.{Fault};
 ghost use Rattle.grid_units.specs.declared.fault.Fail.TheVariants.{Refused};
 ghost use Rattle.grid_units.specs.Limits.{line_limit, text_limit};
 ghost use Rattle.grid_units.specs.Results.{fault, with_place, Answers};
-ghost use Rattle.drill_text.specs.Reading.{checked, Reads, place_after_count};
-ghost use Rattle.drill_text.specs.Profiles.{spelled_in, with_rest, ReadsAsIn};
+ghost use Rattle.drill_text.specs.Reading.{checked_by, Reads, place_after_count};
+ghost use Rattle.drill_text.specs.Plating.{rule_in};
+ghost use Rattle.drill_text.specs.Profiles.{Kind, spelled_in, with_rest, ReadsAsBy, ReadsAsIn};
 ghost use Rattle.drill_text.specs.declared.kept.Keep.{Keep as TheKeep};
 ghost use Rattle.drill_text.specs.declared.kept.Keep.TheVariants as keep;
 ghost use Rattle.drill_text.specs.Keeping.{HasRead, HasReadIn, ResultsIn, ResultsInLine};
@@ -19,8 +20,8 @@ ghost use Rattle.drill_text.specs.Writing.{drill_sayable};
 
 use crate::drill::Drill;
 use crate::fast_path::leading_hit;
+use crate::judge::Judge;
 use crate::kept::{Keep, KeptCommands};
-use crate::state::DrillState;
 use drill_lines::{Coordinates, DrillCommand, LineReader};
 use grid_units::{Fail, Fault, ItemFail, LINE_LIMIT, Profile, Reason};
 use memchr::memchr;
@@ -33,7 +34,7 @@ const TEXT_LIMIT: u64 = grid_units::TEXT_LIMIT as u64;
 #[derive(Drop)]
 struct Progress {
     reader: LineReader,
-    state: DrillState,
+    judge: Judge,
     kept: KeptCommands,
     line: Vec<u8>,
     start: u64,
@@ -71,12 +72,12 @@ fn keep(
     place: u64,
     byte: u64,
     command: DrillCommand,
-    state: &mut DrillState,
+    judge: &mut Judge,
     kept: &mut KeptCommands,
 ) -> Result<(), Fail>
-    ensures { (keep : TheKeep) (before : List TheCommand) → HasRead state.old kept.old keep before → ResultsIn result state.new kept.new keep (with_place place byte (checked before (Some command))) }
+    ensures { (mixed : Bool) (keep : TheKeep) (before : List TheCommand) → HasRead judge.old kept.old mixed keep before → ResultsIn result judge.new kept.new mixed keep (with_place place byte (checked_by (rule_in mixed) before (Some command))) }
 {
-    match state.step(&command) {
+    match judge.step(&command) {
         Ok(()) => {
             kept.add(command)?;
             Ok(())
@@ -92,15 +93,15 @@ fn parse_line(
     byte: u64,
     line: &[u8],
     reader: &mut LineReader,
-    state: &mut DrillState,
+    judge: &mut Judge,
     kept: &mut KeptCommands,
 ) -> Result<(), Fail>
     requires short { length line.now ≤ line_limit }
-    ensures { (profile : TheProfile) (keep : TheKeep) (earlier : List (List ℕ)) (before : List TheCommand) → place ≡ suc (length earlier) → byte ≡ length (bytes_of earlier) → HasReadIn reader.old state.old kept.old profile keep earlier before → ResultsInLine result reader.new state.new kept.new profile keep earlier line.now (spelled_in profile earlier line.now before) }
+    ensures { (kind : Kind) (keep : TheKeep) (earlier : List (List ℕ)) (before : List TheCommand) → place ≡ suc (length earlier) → byte ≡ length (bytes_of earlier) → HasReadIn reader.old judge.old kept.old kind keep earlier before → ResultsInLine result reader.new judge.new kept.new kind keep earlier line.now (spelled_in kind earlier line.now before) }
 {
-    match reader.read(state.settings(), line) {
+    match reader.read(judge.settings(), line) {
         Ok(None) => Ok(()),
-        Ok(Some(command)) => keep(place, byte, command, state, kept),
+        Ok(Some(command)) => keep(place, byte, command, judge, kept),
         Err(ItemFail::Memory) => Err(Fail::Memory),
         Err(ItemFail::Refused(reason)) => Err(refusal(place, byte, reason)),
     }
@@ -113,13 +114,13 @@ impl Progress {
     ghost use Rattle.drill_text.specs.Inner.FastPath.{HasLeadingHit};
     ghost use Rattle.drill_text.specs.Holding.{Advances, Refuses, RefusesText, Holds};
 
-    /// A reader that has read nothing.
-    fn new(alloc: Global, keep: Keep, profile: Profile) -> Progress
-        ensures { Holds result profile keep [] }
+    /// A reader that has read nothing, of a file that is mixed or not.
+    fn new(alloc: Global, keep: Keep, profile: Profile, mixed: bool) -> Progress
+        ensures { Holds result (record { profile = profile; mixed = mixed }) keep [] }
     {
         Progress {
             reader: LineReader::new(alloc, profile),
-            state: DrillState::new(alloc),
+            judge: Judge::new(alloc, mixed),
             kept: KeptCommands::new(alloc, keep),
             line: Vec::new(alloc),
             start: 0,
@@ -156,7 +157,7 @@ impl Progress {
             self.start,
             &self.line,
             &mut self.reader,
-            &mut self.state,
+            &mut self.judge,
             &mut self.kept,
         )?;
         self.line.clear();
@@ -181,7 +182,7 @@ impl Progress {
             self.start,
             line,
             &mut self.reader,
-            &mut self.state,
+            &mut self.judge,
             &mut self.kept,
         )?;
         self.lines += 1;
@@ -193,7 +194,7 @@ impl Progress {
     /// Reads the hit at the start of the bytes, with the LF of its line.
     fn take_hit(&mut self, point: Coordinates, len: usize, bytes: &[u8]) -> Result<(), Fail>
         requires leads { HasLeadingHit point len bytes.now }
-        requires body { self.old.state.settings.part ≡ part.Body }
+        requires body { self.old.judge.state.settings.part ≡ part.Body }
         requires drilling { self.old.reader.route ≡ route.Free false }
         requires empty { self.old.line.items ≡ [] }
         requires room { self.old.offset + length bytes.now ≤ text_limit }
@@ -205,7 +206,7 @@ impl Progress {
             self.lines + 1,
             self.start,
             DrillCommand::Hit(point),
-            &mut self.state,
+            &mut self.judge,
             &mut self.kept,
         )?;
         self.lines += 1;
@@ -237,7 +238,7 @@ impl Progress {
         ensures ok { IfOk result (λ n. Advances self.old self.new (take n bytes.now)) }
         ensures err { IfErr result (Refuses self.old bytes.now) }
     {
-        if self.line.is_empty() && self.state.is_in_body() && self.reader.may_drill() {
+        if self.line.is_empty() && self.judge.is_in_body() && self.reader.may_drill() {
             if let Some((point, len)) = leading_hit(bytes) {
                 self.take_hit(point, len, bytes)?;
                 return Ok(len + 1);
@@ -292,7 +293,7 @@ impl Progress {
 
     /// Reads the rest of the text, which no LF has ended, as a line, if it has a byte.
     fn end(&mut self) -> Result<(), Fail>
-        ensures results_in { (profile : TheProfile) (keep : TheKeep) (text : List ℕ) (h : Holds self.old profile keep text) → ResultsIn result self.new.state self.new.kept keep (with_rest profile h.lines self.old.line.items h.commands) }
+        ensures results_in { (kind : Kind) (keep : TheKeep) (text : List ℕ) (h : Holds self.old kind keep text) → ResultsIn result self.new.judge self.new.kept kind.mixed keep (with_rest kind h.lines self.old.line.items h.commands) }
         ensures same { OnOk result ((self.new.lines ≡ self.old.lines) × (self.new.line.items ≡ self.old.line.items) × (self.new.offset ≡ self.old.offset)) }
     {
         if self.line.is_empty() {
@@ -303,19 +304,19 @@ impl Progress {
             self.start,
             &self.line,
             &mut self.reader,
-            &mut self.state,
+            &mut self.judge,
             &mut self.kept,
         )
     }
 
     /// The drill file, or the fault of the text that ends here.
     fn finish(self) -> Result<Drill, Fail>
-        ensures { (profile : TheProfile) (keep : TheKeep) (text : List ℕ) → Holds self profile keep text → Answers (λ drill. drill) (ReadsAsIn profile (file_of keep) text) result }
+        ensures { (kind : Kind) (keep : TheKeep) (text : List ℕ) → Holds self kind keep text → Answers (λ drill. drill) (ReadsAsBy kind (file_of keep) text) result }
     {
         let mut last = self;
         last.end()?;
         if last.kept.is_finished() {
-            return Ok(Drill::new(last.state, last.kept));
+            return Ok(Drill::new(last.judge, last.kept));
         }
         Err(refusal(last.place_after(), last.offset, Reason::Truncated))
     }
@@ -332,8 +333,8 @@ impl DrillReader {
     ghost use Rattle.std.specs.Prelude.{List, Some, Ok, Err, [], ◌++◌};
     ghost use Rattle.drill_text.specs.Reading.{Shows};
     ghost use Rattle.grid_units.specs.Results.{IfFault};
-    ghost use Rattle.drill_text.specs.Profiles.{ShowsIn};
-    ghost use Rattle.drill_text.specs.Holding.{StandsAfter, StandsIn, failure};
+    ghost use Rattle.drill_text.specs.Profiles.{ShowsBy, ShowsIn, mixed_in};
+    ghost use Rattle.drill_text.specs.Holding.{StandsAfter, StandsBy, StandsIn, failure};
 
     /// A reader that has read nothing, and keeps the commands.
     pub fn new(alloc: Global) -> DrillReader
@@ -354,7 +355,18 @@ impl DrillReader {
         ensures { StandsIn result profile keep [] }
     {
         DrillReader {
-            progress: Progress::new(alloc, keep, profile),
+            progress: Progress::new(alloc, keep, profile, false),
+            failed: None,
+        }
+    }
+
+    /// A reader that has read nothing, and keeps what it is asked for. It reads a mixed file in this profile: one that says itself which
+    /// of its holes are plated, and is refused where it does not.
+    pub fn mixed(alloc: Global, keep: Keep, profile: Profile) -> DrillReader
+        ensures { StandsBy result (mixed_in profile) keep [] }
+    {
+        DrillReader {
+            progress: Progress::new(alloc, keep, profile, true),
             failed: None,
         }
     }
@@ -369,6 +381,8 @@ impl DrillReader {
         ensures err { (keep : TheKeep) (text : List ℕ) → StandsAfter self.old keep text → IfErr result (IfFault (λ f. Shows (text ++ piece.now) (Err f))) }
         ensures ok_in { (profile : TheProfile) (keep : TheKeep) (text : List ℕ) → StandsIn self.old profile keep text → OnOk result (StandsIn self.new profile keep (text ++ piece.now)) }
         ensures err_in { (profile : TheProfile) (keep : TheKeep) (text : List ℕ) → StandsIn self.old profile keep text → IfErr result (IfFault (λ f. ShowsIn profile (text ++ piece.now) (Err f))) }
+        ensures ok_by { (kind : Kind) (keep : TheKeep) (text : List ℕ) → StandsBy self.old kind keep text → OnOk result (StandsBy self.new kind keep (text ++ piece.now)) }
+        ensures err_by { (kind : Kind) (keep : TheKeep) (text : List ℕ) → StandsBy self.old kind keep text → IfErr result (IfFault (λ f. ShowsBy kind (text ++ piece.now) (Err f))) }
         ensures failed { IfSome (failure self.old) (λ e. result ≡ Err e) }
         ensures fails { IfErr result (λ e. failure self.new ≡ Some e) }
     {
@@ -390,6 +404,7 @@ impl DrillReader {
     pub fn finish(self) -> Result<Drill, Fail>
         ensures exact { (keep : TheKeep) (text : List ℕ) → StandsAfter self keep text → Answers (λ drill. drill) (ReadsAs (file_of keep) text) result }
         ensures exact_in { (profile : TheProfile) (keep : TheKeep) (text : List ℕ) → StandsIn self profile keep text → Answers (λ drill. drill) (ReadsAsIn profile (file_of keep) text) result }
+        ensures exact_by { (kind : Kind) (keep : TheKeep) (text : List ℕ) → StandsBy self kind keep text → Answers (λ drill. drill) (ReadsAsBy kind (file_of keep) text) result }
         ensures sayable { (text : List ℕ) → StandsAfter self keep.Commands text → IfOk result (λ drill. drill_sayable drill.commands ≡ true) }
         ensures failed { IfSome (failure self) (λ e. result ≡ Err e) }
     {

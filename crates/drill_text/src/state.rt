@@ -1,4 +1,4 @@
-//! The judge: it meets the commands of a drill file one by one, and answers which rule a command breaks first.
+//! The state of a drill file: it meets the commands one by one, and answers which rule of every drill file a command breaks first.
 
 ghost use Rattle.std.specs.Prelude.{◌≡◌, nat_eq};
 ghost use Rattle.std.specs.Option.{option_and_then};

@@ -7,7 +7,7 @@ ghost use Rattle.explanations.specs.KnownWords as words;
 ghost use Rattle.explanations.specs.KnownWords.{is_near};
 
 /// The words that have a page, in the order of their list.
-const LISTED: [&str; 60] = [
+const LISTED: [&str; 65] = [
     "TooLong",
     "AfterEnd",
     "Truncated",
@@ -54,20 +54,25 @@ const LISTED: [&str; 60] = [
     "NoDrill",
     "NotCopper",
     "BadSpan",
+    "NoPlating",
     "RING",
     "GAP",
     "OBLIQUE",
     "ring",
     "small",
     "off",
+    "edge",
     "none",
     "macro",
     "polygon",
     "holed",
     "scaled",
     "turned",
+    "clear",
+    "cleared",
     "oblique",
     "plane",
+    "wide",
 ];
 
 /// The fewest letters of a word that another is guessed from.

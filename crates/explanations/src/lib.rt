@@ -21,7 +21,7 @@ use word_list::{reason_by_name, topic_by_word};
 
 /// The page of a word: at most 12 lines of at most 78 columns, each ended by a line feed. It begins with the word and a
 /// colon. `None` where the word is neither the name of a reason nor one of `RING`, `GAP`, `OBLIQUE`, `ring`, `small`,
-/// `off`, `none`, `macro`, `polygon`, `holed`, `scaled`, `turned`, `oblique` and `plane`.
+/// `off`, `edge`, `none`, `macro`, `polygon`, `holed`, `scaled`, `turned`, `clear`, `cleared`, `oblique`, `plane` and `wide`.
 pub fn explanation(word: &str) -> Option<&'static str>
     ensures known { IsSome result ↔ IsExplained word.now }
     ensures headed { IfSome result (λ page. HasHeading word.now page.now) }

@@ -1,4 +1,4 @@
-//! The pages of the 46 reasons, as `ringcheck explain` prints them.
+//! The pages of the 47 reasons, as `ringcheck explain` prints them.
 
 ghost use Rattle.grid_units.specs.Reasons.{reason_name};
 ghost use Rattle.explanations.specs.Words.{FitsScreen, HasHeading};
@@ -256,7 +256,8 @@ archive, and name the files, as ringcheck manifest gerbers/*
 
 const BAD_ROLE: &str = "\
 BadRole: in the manifest: the role of a record is none of copper, plated and
-unplated. A ? stands for what is not decided: decide, and write the role in.
+unplated; with --profile wide it may be mixed too. A ? stands for what is not
+decided: decide, and write the role in.
 In a file of waivers: the kind of a record is neither ring nor gap.
 With show and rewrite: the kind is neither layer nor drill.
 With --format: the word is no format, or it is waivers beside --waive.
@@ -295,6 +296,17 @@ const BAD_SPAN: &str = "\
 BadSpan: the span of layers of a record is none, or stands where none may. A
 span is the numbers of its first and last copper layer, the first one not
 above the last; copper layers have none. Mend the record of the manifest.
+";
+
+const NO_PLATING: &str = "\
+NoPlating: in a drill file of the role mixed (with --profile wide), a hole is
+drilled with a tool of which the header does not say whether it is plated, or
+such a comment stands in the body. A tool is what the last comment before it
+in the header says: ;TYPE=PLATED or ;TYPE=NON_PLATED, or in X2 attributes
+; #@! TA.AperFunction,Plated,.. or NonPlated,..
+Export plated and unplated holes as two files, with the roles plated and
+unplated; or let the tool write these comments (KiCad, not tried: merge PTH
+and NPTH holes into one file, minimal header off).
 ";
 
 /// The page of a reason: at most 12 lines that begin with its name and a colon.
@@ -350,5 +362,6 @@ pub(crate) fn reason_page(reason: Reason) -> &'static str
         Reason::NoDrill => NO_DRILL,
         Reason::NotCopper => NOT_COPPER,
         Reason::BadSpan => BAD_SPAN,
+        Reason::NoPlating => NO_PLATING,
     }
 }

@@ -1,9 +1,9 @@
-//! The findings and their causes, as words to explain.
+//! The findings, their causes and the wide profile, as words to explain.
 
 ghost use Rattle.std.specs.Prelude.{◌≡◌};
 ghost use Rattle.explanations.specs.Words.{topic_word};
 
-/// A finding or a cause of one: what has a page besides the reasons.
+/// A finding, a cause of one or the wide profile: what has a page besides the reasons.
 #[derive(Clone, Copy, Debug, PartialEq, Eq)]
 pub(crate) enum Topic {
     /// A line `RING` of the report.
@@ -18,6 +18,8 @@ pub(crate) enum Topic {
     Small,
     /// The hole is off the centre of its pad.
     Off,
+    /// The hole is too near the edge of a rounded pad or a contour.
+    Edge,
     /// No pad reaches the centre of the hole.
     NoPad,
     /// Only a flash by an aperture macro stands at the hole.
@@ -30,10 +32,16 @@ pub(crate) enum Topic {
     Scaled,
     /// A flash turned by an angle that is no multiple of 90 degrees.
     Turned,
+    /// A flash in clear polarity.
+    Clear,
+    /// A flash that clear polarity may take away.
+    Cleared,
     /// A plated slot along neither axis.
     Oblique,
     /// A negative plane whose file does not mark it as one.
     Plane,
+    /// The wide profile.
+    Wide,
 }
 
 impl Topic {
@@ -48,14 +56,18 @@ impl Topic {
             Topic::Ring => "ring",
             Topic::Small => "small",
             Topic::Off => "off",
+            Topic::Edge => "edge",
             Topic::NoPad => "none",
             Topic::Macro => "macro",
             Topic::Polygon => "polygon",
             Topic::Holed => "holed",
             Topic::Scaled => "scaled",
             Topic::Turned => "turned",
+            Topic::Clear => "clear",
+            Topic::Cleared => "cleared",
             Topic::Oblique => "oblique",
             Topic::Plane => "plane",
+            Topic::Wide => "wide",
         }
     }
 }

@@ -10,8 +10,8 @@ it, or each point of this plated slot. The line names the layer and the drill
 file by their numbers in the manifest, the hole by its number in the drill
 file, its centre or its ends, and its diameter, in millimetres.
 What to do: compare with the pads there (ringcheck show --kind layer FILE),
-and find the cause among small, off, none, macro, polygon, holed, scaled and
-turned: ringcheck explain small, and so on.
+and find the cause among small, off, edge, none, macro, polygon, holed,
+scaled, turned, clear and cleared: ringcheck explain small, and so on.
 ";
 
 const GAP_LINE: &str = "\
@@ -55,6 +55,12 @@ fail at 0.150, and none at 0.149. Give the rule
   less 0.001 mm  (KiCad, drill files in mm),
   less 0.003 mm  (KiCad, drill files in inches),
   less 0.017 mm  (Fritzing).
+";
+
+const EDGE: &str = "\
+edge: in the wide profile, the hole lies in a rounded pad or in a contour, too
+near its edge for the ring. Move the hole or enlarge the pad: a ring in such a
+pad is measured to its nearest edge.
 ";
 
 const BARE: &str = "\
@@ -101,6 +107,17 @@ turned: a flash that is turned (%LR) by no multiple of 90 degrees is not
 judged, whatever its shape. Turn the pad by a multiple of 90 degrees.
 ";
 
+const CLEAR: &str = "\
+clear: in the wide profile, only a flash in clear polarity (%LPC) stands here,
+and it takes copper away. Export the layer with the pad in dark polarity.
+";
+
+const CLEARED: &str = "\
+cleared: in the wide profile, only a flash stands here that is followed by an
+object in clear polarity (%LPC), which may take its copper away, so that it is
+no pad. Export the layer with its pads after what is clear.
+";
+
 const OBLIQUE: &str = "\
 oblique: the ends of a plated slot differ in both directions (a line OBLIQUE
 of the report). Rings are judged of slots along an axis only, so that such a
@@ -115,7 +132,20 @@ it stands, and its clearance discs count as pads: a ring may pass that is not
 there. Do not name such a file as copper.
 ";
 
-/// The page of a finding or a cause: at most 12 lines that begin with its word and a colon.
+const WIDE: &str = "\
+wide: the profile that check, report, measure, draw and show have besides the
+strict one, which is theirs without --profile wide. There count as pads too:
+- flashes of macros whose shape is known, such as rounded rectangles;
+- regions whose contour is closed and convex;
+and a plated slot in any direction, where one pad covers both of its ends.
+There are read too:
+- layers with clear polarity: what stands before a clear object is no pad;
+- slots that are routed in one straight line;
+- drill files without holes, and, in the role mixed, plated and unplated holes
+  in one file.
+";
+
+/// The page of a finding, a cause or the wide profile: at most 12 lines that begin with its word and a colon.
 pub(crate) fn topic_page(topic: Topic) -> &'static str
     ensures headed { HasHeading (topic_word topic) result.now }
     ensures fits { FitsScreen result.now }
@@ -127,13 +157,17 @@ pub(crate) fn topic_page(topic: Topic) -> &'static str
         Topic::Ring => RING,
         Topic::Small => SMALL,
         Topic::Off => OFF,
+        Topic::Edge => EDGE,
         Topic::NoPad => BARE,
         Topic::Macro => MACRO,
         Topic::Polygon => POLYGON,
         Topic::Holed => HOLED,
         Topic::Scaled => SCALED,
         Topic::Turned => TURNED,
+        Topic::Clear => CLEAR,
+        Topic::Cleared => CLEARED,
         Topic::Oblique => OBLIQUE,
         Topic::Plane => PLANE,
+        Topic::Wide => WIDE,
     }
 }

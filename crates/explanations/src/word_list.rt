@@ -57,23 +57,28 @@ NoCopper: the manifest names no copper layer
 NoDrill: the manifest names no drill file
 NotCopper: the file says that it is no copper layer
 BadSpan: the span of a record is none, or stands where none may
+NoPlating: a mixed drill file does not say whether a hole is plated
 RING: a finding: no pad holds the hole or the slot with its ring
 GAP: a finding: two holes are nearer to each other than the gap
 OBLIQUE: a finding: a plated slot runs along neither axis
 ring: the copper round a hole is narrower than the rule
 small: the pad is too small for the hole and its ring
 off: the hole is off the centre of its pad
+edge: the hole is too near the edge of a rounded pad or contour (wide profile)
 none: no pad reaches the centre of the hole, and no flash stands in the hole
 macro: only a flash by an aperture macro stands here
 polygon: a flash by a regular polygon is not judged
 holed: a flash by an aperture with a hole is not judged
 scaled: a flash that is scaled is not judged
 turned: a flash that is turned by no multiple of 90 degrees is not judged
+clear: only a flash in clear polarity stands here (wide profile)
+cleared: only a flash that clear polarity may take away (wide profile)
 oblique: the ends of a plated slot differ in both directions
 plane: a negative plane without a mark counts as copper
+wide: the profile that counts further pads and reads further texts
 ";
 
-const REASONS: [Reason; 46] = [
+const REASONS: [Reason; 47] = [
     Reason::TooLong,
     Reason::AfterEnd,
     Reason::Truncated,
@@ -120,23 +125,28 @@ const REASONS: [Reason; 46] = [
     Reason::NoDrill,
     Reason::NotCopper,
     Reason::BadSpan,
+    Reason::NoPlating,
 ];
 
-const TOPICS: [Topic; 14] = [
+const TOPICS: [Topic; 18] = [
     Topic::RingLine,
     Topic::GapLine,
     Topic::ObliqueLine,
     Topic::Ring,
     Topic::Small,
     Topic::Off,
+    Topic::Edge,
     Topic::NoPad,
     Topic::Macro,
     Topic::Polygon,
     Topic::Holed,
     Topic::Scaled,
     Topic::Turned,
+    Topic::Clear,
+    Topic::Cleared,
     Topic::Oblique,
     Topic::Plane,
+    Topic::Wide,
 ];
 
 /// The words that have a page, one to a line: the names of the reasons, then the other words. A colon, a space and what it

@@ -1,5 +1,5 @@
 -- What one more command changes of further copper.
-use Rattle.std.proofs.Common.{◌≡◌, ◌∙◌, ℕ, zero, suc, ◌+◌, ◌&&◌, ◌⊎◌, inl, inr, Bool, true, false, not, map, nat_le, None, List, [], ◌∷◌, ◌++◌, Option, drop, length, take, refl, sym, ap, arith, append-nil}
+use Rattle.std.proofs.Common.{◌≡◌, ◌∙◌, ◌≤◌, ℕ, zero, suc, ◌+◌, ◌&&◌, ◌||◌, ◌⊎◌, inl, inr, Bool, true, false, not, map, nat_le, None, List, [], ◌∷◌, ◌++◌, Option, length, refl, sym, ap, subst, arith, append-nil, append_assoc}
 use Rattle.std.specs.Prelude.{min, if◌then◌else◌}
 use Rattle.std.specs.List.{cons_option, filter_map, flat_map, sum_by}
 use Rattle.std.proofs.lemmas.Grind.{flat_map-append}
@@ -9,25 +9,32 @@ use Rattle.grid_units.specs.Lists.{with_prefixes}
 use Rattle.grid_units.proofs.LookbackLemmas.{last_or-more, with_prefixes-append}
 use Rattle.gerber_commands.specs.declared.command.Command.{Command}
 use Rattle.gerber_commands.specs.declared.command.Command.TheVariants as command
+use Rattle.gerber_text.specs.FastPath.{text_command}
+use Rattle.gerber_text.specs.declared.text_items.TextKind.{TextKind}
+use Rattle.gerber_text.specs.declared.text_items.TextKind.TheVariants as kinds
 use Rattle.std.proofs.lemmas.Bool.{cases_order}
 use Rattle.std.specs.Option.{option_map_or}
 use Rattle.pad_shapes.specs.Rounded.{GridRounded}
+use Rattle.layer_image.specs.declared.drawn.Drawn.{Drawn}
 use Rattle.layer_image.specs.declared.flash.Flash.{Flash}
-use Rattle.layer_image.specs.Flashes.{flash_copies}
-use Rattle.layer_image.specs.Lookback.{block_set, no_repeat}
-use Rattle.layer_image.specs.Drawn.{draw_state_after, draw_unit}
+use Rattle.layer_image.specs.Flashes.{added_flashes}
+use Rattle.layer_image.specs.Lookback.{block_set, no_repeat, state_after}
+use Rattle.layer_image.specs.Drawn.{DrawState, draw_state_after, draw_unit, drawn_by, drawn_of}
+use Rattle.layer_image.specs.Inner.Pencils.{draw_state}
 use Rattle.layer_image.proofs.DigitLemmas.{test_no, test_yes}
-use Rattle.layer_image.proofs.DrawnLemmas.{draw_state_after-more}
+use Rattle.layer_image.proofs.DrawnLemmas.{draw_state_after-more, drawn_of-more}
 use Rattle.further_copper.specs.declared.part.Part.{Part}
-use Rattle.further_copper.specs.Blocks.{block_after, copy_count}
+use Rattle.further_copper.specs.Blocks.{block_after, copy_count, is_repeated}
 use Rattle.further_copper.specs.Clearing.{cleared, clears_all}
 use Rattle.further_copper.specs.Placing.{no_mirroring, shapes_at}
 use Rattle.further_copper.specs.Contours.{contour_of, in_last_region, part_by, region_parts, starts_region}
 use Rattle.further_copper.specs.declared.copper.Copper.{Copper}
-use Rattle.further_copper.specs.FurtherPads.{CopperState, clears_in, contours_in, copper_state_after, ended_copies, ended_regions, max_regions, mirroring_set}
+use Rattle.further_copper.specs.declared.drawing.Drawing.{Drawing}
+use Rattle.further_copper.specs.FurtherPads.{CopperState, clears_in, contours_in, copper_state_after, ended_copies, ended_regions, has_room, max_regions, mirroring_set}
 use Rattle.further_copper.specs.declared.feature.Feature.{Feature}
-use Rattle.further_copper.specs.Features.{added_features, contour_feature, flash_feature}
-use Rattle.further_copper.specs.Inner.States.{HasMet, after, capped, copper_state, features_among, flash_count, own_flashes, parts_after}
+use Rattle.further_copper.specs.Features.{added_features, contour_feature, features_at, flash_feature}
+use Rattle.further_copper.specs.Holding.{HasMet}
+use Rattle.further_copper.specs.Inner.States.{IsLike, MakeSameContour, after, capped, copper_state, parts_after, with_parts}
 use Rattle.further_copper.proofs.ClearingLemmas.{after_last-more, cleared-more, clearing_after-more}
 
 -- what a position adds to the last region
@@ -79,11 +86,6 @@ contours_capped s c = refl
 added_capped : (s : CopperState) (flashes : List Flash) (c : Command) → added_features (capped s) flashes c ≡ added_features s flashes c
 added_capped s flashes c = ap (λ (pads : List GridRounded). map (flash_feature s) flashes ++ map contour_feature pads) (contours_capped s c)
 
-flash_count-more : (before : List Command) (c : Command) → flash_count (before ++ c ∷ []) ≡ flash_count before + flash_copies (block_after before) c
-flash_count-more before c =
-    let gives : List Command × Command → ℕ = λ q. flash_copies (block_after q.0) q.1 in
-    ap (sum_by gives) (with_prefixes-append before (c ∷ [])) ∙ sum_by_push gives (with_prefixes before) (before, c)
-
 -- what one more position gives
 flat_more : {A : Type 0} (gives : List Command × Command → List A) (before : List Command) (c : Command)
     → flat_map gives (with_prefixes before ++ (before, c) ∷ []) ≡ flat_map gives (with_prefixes before) ++ gives (before, c)
@@ -95,77 +97,222 @@ flat_all-more : {A : Type 0} (gives : List Command × Command → List A) (befor
 flat_all-more gives before c = ap (flat_map gives) (with_prefixes-append before (c ∷ [])) ∙ flat_more gives before c
 
 -- how many are taken away with one more command
-cleared_count-more : (all : List Flash) (before : List Command) (c : Command)
-    → length (flat_map (features_among all) (cleared (before ++ c ∷ [])))
-    ≡ (if clears_all (before, c) then length (flat_map (features_among all) (with_prefixes before) ++ features_among all (before, c)) else length (flat_map (features_among all) (cleared before)))
-cleared_count-more all before c = ap (λ (l : List (List Command × Command)). length (flat_map (features_among all) l)) (cleared-more before c) ∙ by (clears_all (before, c))
+cleared_count-more : (before : List Command) (c : Command)
+    → length (flat_map features_at (cleared (before ++ c ∷ [])))
+    ≡ (if clears_all (before, c) then length (flat_map features_at (with_prefixes before) ++ features_at (before, c)) else length (flat_map features_at (cleared before)))
+cleared_count-more before c = ap (λ (l : List (List Command × Command)). length (flat_map features_at l)) (cleared-more before c) ∙ by (clears_all (before, c))
   where
-    by : (b : Bool) → length (flat_map (features_among all) (if b then with_prefixes before ++ (before, c) ∷ [] else cleared before))
-        ≡ (if b then length (flat_map (features_among all) (with_prefixes before) ++ features_among all (before, c)) else length (flat_map (features_among all) (cleared before)))
-    by true = ap length (flat_more (features_among all) before c)
+    by : (b : Bool) → length (flat_map features_at (if b then with_prefixes before ++ (before, c) ∷ [] else cleared before))
+        ≡ (if b then length (flat_map features_at (with_prefixes before) ++ features_at (before, c)) else length (flat_map features_at (cleared before)))
+    by true = ap length (flat_more features_at before c)
     by false = refl
 
-drop_nothing : {A : Type 0} (k : ℕ) → drop {A = A} k [] ≡ []
-drop_nothing zero = refl
-drop_nothing (suc k) = refl
+-- ---- a state that stands for another
 
-none_more : (k : ℕ) → k ≡ 0 + k
-none_more k = omega arith
+pub like_itself : (s : CopperState) → IsLike s s
+like_itself s = record { rest = refl; parts = λ more. refl }
 
-one_further : (n k : ℕ) → suc (n + k) ≡ suc n + k
-one_further n k = omega arith
+like_like : (s t u : CopperState) → IsLike s t → IsLike t u → IsLike s u
+like_like s t u h k = record { rest = ap (with_parts u.parts) h.rest ∙ k.rest; parts = λ more. h.parts more ∙ k.parts more }
 
-drop_more : {A : Type 0} (n k : ℕ) (xs : List A) → drop k (drop n xs) ≡ drop (n + k) xs
-drop_more zero k xs = ap (λ m. drop m xs) (none_more k)
-drop_more (suc n) k [] = drop_nothing k ∙ sym (drop_nothing (suc n + k))
-drop_more (suc n) k (x ∷ xs) = drop_more n k xs ∙ ap (λ m. drop m (x ∷ xs)) (one_further n k)
+-- so it does after one more command
+after_like : (c : Command) (s t : CopperState) → IsLike s t → IsLike (after c s) (after c t)
+after_like c s t h = record {
+  rest = ap (λ (u : CopperState). with_parts (after c t).parts (after c u)) h.rest;
+  parts = λ more. by more (starts_region c);
+}
+  where
+    draws : s.draw ≡ t.draw
+    draws = ap (λ (u : CopperState). u.draw) h.rest
 
--- the flashes of a command were taken from those that are left
-pub record IsNext (old : Copper) (c : Command) (own : List Flash) (next : Copper) : Type 0 where
-  pub flashes : own ≡ take (flash_copies old.block c) old.left.now
-  pub left : next.left.now ≡ drop (flash_copies old.block c) old.left.now
-  pub state : copper_state next ≡ copper_state old
-  pub features : next.features.items ≡ old.features.items
-  pub cleared : next.cleared ≡ old.cleared
+    by : (more : List Part) (b : Bool) → contour_of ((if b then [] else s.parts ++ cons_option (part_by s.draw c) []) ++ more) ≡ contour_of ((if b then [] else t.parts ++ cons_option (part_by t.draw c) []) ++ more)
+    by more true = refl
+    by more false =
+        ap contour_of (append_assoc s.parts (cons_option (part_by s.draw c) []) more) ∙ h.parts (cons_option (part_by s.draw c) [] ++ more)
+        ∙ ap contour_of (sym (append_assoc t.parts (cons_option (part_by s.draw c) []) more))
+        ∙ ap (λ (d : DrawState). contour_of ((t.parts ++ cons_option (part_by d c) []) ++ more)) draws
+
+same_contour : (kept parts : List Part) → MakeSameContour kept parts → contour_of kept ≡ contour_of parts
+same_contour kept parts same = ap contour_of (sym (append-nil kept)) ∙ same [] ∙ ap contour_of (append-nil parts)
+
+-- the contours of a command are the same
+contours_like : (s t : CopperState) (c : Command) → IsLike s t → contours_in s c ≡ contours_in t c
+contours_like s t c h = by c ∙ ap (λ (u : CopperState). contours_in u c) h.rest
+  where
+    by : (d : Command) → contours_in s d ≡ contours_in (with_parts t.parts s) d
+    by command.RegionEnd = ap (λ (o : Option GridRounded). option_map_or (shapes_at (draw_unit s.draw) s.block) (if s.draw.in_region && (not s.clearing.clear && has_room s) then o else None) []) (same_contour s.parts t.parts h.parts)
+    by d = refl
+
+-- and so is what it adds
+added_like : (s t : CopperState) (flashes : List Flash) (c : Command) → IsLike s t → added_features s flashes c ≡ added_features t flashes c
+added_like s t flashes c h = λ i. map (flash_feature (h.rest i)) flashes ++ map contour_feature (contours_like s t c h i)
+
+clears_like : (s t : CopperState) (c : Command) → IsLike s t → clears_in s c ≡ clears_in t c
+clears_like s t c h = ap (λ (u : CopperState). clears_in u c) h.rest
+
+-- ---- one command more
+
+-- what a command draws was added, where that is asked for
+pub record IsDrawn (old : Copper) (c : Command) (drawn : Copper) : Type 0 where
+  pub parts : drawn.drawing.parts.items ≡ old.drawing.parts.items ++ (if old.drawing.asked then cons_option (drawn_by (draw_state old.pencil) c) [] else [])
+  pub asked : drawn.drawing.asked ≡ old.drawing.asked
+  pub state : copper_state drawn ≡ copper_state old
+  pub features : drawn.features.items ≡ old.features.items
+  pub cleared : drawn.cleared ≡ old.cleared
 
 -- the flashes and contours of a command were added
 pub record IsAdded (old : Copper) (c : Command) (own : List Flash) (added : Copper) : Type 0 where
   pub features : added.features.items ≡ old.features.items ++ added_features (copper_state old) own c
-  pub left : added.left.now ≡ old.left.now
   pub state : copper_state added ≡ copper_state old
   pub cleared : added.cleared ≡ old.cleared
+  pub drawing : added.drawing ≡ old.drawing
 
 -- all of them were taken away where the command does
 pub record IsMarked (old : Copper) (c : Command) (marked : Copper) : Type 0 where
   pub cleared : marked.cleared ≡ (if clears_in (copper_state old) c then length old.features.items else old.cleared)
   pub features : marked.features.items ≡ old.features.items
-  pub left : marked.left.now ≡ old.left.now
   pub state : copper_state marked ≡ copper_state old
+  pub drawing : marked.drawing ≡ old.drawing
 
--- the state is that after the command
+-- the state stands for that after the command
 pub record IsAdvanced (old : Copper) (c : Command) (new : Copper) : Type 0 where
-  pub state : copper_state new ≡ after c (copper_state old)
+  pub state : IsLike (copper_state new) (after c (copper_state old))
   pub features : new.features.items ≡ old.features.items
-  pub left : new.left.now ≡ old.left.now
   pub cleared : new.cleared ≡ old.cleared
+  pub drawing : new.drawing ≡ old.drawing
+
+-- what is drawn with one more command
+drawn-more : (draws asked : Bool) (commands : List Command) (c : Command) (s : DrawState) (parts : List Drawn) → asked ≡ draws → s ≡ draw_state_after commands → parts ≡ (if draws then drawn_of commands else [])
+    → parts ++ (if asked then cons_option (drawn_by s c) [] else []) ≡ (if draws then drawn_of (commands ++ c ∷ []) else [])
+drawn-more draws asked commands c s parts same state are = (λ i. are i ++ (if same i then cons_option (drawn_by (state i) c) [] else [])) ∙ by draws
+  where
+    by : (b : Bool) → (if b then drawn_of commands else []) ++ (if b then cons_option (drawn_by (draw_state_after commands) c) [] else []) ≡ (if b then drawn_of (commands ++ c ∷ []) else [])
+    by true = sym (drawn_of-more commands c)
+    by false = refl
 
 -- these commands and one more were met
-pub met_more : (all : List Flash) (old next added marked new : Copper) (own : List Flash) (commands : List Command) (c : Command)
-    → HasMet all old commands → IsNext old c own next → IsAdded next c own added → IsMarked added c marked → IsAdvanced marked c new → HasMet all new (commands ++ c ∷ [])
-met_more all old next added marked new own commands c met is_next is_added is_marked advanced =
-    let met_state : copper_state old ≡ capped (copper_state_after commands) = met.state in
-    let next_state : copper_state next ≡ capped (copper_state_after commands) = is_next.state ∙ met_state in
-    let added_state : copper_state added ≡ capped (copper_state_after commands) = is_added.state ∙ next_state in
-    let copies : flash_copies old.block c ≡ flash_copies (block_after commands) c = ap (λ (s : CopperState). flash_copies s.block c) met_state in
-    let own_is : own ≡ own_flashes all (commands, c) = is_next.flashes ∙ (λ i. take (copies i) (met.left i)) in
-    let features : added.features.items ≡ flat_map (features_among all) (with_prefixes commands) ++ features_among all (commands, c) =
-    is_added.features ∙ (λ i. (is_next.features ∙ met.features) i ++ added_features (next_state i) (own_is i) c)
-    ∙ ap (λ (l : List Feature). flat_map (features_among all) (with_prefixes commands) ++ l) (added_capped (copper_state_after commands) (own_flashes all (commands, c)) c) in
+pub met_more : (draws : Bool) (old drawn added marked new : Copper) (own : List Flash) (commands : List Command) (c : Command)
+    → HasMet draws old commands → own ≡ added_flashes (state_after commands) c → IsDrawn old c drawn → IsAdded drawn c own added → IsMarked added c marked → IsAdvanced marked c new → HasMet draws new (commands ++ c ∷ [])
+met_more draws old drawn added marked new own commands c met own_is is_drawn is_added is_marked advanced =
+    let then_state : CopperState = copper_state_after commands in
+    let added_state : copper_state added ≡ copper_state old = is_added.state ∙ is_drawn.state in
+    let features : added.features.items ≡ flat_map features_at (with_prefixes commands) ++ features_at (commands, c) =
+    is_added.features ∙ (λ i. (is_drawn.features ∙ met.features) i ++ added_features (is_drawn.state i) (own_is i) c)
+    ∙ ap (λ (l : List Feature). flat_map features_at (with_prefixes commands) ++ l)
+    (added_like (copper_state old) (capped then_state) (added_flashes (state_after commands) c) c met.state ∙ added_capped then_state (added_flashes (state_after commands) c) c) in
+    let clears : clears_in (copper_state added) c ≡ clears_all (commands, c) = ap (λ (s : CopperState). clears_in s c) added_state ∙ clears_like (copper_state old) (capped then_state) c met.state in
+    let state : IsLike (after c (copper_state marked)) (capped (copper_state_after (commands ++ c ∷ []))) =
+    subst (λ (s : CopperState). IsLike (after c s) (capped (copper_state_after (commands ++ c ∷ [])))) (sym (is_marked.state ∙ added_state))
+    (subst (IsLike (after c (copper_state old))) (sym (copper_state_after-more commands c)) (after_like c (copper_state old) (capped then_state) met.state)) in
     record {
-      state = advanced.state ∙ ap (after c) (is_marked.state ∙ added_state) ∙ sym (copper_state_after-more commands c);
-      left = advanced.left ∙ is_marked.left ∙ is_added.left ∙ is_next.left ∙ (λ i. drop (copies i) (met.left i)) ∙ drop_more (flash_count commands) (flash_copies (block_after commands) c) all ∙ ap (λ (n : ℕ). drop n all) (sym (flash_count-more commands c));
-      features = advanced.features ∙ is_marked.features ∙ features ∙ sym (flat_all-more (features_among all) commands c);
+      state = like_like (copper_state new) (after c (copper_state marked)) (capped (copper_state_after (commands ++ c ∷ []))) advanced.state state;
+      features = advanced.features ∙ is_marked.features ∙ features ∙ sym (flat_all-more features_at commands c);
       cleared = advanced.cleared ∙ is_marked.cleared
-          ∙ (λ i. if clears_in (added_state i) c then length (features i) else (is_added.cleared ∙ is_next.cleared ∙ met.cleared) i)
-          ∙ sym (cleared_count-more all commands c);
+          ∙ (λ i. if clears i then length (features i) else (is_added.cleared ∙ is_drawn.cleared ∙ met.cleared) i)
+          ∙ sym (cleared_count-more commands c);
+      asked = ap (λ (d : Drawing). d.asked) (advanced.drawing ∙ is_marked.drawing ∙ is_added.drawing) ∙ is_drawn.asked ∙ met.asked;
+      drawn = ap (λ (d : Drawing). d.parts.items) (advanced.drawing ∙ is_marked.drawing ∙ is_added.drawing) ∙ is_drawn.parts
+          ∙ drawn-more draws old.drawing.asked commands c (draw_state old.pencil) old.drawing.parts.items met.asked (ap (λ (s : CopperState). s.draw) met.state.rest) met.drawn;
     }
+
+-- ---- a comment or an attribute
+
+regions_stay : (r s : ℕ) → r ≡ min s (suc max_regions) → r ≡ min (r + 0) (suc max_regions)
+regions_stay r s h = omega (arith, h)
+
+-- a command that makes no flash, draws nothing, adds no contour and changes no state
+record IsIdle (c : Command) : Type 0 where
+  flashes : (commands : List Command) → [] ≡ added_flashes (state_after commands) c
+  draws : (s : DrawState) → drawn_by s c ≡ None
+  contours : (s : CopperState) → contours_in s c ≡ []
+  clears : (s : CopperState) → clears_in s c ≡ (is_repeated s.block && s.clearing.in_block)
+  stays : (s : CopperState) → s.regions ≡ min (s.regions + 0) (suc max_regions) → IsLike s (after c s)
+
+none_further : (parts : List Part) → MakeSameContour parts (parts ++ [])
+none_further parts = λ more. ap (λ (l : List Part). contour_of (l ++ more)) (sym (append-nil parts))
+
+-- a comment or an attribute is one
+text_idle : (kind : TextKind) (text : List ℕ) → IsIdle (text_command kind text)
+text_idle kinds.Comment text = record {
+  flashes = λ commands. refl;
+  draws = λ s. refl;
+  contours = λ s. refl;
+  clears = λ s. refl;
+  stays = λ s e. record { rest = λ i. record { draw = s.draw; mirroring = s.mirroring; block = s.block; parts = s.parts ++ []; regions = e i; clearing = s.clearing }; parts = none_further s.parts };
+}
+text_idle (kinds.Attribute which) text = record {
+  flashes = λ commands. refl;
+  draws = λ s. refl;
+  contours = λ s. refl;
+  clears = λ s. refl;
+  stays = λ s e. record { rest = λ i. record { draw = s.draw; mirroring = s.mirroring; block = s.block; parts = s.parts ++ []; regions = e i; clearing = s.clearing }; parts = none_further s.parts };
+}
+text_idle kinds.Remove text = record {
+  flashes = λ commands. refl;
+  draws = λ s. refl;
+  contours = λ s. refl;
+  clears = λ s. refl;
+  stays = λ s e. record { rest = λ i. record { draw = s.draw; mirroring = s.mirroring; block = s.block; parts = s.parts ++ []; regions = e i; clearing = s.clearing }; parts = none_further s.parts };
+}
+
+-- what another copy of the open block takes away was taken away
+pub record IsMarkedByCopies (old marked : Copper) : Type 0 where
+  pub cleared : marked.cleared ≡ (if is_repeated old.block && old.clearing.in_block then length old.features.items else old.cleared)
+  pub features : marked.features.items ≡ old.features.items
+  pub state : copper_state marked ≡ copper_state old
+  pub drawing : marked.drawing ≡ old.drawing
+
+-- nothing is drawn
+abbrev no_part : Option Drawn
+no_part = None
+
+nothing_drawn : (asked : Bool) (parts : List Drawn) (o : Option Drawn) → o ≡ None → parts ≡ parts ++ (if asked then cons_option o [] else [])
+nothing_drawn asked parts o h = sym (append-nil parts) ∙ ap (λ (l : List Drawn). parts ++ l) (by asked) ∙ ap (λ (d : Option Drawn). parts ++ (if asked then cons_option d [] else [])) (sym h)
+  where
+    by : (b : Bool) → [] ≡ (if b then cons_option no_part [] else [])
+    by true = refl
+    by false = refl
+
+-- these commands and a comment or an attribute were met
+pub text_more : (draws : Bool) (old marked : Copper) (commands : List Command) (kind : TextKind) (text : List ℕ) → HasMet draws old commands → IsMarkedByCopies old marked → HasMet draws marked (commands ++ text_command kind text ∷ [])
+text_more draws old marked commands kind text met is_marked =
+    let c = text_command kind text in
+    let idle = text_idle kind text in
+    let s = copper_state old in
+    let regions : marked.regions ≡ min (ended_regions commands) (suc max_regions) = ap (λ (t : CopperState). t.regions) (is_marked.state) ∙ ap (λ (t : CopperState). t.regions) met.state.rest in
+    met_more draws old old old marked marked [] commands c met (idle.flashes commands) (record {
+      parts = nothing_drawn old.drawing.asked old.drawing.parts.items (drawn_by (draw_state old.pencil) c) (idle.draws (draw_state old.pencil));
+      asked = refl;
+      state = refl;
+      features = refl;
+      cleared = refl;
+    }) (record {
+      features = sym (append-nil old.features.items) ∙ ap (λ (l : List GridRounded). old.features.items ++ map contour_feature l) (sym (idle.contours s));
+      state = refl;
+      cleared = refl;
+      drawing = refl;
+    }) (record {
+      cleared = is_marked.cleared ∙ ap (λ (b : Bool). if b then length old.features.items else old.cleared) (sym (idle.clears s));
+      features = is_marked.features;
+      state = is_marked.state;
+      drawing = is_marked.drawing;
+    }) (record {
+      state = idle.stays (copper_state marked) (regions_stay marked.regions (ended_regions commands) regions);
+      features = refl;
+      cleared = refl;
+      drawing = refl;
+    })
+
+-- no command was met
+pub none_met : (draws : Bool) (copper : Copper) → copper_state copper ≡ capped (copper_state_after []) → copper.features.items ≡ [] → copper.cleared ≡ 0 → copper.drawing.asked ≡ draws → copper.drawing.parts.items ≡ [] → HasMet draws copper []
+none_met draws copper state features cleared asked parts = record {
+  state = subst (λ (s : CopperState). IsLike s (capped (copper_state_after []))) (sym state) (like_itself (capped (copper_state_after [])));
+  features = features;
+  cleared = cleared;
+  asked = asked;
+  drawn = parts ∙ by draws;
+}
+  where
+    by : (b : Bool) → [] ≡ (if b then drawn_of [] else [])
+    by true = refl
+    by false = refl

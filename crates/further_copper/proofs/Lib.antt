@@ -4,6 +4,7 @@ pub mod UnclearedPositions
 pub mod PointsLemmas
 pub mod CopiesLemmas
 pub mod ContourLemmas
+pub mod ForgettingLemmas
 pub mod OrientLemmas
 pub mod OwnFlashes
 pub mod DarkLayers

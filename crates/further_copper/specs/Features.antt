@@ -10,6 +10,8 @@ use Rattle.gerber_commands.specs.declared.command.Command.{Command}
 use Rattle.layer_image.specs.declared.flash.Flash.{Flash}
 use Rattle.layer_image.specs.declared.flash.What.{What}
 use Rattle.layer_image.specs.declared.flash.What.TheVariants as what
+use Rattle.layer_image.specs.declared.flash.Why.{Why}
+use Rattle.layer_image.specs.declared.flash.Why.TheVariants as why
 use Rattle.layer_image.specs.Lookback.{state_after}
 use Rattle.layer_image.specs.Flashes.{added_flashes}
 use Rattle.further_copper.specs.declared.feature.Feature.{Feature}
@@ -19,14 +21,19 @@ use Rattle.further_copper.specs.declared.feature.FeatureRow.{FeatureRow}
 use Rattle.further_copper.specs.declared.feature.RowKind.{RowKind}
 use Rattle.further_copper.specs.declared.feature.RowKind.TheVariants as row
 use Rattle.further_copper.specs.Clearing.{cleared, uncleared}
-use Rattle.further_copper.specs.FurtherPads.{CopperState, contours_in, copper_state_after, flashed_pad}
+use Rattle.further_copper.specs.FurtherPads.{CopperState, contours_in, copper_state_after, flashed_pad, macro_why}
 
 -- ---- what a command adds
+
+-- why a flash is no pad, which of a macro depends on its shape
+abbrev pub why_in : CopperState → Why → Why
+why_in s why.Macro = macro_why s
+why_in s other = other
 
 -- what a flash in dark polarity is: a flash that is no pad of a standard aperture is the pad of its macro's shape, where there is one
 abbrev pub dark_kind : CopperState → GridPoint → What → FeatureKind
 dark_kind s at (what.Pad pad) = kind.Pad (Plain pad)
-dark_kind s at (what.Other why) = option_map_or (λ pad. kind.Pad (Rounded pad)) (flashed_pad s at) (kind.Other why)
+dark_kind s at (what.Other reason) = option_map_or (λ pad. kind.Pad (Rounded pad)) (flashed_pad s at) (kind.Other (why_in s reason))
 
 -- a flash, which counts as no pad in clear polarity (Gerber format, Load polarity LP)
 abbrev pub flash_feature : CopperState → Flash → Feature

@@ -1,6 +1,6 @@
 -- The further copper that counts as pads: the flashes of macros that have a shape, and the contours of regions that are convex polygons,
 -- each by the state that its command meets (docs/FORMATS.md, Further copper).
-use Rattle.std.specs.Prelude.{ℕ, ◌+◌, Bool, not, ◌&&◌, ◌||◌, nat_le, List, [], Option, None, Some, unwrap_or, option_and_then, if◌then◌else◌}
+use Rattle.std.specs.Prelude.{ℕ, ◌+◌, Bool, not, ◌&&◌, ◌||◌, nat_le, List, [], Option, None, Some, is_none, unwrap_or, option_and_then, if◌then◌else◌}
 use Rattle.std.specs.Ordering.{int_eq}
 use Rattle.std.specs.Option.{option_map_or}
 use Rattle.std.specs.List.{list_any, sum_by}
@@ -12,6 +12,8 @@ use Rattle.gerber_commands.specs.declared.command.StepRepeat.{StepRepeat}
 use Rattle.gerber_commands.specs.declared.command.Command.{Command}
 use Rattle.gerber_commands.specs.declared.command.Command.TheVariants as command
 use Rattle.gerber_extended.specs.Pieces.{unit_scale}
+use Rattle.layer_image.specs.declared.flash.Why.{Why}
+use Rattle.layer_image.specs.declared.flash.Why.TheVariants as why
 use Rattle.layer_image.specs.Drawn.{DrawState, draw_state_after, draw_unit, selected_aperture, shape_in}
 use Rattle.pad_shapes.specs.Placed.{shape_at}
 use Rattle.further_copper.specs.declared.clearing.Clearing.{Clearing}
@@ -73,12 +75,24 @@ copper_state_after before = record {
 
 -- ---- what a command adds
 
+-- the shape of the macro that is selected, as it is defined
+abbrev pub macro_shape : CopperState → Option GridRounded
+macro_shape s = option_and_then shape_in (selected_aperture s.draw)
+
 -- the shape that the selected aperture flashes, about the point of the flash: that of a macro, while flashes keep their size and are
 -- turned by quarters (Gerber format, Aperture transformations LP, LM, LR, LS)
 abbrev pub flash_shape : CopperState → Option GridRounded
 flash_shape s =
     if int_eq s.draw.scale unit_scale
-    then option_and_then (λ turns. option_and_then (oriented_shape s.mirroring turns) (option_and_then shape_in (selected_aperture s.draw))) (quarter_turns s.draw.turn) else None
+    then option_and_then (λ turns. option_and_then (oriented_shape s.mirroring turns) (macro_shape s)) (quarter_turns s.draw.turn) else None
+
+-- why the flash of a macro whose shape is known is no pad: first it is scaled, then it is turned by no multiple of 90 degrees
+abbrev pub why_of_shape : CopperState → Why
+why_of_shape s = if not (int_eq s.draw.scale unit_scale) then why.Scaled else if is_none (quarter_turns s.draw.turn) then why.Turned else why.Macro
+
+-- why the flash of the selected macro is no pad: first its shape is not known
+abbrev pub macro_why : CopperState → Why
+macro_why s = if is_none (macro_shape s) then why.Macro else why_of_shape s
 
 -- the pad of the selected macro's flash at a point, where its shape may lie there
 abbrev pub flashed_pad : CopperState → GridPoint → Option GridRounded

@@ -5,5 +5,6 @@ pub mod Placing
 pub mod Contours
 pub mod FurtherPads
 pub mod Features
+pub mod Holding
 pub mod Laws
 pub mod Inner

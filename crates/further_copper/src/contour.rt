@@ -80,7 +80,7 @@ fn ends_of(alloc: Global, start: Point, sides: &[Part]) -> Result<Option<Vec<Poi
 }
 
 /// The points of a contour, from the start of its first side.
-fn points_of(alloc: Global, sides: &[Part]) -> Result<Option<Vec<Point>>, AllocError>
+pub(crate) fn points_of(alloc: Global, sides: &[Part]) -> Result<Option<Vec<Point>>, AllocError>
     ensures { IfOk result (λ answer. option_map (λ points. points.items) answer ≡ points_of sides.now) }
 {
     let Some(first) = sides.first() else {

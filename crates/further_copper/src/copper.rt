@@ -1,32 +1,32 @@
 //! The flashes and contours of a layer, command by command.
 
-ghost use Rattle.std.specs.Prelude.{◌≡◌, ◌++◌, ◌∷◌, ◌≤◌, [], List, OnOk, IfOk, min, suc, ◌+◌, drop, length, map, take, unwrap_or, option_and_then, if◌then◌else◌};
+ghost use Rattle.std.specs.Prelude.{◌≡◌, ◌++◌, ◌∷◌, ◌&&◌, ◌≤◌, [], ℕ, Bool, List, OnOk, IfOk, min, suc, true, ◌+◌, drop, length, map, take, unwrap_or, option_and_then, if◌then◌else◌};
 ghost use Rattle.std.specs.Option.{option_copied};
-ghost use Rattle.std.specs.List.{filter_map};
-ghost use Rattle.grid_units.specs.Lists.{IsLegal};
+ghost use Rattle.std.specs.List.{cons_option, filter_map};
 ghost use Rattle.pad_shapes.specs.Placed.{shape_at};
-ghost use Rattle.gerber_text.specs.Writing.{without_places};
+ghost use Rattle.gerber_commands.specs.Rows.{modes_of};
 ghost use Rattle.gerber_commands.specs.declared.command.Command.{Command as TheCommand};
-ghost use Rattle.layer_image.specs.declared.flash.Flash.{Flash as TheFlash};
-ghost use Rattle.layer_image.specs.Flashes.{flash_copies, flashes_of};
-ghost use Rattle.layer_image.specs.Lookback.{block_set};
-ghost use Rattle.layer_image.specs.Rules.{broken_rule};
-ghost use Rattle.layer_image.specs.Drawn.{selected_aperture, shape_in};
+ghost use Rattle.gerber_text.specs.FastPath.{text_command};
+ghost use Rattle.gerber_text.specs.declared.text_items.TextKind.{TextKind as TheKind};
+ghost use Rattle.layer_image.specs.Flashes.{added_flashes};
+ghost use Rattle.layer_image.specs.Lookback.{block_set, state_after};
+ghost use Rattle.layer_image.specs.Drawn.{drawn_by, drawn_of};
 ghost use Rattle.layer_image.specs.Inner.Pencils.{draw_state};
 ghost use Rattle.further_copper.specs.Blocks.{copy_count, is_repeated};
-ghost use Rattle.further_copper.specs.FurtherPads.{CopperState, clears_in, contour_by, contours_in, ended_copies, flash_shape, has_room, max_regions, mirroring_set, region_contour};
-ghost use Rattle.further_copper.specs.Features.{added_features, contour_feature, dark_kind, features_of, flash_feature, taken_away};
-ghost use Rattle.further_copper.specs.Inner.States.{HasMet, after, copper_state};
+ghost use Rattle.further_copper.specs.FurtherPads.{CopperState, clears_in, contour_by, contours_in, ended_copies, flash_shape, has_room, macro_shape, macro_why, max_regions, mirroring_set, region_contour, why_of_shape};
+ghost use Rattle.further_copper.specs.Features.{added_features, contour_feature, dark_kind, features_of, flash_feature, taken_away, why_in};
+ghost use Rattle.further_copper.specs.Inner.States.{IsLike, after, copper_state};
 
 use crate::clearing::Clearing;
 use crate::contour::contour_of;
 use crate::copies::{lay, no_repeat};
+use crate::drawing::Drawing;
 use crate::feature::{Feature, FeatureKind};
 use crate::mirroring::{Mirroring, oriented, quarter_turns};
 use crate::part::{Part, add_parts};
-use gerber_text::{Action, Command, Placed, StepRepeat};
+use gerber_text::{Command, Interpolation, StepRepeat};
 use grid_units::Point;
-use layer_image::{Flash, Pencil, What};
+use layer_image::{Drawn, Flash, Pencil, What, Why};
 use pad_shapes::{PlacedRounded, SharedRounded};
 use std::alloc::{AllocError, Global};
 use wide_pads::WidePad;
@@ -37,10 +37,10 @@ const ONE: i64 = 100_000_000;
 /// The most regions of a layer whose contours count as pads, each copy counted.
 const MAX_REGIONS: u64 = 4_194_304;
 
-/// The flashes and contours of the commands so far, whatever clear polarity takes away of them. It keeps the shapes and macros that the
-/// commands define, and the operations of the last region.
+/// The flashes and contours of the commands so far, whatever clear polarity takes away of them, and what these commands draw, where that is
+/// asked for. It keeps the shapes and macros that the commands define, and the operations of the last region, and no command.
 #[derive(Drop)]
-struct Copper<'a> {
+pub struct Copper {
     alloc: Global,
     pencil: Pencil,
     mirroring: Mirroring,
@@ -48,63 +48,106 @@ struct Copper<'a> {
     parts: Vec<Part>,
     regions: u64,
     clearing: Clearing,
-    /// The flashes of the commands to come, as the strict profile reads them.
-    left: &'a [Flash],
     features: Vec<Feature>,
     /// How many of the flashes and contours stood there when the last ones were taken away.
     cleared: usize,
+    drawing: Drawing,
 }
 
-impl<'a> Copper<'a> {
-    /// No command was met. These are the flashes of all commands.
-    fn new(alloc: Global, flashes: &'a [Flash]) -> Copper<'a>
-        ensures { HasMet flashes.now result [] }
+impl Copper {
+    ghost use Rattle.further_copper.specs.Holding.{HasMet};
+
+    /// No command was met. What is drawn is kept where `draws` says so.
+    pub fn new(alloc: Global, draws: bool) -> Copper
+        ensures { HasMet draws result [] }
     {
+        let pencil = Pencil::new(alloc);
+        let mirroring = Mirroring::none();
+        let block = no_repeat();
+        let parts = Vec::new(alloc);
+        let clearing = Clearing::none();
+        let features = Vec::new(alloc);
+        let drawing = Drawing::new(alloc, draws);
         Copper {
             alloc,
-            pencil: Pencil::new(alloc),
-            mirroring: Mirroring::none(),
-            block: no_repeat(),
-            parts: Vec::new(alloc),
+            pencil,
+            mirroring,
+            block,
+            parts,
             regions: 0,
-            clearing: Clearing::none(),
-            left: flashes,
-            features: Vec::new(alloc),
+            clearing,
+            features,
             cleared: 0,
+            drawing,
         }
     }
 
-    /// Takes in one more command, and adds its flashes and contours.
-    fn take(&mut self, command: &Command) -> Result<(), AllocError>
-        ensures { (all : List TheFlash) (commands : List TheCommand) → HasMet all self.old commands → OnOk result (HasMet all self.new (commands ++ command.now ∷ [])) }
+    /// Takes in one more command, whose flashes as the strict profile reads them are these. It adds them and its contours, and what it draws.
+    ///
+    /// # Errors
+    ///
+    /// An `AllocError` where there is no memory for them.
+    pub fn take(&mut self, command: &Command, flashes: &[Flash]) -> Result<(), AllocError>
+        ensures { (draws : Bool) (commands : List TheCommand) → HasMet draws self.old commands → flashes.now ≡ added_flashes (state_after commands) command.now → OnOk result (HasMet draws self.new (commands ++ command.now ∷ [])) }
     {
-        let own = self.next_flashes(command);
-        self.add(command, own)?;
+        self.draw(command)?;
+        self.add(command, flashes)?;
         self.clear_where(command);
         self.advance(command)?;
         Ok(())
     }
 
-    /// The flashes of the next command, which are no longer left then.
-    fn next_flashes(&mut self, command: &Command) -> &'a [Flash]
-        ensures flashes { result.now ≡ take (flash_copies self.old.block command.now) self.old.left.now }
-        ensures left { self.new.left.now ≡ drop (flash_copies self.old.block command.now) self.old.left.now }
-        ensures state { copper_state self.new ≡ copper_state self.old }
+    /// Takes in an interpolation, where there is one.
+    ///
+    /// # Errors
+    ///
+    /// An `AllocError`, which does not come.
+    pub fn take_mode(&mut self, mode: Option<Interpolation>) -> Result<(), AllocError>
+        ensures { (draws : Bool) (commands : List TheCommand) → HasMet draws self.old commands → OnOk result (HasMet draws self.new (commands ++ modes_of mode)) }
+    {
+        match mode {
+            Some(mode) => self.take(&Command::Mode(mode), &[]),
+            None => Ok(()),
+        }
+    }
+
+    /// Takes in a comment or an attribute, whatever its text.
+    pub fn take_text(&mut self)
+        ensures { (draws : Bool) (commands : List TheCommand) (kind : TheKind) (text : List ℕ) → HasMet draws self.old commands → HasMet draws self.new (commands ++ text_command kind text ∷ []) }
+    {
+        self.clear_by_copies();
+    }
+
+    /// Adds what a command draws, where that is asked for.
+    fn draw(&mut self, command: &Command) -> Result<(), AllocError>
+        ensures parts { OnOk result (self.new.drawing.parts.items ≡ self.old.drawing.parts.items ++ (if self.old.drawing.asked then cons_option (drawn_by (draw_state self.old.pencil) command.now) [] else [])) }
+        ensures asked { self.new.drawing.asked ≡ self.old.drawing.asked }
         ensures features { self.new.features.items ≡ self.old.features.items }
+        ensures state { copper_state self.new ≡ copper_state self.old }
         ensures cleared { self.new.cleared ≡ self.old.cleared }
     {
-        let count = self.flash_copies(command).min(self.left.len() as u64);
-        let (own, left) = self.left.split_at(count as usize);
-        self.left = left;
-        own
+        self.drawing.take(&self.pencil, command)
+    }
+
+    /// Takes away all flashes and contours where another copy of the open block does.
+    fn clear_by_copies(&mut self)
+        ensures cleared { self.new.cleared ≡ (if is_repeated self.old.block && self.old.clearing.in_block then length self.old.features.items else self.old.cleared) }
+        ensures features { self.new.features.items ≡ self.old.features.items }
+        ensures state { copper_state self.new ≡ copper_state self.old }
+        ensures drawing { self.new.drawing ≡ self.old.drawing }
+    {
+        if self.is_repeated() && self.clearing.in_block {
+            let count = self.features.len();
+            self.cleared = count;
+        }
     }
 
     /// Adds the flashes and contours of a command.
     fn add(&mut self, command: &Command, flashes: &[Flash]) -> Result<(), AllocError>
         ensures features { OnOk result (self.new.features.items ≡ self.old.features.items ++ added_features (copper_state self.old) flashes.now command.now) }
-        ensures left { self.new.left.now ≡ self.old.left.now }
         ensures state { copper_state self.new ≡ copper_state self.old }
         ensures cleared { self.new.cleared ≡ self.old.cleared }
+        ensures drawing { self.new.drawing ≡ self.old.drawing }
     {
         if !flashes.is_empty() {
             self.add_flashes(flashes)?;
@@ -115,20 +158,22 @@ impl<'a> Copper<'a> {
     /// Adds the flashes of a command.
     fn add_flashes(&mut self, flashes: &[Flash]) -> Result<(), AllocError>
         ensures features { OnOk result (self.new.features.items ≡ self.old.features.items ++ map (flash_feature (copper_state self.old)) flashes.now) }
-        ensures left { self.new.left.now ≡ self.old.left.now }
         ensures state { copper_state self.new ≡ copper_state self.old }
         ensures cleared { self.new.cleared ≡ self.old.cleared }
+        ensures drawing { self.new.drawing ≡ self.old.drawing }
     {
         let shape = self.flash_shape()?;
-        add_flashes(&mut self.features, self.clearing.clear, &shape, flashes)
+        let why = self.macro_why();
+        let is_clear = self.clearing.clear;
+        add_flashes(&mut self.features, is_clear, &shape, why, flashes)
     }
 
     /// Adds the contours of a command.
     fn add_contours(&mut self, command: &Command) -> Result<(), AllocError>
         ensures features { OnOk result (self.new.features.items ≡ self.old.features.items ++ map contour_feature (contours_in (copper_state self.old) command.now)) }
-        ensures left { self.new.left.now ≡ self.old.left.now }
         ensures state { copper_state self.new ≡ copper_state self.old }
         ensures cleared { self.new.cleared ≡ self.old.cleared }
+        ensures drawing { self.new.drawing ≡ self.old.drawing }
     {
         match self.contour_by(command)? {
             Some(contour) => lay(
@@ -145,8 +190,8 @@ impl<'a> Copper<'a> {
     fn clear_where(&mut self, command: &Command)
         ensures cleared { self.new.cleared ≡ (if clears_in (copper_state self.old) command.now then length self.old.features.items else self.old.cleared) }
         ensures features { self.new.features.items ≡ self.old.features.items }
-        ensures left { self.new.left.now ≡ self.old.left.now }
         ensures state { copper_state self.new ≡ copper_state self.old }
+        ensures drawing { self.new.drawing ≡ self.old.drawing }
     {
         if self.clears(command) {
             self.cleared = self.features.len();
@@ -188,9 +233,32 @@ impl<'a> Copper<'a> {
 
     /// The shape of the selected aperture, where it is a macro that has one.
     fn macro_shape(&self) -> Option<&SharedRounded>
-        ensures { option_copied result ≡ option_and_then shape_in (selected_aperture (draw_state self.now.pencil)) }
+        ensures { option_copied result ≡ macro_shape (copper_state self.now) }
     {
         self.pencil.aperture()?.shape()
+    }
+
+    /// Why a flash of the selected macro, whose shape is known, is no pad, where it is none.
+    fn why_of_shape(&self) -> Why
+        ensures { result ≡ why_of_shape (copper_state self.now) }
+    {
+        if self.pencil.scale().units() != ONE {
+            return Why::Scaled;
+        }
+        match quarter_turns(self.pencil.turn()) {
+            Some(_) => Why::Macro,
+            None => Why::Turned,
+        }
+    }
+
+    /// Why a flash of the selected macro is no pad, where it is none.
+    fn macro_why(&self) -> Why
+        ensures { result ≡ macro_why (copper_state self.now) }
+    {
+        match self.macro_shape() {
+            Some(_) => self.why_of_shape(),
+            None => Why::Macro,
+        }
     }
 
     /// The contour of the region that ends here, where it counts as a pad.
@@ -220,19 +288,6 @@ impl<'a> Copper<'a> {
         self.copy_count() > 1
     }
 
-    /// How many flashes a command makes in the block.
-    fn flash_copies(&self, command: &Command) -> u64
-        ensures { result ≡ flash_copies self.now.block command.now }
-    {
-        match command {
-            Command::Operate { action, .. } => match action {
-                Action::Flash => self.copy_count(),
-                Action::Move | Action::Plot => 0,
-            },
-            _ => 0,
-        }
-    }
-
     /// How many regions ended, with the copies of one more, or one more than the most.
     fn regions_with_next(&self) -> u64
         ensures { result ≡ min (self.now.regions + copy_count self.now.block) (suc max_regions) }
@@ -259,18 +314,33 @@ impl<'a> Copper<'a> {
         }
     }
 
+    /// The flashes and contours, in the order of the text, of which clear polarity has taken away what it takes, and what is drawn, which is
+    /// put into `drawn` where it was asked for.
+    ///
+    /// # Errors
+    ///
+    /// An `AllocError` where there is no memory for them.
+    pub fn finish(self, drawn: &mut Vec<Drawn>) -> Result<Vec<Feature>, AllocError>
+        ensures features { (draws : Bool) (commands : List TheCommand) → HasMet draws self commands → IfOk result (λ all. all.items ≡ features_of commands) }
+        ensures drawn { (commands : List TheCommand) → HasMet true self commands → drawn.new.items ≡ drawn_of commands }
+    {
+        *drawn = self.drawing.parts;
+        let count = self.cleared.min(self.features.len());
+        with_first_taken_away(self.alloc, self.features, count)
+    }
+
     /// Takes in one more command without its flashes and contours.
     fn advance(&mut self, command: &Command) -> Result<(), AllocError>
-        ensures state { OnOk result (copper_state self.new ≡ after command.now (copper_state self.old)) }
+        ensures state { OnOk result (IsLike (copper_state self.new) (after command.now (copper_state self.old))) }
         ensures features { self.new.features.items ≡ self.old.features.items }
-        ensures left { self.new.left.now ≡ self.old.left.now }
         ensures cleared { self.new.cleared ≡ self.old.cleared }
+        ensures drawing { self.new.drawing ≡ self.old.drawing }
     {
         self.regions = self.regions_after(command);
         self.clearing = self.clearing.after_command(command);
         self.mirroring = mirroring_after(self.mirroring, command);
         self.block = block_after(self.block, command);
-        add_parts(&mut self.parts, &self.pencil, command)?;
+        add_parts(self.alloc, &mut self.parts, &self.pencil, command)?;
         self.pencil.take(command)?;
         Ok(())
     }
@@ -310,31 +380,46 @@ fn flashed_pad(
     }
 }
 
-/// What a flash in dark polarity is, by the shape of its macro if it has one.
-fn dark_kind(shape: &Option<SharedRounded>, flash: &Flash) -> Result<FeatureKind, AllocError>
-    ensures { (s : CopperState) → shape.now ≡ flash_shape s → IfOk result (λ kind. kind ≡ dark_kind s flash.now.at flash.now.what) }
+/// Why a flash is no pad; `of_macro` is why one of the selected macro is none.
+fn why_in(reason: Why, of_macro: Why) -> Why
+    ensures { (s : CopperState) → of_macro ≡ macro_why s → result ≡ why_in s reason }
+{
+    match reason {
+        Why::Macro => of_macro,
+        _ => reason,
+    }
+}
+
+/// What a flash in dark polarity is, by the shape of its macro if it has one, and by why one of that macro is no pad.
+fn dark_kind(
+    shape: &Option<SharedRounded>,
+    why: Why,
+    flash: &Flash,
+) -> Result<FeatureKind, AllocError>
+    ensures { (s : CopperState) → shape.now ≡ flash_shape s → why ≡ macro_why s → IfOk result (λ kind. kind ≡ dark_kind s flash.now.at flash.now.what) }
 {
     match flash.what {
         What::Pad(pad) => Ok(FeatureKind::Pad(WidePad::Plain(pad))),
-        What::Other(why) => match flashed_pad(shape, flash.at)? {
+        What::Other(reason) => match flashed_pad(shape, flash.at)? {
             Some(pad) => Ok(FeatureKind::Pad(WidePad::Rounded(pad))),
-            None => Ok(FeatureKind::Other(why)),
+            None => Ok(FeatureKind::Other(why_in(reason, why))),
         },
     }
 }
 
-/// A flash, by its polarity and the shape of its macro if it has one.
+/// A flash, by its polarity, the shape of its macro if it has one, and why one of that macro is no pad.
 fn flash_feature(
     is_clear: bool,
     shape: &Option<SharedRounded>,
+    why: Why,
     flash: &Flash,
 ) -> Result<Feature, AllocError>
-    ensures { (s : CopperState) → is_clear ≡ s.clearing.clear → shape.now ≡ flash_shape s → IfOk result (λ feature. feature ≡ flash_feature s flash.now) }
+    ensures { (s : CopperState) → is_clear ≡ s.clearing.clear → shape.now ≡ flash_shape s → why ≡ macro_why s → IfOk result (λ feature. feature ≡ flash_feature s flash.now) }
 {
     let what = if is_clear {
         FeatureKind::Clear
     } else {
-        dark_kind(shape, flash)?
+        dark_kind(shape, why, flash)?
     };
     Ok(Feature { at: flash.at, what })
 }
@@ -344,25 +429,27 @@ fn add_flash(
     features: &mut Vec<Feature>,
     is_clear: bool,
     shape: &Option<SharedRounded>,
+    why: Why,
     flash: &Flash,
 ) -> Result<(), AllocError>
-    ensures { (s : CopperState) → is_clear ≡ s.clearing.clear → shape.now ≡ flash_shape s → OnOk result (features.new.items ≡ features.old.items ++ flash_feature s flash.now ∷ []) }
+    ensures { (s : CopperState) → is_clear ≡ s.clearing.clear → shape.now ≡ flash_shape s → why ≡ macro_why s → OnOk result (features.new.items ≡ features.old.items ++ flash_feature s flash.now ∷ []) }
 {
-    features.push(flash_feature(is_clear, shape, flash)?)?;
+    features.push(flash_feature(is_clear, shape, why, flash)?)?;
     Ok(())
 }
 
-/// Adds flashes, by their polarity and the shape of their macro if they have one.
+/// Adds flashes, by their polarity, the shape of their macro if they have one, and why one of that macro is no pad.
 fn add_flashes(
     features: &mut Vec<Feature>,
     is_clear: bool,
     shape: &Option<SharedRounded>,
+    why: Why,
     flashes: &[Flash],
 ) -> Result<(), AllocError>
-    ensures { (s : CopperState) → is_clear ≡ s.clearing.clear → shape.now ≡ flash_shape s → OnOk result (features.new.items ≡ features.old.items ++ map (flash_feature s) flashes.now) }
+    ensures { (s : CopperState) → is_clear ≡ s.clearing.clear → shape.now ≡ flash_shape s → why ≡ macro_why s → OnOk result (features.new.items ≡ features.old.items ++ map (flash_feature s) flashes.now) }
 {
     for flash in flashes {
-        add_flash(features, is_clear, shape, flash)?;
+        add_flash(features, is_clear, shape, why, flash)?;
     }
     Ok(())
 }
@@ -394,35 +481,4 @@ fn with_first_taken_away(
     let mut all = taken_away(alloc, first)?;
     all.append(&mut last)?;
     Ok(all)
-}
-
-/// The copper of all of these commands, whose flashes are these.
-fn copper_of<'a>(
-    alloc: Global,
-    entries: &[Placed<Command>],
-    flashes: &'a [Flash],
-) -> Result<Copper<'a>, AllocError>
-    ensures { IfOk result (λ copper. HasMet flashes.now copper (without_places entries.now)) }
-{
-    let mut copper = Copper::new(alloc, flashes);
-    for entry in entries {
-        copper.take(&entry.what)?;
-    }
-    Ok(copper)
-}
-
-/// The flashes and contours of a layer, in the order of its text, by its commands and their flashes as the strict profile reads them.
-///
-/// # Errors
-///
-/// An `AllocError` where there is no memory for them.
-pub fn features(
-    alloc: Global,
-    entries: &[Placed<Command>],
-    flashes: &[Flash],
-) -> Result<Vec<Feature>, AllocError>
-    ensures { IsLegal broken_rule (without_places entries.now) → flashes.now ≡ flashes_of (without_places entries.now) → IfOk result (λ all. all.items ≡ features_of (without_places entries.now)) }
-{
-    let copper = copper_of(alloc, entries, flashes)?;
-    with_first_taken_away(alloc, copper.features, copper.cleared)
 }

@@ -6,10 +6,12 @@ mod clearing;
 mod contour;
 mod copies;
 mod copper;
+mod drawing;
 mod feature;
+mod forget;
 pub mod laws;
 mod mirroring;
 mod part;
 
-pub use copper::features;
+pub use copper::Copper;
 pub use feature::{Feature, FeatureKind, FeatureRow, RowKind};

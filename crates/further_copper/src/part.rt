@@ -4,14 +4,15 @@ ghost use Rattle.std.specs.Prelude.{◌≡◌, ◌++◌, [], OnOk};
 ghost use Rattle.std.specs.List.{cons_option};
 ghost use Rattle.gerber_commands.specs.declared.command.Command.TheVariants as command;
 ghost use Rattle.layer_image.specs.Drawn.{current_point};
-ghost use Rattle.further_copper.specs.Contours.{arc_side, end_of, is_clockwise, is_counterclockwise, is_move, part_by, part_of, side_between, side_by, start_of, straight_side};
+ghost use Rattle.further_copper.specs.Contours.{arc_side, end_of, is_clockwise, is_counterclockwise, is_move, part_by, part_of, side_between, side_by, start_of, starts_region, straight_side};
 ghost use Rattle.layer_image.specs.Inner.Pencils.{draw_state};
-ghost use Rattle.further_copper.specs.Inner.States.{parts_after};
+ghost use Rattle.further_copper.specs.Inner.States.{MakeSameContour, parts_after};
 
+use crate::forget::{forget, is_over};
 use gerber_text::{Action, Command, Interpolation, QuadrantMode};
 use grid_units::Point;
 use layer_image::Pencil;
-use std::alloc::AllocError;
+use std::alloc::{AllocError, Global};
 
 /// How a side of a contour goes to its end.
 #[derive(Clone, Copy, Debug, PartialEq, Eq)]
@@ -158,41 +159,76 @@ fn part_of(
     }
 }
 
-/// Adds what an operation adds to the region that is open.
-fn add_part(
-    parts: &mut Vec<Part>,
+/// What an operation adds to the region that is open, where one is.
+fn part_in(
     pencil: &Pencil,
     action: Action,
     x: Option<i64>,
     y: Option<i64>,
     i: Option<i64>,
     j: Option<i64>,
-) -> Result<(), AllocError>
-    ensures { OnOk result (parts.new.items ≡ parts.old.items ++ cons_option (part_by (draw_state pencil.now) (command.Operate action x y i j)) []) }
+) -> Option<Part>
+    ensures { result ≡ part_by (draw_state pencil.now) (command.Operate action x y i j) }
 {
-    if !pencil.in_region() {
-        return Ok(());
+    if pencil.in_region() {
+        Some(part_of(pencil, action, x, y, i, j))
+    } else {
+        None
     }
-    parts.push(part_of(pencil, action, x, y, i, j))?;
-    Ok(())
 }
 
-/// Adds what a command adds to the last region, which may start with it.
+/// What a command adds to the region that is open.
+fn part_by(pencil: &Pencil, command: &Command) -> Option<Part>
+    ensures { result ≡ part_by (draw_state pencil.now) command.now }
+{
+    match command {
+        Command::Operate { action, x, y, i, j } => {
+            part_in(pencil, *action, x.get(), y.get(), i.get(), j.get())
+        }
+        _ => None,
+    }
+}
+
+/// Whether a region starts.
+fn starts_region(command: &Command) -> bool
+    ensures { result ≡ starts_region command.now }
+{
+    match command {
+        Command::RegionStart => true,
+        _ => false,
+    }
+}
+
+/// Adds a part, where there is one.
+fn add_part(alloc: Global, parts: &mut Vec<Part>, part: Option<Part>) -> Result<(), AllocError>
+    ensures { OnOk result (MakeSameContour parts.new.items (parts.old.items ++ cons_option part [])) }
+{
+    match part {
+        Some(part) => {
+            parts.push(part)?;
+            forget(alloc, parts)?;
+            Ok(())
+        }
+        None => Ok(()),
+    }
+}
+
+/// Adds what a command adds to the last region, which may start with it. Parts that can make no contour any more are not kept.
 pub(crate) fn add_parts(
+    alloc: Global,
     parts: &mut Vec<Part>,
     pencil: &Pencil,
     command: &Command,
 ) -> Result<(), AllocError>
-    ensures { OnOk result (parts.new.items ≡ parts_after command.now (draw_state pencil.now) parts.old.items) }
+    ensures { OnOk result (MakeSameContour parts.new.items (parts_after command.now (draw_state pencil.now) parts.old.items)) }
 {
-    match command {
-        Command::RegionStart => {
-            parts.clear();
-            Ok(())
-        }
-        Command::Operate { action, x, y, i, j } => {
-            add_part(parts, pencil, *action, x.get(), y.get(), i.get(), j.get())
-        }
-        _ => Ok(()),
+    if starts_region(command) {
+        parts.clear();
+        return Ok(());
     }
+    if is_over(parts) {
+        return Ok(());
+    }
+    add_part(alloc, parts, part_by(pencil, command))?;
+    Ok(())
 }

@@ -1,8 +1,8 @@
 //! The further pads of layers: mirrored, turned and repeated macros, and contours that count and that do not.
 
-use further_copper::{Feature, FeatureKind, features};
+use further_copper::{Copper, Feature, FeatureKind};
 use grid_units::Point;
-use layer_image::read_layer;
+use layer_image::{Keep, Scan, read_layer};
 use pad_shapes::{PlacedRounded, Rounded};
 use std::alloc::Global;
 use wide_pads::WidePad;
@@ -296,7 +296,15 @@ fn are_pads(alloc: Global, features: &[Feature], expected: &[Pad]) -> bool {
 fn features_of(alloc: Global, pieces: &[&[u8]]) -> Option<Vec<Feature>> {
     let text = pieces.concat(alloc).ok()?;
     let layer = read_layer(alloc, &text).ok()?;
-    features(alloc, layer.commands(), layer.flashes()).ok()
+    let mut scan = Scan::new(alloc, Keep::Flashes);
+    let mut copper = Copper::new(alloc, false);
+    for entry in layer.commands() {
+        let count = scan.flash_count();
+        scan.take(alloc, entry).ok()?;
+        copper.take(&entry.what, scan.flashes_from(count)).ok()?;
+    }
+    let mut drawn = Vec::new(alloc);
+    copper.finish(&mut drawn).ok()
 }
 
 /// Whether these are the further pads of the layer of a text in millimetres.

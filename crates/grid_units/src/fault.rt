@@ -103,10 +103,13 @@ pub enum Reason {
     NotCopper = 45,
     /// A text that is no span of layers, a span of a copper file, or one above the number of layers.
     BadSpan = 46,
+    /// A hole of a mixed drill file whose tool is neither plated nor unplated by the comments of the header, or such a comment in
+    /// the body.
+    NoPlating = 47,
 }
 
 /// The names of the reasons, in the order of their numbers.
-const NAMES: [&str; 46] = [
+const NAMES: [&str; 47] = [
     "TooLong",
     "AfterEnd",
     "Truncated",
@@ -153,12 +156,13 @@ const NAMES: [&str; 46] = [
     "NoDrill",
     "NotCopper",
     "BadSpan",
+    "NoPlating",
 ];
 
 impl Reason {
     ghost use Rattle.grid_units.specs.Reasons.{reason_name, reason_number};
 
-    /// The number of the reason, from 1 to 46.
+    /// The number of the reason, from 1 to 47.
     pub fn number(self) -> u8
         ensures { result ≡ reason_number self }
     {

@@ -304,6 +304,7 @@ fn digest_entry(digest: &mut Digest, entry: &Entry) {
         Role::Copper => b"copper".as_slice(),
         Role::Plated => b"plated".as_slice(),
         Role::Unplated => b"unplated".as_slice(),
+        Role::Mixed => b"mixed".as_slice(),
     });
     digest.take(entry.name.as_str().as_bytes());
     digest.take(entry.file.as_str().as_bytes());

@@ -1,15 +1,25 @@
 //! Manifests that are accepted, with the files and spans that they name, and those that are refused.
 
-use grid_units::{Fail, Reason, Span};
+use grid_units::{Fail, Profile, Reason, Span};
 use manifest::*;
 use std::alloc::{AllocError, Global};
 
-/// The place, the byte and the reason with which a manifest is refused.
-fn refusal(rt: HostRuntime, text: &[u8]) -> Option<(u64, u64, Reason)> {
-    match read_manifest(rt.alloc(), text) {
+/// The place, the byte and the reason of a refusal.
+fn refusal_of(read: Result<Vec<Entry>, Fail>) -> Option<(u64, u64, Reason)> {
+    match read {
         Err(Fail::Refused(fault)) => Some((fault.place, fault.byte, fault.reason)),
         _ => None,
     }
+}
+
+/// The place, the byte and the reason with which a manifest is refused in a profile.
+fn refusal_in(rt: HostRuntime, profile: Profile, text: &[u8]) -> Option<(u64, u64, Reason)> {
+    refusal_of(read_manifest_in(rt.alloc(), profile, text))
+}
+
+/// The same with the function that reads in the strict profile.
+fn refusal(rt: HostRuntime, text: &[u8]) -> Option<(u64, u64, Reason)> {
+    refusal_of(read_manifest(rt.alloc(), text))
 }
 
 /// Whether a manifest is refused for this reason at the record of this number.
@@ -331,4 +341,111 @@ fn the_first_refusal_is_told_of_spans(rt: HostRuntime) {
 fn files_of_version_1_have_no_span(rt: HostRuntime) {
     let text = "role,name,file\ncopper,a,b\nplated,c,d\n";
     assert!(rt; is_accepted(rt, text, Has::Spans(&[None, None])));
+}
+
+/// Whether a manifest is accepted in the wide profile, with just these files and just these spans.
+fn is_accepted_wide(rt: HostRuntime, text: &str, files: &[Record], spans: &[LayerRange]) -> bool {
+    match read_manifest_in(rt.alloc(), Profile::Wide, text.as_bytes()) {
+        Ok(entries) => are_named(&entries, files) && are_spanned(&entries, spans),
+        Err(_) => false,
+    }
+}
+
+/// A manifest that only the wide profile accepts, with its files, their spans, and the record at which the strict one refuses it.
+type WideRow = (&'static str, &'static [Record], &'static [LayerRange], u64);
+
+const WIDE_ALONE: [WideRow; 4] = [
+    (
+        "role,name,file\ncopper,top,top.gbr\ncopper,bot,bot.gbr\nmixed,pth,all.drl\n",
+        &[
+            (Role::Copper, "top", "top.gbr"),
+            (Role::Copper, "bot", "bot.gbr"),
+            (Role::Mixed, "pth", "all.drl"),
+        ],
+        &[None, None, None],
+        4,
+    ),
+    (
+        "role,name,file\nmixed,a,b\ncopper,c,d\nplated,e,f\n",
+        &[
+            (Role::Mixed, "a", "b"),
+            (Role::Copper, "c", "d"),
+            (Role::Plated, "e", "f"),
+        ],
+        &[None, None, None],
+        2,
+    ),
+    // a span, and none
+    (
+        "role,name,file,first,last\ncopper,a,b,,\ncopper,c,d,,\nmixed,e,f,1,2\n",
+        &[
+            (Role::Copper, "a", "b"),
+            (Role::Copper, "c", "d"),
+            (Role::Mixed, "e", "f"),
+        ],
+        &[None, None, Some((1, 2))],
+        4,
+    ),
+    (
+        "role,name,file,first,last\ncopper,a,b,,\nmixed,e,f,,\n",
+        &[(Role::Copper, "a", "b"), (Role::Mixed, "e", "f")],
+        &[None, None],
+        3,
+    ),
+];
+
+#[test]
+fn mixed_is_a_role_of_the_wide_profile_alone(rt: HostRuntime) {
+    for &(text, files, spans, place) in &WIDE_ALONE {
+        assert!(rt; is_accepted_wide(rt, text, files, spans), "of {text}");
+        assert!(rt;
+            refuses(rt, text.as_bytes(), place, Reason::BadRole),
+            "of {text}"
+        );
+    }
+}
+
+/// A manifest, and the place and the reason of its refusal in the wide profile.
+const REFUSED_WIDE: [(&str, u64, Reason); 9] = [
+    // mixed files are no copper layers
+    ("role,name,file\nmixed,a,b\n", 3, Reason::NoCopper),
+    (
+        "role,name,file,first,last\ncopper,a,b,,\nmixed,c,d,1,2\n",
+        3,
+        Reason::BadSpan,
+    ),
+    (
+        "role,name,file,first,last\ncopper,a,b,,\nmixed,c,d,1,\n",
+        3,
+        Reason::BadSpan,
+    ),
+    // the word is `mixed`
+    ("role,name,file\nMixed,a,b\n", 2, Reason::BadRole),
+    ("role,name,file\nmixe,a,b\n", 2, Reason::BadRole),
+    ("role,name,file\nmixed ,a,b\n", 2, Reason::BadRole),
+    // the other rules count as before
+    ("role,name,file\nmixed,,b\n", 2, Reason::EmptyName),
+    (
+        "role,name,file\ncopper,a,b\nmixed,a,c\n",
+        3,
+        Reason::RepeatedName,
+    ),
+    ("role,name,file\nmixed,\u{1},b\n", 2, Reason::BadManifest),
+];
+
+#[test]
+fn mixed_files_obey_the_rules_of_the_others(rt: HostRuntime) {
+    for &(text, place, reason) in &REFUSED_WIDE {
+        let told = refusal_in(rt, Profile::Wide, text.as_bytes());
+        assert!(rt; told == Some((place, 0, reason)), "of {text}");
+    }
+}
+
+/// What names no mixed file is read alike in both profiles.
+#[test]
+fn the_profiles_agree_elsewhere(rt: HostRuntime) {
+    for &(text, place, reason) in &REFUSED {
+        let told = refusal_in(rt, Profile::Wide, text.as_bytes());
+        assert!(rt; told == Some((place, 0, reason)), "of {text}");
+    }
 }

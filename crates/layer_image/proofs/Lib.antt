@@ -9,6 +9,7 @@ pub mod FirstFaultLemmas
 pub mod SplitAtCommand
 pub mod Reading
 pub mod UniqueReading
+pub mod LongerFaults
 pub mod Pieces
 pub mod FastOperations
 pub mod OperationScans

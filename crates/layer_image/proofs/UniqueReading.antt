@@ -57,7 +57,7 @@ first_of_longer [] m x e = absurd cc
 first_of_longer (y ∷ l) m x e = e
 
 -- the first fault of a list is that of each longer one
-first_fault_of_longer : (cs ds : Entries) (f : Fault) → IsFirstFault cs f → IsFirstFault (cs ++ ds) f
+pub first_fault_of_longer : (cs ds : Entries) (f : Fault) → IsFirstFault cs f → IsFirstFault (cs ++ ds) f
 first_fault_of_longer cs ds f h = (h.0, ap (λ (l : List (ℕ × Fault)). slice_get l 0) (violations-append fault_of cs ds) ∙ first_of_longer (violations fault_of cs) _ (h.0, f) h.1)
 
 abbrev fault_in : Fault → Option (ℕ × Fault) → Fault

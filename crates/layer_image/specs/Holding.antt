@@ -1,5 +1,5 @@
 -- What a reader of a layer in pieces holds after the bytes so far.
-use Rattle.std.specs.Prelude.{◌≡◌, ◌⊎◌, ℕ, List, [], ◌∷◌, ◌++◌, Option, None, Some, Result, Ok, Err, if◌then◌else◌}
+use Rattle.std.specs.Prelude.{◌≡◌, ◌⊎◌, ℕ, Bool, List, [], ◌∷◌, ◌++◌, Option, None, Some, Result, Ok, Err, if◌then◌else◌}
 use Rattle.grid_units.specs.Lists.{IsLegal}
 use Rattle.grid_units.specs.declared.fault.Fault.{Fault}
 use Rattle.grid_units.specs.declared.fault.Fail.{Fail}
@@ -10,6 +10,7 @@ use Rattle.grid_units.specs.declared.profile.Profile.{Profile}
 use Rattle.grid_units.specs.declared.profile.Profile.TheVariants.{Strict}
 use Rattle.gerber_text.specs.Reading.{Entries, ShowsIn, SpellsPrefixIn, SpellsBeforeFaultIn}
 use Rattle.gerber_text.specs.Holding.{StandsIn, held}
+use Rattle.layer_image.specs.declared.flash.Flash.{Flash}
 use Rattle.layer_image.specs.declared.keep.Keep.{Keep}
 use Rattle.grid_units.specs.declared.item_fail.ItemFail.{ItemFail}
 use Rattle.grid_units.specs.declared.item_fail.ItemFail.TheVariants.{Memory, Refused}
@@ -37,6 +38,14 @@ ShowsLayerFault text f = ShowsLayerFaultIn Strict text f
 pub record HasScanned (scan : Scan) (parts : KeptParts) (before : List Command) : Type 0 where
   pub is_state : IsStateAfter scan.state.state parts before
   pub named : scan.file_function ≡ file_function_of before
+
+-- a region is open after the commands that a scan has met
+abbrev pub is_scanning_region : Scan → Bool
+is_scanning_region scan = scan.state.state.in_region
+
+-- the flashes that a scan keeps
+abbrev pub scanned_flashes : Scan → List Flash
+scanned_flashes scan = scan.state.state.flashes.all.items
 
 -- The command breaks no rule and was taken in, or this is the first rule that it breaks, or memory ran out.
 abbrev pub IsScanResult : KeptParts → List Command → Command → Scan → Result (Unit {0}) ItemFail → Type 0

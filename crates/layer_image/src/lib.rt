@@ -35,3 +35,4 @@ pub use laws::{
 pub use layer::{Layer, read_layer};
 pub use pencil::Pencil;
 pub use reader::LayerReader;
+pub use scan::Scan;

@@ -152,7 +152,11 @@ impl Pencil {
     }
 
     /// What a command draws, if it draws anything.
-    pub(crate) fn drawn(&self, command: &Command) -> Result<Option<Drawn>, AllocError>
+    ///
+    /// # Errors
+    ///
+    /// An `AllocError` where there is no memory for it.
+    pub fn drawn(&self, command: &Command) -> Result<Option<Drawn>, AllocError>
         ensures { IfOk result (λ part. part ≡ drawn_by (draw_state self.now) command.now) }
     {
         match command {

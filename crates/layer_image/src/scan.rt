@@ -1,33 +1,36 @@
 //! A scan over commands: each is judged and then dropped, and what the layer is made of is kept.
 
-ghost use Rattle.std.specs.Prelude.{◌≡◌, ◌++◌, [], ◌∷◌, ℕ, List, OnOk, IfErr, false};
+ghost use Rattle.std.specs.Prelude.{◌≡◌, ◌++◌, [], ◌∷◌, ℕ, List, OnOk, IfErr, drop, length, false};
 ghost use Rattle.grid_units.specs.Results.{IfFault};
 ghost use Rattle.gerber_commands.specs.declared.command.Command.{Command};
 ghost use Rattle.gerber_text.specs.FastPath.{text_command};
 ghost use Rattle.gerber_text.specs.Reading.{Entries, placed};
 ghost use Rattle.gerber_text.specs.Holding.{passed_entries};
 ghost use Rattle.layer_image.specs.Faults.{fail_at, IsFirstFault};
+ghost use Rattle.gerber_text.specs.Writing.{without_places};
+ghost use Rattle.layer_image.specs.FileFunction.{file_function_of};
 ghost use Rattle.layer_image.specs.KeptFlashes.{KeptParts, taking_pads, without_pads};
 
 use crate::cached::CachedState;
+use crate::flash::Flash;
 use crate::function::{function_in_text, function_set};
 use crate::keep::Keep;
 use gerber_text::{Command, LeadingOperation, PassedOperation, Placed, TextKind};
 use grid_units::{Fail, Fault, ItemFail, Text};
 use std::alloc::{AllocError, Global};
 
-/// A judge and the last file function, after the commands so far.
+/// A judge and the last file function, after the commands so far. It holds what is kept of their flashes, and none of the commands.
 #[derive(Drop)]
-pub(crate) struct Scan {
+pub struct Scan {
     pub(crate) state: CachedState,
     pub(crate) file_function: Option<Text>,
 }
 
 impl Scan {
-    ghost use Rattle.layer_image.specs.Holding.{HasScanned, IsScanResult, HasScannedLegal};
+    ghost use Rattle.layer_image.specs.Holding.{HasScanned, IsScanResult, HasScannedLegal, is_scanning_region, scanned_flashes};
 
     /// A scan that has met no command.
-    pub(crate) fn new(alloc: Global, keep: Keep) -> Self
+    pub fn new(alloc: Global, keep: Keep) -> Self
         ensures { HasScannedLegal result (without_pads keep []) [] }
     {
         Scan {
@@ -49,15 +52,12 @@ impl Scan {
     /// # Errors
     ///
     /// The fault of the first command that breaks a rule; `Memory` where an allocation failed.
-    pub(crate) fn scan(&mut self, alloc: Global, entries: &[Placed<Command>]) -> Result<(), Fail>
+    pub fn scan(&mut self, alloc: Global, entries: &[Placed<Command>]) -> Result<(), Fail>
         ensures ok { (parts : KeptParts) (before : Entries) → HasScannedLegal self.old parts before → OnOk result (HasScannedLegal self.new parts (before ++ entries.now)) }
         ensures refused { (parts : KeptParts) (before : Entries) → HasScannedLegal self.old parts before → IfErr result (IfFault (IsFirstFault (before ++ entries.now))) }
     {
         for entry in entries {
-            match self.scan_one(alloc, &entry.what) {
-                Ok(()) => {}
-                Err(stop) => return Err(fail_at(entry.place, entry.byte, stop)),
-            }
+            self.take(alloc, entry)?;
         }
         Ok(())
     }
@@ -68,7 +68,7 @@ impl Scan {
     /// # Errors
     ///
     /// The fault of an operation that breaks a rule; `Memory` where an allocation failed.
-    pub(crate) fn operate(&mut self, passed: PassedOperation) -> Result<(), Fail>
+    pub fn operate(&mut self, passed: PassedOperation) -> Result<(), Fail>
         ensures ok { (parts : KeptParts) (before : Entries) → HasScannedLegal self.old parts before → OnOk result (HasScannedLegal self.new parts (before ++ passed_entries passed)) }
         ensures refused { (parts : KeptParts) (before : Entries) → HasScannedLegal self.old parts before → IfErr result (IfFault (IsFirstFault (before ++ passed_entries passed))) }
     {
@@ -88,13 +88,12 @@ impl Scan {
 
     /// Takes in a comment or an attribute of this text that a reader has passed, and keeps the file function that it
     /// names. Outside of regions it breaks no rule.
-    pub(crate) fn text(
-        &mut self,
-        alloc: Global,
-        kind: TextKind,
-        text: &[u8],
-    ) -> Result<(), AllocError>
-        requires { self.old.state.state.in_region ≡ false }
+    ///
+    /// # Errors
+    ///
+    /// An `AllocError` where there is no memory for the file function.
+    pub fn text(&mut self, alloc: Global, kind: TextKind, text: &[u8]) -> Result<(), AllocError>
+        requires { is_scanning_region self.old ≡ false }
         ensures { (parts : KeptParts) (before : Entries) (place byte : ℕ) → HasScannedLegal self.old parts before → OnOk result (HasScannedLegal self.new parts (before ++ placed place byte (text_command kind text.now ∷ []))) }
     {
         if let Some(bytes) = function_in_text(kind, text) {
@@ -104,7 +103,53 @@ impl Scan {
         Ok(())
     }
 
-    /// AppliesOrRefuses one more command, takes it in, and keeps the file function that it names.
+    /// Checks one more command and applies it.
+    ///
+    /// # Errors
+    ///
+    /// The fault of a command that breaks a rule; `Memory` where an allocation failed.
+    pub fn take(&mut self, alloc: Global, entry: &Placed<Command>) -> Result<(), Fail>
+        ensures ok { (parts : KeptParts) (before : Entries) → HasScannedLegal self.old parts before → OnOk result (HasScannedLegal self.new parts (before ++ entry.now ∷ [])) }
+        ensures refused { (parts : KeptParts) (before : Entries) → HasScannedLegal self.old parts before → IfErr result (IfFault (IsFirstFault (before ++ entry.now ∷ []))) }
+    {
+        match self.scan_one(alloc, &entry.what) {
+            Ok(()) => Ok(()),
+            Err(stop) => Err(fail_at(entry.place, entry.byte, stop)),
+        }
+    }
+
+    /// Whether a region is open.
+    pub fn in_region(&self) -> bool
+        ensures { result ≡ is_scanning_region self.now }
+    {
+        self.state.state.in_region
+    }
+
+    /// How many flashes are kept.
+    pub fn flash_count(&self) -> usize
+        ensures { result ≡ length (scanned_flashes self.now) }
+    {
+        self.state.state.flashes.all.len()
+    }
+
+    /// The flashes that are kept, in order, without so many first ones.
+    #[tactic(auto, using(crate::proofs::KeptFlashesLemmas::from_capped))]
+    pub fn flashes_from(&self, count: usize) -> &[Flash]
+        ensures { result.now ≡ drop count (scanned_flashes self.now) }
+    {
+        let all = &self.state.state.flashes.all;
+        &all[count.min(all.len())..]
+    }
+
+    /// What follows `.FileFunction,` in the last file attribute or comment that names it, if one does.
+    pub fn into_file_function(self) -> Option<Text>
+        ensures { (parts : KeptParts) (entries : Entries) → HasScannedLegal self parts entries → result ≡ file_function_of (without_places entries) }
+    {
+        let Scan { file_function, .. } = self;
+        file_function
+    }
+
+    /// Checks one more command, takes it in, and keeps the file function that it names.
     fn scan_one(&mut self, alloc: Global, command: &Command) -> Result<(), ItemFail>
         ensures { (parts : KeptParts) (before : List Command) → HasScanned self.old parts before → IsScanResult parts before command.now self.new result }
     {

@@ -18,7 +18,7 @@ mod variables;
 
 pub use expression::value;
 pub use fields::{Fields, Macro, Values, read_macro};
-pub use outline::polygon_round;
+pub use outline::{has_many_stops, polygon_round};
 pub use piece::Code;
 pub use primitive::{Primitive, Primitives, read_primitives};
 pub use shape::macro_shape;

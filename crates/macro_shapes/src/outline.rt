@@ -1,6 +1,7 @@
 //! Outlines of a macro: the polygons that closed runs of points go round.
 
-ghost use Rattle.std.specs.Prelude.{◌≡◌, ◌<◌, ◌∷◌, IfOk, option_map, reverse, length, zip};
+ghost use Rattle.std.specs.Prelude.{◌≡◌, ◌<◌, ◌∷◌, IfOk, nat_lt, option_map, reverse, length, zip};
+ghost use Rattle.pad_shapes.specs.Rounded.{max_corners};
 ghost use Rattle.macro_shapes.specs.Primitives.{is_same, is_count, run_of, is_closed, point_at, moved, moves, stops, are_different, rounded_of, polygon_of, either_way, outline_of, outline_at, outline, polygon_round};
 ghost use Rattle.std.specs.List.{filter_map, list_any};
 
@@ -90,6 +91,34 @@ fn stops(alloc: Global, run: &[Point]) -> Result<Vec<Point>, AllocError>
     Ok(found)
 }
 
+/// Whether more of these points than a polygon may have corners are not the same as the one before them. It reads no further than that.
+fn has_many_moves(before: Point, run: &[Point]) -> bool
+    ensures { result ≡ nat_lt max_corners (length (filter_map moved (zip (before ∷ run.now) run.now))) }
+{
+    let mut count = 0;
+    let mut last = before;
+    for next in run {
+        if !is_same(*next, last) {
+            if count == MAX_CORNERS {
+                return true;
+            }
+            count += 1;
+        }
+        last = *next;
+    }
+    false
+}
+
+/// Whether a closed run has more different points, one after the other, than a polygon may have corners.
+pub fn has_many_stops(run: &[Point]) -> bool
+    ensures { result ≡ nat_lt max_corners (length (stops run.now)) }
+{
+    match run {
+        [] => false,
+        [first, ..] => has_many_moves(*first, run),
+    }
+}
+
 /// Whether a point is among others.
 fn is_among(point: Point, others: &[Point]) -> bool
     ensures { result ≡ list_any (is_same point) others.now }
@@ -171,8 +200,11 @@ pub fn polygon_round(alloc: Global, run: &[Point]) -> Result<Option<Rounded>, Al
     if !is_closed(run) {
         return Ok(None);
     }
+    if has_many_stops(run) {
+        return Ok(None);
+    }
     let corners = stops(alloc, run)?;
-    if corners.len() < 3 || MAX_CORNERS < corners.len() || !are_different(&corners) {
+    if corners.len() < 3 || !are_different(&corners) {
         return Ok(None);
     }
     polygon_of(alloc, &corners)

@@ -3,4 +3,5 @@ pub mod NameSet
 pub mod EntryLoop
 pub mod Records
 pub mod ManifestReasons
+pub mod StrictManifests
 pub mod SpanFieldLemmas

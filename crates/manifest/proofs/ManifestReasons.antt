@@ -1,15 +1,16 @@
 -- A manifest is refused for one of its own reasons.
-use Rattle.std.proofs.Common.{◌≡◌, ◌∙◌, ◌+◌, ◌++◌, ◌||◌, ◌==◌, ℕ, Bool, true, false, List, [], ◌∷◌, Option, Some, None, Result, Err, length, map, slice_get, not, refl, ap, sym}
+use Rattle.std.proofs.Common.{◌≡◌, ◌∙◌, ◌+◌, ◌++◌, ◌||◌, ◌&&◌, ◌==◌, ℕ, Bool, true, false, List, [], ◌∷◌, Option, Some, None, Result, Err, length, map, slice_get, not, refl, ap, sym}
 use Rattle.std.specs.Prelude.{if◌then◌else◌, is_some}
 use Rattle.std.specs.List.{cons_option, filter_map, list_any}
 use Rattle.std.specs.Option.{option_map, option_or}
 use Rattle.grid_units.specs.Lists.{violation_at, violations, with_prefixes_from}
 use Rattle.grid_units.specs.Results.{fault}
 use Rattle.grid_units.specs.declared.fault.Fault.{Fault}
+use Rattle.grid_units.specs.declared.profile.Profile.{Profile}
 use Rattle.grid_units.specs.declared.fault.Reason.{Reason}
 use Rattle.grid_units.specs.declared.fault.Reason.TheVariants.{BadManifest, BadRole, BadSpan, EmptyName, NoCopper, NoDrill, RepeatedName}
 use Rattle.manifest.specs.declared.Entry.{Entry}
-use Rattle.manifest.specs.Manifest.{CsvRecord, broken_after, first_broken_rule, entry_of, field, parse_entries, first_exceeding, first_fault, is_bad_span, is_copper, is_manifest_reason, is_repeated, is_well_formed, manifest, parse_manifest_records, missing_role, role_of_word, csv_records, entries_or_fault, field_count, joint_fault}
+use Rattle.manifest.specs.Manifest.{CsvRecord, broken_after, first_broken_rule, entry_of, field, parse_entries, first_exceeding, first_fault, is_bad_span, is_copper, is_manifest_reason, is_repeated, is_role_in, is_well_formed, manifest_in, parse_manifest_records, missing_role, role_of_word, csv_records, entries_or_fault, field_count, joint_fault}
 
 module _ (fair : Reason → Bool) where
   -- no reason, or one that passes
@@ -40,12 +41,12 @@ module _ (fair : Reason → Bool) where
   pub first_is_listed : {C : Type 0} (rule : List C → C → Option Reason) → ((before : List C) (row : C) → Fair (rule before row)) → (rows : List C) → FairAt (slice_get (violations rule rows) 0)
   first_is_listed rule each rows = first_behind rule each [] rows
 
-broken_is_listed : (width : ℕ) (repeated : Bool) (row : CsvRecord) → Fair is_manifest_reason (first_broken_rule width repeated row)
+broken_is_listed : (profile : Profile) (width : ℕ) (repeated : Bool) (row : CsvRecord) → Fair is_manifest_reason (first_broken_rule profile width repeated row)
 unfolding Fair
-broken_is_listed width repeated row =
+broken_is_listed profile width repeated row =
     let either = listed_if is_manifest_reason in
     either (not (is_well_formed width row)) (Some BadManifest) _ refl
-    (either (not (is_some (role_of_word (field 0 row)))) (Some BadRole) _ refl
+    (either (not (is_some (role_of_word (field 0 row)) && is_role_in profile (entry_of row).role)) (Some BadRole) _ refl
     (either ((length (field 1 row) == 0) || (length (field 2 row) == 0)) (Some EmptyName) _ refl
     (either repeated (Some RepeatedName) _ refl
     (either (is_bad_span (entry_of row).role (field 3 row) (field 4 row)) (Some BadSpan) None refl tt))))
@@ -65,10 +66,10 @@ joint_is_listed entries = by (missing_role entries) (first_exceeding entries) (m
     by None (Some i) h = refl
     by (Some why) beyond h = h
 
-first_fault_is_listed : (width : ℕ) (files : List CsvRecord) → FairAt is_manifest_reason (first_fault width files)
+first_fault_is_listed : (profile : Profile) (width : ℕ) (files : List CsvRecord) → FairAt is_manifest_reason (first_fault profile width files)
 unfolding FairAt
-first_fault_is_listed width files =
-    by (slice_get (violations (broken_after width) files) 0) (first_is_listed is_manifest_reason (broken_after width) (λ before row. broken_is_listed width (is_repeated (field 1 row) (map entry_of before)) row) files)
+first_fault_is_listed profile width files =
+    by (slice_get (violations (broken_after profile width) files) 0) (first_is_listed is_manifest_reason (broken_after profile width) (λ before row. broken_is_listed profile width (is_repeated (field 1 row) (map entry_of before)) row) files)
   where
     by : (o : Option (ℕ × Reason)) → FairAt is_manifest_reason o → FairAt is_manifest_reason (option_or o (joint_fault (map entry_of files)))
     by None h = joint_is_listed (map entry_of files)
@@ -82,19 +83,19 @@ of_fault : (g : Fault) → is_manifest_reason g.reason ≡ true → IsListedReas
 unfolding IsListedReason
 of_fault g h f e = let same : g ≡ f = cc in ap (λ (x : Fault). is_manifest_reason x.reason) (sym same) ∙ h
 
-entries_are_listed : (width : Option ℕ) (files : List CsvRecord) → IsListedReason (parse_entries width files)
+entries_are_listed : (profile : Profile) (width : Option ℕ) (files : List CsvRecord) → IsListedReason (parse_entries profile width files)
 unfolding FairAt IsListedReason
-entries_are_listed None files = of_fault (fault 1 0 BadManifest) refl
-entries_are_listed (Some width) files = by (first_fault width files) (first_fault_is_listed width files)
+entries_are_listed profile None files = of_fault (fault 1 0 BadManifest) refl
+entries_are_listed profile (Some width) files = by (first_fault profile width files) (first_fault_is_listed profile width files)
   where
     by : (o : Option (ℕ × Reason)) → FairAt is_manifest_reason o → IsListedReason (entries_or_fault o (map entry_of files))
     by None h f e = absurd cc
     by (Some wrong) h f e = of_fault (fault (wrong.0 + 2) 0 wrong.1) h f e
 
-rows_fair : (rows : List CsvRecord) → IsListedReason (parse_manifest_records rows)
-rows_fair [] = of_fault (fault 1 0 BadManifest) refl
-rows_fair (first ∷ files) = entries_are_listed (field_count first) files
+rows_fair : (profile : Profile) (rows : List CsvRecord) → IsListedReason (parse_manifest_records profile rows)
+rows_fair profile [] = of_fault (fault 1 0 BadManifest) refl
+rows_fair profile (first ∷ files) = entries_are_listed profile (field_count first) files
 
-pub manifest_is_listed : (text : List ℕ) (f : Fault) → manifest text ≡ Err f → is_manifest_reason f.reason ≡ true
+pub manifest_is_listed : (profile : Profile) (text : List ℕ) (f : Fault) → manifest_in profile text ≡ Err f → is_manifest_reason f.reason ≡ true
 unfolding IsListedReason
-manifest_is_listed text = rows_fair (csv_records text)
+manifest_is_listed profile text = rows_fair profile (csv_records text)

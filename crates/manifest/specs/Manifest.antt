@@ -13,8 +13,10 @@ use Rattle.grid_units.specs.Spans.{LayerSpan}
 use Rattle.grid_units.specs.declared.fault.Reason.{Reason}
 use Rattle.grid_units.specs.declared.fault.Reason.TheVariants.{BadManifest, BadRole, EmptyName, RepeatedName, NoCopper, NoDrill, BadSpan}
 use Rattle.grid_units.specs.declared.fault.Fault.{Fault}
+use Rattle.grid_units.specs.declared.profile.Profile.{Profile}
+use Rattle.grid_units.specs.declared.profile.Profile.TheVariants.{Strict, Wide}
 use Rattle.manifest.specs.declared.Role.{Role}
-use Rattle.manifest.specs.declared.Role.TheVariants.{Copper, Plated, Unplated}
+use Rattle.manifest.specs.declared.Role.TheVariants.{Copper, Plated, Unplated, Mixed}
 use Rattle.manifest.specs.declared.Entry.{Entry}
 use Rattle.grid_units.specs.Ascii as ascii
 
@@ -66,11 +68,21 @@ field_count first = if is_header_v1 first then Some 3 else if is_header_v2 first
 abbrev pub is_well_formed : ℕ → CsvRecord → Bool
 is_well_formed width row = (length row == width) && list_all is_plain_text row
 
--- the role that a word names, byte by byte: `copper`, `plated` or `unplated`
+-- the role that a word names, byte by byte: `copper`, `plated`, `unplated` or `mixed`
 abbrev pub role_of_word : List ℕ → Option Role
 role_of_word word =
     if bytes_eq word (codes "copper") then Some Copper
-    else if bytes_eq word (codes "plated") then Some Plated else if bytes_eq word (codes "unplated") then Some Unplated else None
+    else if bytes_eq word (codes "plated") then Some Plated
+    else if bytes_eq word (codes "unplated") then Some Unplated else if bytes_eq word (codes "mixed") then Some Mixed else None
+
+-- the wide profile has this role: all but `mixed` are of the strict one too
+abbrev pub is_wide_alone : Role → Bool
+is_wide_alone role = elim role [ Copper ↦ false | Plated ↦ false | Unplated ↦ false | Mixed ↦ true ]
+
+-- the profile has this role
+abbrev pub is_role_in : Profile → Role → Bool
+is_role_in Strict role = not (is_wide_alone role)
+is_role_in Wide role = true
 
 -- the number of a layer: one to nine digits, as `2` or `02`
 abbrev pub is_layer_number : List ℕ → Bool
@@ -95,7 +107,7 @@ entry_of row = record { role = unwrap_or (role_of_word (field 0 row)) Copper; na
 
 -- files of this role are copper layers
 abbrev pub is_copper_role : Role → Bool
-is_copper_role role = elim role [ Copper ↦ true | Plated ↦ false | Unplated ↦ false ]
+is_copper_role role = elim role [ Copper ↦ true | Plated ↦ false | Unplated ↦ false | Mixed ↦ false ]
 
 -- the last two fields are not both empty, and the file is a copper layer or they are not the numbers of a span
 abbrev pub is_bad_span : Role → List ℕ → List ℕ → Bool
@@ -105,11 +117,11 @@ is_bad_span role first last = not (are_empty first last) && (is_copper_role role
 abbrev pub is_repeated : List ℕ → List Entry → Bool
 is_repeated name earlier = list_any (λ entry. bytes_eq entry.name name) earlier
 
--- the first rule that a file's record breaks; a record needs `width` fields, and `repeated` says whether an earlier file has its name
-abbrev pub first_broken_rule : ℕ → Bool → CsvRecord → Option Reason
-first_broken_rule width repeated row =
+-- the first rule that a file's record breaks in a profile; a record needs `width` fields, and `repeated` says whether an earlier file has its name
+abbrev pub first_broken_rule : Profile → ℕ → Bool → CsvRecord → Option Reason
+first_broken_rule profile width repeated row =
     if not (is_well_formed width row) then Some BadManifest
-    else if not (is_some (role_of_word (field 0 row))) then Some BadRole
+    else if not (is_some (role_of_word (field 0 row)) && is_role_in profile (entry_of row).role) then Some BadRole
     else if (length (field 1 row) == 0) || (length (field 2 row) == 0) then Some EmptyName
     else if repeated then Some RepeatedName
     else if is_bad_span (entry_of row).role (field 3 row) (field 4 row) then Some BadSpan else None
@@ -140,12 +152,12 @@ abbrev pub joint_fault : List Entry → Option (ℕ × Reason)
 joint_fault entries = option_or (option_map (λ why. (length entries, why)) (missing_role entries)) (option_map (λ i. (i, BadSpan)) (first_exceeding entries))
 
 -- the first rule that a record breaks after the records of the files before it
-abbrev pub broken_after : ℕ → List CsvRecord → CsvRecord → Option Reason
-broken_after width before row = first_broken_rule width (is_repeated (field 1 row) (map entry_of before)) row
+abbrev pub broken_after : Profile → ℕ → List CsvRecord → CsvRecord → Option Reason
+broken_after profile width before row = first_broken_rule profile width (is_repeated (field 1 row) (map entry_of before)) row
 
 -- what is wrong, at a place from 0: the first record of a file that breaks a rule, or else what is wrong with all files together
-abbrev pub first_fault : ℕ → List CsvRecord → Option (ℕ × Reason)
-first_fault width files = option_or (slice_get (violations (broken_after width) files) 0) (joint_fault (map entry_of files))
+abbrev pub first_fault : Profile → ℕ → List CsvRecord → Option (ℕ × Reason)
+first_fault profile width files = option_or (slice_get (violations (broken_after profile width) files) 0) (joint_fault (map entry_of files))
 
 -- these entries where nothing is wrong, else the refusal; the record of the first file has the number 2
 abbrev pub entries_or_fault : Option (ℕ × Reason) → List Entry → Result (List Entry) Fault
@@ -153,22 +165,26 @@ entries_or_fault None entries = Ok entries
 entries_or_fault (Some wrong) entries = Err (fault (wrong.0 + 2) 0 wrong.1)
 
 -- the files that these records name, or the first refusal; each record needs so many fields
-abbrev pub entries_of : ℕ → List CsvRecord → Result (List Entry) Fault
-entries_of width files = entries_or_fault (first_fault width files) (map entry_of files)
+abbrev pub entries_of : Profile → ℕ → List CsvRecord → Result (List Entry) Fault
+entries_of profile width files = entries_or_fault (first_fault profile width files) (map entry_of files)
 
 -- the files named after a first record that gives the number of fields; where it gives none, BadManifest at record 1
-abbrev pub parse_entries : Option ℕ → List CsvRecord → Result (List Entry) Fault
-parse_entries None files = Err (fault 1 0 BadManifest)
-parse_entries (Some width) files = entries_of width files
+abbrev pub parse_entries : Profile → Option ℕ → List CsvRecord → Result (List Entry) Fault
+parse_entries profile None files = Err (fault 1 0 BadManifest)
+parse_entries profile (Some width) files = entries_of profile width files
 
 -- the files that a list of records names, or the first refusal; a list without records is BadManifest at record 1
-abbrev pub parse_manifest_records : List CsvRecord → Result (List Entry) Fault
-parse_manifest_records [] = Err (fault 1 0 BadManifest)
-parse_manifest_records (first ∷ files) = parse_entries (field_count first) files
+abbrev pub parse_manifest_records : Profile → List CsvRecord → Result (List Entry) Fault
+parse_manifest_records profile [] = Err (fault 1 0 BadManifest)
+parse_manifest_records profile (first ∷ files) = parse_entries profile (field_count first) files
 
--- the files that the bytes of a manifest name, in order, or the first refusal
+-- the files that the bytes of a manifest name in a profile, in order, or the first refusal
+abbrev pub manifest_in : Profile → List ℕ → Result (List Entry) Fault
+manifest_in profile text = parse_manifest_records profile (csv_records text)
+
+-- the same in the strict profile
 abbrev pub manifest : List ℕ → Result (List Entry) Fault
-manifest text = parse_manifest_records (csv_records text)
+manifest text = manifest_in Strict text
 
 -- the seven reasons for which a manifest is refused
 abbrev pub is_manifest_reason : Reason → Bool

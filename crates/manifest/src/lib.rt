@@ -7,7 +7,7 @@
 
 ghost use Rattle.std.specs.Prelude.{◌≡◌};
 ghost use Rattle.grid_units.specs.Results.{Answers};
-ghost use Rattle.manifest.specs.Manifest.{manifest};
+ghost use Rattle.manifest.specs.Manifest.{manifest, manifest_in};
 
 pub mod laws;
 mod names;
@@ -15,7 +15,7 @@ pub mod rows;
 pub mod table;
 mod validation;
 
-use grid_units::{Fail, Span};
+use grid_units::{Fail, Profile, Span};
 pub use names::Name;
 use std::alloc::Global;
 
@@ -28,6 +28,8 @@ pub enum Role {
     Plated,
     /// A drill file whose holes are not plated.
     Unplated,
+    /// A drill file that says itself of each tool whether its holes are plated. Only the wide profile has this role.
+    Mixed,
 }
 
 /// A file of a package, as the manifest names it.
@@ -43,7 +45,15 @@ pub struct Entry {
     pub span: Option<Span>,
 }
 
-/// The files that a manifest names, in its order. A byte order mark before its text is dropped.
+/// The files that a manifest names, in its order, in the strict profile: [`read_manifest_in`] has the refusals.
+pub fn read_manifest(alloc: Global, bytes: &[u8]) -> Result<Vec<Entry>, Fail>
+    ensures exact { Answers (λ entries. entries.items) (λ answer. answer ≡ manifest bytes.now) result }
+{
+    read_manifest_in(alloc, Profile::Strict, bytes)
+}
+
+/// The files that a manifest names in a profile, in its order. A byte order mark before its text is dropped. The role `mixed` is one
+/// of the wide profile alone.
 ///
 /// # Errors
 ///
@@ -63,9 +73,9 @@ pub struct Entry {
 /// [`Reason::BadSpan`]: grid_units::Reason::BadSpan
 /// [`Reason::NoCopper`]: grid_units::Reason::NoCopper
 /// [`Reason::NoDrill`]: grid_units::Reason::NoDrill
-pub fn read_manifest(alloc: Global, bytes: &[u8]) -> Result<Vec<Entry>, Fail>
-    ensures exact { Answers (λ entries. entries.items) (λ answer. answer ≡ manifest bytes.now) result }
+pub fn read_manifest_in(alloc: Global, profile: Profile, bytes: &[u8]) -> Result<Vec<Entry>, Fail>
+    ensures exact { Answers (λ entries. entries.items) (λ answer. answer ≡ manifest_in profile bytes.now) result }
 {
     let rows = rows::read_records(alloc, bytes)?;
-    validation::parse_manifest_records(alloc, rows.as_slice())
+    validation::parse_manifest_records(alloc, profile, rows.as_slice())
 }

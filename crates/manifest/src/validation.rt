@@ -14,13 +14,17 @@ use crate::rows::{has_field, text_field};
 use crate::{Entry, Role};
 use csv::ByteRecord;
 use grid_units::numbers::{capped_value, is_digits};
-use grid_units::{Fail, Fault, Reason, Span};
+use grid_units::{Fail, Fault, Profile, Reason, Span};
 use std::alloc::Global;
 use std::collections::BTreeSet;
 
-/// The files that the records name.
-pub(crate) fn parse_manifest_records(alloc: Global, rows: &[ByteRecord]) -> Result<Vec<Entry>, Fail>
-    ensures { Answers (λ entries. entries.items) (λ answer. answer ≡ parse_manifest_records (map fields_of rows.now)) result }
+/// The files that the records name in a profile.
+pub(crate) fn parse_manifest_records(
+    alloc: Global,
+    profile: Profile,
+    rows: &[ByteRecord],
+) -> Result<Vec<Entry>, Fail>
+    ensures { Answers (λ entries. entries.items) (λ answer. answer ≡ parse_manifest_records profile (map fields_of rows.now)) result }
 {
     let Some((first, files)) = rows.split_first() else {
         return Err(refused(1, Reason::BadManifest));
@@ -28,19 +32,24 @@ pub(crate) fn parse_manifest_records(alloc: Global, rows: &[ByteRecord]) -> Resu
     let Some(width) = field_count(first) else {
         return Err(refused(1, Reason::BadManifest));
     };
-    entries_of(alloc, width, files)
+    entries_of(alloc, profile, width, files)
 }
 
 /// The files that the records after the first one name; each record needs `width` fields.
-fn entries_of(alloc: Global, width: usize, files: &[ByteRecord]) -> Result<Vec<Entry>, Fail>
+fn entries_of(
+    alloc: Global,
+    profile: Profile,
+    width: usize,
+    files: &[ByteRecord],
+) -> Result<Vec<Entry>, Fail>
     requires { width ≤ 5 }
-    ensures { Answers (λ entries. entries.items) (λ answer. answer ≡ naming.entries_of width (map fields_of files.now)) result }
+    ensures { Answers (λ entries. entries.items) (λ answer. answer ≡ naming.entries_of profile width (map fields_of files.now)) result }
 {
     let mut names = BTreeSet::new(alloc);
     let mut entries = Vec::new(alloc);
     for (i, row) in files.iter().enumerate() {
         let is_new = names.insert(name_of(row))?;
-        let entry = read_entry(alloc, i as u64 + 2, width, !is_new, row)?;
+        let entry = read_entry(alloc, profile, i as u64 + 2, width, !is_new, row)?;
         entries.push(entry)?;
     }
     match joint_fault(entries.as_slice()) {
@@ -70,16 +79,17 @@ fn name_of(row: &ByteRecord) -> &[u8]
     }
 }
 
-/// The file that a record names; `repeated` says whether an earlier file has its name.
+/// The file that a record names in a profile; `repeated` says whether an earlier file has its name.
 fn read_entry(
     alloc: Global,
+    profile: Profile,
     place: u64,
     width: usize,
     repeated: bool,
     row: &ByteRecord,
 ) -> Result<Entry, Fail>
     requires { width ≤ 5 }
-    ensures { Answers (λ entry. entry) (λ answer. answer ≡ with_place place 0 (checked_entry width repeated (fields_of row.now))) result }
+    ensures { Answers (λ entry. entry) (λ answer. answer ≡ with_place place 0 (checked_entry profile width repeated (fields_of row.now))) result }
 {
     let Some(fields) = text_fields(row, width) else {
         return Err(refused(place, Reason::BadManifest));
@@ -87,6 +97,9 @@ fn read_entry(
     let Some(role) = role_of_word(fields.role) else {
         return Err(refused(place, Reason::BadRole));
     };
+    if !is_role_in(profile, role) {
+        return Err(refused(place, Reason::BadRole));
+    }
     if fields.name.is_empty() || fields.file.is_empty() {
         return Err(refused(place, Reason::EmptyName));
     }
@@ -159,7 +172,7 @@ fn has_span_columns(row: &ByteRecord) -> bool
     has_field(row, 3, "first") && has_field(row, 4, "last")
 }
 
-/// The role that a word names: `copper`, `plated` or `unplated`.
+/// The role that a word names: `copper`, `plated`, `unplated` or `mixed`.
 fn role_of_word(word: &str) -> Option<Role>
     ensures { result ≡ naming.role_of_word word.now }
 {
@@ -167,7 +180,18 @@ fn role_of_word(word: &str) -> Option<Role>
         "copper" => Some(Role::Copper),
         "plated" => Some(Role::Plated),
         "unplated" => Some(Role::Unplated),
+        "mixed" => Some(Role::Mixed),
         _ => None,
+    }
+}
+
+/// Whether the profile has this role: the strict one has not `mixed`.
+fn is_role_in(profile: Profile, role: Role) -> bool
+    ensures { result ≡ naming.is_role_in profile role }
+{
+    match profile {
+        Profile::Strict => !matches!(role, Role::Mixed),
+        Profile::Wide => true,
     }
 }
 

@@ -330,6 +330,7 @@ fn reasons_have_their_numbers(rt: HostRuntime) {
         (Reason::TooManyHoles, 37),
         (Reason::NotCopper, 45),
         (Reason::BadSpan, 46),
+        (Reason::NoPlating, 47),
     ] {
         assert!(rt; reason.number() == number, "of {number}");
     }
@@ -342,6 +343,7 @@ fn reasons_have_their_names(rt: HostRuntime) {
         (Reason::BareCoordinate, "BareCoordinate"),
         (Reason::NotCopper, "NotCopper"),
         (Reason::BadSpan, "BadSpan"),
+        (Reason::NoPlating, "NoPlating"),
     ] {
         assert!(rt; reason.name() == name, "of {name}");
     }

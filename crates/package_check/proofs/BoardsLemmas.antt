@@ -29,14 +29,14 @@ flat_map_grows f before now after xs x was is =
     ∙ (append_assoc before (flat_map f xs) (f x)
     ∙ (ap (λ ys. before ++ (flat_map f xs ++ ys)) (sym (append-nil (f x))) ∙ ap (λ ys. before ++ ys) (sym (flat_map-append f xs (x ∷ []))))))
 
--- the round holes and the slots are all holes
-counted : (holes : List GridHole) → count_by is_round holes + count_by (λ hole. not (is_round hole)) holes ≡ length holes
-counted [] = refl
-counted (h ∷ hs) =
-    let round = sum_by-cons (λ hole. cond (is_round hole) 1 0) h hs in
-    let long = sum_by-cons (λ hole. cond (not (is_round hole)) 1 0) h hs in
-    let one : cond (is_round h) 1 0 + cond (not (is_round h)) 1 0 ≡ 1 = either (is_round h) in
-    omega (arith, round, long, one, counted hs)
+-- what passes a test and what does not is all, as the round holes and the slots are all holes
+counted : {X : Type 0} (test : X → Bool) (xs : List X) → count_by test xs + count_by (λ x. not (test x)) xs ≡ length xs
+counted test [] = refl
+counted test (x ∷ xs) =
+    let passes = sum_by-cons (λ y. cond (test y) 1 0) x xs in
+    let fails = sum_by-cons (λ y. cond (not (test y)) 1 0) x xs in
+    let one : cond (test x) 1 0 + cond (not (test x)) 1 0 ≡ 1 = either (test x) in
+    omega (arith, passes, fails, one, counted test xs)
   where
     either : (t : Bool) → cond t 1 0 + cond (not t) 1 0 ≡ 1
     either true = refl
@@ -45,7 +45,8 @@ counted (h ∷ hs) =
 -- a file has as many holes as are listed for it
 pub all_listed : (one : Content) → hole_count (sum_of one) ≡ length (drilled_in one)
 all_listed (content.Layer image) = refl
-all_listed (content.Drill plated span holes) = counted holes ∙ sym (length-map holes (λ hole. let one : Drilled = record { hole = hole; plated = plated; span = span } in one))
+all_listed (content.Mixed span holes) = counted (λ (one : Drilled). is_round one.hole) holes
+all_listed (content.Drill plated span holes) = counted is_round holes ∙ sym (length-map holes (λ hole. let one : Drilled = record { hole = hole; plated = plated; span = span } in one))
 
 -- the files have as many holes as are listed for all of them
 pub all_counted : (contents : List Content) → sum_by hole_count (map sum_of contents) ≡ length (flat_map drilled_in contents)
@@ -69,6 +70,7 @@ placed_from file plated span n (h ∷ hs) = ap (λ (t : List Numbered). record {
 placed : (file : ℕ) (one : Content) → numbered_in file (drilled_in one) ≡ holes_of (file, one)
 placed file (content.Layer image) = refl
 placed file (content.Drill plated span holes) = placed_from file plated span 1 holes
+placed file (content.Mixed span holes) = refl
 
 -- the holes of a board with their places are those of its files
 pub numbered_all : (n : ℕ) (contents : List Content) → numbered_from n (map sum_of contents) (flat_map drilled_in contents) ≡ flat_map holes_of (enumerate_from n contents)

@@ -28,7 +28,7 @@ use Rattle.package_check.specs.declared.contents.Content.{Content}
 use Rattle.package_check.specs.declared.contents.Content.TheVariants as content
 use Rattle.package_check.specs.declared.judged.Judged.{Judged}
 use Rattle.package_check.proofs.ContentIsReading.{content_read}
-use Rattle.package_check.proofs.FileKinds.{drill_is_no_copper, either}
+use Rattle.package_check.proofs.FileKinds.{drill_is_no_copper, mixed_is_no_copper, either}
 use Rattle.package_check.proofs.GrowingLists.{any_name}
 use Rattle.package_check.proofs.TakeSteps.{all_below, all_held, either_kind, held_more, no_kind_past, none_below, none_more, one_more, or_none, or_together, passed_over, stopped_alike}
 
@@ -54,6 +54,7 @@ same_slots before after same = same_holes after before (λ i. ap holes_in_slot (
 no_holes_counted : (s : FileSum) → is_drill_sum s ≡ false → hole_count s ≡ 0
 no_holes_counted (sum.Layer pads other contours) is = refl
 no_holes_counted (sum.Drill plated span round slots) is = absurd (false≢true (sym is))
+no_holes_counted (sum.Mixed span round slots unplated) is = absurd (false≢true (sym is))
 
 no_holes : (o : Option Judged) → is_drill_in o ≡ false → holes_in_slot o ≡ 0
 no_holes None is = refl
@@ -75,6 +76,7 @@ layer_put before after index one put free layer = same_holes after before (λ i.
 layer_counted : (s : FileView) (c : Content) → is_copper s.role ≡ true → HasContent s c → is_drill_sum (sum_of c) ≡ false
 layer_counted s (content.Layer image) copper has = refl
 layer_counted s (content.Drill plated span holes) copper has = absurd (both_ways (is_copper s.role) (drill_is_no_copper s plated span holes has) copper)
+layer_counted s (content.Mixed span holes) copper has = absurd (both_ways (is_copper s.role) (mixed_is_no_copper s span holes has) copper)
 
 pub layer_left : (rules : GridRules) (holes : List Drilled) (layer : ℕ) (s : FileView) (one : Judged) → is_copper s.role ≡ true → Judges rules holes layer s (Ok one) → is_drill_sum one.sum ≡ false
 layer_left rules holes layer s one copper h = ap is_drill_sum h.2.sum ∙ layer_counted s h.0 copper (content_read s h.0 h.1)

@@ -2,7 +2,7 @@
 use Rattle.std.proofs.Common.{◌≡◌, ℕ, Bool, true, false, List, [], Ok, Err, Option, None, Some, Result, OnOk, IfErr, ap, subst, sym, ◌∙◌}
 use Rattle.std.specs.declared.alloc.AllocError.{AllocError}
 use Rattle.grid_units.specs.Holes.{GridRules}
-use Rattle.grid_units.specs.Results.{Answers, IfFault}
+use Rattle.grid_units.specs.Results.{Answers}
 use Rattle.grid_units.specs.Spans.{LayerSpan}
 use Rattle.grid_units.specs.declared.fault.Fail.{Fail}
 use Rattle.grid_units.specs.declared.fault.Fail.TheVariants as fails
@@ -11,16 +11,15 @@ use Rattle.ring_rules.specs.declared.finding.Drilled.{Drilled}
 use Rattle.package_check.specs.CheckViews.{CheckView, holes_of, setting_of}
 use Rattle.package_check.specs.Checking.{AreHolesOf, HasJudged, IsJudgedOf, TakesCopper}
 use Rattle.package_check.specs.Holding.{HoldsThose, is_wanted}
-use Rattle.package_check.specs.Judging.{HasTriedPadsOf, Judges}
-use Rattle.package_check.specs.OpenFiles.{HasFailed, HasOpenedCopper, HasReadCopper, HasReadLayer, keep_in}
+use Rattle.package_check.specs.Judging.{Judges}
+use Rattle.package_check.specs.OpenFiles.{CopperStandsIn, HasFailed, HasOpenedCopper, HasReadCopper, HasReadLayer}
 use Rattle.package_check.specs.Package.{Setting, FileView, is_bad_span, unnamed_file}
 use Rattle.package_check.specs.declared.PackageFault.{PackageFault}
 use Rattle.package_check.specs.declared.judged.Judged.{Judged}
 use Rattle.grid_units.specs.declared.profile.Profile.{Profile}
-use Rattle.grid_units.specs.declared.profile.Profile.TheVariants.{Strict, Wide}
-use Rattle.layer_image.specs.Holding.{LayerStandsIn, ShowsLayerFaultIn}
 use Rattle.layer_image.specs.declared.keep.Keep.TheVariants as keep
-use Rattle.layer_image.specs.declared.reader.LayerReader.{LayerReader}
+use Rattle.package_check.specs.declared.copper_reader.CopperReader.{CopperReader}
+use Rattle.package_check.specs.declared.copper_reader.CopperReader.TheVariants as copper_reader
 use Rattle.package_check.specs.HoleViews.{HolesView}
 use Rattle.package_check.proofs.JudgedCopper.{none_tried}
 use Rattle.package_check.specs.declared.open_copper.OpenCopper.{OpenCopper}
@@ -33,11 +32,6 @@ no_span span n none = ap (λ (s : Option LayerSpan). is_bad_span role.Copper s n
 -- a span of a copper file is bad
 pub some_span : (span : Option LayerSpan) (one : LayerSpan) (n : ℕ) → span ≡ Some one → is_bad_span role.Copper span n ≡ true
 some_span span one n some = ap (λ (s : Option LayerSpan). is_bad_span role.Copper s n) some
-
--- what holds anyway holds beside what holds of a success
-pub also_on : {A : Type 0} (C : Type 0) (r : Result (Unit {0}) Fail) → A → OnOk r C → OnOk r (A × C)
-also_on C (Ok u) a h = (a, h)
-also_on C (Err e) a h = tt
 
 -- a file that has failed is refused in the end
 pub failed_judged : (rules : GridRules) (holes : List Drilled) (layer : ℕ) (span : Option LayerSpan) (n : Setting) (text : List ℕ) (e : Fail) → HasFailed role.Copper span n e text
@@ -80,23 +74,11 @@ ended start check after file index layer span text name r h takes =
 
 -- ---- readers of layers, by the profile
 
--- in the strict profile the pads of the text were tried
-pub strictly_read : (p : Profile) (holes : HolesView) (layer : ℕ) (reader : LayerReader) (text : List ℕ) → p ≡ Strict → HasReadLayer p holes layer reader text → HasTriedPadsOf holes layer reader text
-strictly_read p holes layer reader text is h = subst (λ (q : Profile). HasReadLayer q holes layer reader text) is h
-
--- in the wide one the whole layer is held
-pub widely_read : (p : Profile) (holes : HolesView) (layer : ℕ) (reader : LayerReader) (text : List ℕ) → p ≡ Wide → HasReadLayer p holes layer reader text → HasReadLayer Wide holes layer reader text
-widely_read p holes layer reader text is h = subst (λ (q : Profile). HasReadLayer q holes layer reader text) is h
-
 -- a reader that has read nothing
-pub nothing_read : (p q : Profile) (holes : HolesView) (layer : ℕ) (reader : LayerReader) → q ≡ p → holes.search ≡ None → LayerStandsIn reader p (keep_in p keep.Pads) [] → HasReadLayer q holes layer reader []
-nothing_read Strict q holes layer reader is none stands = subst (λ (r : Profile). HasReadLayer r holes layer reader []) (sym is) (none_tried holes layer reader [] stands none)
-nothing_read Wide q holes layer reader is none stands = subst (λ (r : Profile). HasReadLayer r holes layer reader []) (sym is) (none, stands)
+pub nothing_read : (p q : Profile) (holes : HolesView) (layer : ℕ) (reader : CopperReader) → q ≡ p → holes.search ≡ None → CopperStandsIn reader p keep.Pads [] → HasReadLayer q holes layer reader []
+nothing_read p q holes layer (copper_reader.Strict reader) is none stands = (is ∙ stands.0, none_tried holes layer reader [] stands.1 none)
+nothing_read p q holes layer (copper_reader.Wide reader) is none stands = (is ∙ stands.0, none, stands.1)
 
 -- what was read in a profile was read in the same one
-pub read_on : (p q : Profile) (holes : HolesView) (layer : ℕ) (reader : LayerReader) (text : List ℕ) (r : Result (Unit {0}) Fail) → p ≡ q → OnOk r (HasReadLayer p holes layer reader text) → OnOk r (HasReadLayer q holes layer reader text)
+pub read_on : (p q : Profile) (holes : HolesView) (layer : ℕ) (reader : CopperReader) (text : List ℕ) (r : Result (Unit {0}) Fail) → p ≡ q → OnOk r (HasReadLayer p holes layer reader text) → OnOk r (HasReadLayer q holes layer reader text)
 read_on p q holes layer reader text r is h = subst (λ (s : Profile). OnOk r (HasReadLayer s holes layer reader text)) is h
-
--- a fault that is shown in a profile is shown in the same one
-pub shown_on : (p q : Profile) (text : List ℕ) (r : Result (Unit {0}) Fail) → p ≡ q → IfErr r (IfFault (ShowsLayerFaultIn p text)) → IfErr r (IfFault (ShowsLayerFaultIn q text))
-shown_on p q text r is h = subst (λ (s : Profile). IfErr r (IfFault (ShowsLayerFaultIn s text))) is h

@@ -118,6 +118,7 @@ module _ (rules : GridRules) (holes : List Drilled) where
   no_rings : (layer : ℕ) (s : FileView) (c : Content) → is_copper s.role ≡ false → HasContent s c → rings_of rules holes layer c ≡ []
   no_rings layer s (content.Layer image) drill has = absurd (both_ways (is_copper s.role) drill (layer_is_copper s image has))
   no_rings layer s (content.Drill plated span hs) drill has = refl
+  no_rings layer s (content.Mixed span hs) drill has = refl
 
   drill_judged : (keep : Keep) (layer : ℕ) (s : FileView) (one : Kept) (left : Judged) → is_copper s.role ≡ false → IsKeptOf keep s one → left.sum ≡ sum_of one.content → left.rings.items ≡ []
       → Judges rules holes layer s (Ok left)

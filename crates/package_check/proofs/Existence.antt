@@ -6,7 +6,7 @@ use Rattle.grid_units.specs.declared.fault.Fault.{Fault}
 use Rattle.drill_text.specs.Faults.{HasAnswer, IsFirstFault}
 use Rattle.drill_text.specs.Holes.{holes_of}
 use Rattle.drill_text.specs.Reading as drills
-use Rattle.drill_text.specs.Profiles.{ReadsIn}
+use Rattle.drill_text.specs.Profiles.{Kind, ReadsBy, ReadsIn, mixed_in}
 use Rattle.drill_lines.specs.declared.command.DrillCommand.{DrillCommand}
 use Rattle.gerber_text.specs.Writing.{without_places}
 use Rattle.grid_units.specs.declared.profile.Profile.{Profile}
@@ -19,14 +19,15 @@ use Rattle.package_check.specs.declared.contents.Content.{Content}
 use Rattle.package_check.specs.declared.contents.Content.TheVariants as content
 use Rattle.package_check.specs.AlikePackages.{ReadingExists, AnswerExists}
 use Rattle.package_check.specs.LayerViews.{LayerView}
-use Rattle.package_check.specs.Package.{FileView, Setting, Reads, ReadsBytes, ReadsUnlessBadSpan, ReadsCopper, ReadsHoles, HasContent, HaveContents, IsFirstRefused, IsAnswer, is_bad_span, bad_span, not_copper, report_on}
-use Rattle.package_check.specs.FileTexts.{ReadsLayer, layer_view, wide_view}
+use Rattle.package_check.specs.Package.{FileView, Setting, Reads, ReadsBytes, ReadsUnlessBadSpan, ReadsCopper, ReadsHoles, ReadsMixedHoles, HasContent, HaveContents, IsFirstRefused, IsAnswer, is_bad_span, bad_span, not_copper, report_on}
+use Rattle.package_check.specs.FileTexts.{ReadsLayer, layer_view, mixed_holes, wide_view}
 use Rattle.package_check.specs.Reports.{ReportView}
 use Rattle.package_check.proofs.ContentIsReading.{content_read}
 
 module _ (each_layer : layers.EachTextAnswersIn) (each_drill : (text : List ℕ) → HasAnswer text)
     (first : (text : List ℕ) (f : Fault) → drills.Reads text (Err f) ↔ IsFirstFault text f)
-    (each_drill_in : (profile : Profile) (text : List ℕ) → (answer : Result (List DrillCommand) Fault) × ReadsIn profile text answer) where
+    (each_drill_in : (profile : Profile) (text : List ℕ) → (answer : Result (List DrillCommand) Fault) × ReadsIn profile text answer)
+    (each_kind : (kind : Kind) (text : List ℕ) → (answer : Result (List DrillCommand) Fault) × ReadsBy kind text answer) where
   -- a layer is copper, or is refused as NotCopper
   of_image : (profile : Profile) (bytes : List ℕ) (image : LayerView) → ReadsLayer profile bytes (Ok image) → (copper : Bool) → image.is_copper ≡ copper → (answer : Result Content Fault) × ReadsCopper profile bytes answer
   of_image profile bytes image h true e = (Ok (content.Layer image), (h, e))
@@ -54,11 +55,19 @@ module _ (each_layer : layers.EachTextAnswersIn) (each_drill : (text : List ℕ)
   some_holes Strict plated span bytes = of_drill plated span bytes (each_drill bytes)
   some_holes Wide plated span bytes = let read = each_drill_in Wide bytes in of_wide_drill plated span bytes read.0 read.1
 
+  of_mixed : (profile : Profile) (span : Option LayerSpan) (bytes : List ℕ) (answer : Result (List DrillCommand) Fault) → ReadsBy (mixed_in profile) bytes answer → (answer : Result Content Fault) × ReadsMixedHoles profile span bytes answer
+  of_mixed profile span bytes (Ok commands) h = (Ok (content.Mixed span (mixed_holes span commands)), ((commands, h, refl), refl))
+  of_mixed profile span bytes (Err f) h = (Err f, h)
+
+  some_mixed : (profile : Profile) (span : Option LayerSpan) (bytes : List ℕ) → (answer : Result Content Fault) × ReadsMixedHoles profile span bytes answer
+  some_mixed profile span bytes = let read = each_kind (mixed_in profile) bytes in of_mixed profile span bytes read.0 read.1
+
   by_role : (r : Role) (name : List ℕ) (span : Option LayerSpan) (bytes : List ℕ) (n : Setting)
       → (answer : Result Content Fault) × ReadsBytes (record { role = r; name = name; span = span; bytes = bytes; setting = n }) answer
   by_role role.Copper name span bytes n = some_copper n.profile bytes
   by_role role.Plated name span bytes n = some_holes n.profile true span bytes
   by_role role.Unplated name span bytes n = some_holes n.profile false span bytes
+  by_role role.Mixed name span bytes n = some_mixed n.profile span bytes
 
   some_bytes : (source : FileView) → (answer : Result Content Fault) × ReadsBytes source answer
   some_bytes source = by_role source.role source.name source.span source.bytes source.setting

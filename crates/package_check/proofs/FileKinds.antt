@@ -20,12 +20,21 @@ layer_role : (q : Role) (name : List ℕ) (span : Option LayerSpan) (bytes : Lis
 layer_role role.Copper name span bytes n image h = refl
 layer_role role.Plated name span bytes n image h = absurd h
 layer_role role.Unplated name span bytes n image h = absurd h
+layer_role role.Mixed name span bytes n image h = absurd h
 
 drill_role : (q : Role) (name : List ℕ) (span : Option LayerSpan) (bytes : List ℕ) (n : Setting) (plated : Bool) (through : Option LayerSpan) (holes : List GridHole)
     → BytesHaveContent (record { role = q; name = name; span = span; bytes = bytes; setting = n }) (content.Drill plated through holes) → is_copper q ≡ false
 drill_role role.Copper name span bytes n plated through holes h = absurd h
 drill_role role.Plated name span bytes n plated through holes h = refl
 drill_role role.Unplated name span bytes n plated through holes h = refl
+drill_role role.Mixed name span bytes n plated through holes h = absurd h
+
+mixed_role : (q : Role) (name : List ℕ) (span : Option LayerSpan) (bytes : List ℕ) (n : Setting) (through : Option LayerSpan) (holes : List Drilled)
+    → BytesHaveContent (record { role = q; name = name; span = span; bytes = bytes; setting = n }) (content.Mixed through holes) → is_copper q ≡ false
+mixed_role role.Copper name span bytes n through holes h = absurd h
+mixed_role role.Plated name span bytes n through holes h = absurd h
+mixed_role role.Unplated name span bytes n through holes h = absurd h
+mixed_role role.Mixed name span bytes n through holes h = refl
 
 -- a file that is read as a layer is copper
 pub layer_is_copper : (s : FileView) (image : LayerView) → HasContent s (content.Layer image) → is_copper s.role ≡ true
@@ -35,11 +44,16 @@ layer_is_copper s image h = layer_role s.role s.name s.span s.bytes s.setting im
 pub drill_is_no_copper : (s : FileView) (plated : Bool) (through : Option LayerSpan) (holes : List GridHole) → HasContent s (content.Drill plated through holes) → is_copper s.role ≡ false
 drill_is_no_copper s plated through holes h = drill_role s.role s.name s.span s.bytes s.setting plated through holes h.1
 
+-- nor is a mixed one
+pub mixed_is_no_copper : (s : FileView) (through : Option LayerSpan) (holes : List Drilled) → HasContent s (content.Mixed through holes) → is_copper s.role ≡ false
+mixed_is_no_copper s through holes h = mixed_role s.role s.name s.span s.bytes s.setting through holes h.1
+
 -- the role of a copper file
 pub role_copper : (q : Role) → is_copper q ≡ true → q ≡ role.Copper
 role_copper role.Copper is = refl
 role_copper role.Plated is = absurd cc
 role_copper role.Unplated is = absurd cc
+role_copper role.Mixed is = absurd cc
 
 pub not_true : (t : Bool) → not t ≡ true → t ≡ false
 not_true true e = absurd cc
@@ -72,6 +86,14 @@ drills_among (s ∷ ss) (content.Drill plated span holes ∷ cs) h =
     let rest = drills_among ss cs h.1 in
     let one = content.Drill plated span holes in
     let drill = drill_is_no_copper s plated span holes h.0 in (
+      one ∷ rest.0,
+      subst (λ (b : Bool). HaveContents (cond (not b) (s ∷ drill_files ss) (drill_files ss)) (one ∷ rest.0)) (sym drill) (h.0, rest.1),
+      flat_map-cons drilled_in one cs ∙ (ap (λ (ds : List Drilled). drilled_in one ++ ds) rest.2 ∙ sym (flat_map-cons drilled_in one rest.0)),
+    )
+drills_among (s ∷ ss) (content.Mixed span holes ∷ cs) h =
+    let rest = drills_among ss cs h.1 in
+    let one = content.Mixed span holes in
+    let drill = mixed_is_no_copper s span holes h.0 in (
       one ∷ rest.0,
       subst (λ (b : Bool). HaveContents (cond (not b) (s ∷ drill_files ss) (drill_files ss)) (one ∷ rest.0)) (sym drill) (h.0, rest.1),
       flat_map-cons drilled_in one cs ∙ (ap (λ (ds : List Drilled). drilled_in one ++ ds) rest.2 ∙ sym (flat_map-cons drilled_in one rest.0)),

@@ -20,6 +20,9 @@ indexed_from n (content.Layer image ∷ cs) =
 indexed_from n (content.Drill plated span holes ∷ cs) =
     ap length (flat_map-cons index_of (n, content.Drill plated span holes) (enumerate_from (n + 1) cs))
     ∙ (indexed_from (n + 1) cs ∙ sym (ap length (flat_map-cons pads_of (content.Drill plated span holes) cs)))
+indexed_from n (content.Mixed span holes ∷ cs) =
+    ap length (flat_map-cons index_of (n, content.Mixed span holes) (enumerate_from (n + 1) cs))
+    ∙ (indexed_from (n + 1) cs ∙ sym (ap length (flat_map-cons pads_of (content.Mixed span holes) cs)))
 
 pub findings_name_their_places : RingsNamePlaces wide_pad_covers → GapsNamePlaces → FindingsNameTheirPlaces
 findings_name_their_places rings gaps sources rules report is =

@@ -1,5 +1,5 @@
 -- Lists that grow by one file or one hole at a time.
-use Rattle.std.proofs.Common.{◌≡◌, ◌<◌, ◌+◌, ◌++◌, ℕ, List, [], Result, length, take, get_or, sym, ap, ◌∙◌, Bool, true, false, Option}
+use Rattle.std.proofs.Common.{◌≡◌, ◌<◌, ◌+◌, ◌++◌, ℕ, List, [], Result, length, take, get_or, refl, sym, ap, ◌∙◌, Bool, true, false, Option}
 use Rattle.std.specs.List.{flat_map, enumerate_from}
 use Rattle.std.proofs.lemmas.List.{append-nil}
 use Rattle.grid_units.specs.declared.fault.Fault.{Fault}
@@ -8,6 +8,9 @@ use Rattle.std.specs.Prelude.{Option}
 use Rattle.grid_units.specs.Spans.{LayerSpan}
 use Rattle.manifest.specs.declared.Role.{Role}
 use Rattle.package_check.specs.declared.contents.Content.{Content}
+use Rattle.package_check.specs.declared.FileSum.{FileSum}
+use Rattle.package_check.specs.declared.FileSum.TheVariants as sum
+use Rattle.package_check.specs.Inner.Leftovers.{index_in}
 use Rattle.package_check.specs.Package.{Setting, Reads, ReadsUnlessBadSpan, is_bad_span, unnamed_file}
 
 -- what one more element gives
@@ -29,3 +32,9 @@ any_name q name span bytes n answer h = by (is_bad_span q span n.layers) h
     by : (t : Bool) → ReadsUnlessBadSpan t (unnamed_file q span n bytes) answer → ReadsUnlessBadSpan t (record { role = q; name = name; span = span; bytes = bytes; setting = n }) answer
     by true k = k
     by false k = k
+
+-- a file that is no layer has no place among the layers, by its counts
+pub no_index : (i : ℕ) (file : FileSum) → ((pads other contours : ℕ) → file ≡ sum.Layer pads other contours → ⊥) → index_in (i, file) ≡ []
+no_index i (sum.Layer pads other contours) h = absurd (h pads other contours refl)
+no_index i (sum.Drill plated span round slots) h = refl
+no_index i (sum.Mixed span round slots unplated) h = refl

@@ -18,7 +18,7 @@ use Rattle.std.proofs.lemmas.List.{append-nil, map-append}
 use Rattle.package_check.specs.LayerViews.{plain}
 use Rattle.pad_shapes.specs.Rounded.{GridRounded}
 use Rattle.gerber_text.specs.Writing.{without_places}
-use Rattle.wide_layers.specs.WideLayers.{WideImage, contour_count, flashed_count, other_count, wide_image_of}
+use Rattle.wide_layers.specs.WideLayers.{ReadsWideLayer, WideImage, contour_count, flashed_count, other_count, wide_image_of}
 use Rattle.further_copper.specs.Features.{pads_of}
 use Rattle.pad_shapes.specs.declared.pad.Pad.{Pad}
 use Rattle.ring_rules.specs.Findings.{layer_findings}
@@ -111,12 +111,8 @@ module _ (rules : GridRules) (wide : rules.profile ≡ Wide) (holes : List Drill
   pub whole_refused : (e : Fail) → e ≡ fails.Refused not_copper → is_copper_function image.file_function ≡ false → Answers {T = Judged} (λ one. one) (JudgesCopper rules holes layer text) (Err e)
   whole_refused e refused other = subst (λ (x : Fail). Answers {T = Judged} (λ one. one) (JudgesCopper rules holes layer text) (Err x)) (sym refused) (whole_no_copper other)
 
--- a layer that is kept whole is what its text reads as
-pub whole_read : (text : List ℕ) (kept : LayerImage) → layers.ReadsKeptIn Wide keep.All text (Ok kept) → layers.ReadsLayerIn Wide text (Ok kept)
-whole_read text kept h = subst (λ (l : LayerImage). layers.ReadsLayerIn Wide text (Ok l)) (sym h.2) h.1
-
 -- the fault of a whole layer is that of its file
-pub whole_fault : (rules : GridRules) → rules.profile ≡ Wide → (holes : List Drilled) (layer : ℕ) (text : List ℕ) (e : Fail) → Answers {T = LayerImage} (λ kept. kept) (layers.ReadsKeptIn Wide keep.All text) (Err e)
+pub whole_fault : (rules : GridRules) → rules.profile ≡ Wide → (holes : List Drilled) (layer : ℕ) (text : List ℕ) (e : Fail) → Answers {T = WideImage} (λ layer. layer) (ReadsWideLayer text) (Err e)
     → Answers {T = Judged} (λ one. one) (JudgesCopper rules holes layer text) (Err e)
 whole_fault rules wide holes layer text fails.Memory h = tt
 whole_fault rules wide holes layer text (fails.Refused f) h = inl (subst (λ (p : Profile). layers.ReadsLayerIn p text (Err f)) (sym wide) h)

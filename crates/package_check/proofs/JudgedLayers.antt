@@ -29,7 +29,7 @@ use Rattle.package_check.specs.declared.judged.Judged.{Judged}
 use Rattle.package_check.proofs.AnswerUniqueness.{same_contents}
 use Rattle.package_check.proofs.BoardsLemmas.{numbered_all}
 use Rattle.package_check.proofs.ContentIsReading.{content_read}
-use Rattle.package_check.proofs.FileKinds.{drill_is_no_copper, drills_among, layer_is_copper}
+use Rattle.package_check.proofs.FileKinds.{drill_is_no_copper, mixed_is_no_copper, drills_among, layer_is_copper}
 use Rattle.package_check.proofs.Passing.{all_drilled}
 use Rattle.package_check.proofs.TakeSteps.{first_refused}
 
@@ -45,11 +45,13 @@ sums_counted (Some one ∷ os) =
 abbrev number_after : ℕ → Content → ℕ
 number_after n (content.Layer image) = n + 1
 number_after n (content.Drill plated span holes) = n
+number_after n (content.Mixed span holes) = n
 
 -- the index of a copper file by its counts is that by its content
 one_index : (n : ℕ) (c : Content) → index_in (n, sum_of c) ≡ index_of (n, c)
 one_index n (content.Layer image) = refl
 one_index n (content.Drill plated span holes) = refl
+one_index n (content.Mixed span holes) = refl
 
 indexes_from : (n : ℕ) (contents : List Content) → flat_map index_in (enumerate_from n (map sum_of contents)) ≡ flat_map index_of (enumerate_from n contents)
 indexes_from n [] = refl
@@ -72,6 +74,8 @@ module _ (rules : GridRules) (holes : List Drilled) where
       ∙ ap (λ (ps : List (List WidePad)). flat_map (λ (layer : ℕ × List WidePad). layer_findings wide_pad_covers rules.profile rules.ring holes layer.0 layer.1) (enumerate_from n ps)) (sym (flat_map-cons pads_of (content.Layer image) cs)))
   rings_composed n (content.Drill plated span drilled ∷ cs) =
       rings_composed n cs ∙ ap (λ (ps : List (List WidePad)). flat_map (λ (layer : ℕ × List WidePad). layer_findings wide_pad_covers rules.profile rules.ring holes layer.0 layer.1) (enumerate_from n ps)) (sym (flat_map-cons pads_of (content.Drill plated span drilled) cs))
+  rings_composed n (content.Mixed span drilled ∷ cs) =
+      rings_composed n cs ∙ ap (λ (ps : List (List WidePad)). flat_map (λ (layer : ℕ × List WidePad). layer_findings wide_pad_covers rules.profile rules.ring holes layer.0 layer.1) (enumerate_from n ps)) (sym (flat_map-cons pads_of (content.Mixed span drilled) cs))
 
   -- ---- the slots of all files
 
@@ -92,6 +96,10 @@ module _ (rules : GridRules) (holes : List Drilled) where
   number_more n s ss i (content.Drill plated span hs) has =
       let more : layer_number (s ∷ ss) (suc i) ≡ cond (is_copper s.role) 1 0 + layer_number ss i = sum_by-cons (λ (f : FileView). cond (is_copper f.role) 1 0) s (take i ss) in
       let one : ◌≡◌ {A = ℕ} (cond (is_copper s.role) 1 0) 0 = ap (λ (t : Bool). let n : ℕ = cond t 1 0 in n) (drill_is_no_copper s plated span hs has) in
+      omega (arith, more, one)
+  number_more n s ss i (content.Mixed span hs) has =
+      let more : layer_number (s ∷ ss) (suc i) ≡ cond (is_copper s.role) 1 0 + layer_number ss i = sum_by-cons (λ (f : FileView). cond (is_copper f.role) 1 0) s (take i ss) in
+      let one : ◌≡◌ {A = ℕ} (cond (is_copper s.role) 1 0) 0 = ap (λ (t : Bool). let n : ℕ = cond t 1 0 in n) (mixed_is_no_copper s span hs has) in
       omega (arith, more, one)
 
   -- the first file, and those after it

@@ -14,6 +14,7 @@ pub mod FlashesByFile
 pub mod GrowingLists
 pub mod JudgedCopper
 pub mod JudgedLayers
+pub mod MarkedLemmas
 pub mod NoObliqueSlots
 pub mod OpenFiles
 pub mod Passing

@@ -4,19 +4,21 @@ use Rattle.std.specs.List.{AllZip, Contains, count_by, filter, flat_map}
 use Rattle.std.proofs.lemmas.Bool.{le-leb}
 use Rattle.std.proofs.lemmas.List.Sums.{sum_by-cons}
 use Rattle.std.proofs.lemmas.Slice.Zip.{AllZip-long}
-use Rattle.grid_units.specs.Holes.{GridRules}
+use Rattle.grid_units.specs.Holes.{GridHole, GridRules}
 use Rattle.grid_units.specs.declared.profile.Profile.{Profile}
 use Rattle.grid_units.specs.declared.profile.Profile.TheVariants.{Strict, Wide}
 use Rattle.pad_shapes.specs.Shapes.{IsAxisAligned}
 use Rattle.grid_units.specs.Spans.{LayerSpan, is_in_span}
 use Rattle.grid_units.proofs.ListLemmas.{flat_map_at}
 use Rattle.ring_rules.specs.declared.finding.Drilled.{Drilled}
+use Rattle.drill_lines.specs.declared.command.DrillCommand.{DrillCommand}
 use Rattle.manifest.specs.declared.Role.{Role}
 use Rattle.manifest.specs.declared.Role.TheVariants as role
 use Rattle.package_check.specs.declared.PackageFault.{PackageFault}
 use Rattle.package_check.specs.Package.{FileView, Setting, ReturnsReport, is_copper}
 use Rattle.package_check.specs.Reports.{ReportView}
-use Rattle.package_check.specs.Soundness.{AreStraight, HolesAreSaidOnce, IsRun, IsSound, LiesAsAllowed, PassingIsSound, SaysHoles, SaysPads, is_plated}
+use Rattle.package_check.specs.Soundness.{AreDrilledBy, AreStraight, HolesAreSaidOnce, IsRun, IsSound, LiesAsAllowed, PassingIsSound, SaysHoles, SaysPads}
+use Rattle.package_check.proofs.MarkedLemmas.{marked_span}
 use Rattle.package_check.proofs.WrittenPackages.{hole_among}
 
 -- some layer lies in a span that is a run of layers
@@ -29,10 +31,17 @@ some_layer (Some s) n some run =
     let back : s.first - 1 + 1 ≡ s.first = omega (arith, first) in
     (s.first - 1, omega (arith, first, order, last), ap (λ k. leb s.first k && leb k s.last) back ∙ (λ i. le-leb s.first s.first (omega arith) i && le-leb s.first s.last order i))
 
-plated_is_drill : (q : Role) → is_plated q ≡ true → not (is_copper q) ≡ true
-plated_is_drill role.Plated e = refl
-plated_is_drill role.Copper e = absurd cc
-plated_is_drill role.Unplated e = absurd cc
+true_or_false : (t : Bool) → t ≡ true → t ≡ false → ⊥
+true_or_false true e k = cc
+true_or_false false e k = cc
+
+-- a plated hole is one of a drill file, and has its span
+plated_is_drill : (q : Role) (span : Option LayerSpan) (commands : List DrillCommand) (holes : List GridHole) (drilled : List Drilled) (d : Drilled) → AreDrilledBy q span commands holes drilled → Contains drilled d → d.plated ≡ true
+    → (not (is_copper q) ≡ true) × (d.span ≡ span)
+plated_is_drill role.Copper span commands holes drilled d is h plated = absurd (true_or_false d.plated plated (hole_among false span holes d (subst (λ (ds : List Drilled). Contains ds d) is h)).1)
+plated_is_drill role.Plated span commands holes drilled d is h plated = (refl, (hole_among true span holes d (subst (λ (ds : List Drilled). Contains ds d) is h)).2)
+plated_is_drill role.Unplated span commands holes drilled d is h plated = (refl, (hole_among false span holes d (subst (λ (ds : List Drilled). Contains ds d) is h)).2)
+plated_is_drill role.Mixed span commands holes drilled d is h plated = (refl, marked_span span holes is.0 d (subst (λ (ds : List Drilled). Contains ds d) is.2 h))
 
 kept_count : {Y : Type 0} (b : Bool) (y : Y) (ys : List Y) → length (cond b (y ∷ ys) ys) ≡ cond b 1 0 + length ys
 kept_count true y ys = omega arith
@@ -78,8 +87,8 @@ module _ {X : Type 0} (seen : X → FileView) (role_of : X → Role) (n : Settin
 
   straight : HolesAreSaidOnce → (rules : GridRules) (xs : List X) → rules.profile ≡ Strict → n.profile ≡ Strict → IsSound (map seen xs) rules → n.layers ≡ count_by (λ x. is_copper (role_of x)) xs → 0 < n.layers → AreStraight (map seen xs)
   straight once rules xs strict reads sound counts some file drilled d among said inside plated =
-      let from = hole_among (is_plated file.role) file.span said.holes d (subst (λ (ds : List Drilled). Contains ds d) said.is inside) in
-      let is_drill : not (is_copper file.role) ≡ true = plated_is_drill file.role (sym from.1 ∙ plated) in
+      let from = plated_is_drill file.role file.span said.commands said.holes drilled d said.is inside plated in
+      let is_drill : not (is_copper file.role) ≡ true = from.0 in
       let files = filter (λ (f : FileView). not (is_copper f.role)) (map seen xs) in
       let place = kept (λ (f : FileView). not (is_copper f.role)) (map seen xs) file among.0 among.1 among.2 is_drill in
       let other = said_by files sound.drills sound.holes file place.0 place.1 place.2 in
@@ -94,7 +103,7 @@ module _ {X : Type 0} (seen : X → FileView) (role_of : X → Role) (n : Settin
       let below : layer.0 < file.setting.layers = layer.1 in
       let long : length sound.layers ≡ length (filter (λ (f : FileView). is_copper f.role) (map seen xs)) = AllZip-long SaysPads (filter (λ (f : FileView). is_copper f.role) (map seen xs)) sound.layers sound.pads in
       let within : layer.0 < length sound.layers = omega (arith, below, layers_are, counts, counted xs, long) in
-      along rules.profile d strict (sound.held layer.0 d within whole plated (ap (is_in_span layer.0) from.2 ∙ layer.2)).0
+      along rules.profile d strict (sound.held layer.0 d within whole plated (ap (is_in_span layer.0) from.1 ∙ layer.2)).0
 
   pub passed_straight : HolesAreSaidOnce → PassingIsSound → (rules : GridRules) (xs : List X) (r : Result ReportView PackageFault) → rules.profile ≡ Strict → n.profile ≡ Strict → n.layers ≡ count_by (λ x. is_copper (role_of x)) xs → ReturnsReport (map seen xs) rules r
       → IfOk r (λ report. report.findings ≡ [] → 0 < n.layers → AreStraight (map seen xs))

@@ -8,7 +8,7 @@ use Rattle.grid_units.specs.declared.fault.Fault.{Fault}
 use Rattle.grid_units.specs.declared.fault.Fail.{Fail}
 use Rattle.grid_units.specs.declared.fault.Fail.TheVariants as fails
 use Rattle.drill_text.specs.Outcome.{DrillFile, file_of}
-use Rattle.drill_text.specs.Profiles.{ReadsAsIn, ReadsIn, ShowsIn}
+use Rattle.drill_text.specs.Profiles.{Kind, ReadsAsBy, ReadsAsIn, ReadsBy, ReadsIn, ShowsBy, ShowsIn, mixed_in}
 use Rattle.drill_text.proofs.ProfileLemmas.{reads_strictly}
 use Rattle.drill_text.proofs.SpellsTextLemmas.{reads_drill_text}
 use Rattle.grid_units.specs.declared.profile.Profile.{Profile}
@@ -19,13 +19,15 @@ use Rattle.layer_image.specs.Holding.{ShowsLayerFaultIn}
 use Rattle.layer_image.specs.Layers as layers
 use Rattle.layer_image.specs.Layers.{LayerImage, ReadsKeptIn}
 use Rattle.layer_image.specs.declared.keep.Keep.{Keep}
+use Rattle.wide_layers.specs.WideLayers.{ReadsWideLayer, WideImage}
 use Rattle.manifest.specs.declared.Role.{Role}
 use Rattle.manifest.specs.declared.Role.TheVariants as role
-use Rattle.package_check.specs.FileTexts.{ReadsDrill, ReadsLayer}
+use Rattle.ring_rules.specs.declared.finding.Drilled.{Drilled}
+use Rattle.package_check.specs.FileTexts.{ReadsDrill, ReadsLayer, ReadsMixed, marked}
 use Rattle.package_check.specs.LayerViews.{LayerView}
 use Rattle.package_check.specs.Holding.{TakesFile, is_wanted, setting_of}
 use Rattle.package_check.specs.OpenFiles.{HasFailed, HasOpened, HasReadText, drill_role}
-use Rattle.package_check.specs.Package.{FileView, Setting, Reads, ReadsBytes, ReadsCopper, ReadsHoles, ReadsUnlessBadSpan, bad_span, is_bad_span, is_copper, unnamed_file}
+use Rattle.package_check.specs.Package.{FileView, Setting, Reads, ReadsBytes, ReadsCopper, ReadsHoles, ReadsMixedHoles, ReadsUnlessBadSpan, bad_span, is_bad_span, is_copper, unnamed_file}
 use Rattle.package_check.specs.declared.contents.Content.{Content}
 use Rattle.package_check.specs.declared.open_file.OpenFile.{OpenFile}
 use Rattle.package_check.specs.declared.package_reader.PackageReader.{PackageReader}
@@ -42,6 +44,7 @@ pub read_as_copper : (of : Role) (span : Option LayerSpan) (setting : Setting) (
 read_as_copper role.Copper span setting bytes r is good h = by_bytes (is_bad_span role.Copper span setting.layers) (unnamed_file role.Copper span setting bytes) r good h
 read_as_copper role.Plated span setting bytes r is good h = absurd (false≢true (ap is_copper is))
 read_as_copper role.Unplated span setting bytes r is good h = absurd (false≢true (ap is_copper is))
+read_as_copper role.Mixed span setting bytes r is good h = absurd (false≢true (ap is_copper is))
 
 -- and of a drill file
 as_drill : (plated : Bool) (span : Option LayerSpan) (setting : Setting) (bytes : List ℕ) (r : Result Content Fail) → is_bad_span (drill_role plated) span setting.layers ≡ false → Answers {T = Content} (λ x. x) (ReadsHoles setting.profile plated span bytes) r
@@ -54,6 +57,13 @@ pub read_as_drill : (of : Role) (plated : Bool) (span : Option LayerSpan) (setti
 read_as_drill of plated span setting bytes r is good h =
     subst (λ (q : Role). Answers {T = Content} (λ x. x) (Reads (unnamed_file q span setting bytes)) r) (sym is)
     (as_drill plated span setting bytes r (ap (λ (q : Role). is_bad_span q span setting.layers) (sym is) ∙ good) h)
+
+-- and of a mixed one
+pub read_as_mixed : (of : Role) (span : Option LayerSpan) (setting : Setting) (bytes : List ℕ) (r : Result Content Fail) → of ≡ role.Mixed → is_bad_span of span setting.layers ≡ false → Answers {T = Content} (λ x. x) (ReadsMixedHoles setting.profile span bytes) r
+    → Answers {T = Content} (λ x. x) (Reads (unnamed_file of span setting bytes)) r
+read_as_mixed of span setting bytes r is good h =
+    subst (λ (q : Role). Answers {T = Content} (λ x. x) (Reads (unnamed_file q span setting bytes)) r) (sym is)
+    (by_bytes (is_bad_span role.Mixed span setting.layers) (unnamed_file role.Mixed span setting bytes) r (ap (λ (q : Role). is_bad_span q span setting.layers) (sym is) ∙ good) h)
 
 -- a drill file is not copper
 pub drill_no_copper : (of : Role) (plated : Bool) → of ≡ drill_role plated → is_copper of ≡ false
@@ -88,6 +98,12 @@ pub drill_failed : ((profile : Profile) (text more : List ℕ) (f : Fault) → S
 drill_failed law of plated span setting text fails.Memory is good h = tt
 drill_failed law of plated span setting text (fails.Refused f) is good h = λ more. read_as_drill of plated span setting (text ++ more) (Err (fails.Refused f)) is good (drill_refused setting.profile plated span (text ++ more) f (law setting.profile text more f h))
 
+-- and that of a mixed one
+pub mixed_failed : ((kind : Kind) (text more : List ℕ) (f : Fault) → ShowsBy kind text (Err f) → ReadsBy kind (text ++ more) (Err f)) → (of : Role) (span : Option LayerSpan) (setting : Setting) (text : List ℕ) (e : Fail)
+    → of ≡ role.Mixed → is_bad_span of span setting.layers ≡ false → IfFault (λ f. ShowsBy (mixed_in setting.profile) text (Err f)) e → HasFailed of span setting e text
+mixed_failed law of span setting text fails.Memory is good h = tt
+mixed_failed law of span setting text (fails.Refused f) is good h = λ more. read_as_mixed of span setting (text ++ more) (Err (fails.Refused f)) is good (law (mixed_in setting.profile) text more f h)
+
 -- a file that has failed has failed after the next piece too
 pub failed_on : (of : Role) (span : Option LayerSpan) (setting : Setting) (text piece : List ℕ) (e : Fail) → HasFailed of span setting e text → HasFailed of span setting e (text ++ piece)
 failed_on of span setting text piece fails.Memory h = tt
@@ -105,6 +121,15 @@ pub and_on : {A B : Type 0} (C : Type 0) (r : Result (Unit {0}) Fail) → A → 
 and_on C (Ok u) a b h = (a, b, h)
 and_on C (Err e) a b h = tt
 
+-- and so does one thing
+pub also_on : {A : Type 0} (C : Type 0) (r : Result (Unit {0}) Fail) → A → OnOk r C → OnOk r (A × C)
+also_on C (Ok u) a h = (a, h)
+also_on C (Err e) a h = tt
+
+-- a fault that is shown in a profile is shown in the same one
+pub shown_on : (p q : Profile) (text : List ℕ) (r : Result (Unit {0}) Fail) → p ≡ q → IfErr r (IfFault (ShowsLayerFaultIn p text)) → IfErr r (IfFault (ShowsLayerFaultIn q text))
+shown_on p q text r is h = subst (λ (s : Profile). IfErr r (IfFault (ShowsLayerFaultIn s text))) is h
+
 -- why the next piece of a layer was refused
 pub layer_errs : ((profile : Profile) (text more : List ℕ) (f : Fault) → ShowsLayerFaultIn profile text f → layers.ReadsLayerIn profile (text ++ more) (Err f)) → (of : Role) (span : Option LayerSpan) (setting : Setting) (text : List ℕ) (r : Result (Unit {0}) Fail)
     → of ≡ role.Copper → is_bad_span of span setting.layers ≡ false → IfErr r (IfFault (ShowsLayerFaultIn setting.profile text)) → IfErr r (λ fail. HasFailed of span setting fail text)
@@ -117,10 +142,21 @@ pub drill_errs : ((profile : Profile) (text more : List ℕ) (f : Fault) → Sho
 drill_errs law of plated span setting text (Ok u) is good h = tt
 drill_errs law of plated span setting text (Err e) is good h = drill_failed law of plated span setting text e is good h
 
+-- and of a mixed one
+pub mixed_errs : ((kind : Kind) (text more : List ℕ) (f : Fault) → ShowsBy kind text (Err f) → ReadsBy kind (text ++ more) (Err f)) → (of : Role) (span : Option LayerSpan) (setting : Setting) (text : List ℕ) (r : Result (Unit {0}) Fail)
+    → of ≡ role.Mixed → is_bad_span of span setting.layers ≡ false → IfErr r (IfFault (λ f. ShowsBy (mixed_in setting.profile) text (Err f))) → IfErr r (λ fail. HasFailed of span setting fail text)
+mixed_errs law of span setting text (Ok u) is good h = tt
+mixed_errs law of span setting text (Err e) is good h = mixed_failed law of span setting text e is good h
+
 -- the fault of a text is that of what is kept of it
 pub layer_fault : (profile : Profile) (keep : Keep) (text : List ℕ) (e : Fail) → Answers {T = LayerImage} (λ layer. layer) (ReadsKeptIn profile keep text) (Err e) → Answers {T = LayerView} (λ x. x) (ReadsLayer profile text) (Err e)
 layer_fault profile keep text fails.Memory h = tt
 layer_fault profile keep text (fails.Refused f) h = h
+
+-- and so is that of a layer in the wide profile
+pub wide_fault : (text : List ℕ) (e : Fail) → Answers {T = WideImage} (λ layer. layer) (ReadsWideLayer text) (Err e) → Answers {T = LayerView} (λ x. x) (ReadsLayer Wide text) (Err e)
+wide_fault text fails.Memory h = tt
+wide_fault text (fails.Refused f) h = h
 
 pub drill_fault : (profile : Profile) (text : List ℕ) (e : Fail) → Answers {T = DrillFile} (λ drill. drill) (ReadsAsIn profile (file_of drill_keep.Holes) text) (Err e) → Answers {T = List GridHole} (λ x. x) (ReadsDrill profile text) (Err e)
 drill_fault profile text fails.Memory h = tt
@@ -135,6 +171,18 @@ drill_read Wide text d h = (h.0, h.1, ap (λ (d : DrillFile). d.holes) h.2)
 pub holes_fault : (profile : Profile) (plated : Bool) (span : Option LayerSpan) (text : List ℕ) (e : Fail) → Answers {T = List GridHole} (λ x. x) (ReadsDrill profile text) (Err e) → Answers {T = Content} (λ x. x) (ReadsHoles profile plated span text) (Err e)
 holes_fault profile plated span text fails.Memory h = tt
 holes_fault profile plated span text (fails.Refused f) h = h
+
+-- the holes of a mixed text, each plated or not, are those of what is kept of it
+pub mixed_fault : (profile : Profile) (span : Option LayerSpan) (text : List ℕ) (e : Fail) → Answers {T = DrillFile} (λ drill. drill) (ReadsAsBy (mixed_in profile) (file_of drill_keep.Holes) text) (Err e) → Answers {T = List Drilled} (λ x. x) (ReadsMixed profile span text) (Err e)
+mixed_fault profile span text fails.Memory h = tt
+mixed_fault profile span text (fails.Refused f) h = h
+
+pub mixed_read : (profile : Profile) (span : Option LayerSpan) (text : List ℕ) (d : DrillFile) → ReadsAsBy (mixed_in profile) (file_of drill_keep.Holes) text (Ok d) → ReadsMixed profile span text (Ok (marked span d.holes d.plated))
+mixed_read profile span text d h = (h.0, h.1, ap (λ (d : DrillFile). marked span d.holes d.plated) h.2)
+
+pub mixed_holes_fault : (profile : Profile) (span : Option LayerSpan) (text : List ℕ) (e : Fail) → Answers {T = List Drilled} (λ x. x) (ReadsMixed profile span text) (Err e) → Answers {T = Content} (λ x. x) (ReadsMixedHoles profile span text) (Err e)
+mixed_holes_fault profile span text fails.Memory h = tt
+mixed_holes_fault profile span text (fails.Refused f) h = h
 
 -- ---- open files
 

@@ -1,5 +1,5 @@
 -- A package that passes is sound by what is read of it.
-use Rattle.std.proofs.Common.{◌≡◌, ◌<◌, ◌+◌, ◌++◌, ℕ, Bool, true, List, [], ◌∷◌, length, map, ap, refl, sym, ◌∙◌, subst}
+use Rattle.std.proofs.Common.{◌≡◌, ◌<◌, ◌+◌, ◌++◌, ℕ, Bool, true, List, [], ◌∷◌, length, get_or, map, ap, refl, sym, ◌∙◌, subst}
 use Rattle.std.specs.List.{Contains, flat_map, enumerate_from}
 use Rattle.std.proofs.lemmas.List.{map-append}
 use Rattle.std.proofs.lemmas.List.Concat.{flat_map-cons}
@@ -8,7 +8,7 @@ use Rattle.grid_units.specs.declared.profile.Profile.{Profile}
 use Rattle.grid_units.specs.declared.profile.Profile.TheVariants.{Strict, Wide}
 use Rattle.wide_pads.specs.WidePads.{IsInWidePad, wide_pad_covers}
 use Rattle.wide_pads.specs.declared.wide_pad.WidePad.{WidePad}
-use Rattle.ring_rules.specs.WithoutFindings.{HolesHoldWithoutFindings, StraightWithoutFindings, ApartWithoutFindings, AreAllApart}
+use Rattle.ring_rules.specs.WithoutFindings.{HolesHoldWithoutFindings, StraightWithoutFindings, ApartWithoutFindings, AreAllApart, IsHoleHeld}
 use Rattle.grid_units.specs.Spans.{LayerSpan, is_in_span}
 use Rattle.std.specs.Prelude.{Option}
 use Rattle.ring_rules.specs.Findings.{ring_findings, gap_findings}
@@ -19,7 +19,7 @@ use Rattle.package_check.specs.declared.contents.Content.TheVariants as content
 use Rattle.package_check.specs.Package.{drilled, holes_of, layers}
 use Rattle.package_check.specs.Soundness.{LiesAsAllowed}
 use Rattle.package_check.specs.SoundnessAsRead.{PassingIsSoundAsRead, IsPlatedThrough, drilled_in}
-use Rattle.grid_units.proofs.ListLemmas.{append_nil_left, append_nil_right, map_contains, flat_map_at}
+use Rattle.grid_units.proofs.ListLemmas.{append_nil_left, append_nil_right, flat_map_at}
 
 -- what an element gives is among what all give
 flat_among : {X Y : Type 0} (f : X → List Y) (xs : List X) (x : X) (y : Y) → Contains xs x → Contains (f x) y → Contains (flat_map f xs) y
@@ -32,9 +32,15 @@ unnumbered : (file : ℕ) (plated : Bool) (span : Option LayerSpan) (n : ℕ) (h
 unnumbered file plated span n [] = refl
 unnumbered file plated span n (h ∷ hs) = ap (λ (t : List Drilled). record { hole = h; plated = plated; span = span } ∷ t) (unnumbered file plated span (n + 1) hs)
 
+unnumbered_mixed : (file n : ℕ) (holes : List Drilled)
+    → map (λ (h : Numbered). h.drilled) (map (λ (hole : ℕ × Drilled). let one : Numbered = record { file = file; number = hole.0; drilled = hole.1 } in one) (enumerate_from n holes)) ≡ holes
+unnumbered_mixed file n [] = refl
+unnumbered_mixed file n (h ∷ hs) = ap (λ (t : List Drilled). h ∷ t) (unnumbered_mixed file (n + 1) hs)
+
 one_file : (file : ℕ) (one : Content) → map (λ (h : Numbered). h.drilled) (holes_of (file, one)) ≡ drilled_in one
 one_file file (content.Layer image) = refl
 one_file file (content.Drill plated span holes) = unnumbered file plated span 1 holes
+one_file file (content.Mixed span holes) = unnumbered_mixed file 1 holes
 
 drilled_from : (n : ℕ) (contents : List Content) → map (λ (h : Numbered). h.drilled) (flat_map holes_of (enumerate_from n contents)) ≡ flat_map drilled_in contents
 drilled_from n [] = refl
@@ -47,12 +53,9 @@ drilled_from n (c ∷ cs) =
 pub all_drilled : (contents : List Content) → drilled contents ≡ flat_map drilled_in contents
 all_drilled contents = drilled_from 0 contents
 
--- a hole of a plated file is among all holes, plated and with the span of its file
-among_all : (contents : List Content) (layer : ℕ) (hole : GridHole) → (h : IsPlatedThrough contents layer hole) → Contains (drilled contents) (record { hole = hole; plated = true; span = h.span })
-among_all contents layer hole h =
-    let one : Drilled = record { hole = hole; plated = true; span = h.span } in
-    subst (λ (ds : List Drilled). Contains ds one) (sym (all_drilled contents))
-    (flat_among drilled_in contents (content.Drill true h.span h.holes) one h.file (map_contains (λ (g : GridHole). let d : Drilled = record { hole = g; plated = true; span = h.span } in d) h.holes hole h.drilled))
+-- a plated hole of a file is among all holes
+among_all : (contents : List Content) (layer : ℕ) (hole : GridHole) → (h : IsPlatedThrough contents layer hole) → Contains (drilled contents) h.drilled
+among_all contents layer hole h = subst (λ (ds : List Drilled). Contains ds h.drilled) (sym (all_drilled contents)) (flat_among drilled_in contents h.content h.drilled h.file h.among)
 
 -- where no ring is a finding, each plated hole lies as the profile allows
 allowed : StraightWithoutFindings wide_pad_covers → (profile : Profile) (ring : ℕ) (layers : List (List WidePad)) (holes : List Drilled) → ring_findings wide_pad_covers profile ring layers holes ≡ []
@@ -69,9 +72,10 @@ passing_is_sound held straight apart sources rules report is passes =
       contents = is.contents;
       read = is.read;
       held = λ layer hole inside h.
-          let one : Drilled = record { hole = hole; plated = true; span = h.span } in
+          let one = h.drilled in
           let all = among_all is.contents layer hole h in
           let clean = append_nil_left rings gaps none in
-          (allowed straight rules.profile rules.ring (layers is.contents) (drilled is.contents) clean layer one inside all refl h.through, held rules.profile rules.ring (layers is.contents) (drilled is.contents) clean layer one inside all refl h.through);
+          subst (λ (g : GridHole). LiesAsAllowed rules.profile g × IsHoleHeld IsInWidePad rules.ring (get_or (layers is.contents) layer []) g) h.same
+          (allowed straight rules.profile rules.ring (layers is.contents) (drilled is.contents) clean layer one inside all h.plated h.through, held rules.profile rules.ring (layers is.contents) (drilled is.contents) clean layer one inside all h.plated h.through);
       gaps = subst (λ (ds : List Drilled). AreAllApart rules.gap ds) (all_drilled is.contents) (apart rules.gap (drilled is.contents) (append_nil_right rings gaps none));
     }

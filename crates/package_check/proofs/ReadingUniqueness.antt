@@ -6,7 +6,8 @@ use Rattle.drill_lines.specs.declared.command.DrillCommand.{DrillCommand}
 use Rattle.drill_text.specs.Holes.{holes_of}
 use Rattle.drill_text.specs.Reading as drills
 use Rattle.drill_text.specs.Texts.{IsDrillText}
-use Rattle.drill_text.specs.Profiles.{ReadsIn}
+use Rattle.drill_text.specs.Profiles.{Kind, ReadsBy, ReadsIn, mixed_in}
+use Rattle.ring_rules.specs.declared.finding.Drilled.{Drilled}
 use Rattle.grid_units.specs.declared.profile.Profile.{Profile}
 use Rattle.grid_units.specs.declared.profile.Profile.TheVariants.{Strict, Wide}
 use Rattle.layer_image.specs.Layers as layers
@@ -18,8 +19,8 @@ use Rattle.manifest.specs.declared.Role.TheVariants as role
 use Rattle.package_check.specs.declared.contents.Content.{Content}
 use Rattle.package_check.specs.declared.contents.Content.TheVariants as content
 use Rattle.package_check.specs.LayerViews.{LayerView}
-use Rattle.package_check.specs.FileTexts.{ReadsLayer, ReadsDrill, layer_view, wide_view}
-use Rattle.package_check.specs.Package.{Setting, ReadsBytes, ReadsUnlessBadSpan, ReadsCopper, ReadsHoles, is_bad_span}
+use Rattle.package_check.specs.FileTexts.{ReadsLayer, ReadsDrill, layer_view, mixed_holes, wide_view}
+use Rattle.package_check.specs.Package.{Setting, ReadsBytes, ReadsUnlessBadSpan, ReadsCopper, ReadsHoles, ReadsMixedHoles, is_bad_span}
 use Rattle.package_check.specs.AlikePackages.{ReadingIsUnique}
 
 abbrev answered : {A : Type 0} → A → Result A Fault
@@ -44,7 +45,8 @@ true_or_false false e k = cc
 module _ (layer_once : layers.ReadingIsUniqueIn) (wide_once : wide.ReadingIsUnique)
     (drill_once : (text : List ℕ) (a b : Result (List DrillCommand) Fault) → drills.Reads text a → drills.Reads text b → a ≡ b)
     (drill_once_in : (profile : Profile) (text : List ℕ) (a b : Result (List DrillCommand) Fault) → ReadsIn profile text a → ReadsIn profile text b → a ≡ b)
-    (texts : (text : List ℕ) (commands : List DrillCommand) → (drills.Reads text (Ok commands)) ↔ (IsDrillText text commands)) where
+    (texts : (text : List ℕ) (commands : List DrillCommand) → (drills.Reads text (Ok commands)) ↔ (IsDrillText text commands))
+    (kinds_once : (kind : Kind) (text : List ℕ) (a b : Result (List DrillCommand) Fault) → ReadsBy kind text a → ReadsBy kind text b → a ≡ b) where
   one_image : (profile : Profile) (bytes : List ℕ) (a b : LayerView) → ReadsLayer profile bytes (Ok a) → ReadsLayer profile bytes (Ok b) → a ≡ b
   one_image Strict bytes a b h k = h.2 ∙ (ap layer_view (ok_same (layer_once Strict bytes (Ok h.0) (Ok k.0) h.1 k.1)) ∙ sym k.2)
   one_image Wide bytes a b h k = h.2 ∙ (ap wide_view (ok_same (wide_once bytes (Ok h.0) (Ok k.0) h.1 k.1)) ∙ sym k.2)
@@ -68,6 +70,9 @@ module _ (layer_once : layers.ReadingIsUniqueIn) (wide_once : wide.ReadingIsUniq
     one_copper bytes (Ok (content.Layer a)) (Ok (content.Layer b)) h k = ap (λ (i : LayerView). answered (content.Layer i)) (one_image profile bytes a b h.0 k.0)
     one_copper bytes (Ok (content.Drill p v d)) b h k = absurd h
     one_copper bytes (Ok (content.Layer a)) (Ok (content.Drill p v d)) h k = absurd k
+    one_copper bytes (Ok (content.Mixed v d)) b h k = absurd h
+    one_copper bytes (Ok (content.Layer a)) (Ok (content.Mixed v d)) h k = absurd k
+    one_copper bytes (Err f) (Ok (content.Mixed v d)) h k = absurd k
     one_copper bytes (Ok (content.Layer a)) (Err g) h k = absurd (copper_or_not bytes a g h k)
     one_copper bytes (Err f) (Ok (content.Layer b)) h k = absurd (copper_or_not bytes b f k h)
     one_copper bytes (Err f) (Ok (content.Drill p v d)) h k = absurd k
@@ -91,15 +96,33 @@ module _ (layer_once : layers.ReadingIsUniqueIn) (wide_once : wide.ReadingIsUniq
       ∙ (ap (λ (s : Option LayerSpan). answered (content.Drill q s d)) (h.2 ∙ sym k.2) ∙ ap (λ (l : List GridHole). answered (content.Drill q w l)) (one_drill profile bytes d e h.0 k.0))
   one_holes profile plated span bytes (Ok (content.Layer a)) b h k = absurd h
   one_holes profile plated span bytes (Ok (content.Drill p v d)) (Ok (content.Layer b)) h k = absurd k
+  one_holes profile plated span bytes (Ok (content.Mixed v d)) b h k = absurd h
+  one_holes profile plated span bytes (Ok (content.Drill p v d)) (Ok (content.Mixed w e)) h k = absurd k
+  one_holes profile plated span bytes (Err f) (Ok (content.Mixed w e)) h k = absurd k
   one_holes profile plated span bytes (Ok (content.Drill p v d)) (Err g) h k = absurd (no_drill profile bytes d g h.0 k)
   one_holes profile plated span bytes (Err f) (Ok (content.Drill q w e)) h k = absurd (no_drill profile bytes e f k.0 h)
   one_holes profile plated span bytes (Err f) (Ok (content.Layer b)) h k = absurd k
   one_holes profile plated span bytes (Err f) (Err g) h k = ap refused (one_drill_fault profile bytes f g h k)
 
+  one_mixed : (profile : Profile) (span : Option LayerSpan) (bytes : List ℕ) (a b : Result Content Fault) → ReadsMixedHoles profile span bytes a → ReadsMixedHoles profile span bytes b → a ≡ b
+  one_mixed profile span bytes (Ok (content.Mixed v d)) (Ok (content.Mixed w e)) h k =
+      ap (λ (s : Option LayerSpan). answered (content.Mixed s d)) (h.1 ∙ sym k.1)
+      ∙ ap (λ (l : List Drilled). answered (content.Mixed w l)) (h.0.2 ∙ (ap (mixed_holes span) (ok_same (kinds_once (mixed_in profile) bytes (Ok h.0.0) (Ok k.0.0) h.0.1 k.0.1)) ∙ sym k.0.2))
+  one_mixed profile span bytes (Ok (content.Layer a)) b h k = absurd h
+  one_mixed profile span bytes (Ok (content.Drill p v d)) b h k = absurd h
+  one_mixed profile span bytes (Ok (content.Mixed v d)) (Ok (content.Layer b)) h k = absurd k
+  one_mixed profile span bytes (Ok (content.Mixed v d)) (Ok (content.Drill q w e)) h k = absurd k
+  one_mixed profile span bytes (Ok (content.Mixed v d)) (Err g) h k = absurd (not_both (kinds_once (mixed_in profile) bytes (Ok h.0.0) (Err g) h.0.1 k))
+  one_mixed profile span bytes (Err f) (Ok (content.Mixed w e)) h k = absurd (not_both (kinds_once (mixed_in profile) bytes (Ok k.0.0) (Err f) k.0.1 h))
+  one_mixed profile span bytes (Err f) (Ok (content.Layer b)) h k = absurd k
+  one_mixed profile span bytes (Err f) (Ok (content.Drill q w e)) h k = absurd k
+  one_mixed profile span bytes (Err f) (Err g) h k = ap refused (err_same (kinds_once (mixed_in profile) bytes (Err f) (Err g) h k))
+
   by_role : (r : Role) (name : List ℕ) (span : Option LayerSpan) (bytes : List ℕ) (n : Setting) (a b : Result Content Fault) → ReadsBytes (record { role = r; name = name; span = span; bytes = bytes; setting = n }) a → ReadsBytes (record { role = r; name = name; span = span; bytes = bytes; setting = n }) b → a ≡ b
   by_role role.Copper name span bytes n a b h k = one_copper n.profile bytes a b h k
   by_role role.Plated name span bytes n a b h k = one_holes n.profile true span bytes a b h k
   by_role role.Unplated name span bytes n a b h k = one_holes n.profile false span bytes a b h k
+  by_role role.Mixed name span bytes n a b h k = one_mixed n.profile span bytes a b h k
 
   pub unique_reading : ReadingIsUnique
   unique_reading source a b h k = by (is_bad_span source.role source.span source.setting.layers) h k

@@ -9,7 +9,7 @@ use Rattle.grid_units.specs.Holes.{GridHole, GridRules}
 use Rattle.grid_units.specs.Spans.{LayerSpan}
 use Rattle.grid_units.specs.declared.profile.Profile.TheVariants.{Strict, Wide}
 use Rattle.drill_lines.specs.declared.command.DrillCommand.{DrillCommand}
-use Rattle.drill_text.specs.Profiles.{ReadsIn}
+use Rattle.drill_text.specs.Profiles.{ReadsBy, ReadsIn, mixed_in}
 use Rattle.drill_text.specs.Reading as drills
 use Rattle.drill_text.specs.Texts.{IsDrillText}
 use Rattle.wide_layers.specs.WideLayers.{StrictLayers, plain_pad, plain_pads}
@@ -69,6 +69,11 @@ plain_among (f ∷ fs) w = by f.what (plain_among fs w)
 abbrev IsWider : Content → Content → Type 0
 IsWider (content.Layer a) (content.Layer b) = (w : WidePad) → Contains a.pads w → Contains b.pads w
 IsWider (content.Drill p v d) (content.Drill q w e) = content.Drill p v d ≡ content.Drill q w e
+IsWider (content.Mixed v d) (content.Mixed w e) = content.Mixed v d ≡ content.Mixed w e
+IsWider (content.Mixed v d) (content.Layer b) = ⊥
+IsWider (content.Mixed v d) (content.Drill q w e) = ⊥
+IsWider (content.Layer a) (content.Mixed w e) = ⊥
+IsWider (content.Drill p v d) (content.Mixed w e) = ⊥
 IsWider (content.Layer a) (content.Drill q w e) = ⊥
 IsWider (content.Drill p v d) (content.Layer b) = ⊥
 
@@ -79,7 +84,8 @@ AreWider (c ∷ cs) [] = ⊥
 AreWider (c ∷ cs) (d ∷ ds) = IsWider c d × AreWider cs ds
 
 module _ (layers_too : StrictLayers) (texts : (text : List ℕ) (commands : List DrillCommand) → (drills.Reads text (Ok commands)) ↔ (IsDrillText text commands))
-    (drills_too : (text : List ℕ) (commands : List DrillCommand) → drills.Reads text (Ok commands) → ReadsIn Wide text (Ok commands)) where
+    (drills_too : (text : List ℕ) (commands : List DrillCommand) → drills.Reads text (Ok commands) → ReadsIn Wide text (Ok commands))
+    (mixed_too : (text : List ℕ) (commands : List DrillCommand) → ReadsBy (mixed_in Strict) text (Ok commands) → ReadsBy (mixed_in Wide) text (Ok commands)) where
   -- a layer has its pads in the wide profile too
   wider_layer : (bytes : List ℕ) (a : LayerView) → HasLayerView Strict bytes a → (b : LayerView) × HasLayerView Wide bytes b × (b.is_copper ≡ a.is_copper) × ((w : WidePad) → Contains a.pads w → Contains b.pads w)
   wider_layer bytes a h =
@@ -98,6 +104,12 @@ module _ (layers_too : StrictLayers) (texts : (text : List ℕ) (commands : List
       → (d : Content) × BytesHaveContent (record { role = q; name = name; span = span; bytes = bytes; setting = record { layers = n; profile = Wide } }) d × IsWider c d
   wider_file role.Copper name span bytes n (content.Layer a) h = let more = wider_layer bytes a h.0 in (content.Layer more.0, (more.1, more.2 ∙ h.1), more.3)
   wider_file role.Copper name span bytes n (content.Drill p v d) h = absurd h
+  wider_file role.Copper name span bytes n (content.Mixed v d) h = absurd h
+  wider_file role.Plated name span bytes n (content.Mixed v d) h = absurd h
+  wider_file role.Unplated name span bytes n (content.Mixed v d) h = absurd h
+  wider_file role.Mixed name span bytes n (content.Layer a) h = absurd h
+  wider_file role.Mixed name span bytes n (content.Drill p v d) h = absurd h
+  wider_file role.Mixed name span bytes n (content.Mixed v d) h = (content.Mixed v d, ((h.0.0, mixed_too bytes h.0.0 h.0.1, h.0.2), h.1), refl)
   wider_file role.Plated name span bytes n (content.Layer a) h = absurd h
   wider_file role.Plated name span bytes n (content.Drill p v d) h = (content.Drill p v d, (wider_drill bytes d h.0, h.1, h.2), refl)
   wider_file role.Unplated name span bytes n (content.Layer a) h = absurd h
@@ -117,12 +129,22 @@ module _ (layers_too : StrictLayers) (texts : (text : List ℕ) (commands : List
 same_holes : (n : ℕ) (c d : Content) → IsWider c d → holes_of (n, d) ≡ holes_of (n, c)
 same_holes n (content.Layer a) (content.Layer b) h = refl
 same_holes n (content.Drill p v d) (content.Drill q w e) h = ap (λ (one : Content). holes_of (n, one)) (sym h)
+same_holes n (content.Mixed v d) (content.Mixed w e) h = ap (λ (one : Content). holes_of (n, one)) (sym h)
+same_holes n (content.Mixed v d) (content.Layer b) h = absurd h
+same_holes n (content.Mixed v d) (content.Drill q w e) h = absurd h
+same_holes n (content.Layer a) (content.Mixed w e) h = absurd h
+same_holes n (content.Drill p v d) (content.Mixed w e) h = absurd h
 same_holes n (content.Layer a) (content.Drill q w e) h = absurd h
 same_holes n (content.Drill p v d) (content.Layer b) h = absurd h
 
 same_index : (n : ℕ) (c d : Content) → IsWider c d → index_of (n, d) ≡ index_of (n, c)
 same_index n (content.Layer a) (content.Layer b) h = refl
 same_index n (content.Drill p v d) (content.Drill q w e) h = refl
+same_index n (content.Mixed v d) (content.Mixed w e) h = refl
+same_index n (content.Mixed v d) (content.Layer b) h = absurd h
+same_index n (content.Mixed v d) (content.Drill q w e) h = absurd h
+same_index n (content.Layer a) (content.Mixed w e) h = absurd h
+same_index n (content.Drill p v d) (content.Mixed w e) h = absurd h
 same_index n (content.Layer a) (content.Drill q w e) h = absurd h
 same_index n (content.Drill p v d) (content.Layer b) h = absurd h
 
@@ -153,6 +175,11 @@ wider_pads (c ∷ cs) (d ∷ ds) h =
         by one rest zero w lt among = one w among
         by one rest (suc l) w lt among = rest l w (omega arith) among
     first (content.Drill p v e) (content.Drill q w g) one rest = rest
+    first (content.Mixed v e) (content.Mixed w g) one rest = rest
+    first (content.Mixed v e) (content.Layer b) one rest = absurd one
+    first (content.Mixed v e) (content.Drill q w g) one rest = absurd one
+    first (content.Layer a) (content.Mixed w g) one rest = absurd one
+    first (content.Drill p v e) (content.Mixed w g) one rest = absurd one
     first (content.Layer a) (content.Drill q w g) one rest = absurd one
     first (content.Drill p v e) (content.Layer b) one rest = absurd one
 
@@ -206,8 +233,9 @@ module _ (rings_no_more : RingsFindNoMore {S = WidePad} {W = WidePad} wide_pad_c
       }
 
 pub wide_finds_no_more : StrictLayers → ((text : List ℕ) (commands : List DrillCommand) → (drills.Reads text (Ok commands)) ↔ (IsDrillText text commands))
-    → ((text : List ℕ) (commands : List DrillCommand) → drills.Reads text (Ok commands) → ReadsIn Wide text (Ok commands)) → RingsFindNoMore {S = WidePad} {W = WidePad} wide_pad_covers wide_pad_covers → FindsNoObliqueInWide wide_pad_covers → WideFindsNoMore
-wide_finds_no_more layers_too texts drills_too rings_no_more no_oblique sources ring gap strict h =
-    let more = wider_files layers_too texts drills_too sources h.contents h.read in
+    → ((text : List ℕ) (commands : List DrillCommand) → drills.Reads text (Ok commands) → ReadsIn Wide text (Ok commands))
+    → ((text : List ℕ) (commands : List DrillCommand) → ReadsBy (mixed_in Strict) text (Ok commands) → ReadsBy (mixed_in Wide) text (Ok commands)) → RingsFindNoMore {S = WidePad} {W = WidePad} wide_pad_covers wide_pad_covers → FindsNoObliqueInWide wide_pad_covers → WideFindsNoMore
+wide_finds_no_more layers_too texts drills_too mixed_too rings_no_more no_oblique sources ring gap strict h =
+    let more = wider_files layers_too texts drills_too mixed_too sources h.contents h.read in
     let wide = report_on (record { ring = ring; gap = gap; profile = Wide }) more.0 in
     (wide, record { contents = more.0; read = more.1; is = refl }, subst (FindsNoMore wide) (sym h.is) (finds_no_more rings_no_more no_oblique ring gap h.contents more.0 more.2))

@@ -1,6 +1,6 @@
 -- What is sound by what is read of it is sound by what is written.
-use Rattle.std.proofs.Common.{◌≡◌, ◌⊎◌, inl, inr, ◌<◌, ℕ, zero, suc, Bool, true, false, not, ◌||◌, ◌&&◌, leb, List, [], ◌∷◌, ◌++◌, map, length, get_or, refl, sym, ap, subst, ◌∙◌, arith}
-use Rattle.std.specs.Prelude.{Option, None, Some, Ok}
+use Rattle.std.proofs.Common.{◌≡◌, ◌↔◌, ◌⊎◌, inl, inr, ◌<◌, ℕ, zero, suc, Bool, true, false, not, ◌||◌, ◌&&◌, leb, List, [], ◌∷◌, ◌++◌, map, length, get_or, refl, sym, ap, subst, ◌∙◌, arith}
+use Rattle.std.specs.Prelude.{Option, None, Some, Result, Ok}
 use Rattle.std.specs.List.{AllZip, Contains, filter, flat_map}
 use Rattle.std.proofs.lemmas.Bool.{leb-true}
 use Rattle.std.proofs.lemmas.List.{append-nil}
@@ -23,6 +23,13 @@ use Rattle.layer_image.specs.FileFunction.{function_set}
 use Rattle.drill_text.specs.Laws.{ListedHolesAreDrilled, SpelledIsWritten}
 use Rattle.drill_text.specs.Drilling.{AreHoles}
 use Rattle.drill_text.specs.WideGrammar.{ReadIsWritten, WideHolesAreDrilled}
+use Rattle.drill_text.specs.Holes.{holes_of}
+use Rattle.drill_text.specs.MixedLaws.{ListedIsCalled, MixedReadsTheSame}
+use Rattle.drill_text.specs.Plating.{plated_of}
+use Rattle.drill_text.specs.Profiles.{ReadsIn}
+use Rattle.drill_text.specs.Reading.{Reads}
+use Rattle.drill_text.specs.Texts.{IsDrillText as IsLegalText}
+use Rattle.grid_units.specs.declared.fault.Fault.{Fault}
 use Rattle.drill_lines.specs.declared.command.DrillCommand.{DrillCommand}
 use Rattle.manifest.specs.declared.Role.{Role}
 use Rattle.manifest.specs.declared.Role.TheVariants as role
@@ -30,8 +37,8 @@ use Rattle.package_check.specs.LayerViews.{LayerView, plain}
 use Rattle.package_check.specs.FileTexts.{HasLayerView, ReadsDrill, is_copper_function, wide_view}
 use Rattle.package_check.specs.declared.contents.Content.{Content}
 use Rattle.package_check.specs.declared.contents.Content.TheVariants as content
-use Rattle.package_check.specs.Package.{FileView, Setting, HasContent, HasDrillContent, HaveContents, is_bad_span, is_copper, layers, pads_of}
-use Rattle.package_check.specs.Soundness.{IsDrillText, IsRun, MakePads, SaysHoles, SaysPads, is_plated}
+use Rattle.package_check.specs.Package.{FileView, Setting, HasContent, HasDrillContent, HasMixedContent, HaveContents, is_bad_span, is_copper, layers, pads_of}
+use Rattle.package_check.specs.Soundness.{AreDrilledBy, IsDrillText, IsRun, MakePads, SaysHoles, SaysPads}
 use Rattle.package_check.specs.SoundnessAsRead.{IsPlatedThrough, SoundAsReadIsSound, drilled_in}
 
 -- ---- spans
@@ -62,6 +69,7 @@ abbrev holes_by_file : List Content → List (List Drilled)
 holes_by_file [] = []
 holes_by_file (content.Layer image ∷ cs) = holes_by_file cs
 holes_by_file (content.Drill plated span holes ∷ cs) = drilled_in (content.Drill plated span holes) ∷ holes_by_file cs
+holes_by_file (content.Mixed span holes ∷ cs) = holes ∷ holes_by_file cs
 
 holes_joined : (cs : List Content) → flat_map (λ (one : List Drilled). one) (holes_by_file cs) ≡ flat_map drilled_in cs
 holes_joined [] = refl
@@ -70,6 +78,9 @@ holes_joined (content.Drill plated span holes ∷ cs) =
     let first = drilled_in (content.Drill plated span holes) in
     flat_map-cons (λ (one : List Drilled). one) first (holes_by_file cs)
     ∙ (ap (λ (ds : List Drilled). first ++ ds) (holes_joined cs) ∙ sym (flat_map-cons drilled_in (content.Drill plated span holes) cs))
+holes_joined (content.Mixed span holes ∷ cs) =
+    flat_map-cons (λ (one : List Drilled). one) holes (holes_by_file cs)
+    ∙ (ap (λ (ds : List Drilled). holes ++ ds) (holes_joined cs) ∙ sym (flat_map-cons drilled_in (content.Mixed span holes) cs))
 
 -- the hole of an element of a file's holes is among its holes
 pub hole_among : (plated : Bool) (span : Option LayerSpan) (holes : List GridHole) (d : Drilled) → Contains (drilled_in (content.Drill plated span holes)) d
@@ -85,35 +96,30 @@ hole_among plated span holes d h = by holes h.0 h.1 h.2
 -- a hole that goes through a layer in a list of files does so with one file more
 through_more : (c : Content) (cs : List Content) (layer : ℕ) (hole : GridHole) → IsPlatedThrough cs layer hole → IsPlatedThrough (c ∷ cs) layer hole
 through_more c cs layer hole h = record {
-  span = h.span;
-  holes = h.holes;
+  content = h.content;
   file = (suc h.file.0, (let inside = h.file.1 in omega arith), h.file.2);
   drilled = h.drilled;
+  among = h.among;
+  same = h.same;
+  plated = h.plated;
   through = h.through;
 }
 
--- a plated hole among those of all files is one of some plated file
+-- a plated hole among those of all files is one of some file
 is_through : (cs : List Content) (layer : ℕ) (d : Drilled) → Contains (flat_map drilled_in cs) d → d.plated ≡ true → is_in_span layer d.span ≡ true → IsPlatedThrough cs layer d.hole
 is_through [] layer d h plated within = absurd (let lt = h.1 in omega arith)
 is_through (c ∷ cs) layer d h plated within =
-    by c (Contains-append_cases (drilled_in c) (flat_map drilled_in cs) d (subst (λ (ds : List Drilled). Contains ds d) (flat_map-cons drilled_in c cs) h)) (λ later. is_through cs layer d later plated within)
+    by (Contains-append_cases (drilled_in c) (flat_map drilled_in cs) d (subst (λ (ds : List Drilled). Contains ds d) (flat_map-cons drilled_in c cs) h)) (λ later. is_through cs layer d later plated within)
   where
-    by : (one : Content) → Contains (drilled_in one) d ⊎ Contains (flat_map drilled_in cs) d → (Contains (flat_map drilled_in cs) d → IsPlatedThrough cs layer d.hole) → IsPlatedThrough (one ∷ cs) layer d.hole
-    by one (inr later) rest = through_more one cs layer d.hole (rest later)
-    by (content.Layer image) (inl here) rest = absurd (let lt = here.1 in omega arith)
-    by (content.Drill p span holes) (inl here) rest =
-        let among = hole_among p span holes d here in
-        record {
-          span = span;
-          holes = holes;
-          file = (0, omega arith, ap (λ (b : Bool). content.Drill b span holes) (sym among.1 ∙ plated));
-          drilled = among.0;
-          through = ap (is_in_span layer) (sym among.2) ∙ within;
-        }
+    by : Contains (drilled_in c) d ⊎ Contains (flat_map drilled_in cs) d → (Contains (flat_map drilled_in cs) d → IsPlatedThrough cs layer d.hole) → IsPlatedThrough (c ∷ cs) layer d.hole
+    by (inr later) rest = through_more c cs layer d.hole (rest later)
+    by (inl here) rest = record { content = c; file = (0, omega arith, refl); drilled = d; among = here; same = refl; plated = plated; through = within }
 
 -- ---- one file
 
-module _ (texts : SpelledTextsAreWrittenIn) (layer_pads : LayerPads) (lines : SpelledIsWritten) (listed : ListedHolesAreDrilled) (wide_lines : ReadIsWritten) (wide_listed : WideHolesAreDrilled) where
+module _ (texts : SpelledTextsAreWrittenIn) (layer_pads : LayerPads) (lines : SpelledIsWritten) (listed : ListedHolesAreDrilled) (wide_lines : ReadIsWritten) (wide_listed : WideHolesAreDrilled)
+    (drill_texts : (text : List ℕ) (commands : List DrillCommand) → (Reads text (Ok commands)) ↔ (IsLegalText text commands))
+    (strictly : (text : List ℕ) (answer : Result (List DrillCommand) Fault) → (ReadsIn Strict text answer) ↔ (Reads text answer)) (same : MixedReadsTheSame) (called : ListedIsCalled) where
   made_by : (profile : Profile) (bytes : List ℕ) (image : LayerView) → HasLayerView profile bytes image
       → (commands : List Command) × IsTextIn profile bytes commands × MakePads profile commands image.pads × (is_copper_function (last_set function_set commands) ≡ image.is_copper)
   made_by Strict bytes image h =
@@ -139,9 +145,10 @@ module _ (texts : SpelledTextsAreWrittenIn) (layer_pads : LayerPads) (lines : Sp
       let written = wide_lines bytes h.0 h.1 in
       (h.0, written.1, subst (λ (hs : List GridHole). AreHoles h.0 hs) (sym h.2) (wide_listed bytes h.0 written.1 written.2))
 
-  says_holes : (s : FileView) (plated : Bool) (through : Option LayerSpan) (holes : List GridHole) → HasDrillContent s.setting.profile (is_plated s.role) s.span s.bytes (content.Drill plated through holes)
-      → IsRun s.setting.layers s.span → SaysHoles s (drilled_in (content.Drill plated through holes))
-  says_holes s plated through holes h run =
+  says_holes : (s : FileView) (plated has : Bool) (through : Option LayerSpan) (holes : List GridHole) → HasDrillContent s.setting.profile plated s.span s.bytes (content.Drill has through holes)
+      → ((commands : List DrillCommand) (drilled : List Drilled) → drilled ≡ map (λ (hole : GridHole). let d : Drilled = record { hole = hole; plated = plated; span = s.span } in d) holes → AreDrilledBy s.role s.span commands holes drilled)
+      → IsRun s.setting.layers s.span → SaysHoles s (drilled_in (content.Drill has through holes))
+  says_holes s plated has through holes h named run =
       let drilled = drilled_by s.setting.profile s.bytes holes h.0 in
       record {
         commands = drilled.0;
@@ -149,7 +156,27 @@ module _ (texts : SpelledTextsAreWrittenIn) (layer_pads : LayerPads) (lines : Sp
         holes = holes;
         made = drilled.2;
         run = run;
-        is = λ i. map (λ (hole : GridHole). let d : Drilled = record { hole = hole; plated = h.1 i; span = h.2 i } in d) holes;
+        is = named drilled.0 (drilled_in (content.Drill has through holes)) (λ i. map (λ (hole : GridHole). let d : Drilled = record { hole = hole; plated = h.1 i; span = h.2 i } in d) holes);
+      }
+
+  -- the commands of a mixed file are those of its text, and drill its holes
+  mixed_by : (profile : Profile) (bytes : List ℕ) (commands : List DrillCommand) → ReadsIn profile bytes (Ok commands) → IsDrillText profile bytes commands × AreHoles commands (holes_of commands)
+  mixed_by Strict bytes commands h = let d = (drill_texts bytes commands).0 ((strictly bytes (Ok commands)).0 h) in (((lines bytes commands).0 d.spells).1, listed bytes commands d)
+  mixed_by Wide bytes commands h = let written = wide_lines bytes commands h in (written.1, wide_listed bytes commands written.1 written.2)
+
+  says_mixed : (name : List ℕ) (span : Option LayerSpan) (bytes : List ℕ) (n : Setting) (through : Option LayerSpan) (holes : List Drilled) → HasMixedContent n.profile span bytes (content.Mixed through holes) → IsRun n.layers span
+      → SaysHoles (record { role = role.Mixed; name = name; span = span; bytes = bytes; setting = n }) holes
+  says_mixed name span bytes n through holes h run =
+      let commands = h.0.0 in
+      let read = (same n.profile bytes commands).0 h.0.1 in
+      let said = mixed_by n.profile bytes commands read.0 in
+      record {
+        commands = commands;
+        written = said.0;
+        holes = holes_of commands;
+        made = said.1;
+        run = run;
+        is = (plated_of commands, called commands read.1, h.0.2);
       }
 
   -- what one more file says is among what all say
@@ -159,22 +186,34 @@ module _ (texts : SpelledTextsAreWrittenIn) (layer_pads : LayerPads) (lines : Sp
   one_more_layer role.Copper name span bytes n (content.Layer image) ss rest h all =
       (says_pads (record { role = role.Copper; name = name; span = span; bytes = bytes; setting = n }) image h.1.0 h.1.1 (no_span span n.layers h.0), all)
   one_more_layer role.Copper name span bytes n (content.Drill plated through holes) ss rest h all = absurd h.1
+  one_more_layer role.Copper name span bytes n (content.Mixed through holes) ss rest h all = absurd h.1
   one_more_layer role.Plated name span bytes n (content.Layer image) ss rest h all = absurd h.1
   one_more_layer role.Plated name span bytes n (content.Drill plated through holes) ss rest h all = all
+  one_more_layer role.Plated name span bytes n (content.Mixed through holes) ss rest h all = absurd h.1
   one_more_layer role.Unplated name span bytes n (content.Layer image) ss rest h all = absurd h.1
   one_more_layer role.Unplated name span bytes n (content.Drill plated through holes) ss rest h all = all
+  one_more_layer role.Unplated name span bytes n (content.Mixed through holes) ss rest h all = absurd h.1
+  one_more_layer role.Mixed name span bytes n (content.Layer image) ss rest h all = absurd h.1
+  one_more_layer role.Mixed name span bytes n (content.Drill plated through holes) ss rest h all = absurd h.1
+  one_more_layer role.Mixed name span bytes n (content.Mixed through holes) ss rest h all = all
 
   one_more_drill : (q : Role) (name : List ℕ) (span : Option LayerSpan) (bytes : List ℕ) (n : Setting) (c : Content) (ss : List FileView) (cs : List Content)
       → HasContent (record { role = q; name = name; span = span; bytes = bytes; setting = n }) c → AllZip SaysHoles (filter (λ s. not (is_copper s.role)) ss) (holes_by_file cs)
       → AllZip SaysHoles (filter (λ s. not (is_copper s.role)) (record { role = q; name = name; span = span; bytes = bytes; setting = n } ∷ ss)) (holes_by_file (c ∷ cs))
   one_more_drill role.Copper name span bytes n (content.Layer image) ss cs h all = all
   one_more_drill role.Copper name span bytes n (content.Drill plated through holes) ss cs h all = absurd h.1
+  one_more_drill role.Copper name span bytes n (content.Mixed through holes) ss cs h all = absurd h.1
   one_more_drill role.Plated name span bytes n (content.Layer image) ss cs h all = absurd h.1
   one_more_drill role.Plated name span bytes n (content.Drill plated through holes) ss cs h all =
-      (says_holes (record { role = role.Plated; name = name; span = span; bytes = bytes; setting = n }) plated through holes h.1 (good_run role.Plated span n.layers h.0), all)
+      (says_holes (record { role = role.Plated; name = name; span = span; bytes = bytes; setting = n }) true plated through holes h.1 (λ commands drilled is. is) (good_run role.Plated span n.layers h.0), all)
+  one_more_drill role.Plated name span bytes n (content.Mixed through holes) ss cs h all = absurd h.1
   one_more_drill role.Unplated name span bytes n (content.Layer image) ss cs h all = absurd h.1
   one_more_drill role.Unplated name span bytes n (content.Drill plated through holes) ss cs h all =
-      (says_holes (record { role = role.Unplated; name = name; span = span; bytes = bytes; setting = n }) plated through holes h.1 (good_run role.Unplated span n.layers h.0), all)
+      (says_holes (record { role = role.Unplated; name = name; span = span; bytes = bytes; setting = n }) false plated through holes h.1 (λ commands drilled is. is) (good_run role.Unplated span n.layers h.0), all)
+  one_more_drill role.Unplated name span bytes n (content.Mixed through holes) ss cs h all = absurd h.1
+  one_more_drill role.Mixed name span bytes n (content.Layer image) ss cs h all = absurd h.1
+  one_more_drill role.Mixed name span bytes n (content.Drill plated through holes) ss cs h all = absurd h.1
+  one_more_drill role.Mixed name span bytes n (content.Mixed through holes) ss cs h all = (says_mixed name span bytes n through holes h.1 (good_run role.Mixed span n.layers h.0), all)
 
   -- ---- all files
 

@@ -99,6 +99,7 @@ ReturnsDrawnBoard sources (Err (stop.File index fault)) = IsFirstRefused sources
 abbrev pub hole_count : FileSum → ℕ
 hole_count (sum.Layer pads other contours) = 0
 hole_count (sum.Drill plated span round slots) = round + slots
+hole_count (sum.Mixed span round slots unplated) = round + slots
 
 -- the number of holes in the files before one, by its index
 abbrev pub holes_before : List FileSum → ℕ → ℕ

@@ -35,6 +35,7 @@ holes_of check = record { holes = check.holes; rules = check.rules; index = chec
 abbrev pub is_drill_sum : FileSum → Bool
 is_drill_sum (sum.Layer pads other contours) = false
 is_drill_sum (sum.Drill plated span round slots) = true
+is_drill_sum (sum.Mixed span round slots unplated) = true
 
 -- whether a drill file has a slot
 abbrev pub is_drill_in : Option Judged → Bool

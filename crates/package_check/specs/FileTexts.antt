@@ -1,14 +1,17 @@
 -- What the bytes of a file say.
-use Rattle.std.specs.Prelude.{◌≡◌, ℕ, Bool, true, List, codes, length, map, Option, Some, None, Result, Ok, Err}
+use Rattle.std.specs.Prelude.{◌≡◌, ℕ, Bool, true, List, [], ◌∷◌, codes, length, map, Option, Some, None, Result, Ok, Err}
 use Rattle.std.specs.Str.{bytes_eq}
 use Rattle.grid_units.specs.Holes.{GridHole}
+use Rattle.grid_units.specs.Spans.{LayerSpan}
 use Rattle.grid_units.specs.declared.fault.Fault.{Fault}
 use Rattle.grid_units.specs.declared.profile.Profile.{Profile}
 use Rattle.grid_units.specs.declared.profile.Profile.TheVariants.{Strict, Wide}
 use Rattle.gerber_commands.specs.Negative.{first_field}
 use Rattle.gerber_text.specs.Writing.{without_places}
 use Rattle.drill_text.specs.Holes.{holes_of}
-use Rattle.drill_text.specs.Profiles.{ReadsAsIn}
+use Rattle.drill_lines.specs.declared.command.DrillCommand.{DrillCommand}
+use Rattle.drill_text.specs.Plating.{plated_of}
+use Rattle.drill_text.specs.Profiles.{ReadsAsBy, ReadsAsIn, mixed_in}
 use Rattle.drill_text.specs.Texts.{ReadsAs}
 use Rattle.layer_image.specs.Drawn.{drawn_of}
 use Rattle.layer_image.specs.Layers as layers
@@ -17,6 +20,7 @@ use Rattle.layer_image.specs.declared.drawn.Drawn.{Drawn}
 use Rattle.further_copper.specs.declared.feature.FeatureRow.{FeatureRow}
 use Rattle.wide_layers.specs.WideLayers.{ReadsWideLayer, WideImage, contour_count, flashed_count, other_count}
 use Rattle.further_copper.specs.Features.{pads_of, rows_of, strict_row}
+use Rattle.ring_rules.specs.declared.finding.Drilled.{Drilled}
 use Rattle.package_check.specs.LayerViews.{LayerView, plain}
 
 -- the first field of a file function is `Copper`, as in `Copper,L1,Top`; a layer without one is taken for copper (docs/FORMATS.md, File function)
@@ -67,3 +71,17 @@ Draws profile bytes drawn = (layer : LayerImage) × layers.IsLayerIn profile byt
 abbrev pub ReadsDrill : Profile → List ℕ → Result (List GridHole) Fault → Type 0
 ReadsDrill Strict bytes answer = ReadsAs holes_of bytes answer
 ReadsDrill Wide bytes answer = ReadsAsIn Wide holes_of bytes answer
+
+-- holes with this span, each plated or not as the other list says, as long as both lists go on
+abbrev pub marked : Option LayerSpan → List GridHole → List Bool → List Drilled
+marked span [] plated = []
+marked span (hole ∷ holes) [] = []
+marked span (hole ∷ holes) (one ∷ plated) = record { hole = hole; plated = one; span = span } ∷ marked span holes plated
+
+-- the holes of the commands of a mixed file, each plated as its tool is called, with this span
+abbrev pub mixed_holes : Option LayerSpan → List DrillCommand → List Drilled
+mixed_holes span commands = marked span (holes_of commands) (plated_of commands)
+
+-- in the profile the bytes are a mixed drill text that drills these holes with this span, or they have this fault
+abbrev pub ReadsMixed : Profile → Option LayerSpan → List ℕ → Result (List Drilled) Fault → Type 0
+ReadsMixed profile span bytes answer = ReadsAsBy (mixed_in profile) (mixed_holes span) bytes answer

@@ -36,6 +36,7 @@ pub record HasTriedPadsOf (holes : HolesView) (layer : ℕ) (reader : LayerReade
 abbrev pub rings_of : GridRules → List Drilled → ℕ → Content → List Finding
 rings_of rules holes layer (content.Layer image) = layer_findings wide_pad_covers rules.profile rules.ring holes layer image.pads
 rings_of rules holes layer (content.Drill plated span drilled) = []
+rings_of rules holes layer (content.Mixed span drilled) = []
 
 -- what is left of a file with this content: its counts, and the findings of rings on its layer
 pub record IsLeftOf (rules : GridRules) (holes : List Drilled) (layer : ℕ) (content : Content) (one : Judged) : Type 0 where

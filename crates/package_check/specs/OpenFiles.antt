@@ -3,14 +3,15 @@ use Rattle.std.specs.Prelude.{◌≡◌, ◌++◌, ℕ, Bool, true, false, List,
 use Rattle.grid_units.specs.Spans.{LayerSpan}
 use Rattle.grid_units.specs.declared.fault.Fail.{Fail}
 use Rattle.grid_units.specs.declared.fault.Fail.TheVariants as fails
-use Rattle.drill_text.specs.Holding.{StandsIn}
+use Rattle.drill_text.specs.Holding.{StandsBy, StandsIn}
+use Rattle.drill_text.specs.Profiles.{mixed_in}
 use Rattle.drill_text.specs.declared.kept.Keep.TheVariants as drill_keep
 use Rattle.grid_units.specs.declared.profile.Profile.{Profile}
 use Rattle.grid_units.specs.declared.profile.Profile.TheVariants.{Strict, Wide}
 use Rattle.layer_image.specs.Holding.{LayerStandsIn}
 use Rattle.layer_image.specs.declared.keep.Keep.{Keep}
-use Rattle.layer_image.specs.declared.keep.Keep.TheVariants as keeps
-use Rattle.layer_image.specs.declared.reader.LayerReader.{LayerReader}
+use Rattle.layer_image.specs.KeptFlashes.{keeps_commands}
+use Rattle.wide_layers.specs.Holding.{WideStandsAfter}
 use Rattle.manifest.specs.declared.Role.{Role}
 use Rattle.manifest.specs.declared.Role.TheVariants as role
 use Rattle.package_check.specs.CheckViews.{CheckView, holes_of}
@@ -18,6 +19,8 @@ use Rattle.package_check.specs.HoleViews.{HolesView}
 use Rattle.package_check.specs.Holding.{is_wanted, setting_of}
 use Rattle.package_check.specs.Judging.{HasTriedPadsOf}
 use Rattle.package_check.specs.Package.{Reads, Setting, is_bad_span, unnamed_file}
+use Rattle.package_check.specs.declared.copper_reader.CopperReader.{CopperReader}
+use Rattle.package_check.specs.declared.copper_reader.CopperReader.TheVariants as copper_reader
 use Rattle.package_check.specs.declared.open_copper.CopperReading.{CopperReading}
 use Rattle.package_check.specs.declared.open_copper.CopperReading.TheVariants as copper_reading
 use Rattle.package_check.specs.declared.open_copper.OpenCopper.{OpenCopper}
@@ -26,7 +29,7 @@ use Rattle.package_check.specs.declared.open_file.Reading.{Reading}
 use Rattle.package_check.specs.declared.open_file.Reading.TheVariants as reading
 use Rattle.package_check.specs.declared.package_reader.PackageReader.{PackageReader}
 
--- the role of a drill file, by whether it is plated
+-- the role of a drill file whose holes are alike, by whether they are plated
 abbrev pub drill_role : Bool → Role
 drill_role plated = if plated then role.Plated else role.Unplated
 
@@ -37,16 +40,18 @@ HasFailed of span setting (fails.Refused fault) text = (more : List ℕ) → Rea
 
 -- ---- files of a reader
 
--- what a reader of a layer keeps of it: in the wide profile all, since clear polarity takes pads away
-abbrev pub keep_in : Profile → Keep → Keep
-keep_in Strict keep = keep
-keep_in Wide keep = keeps.All
+-- A reader of a copper file in this profile has read this text, which shows no fault. In the strict profile it keeps these parts of the layer; in the wide one
+-- what is drawn, where commands are kept.
+abbrev pub CopperStandsIn : CopperReader → Profile → Keep → List ℕ → Type 0
+CopperStandsIn (copper_reader.Strict reader) profile keep text = (profile ≡ Strict) × LayerStandsIn reader Strict keep text
+CopperStandsIn (copper_reader.Wide reader) profile keep text = (profile ≡ Wide) × WideStandsAfter (keeps_commands keep) reader text
 
 -- Of a file of this role and span, in a package of so many copper files, this text was read. It shows no fault, and the reader of its kind stands after
 -- it; or the file has failed. A file that is passed over has read no text.
 abbrev pub HasReadText : Keep → Role → Option LayerSpan → Setting → Reading → List ℕ → Type 0
-HasReadText keep of span setting (reading.Layer reader) text = (of ≡ role.Copper) × (is_bad_span of span setting.layers ≡ false) × LayerStandsIn reader setting.profile (keep_in setting.profile keep) text
+HasReadText keep of span setting (reading.Layer reader) text = (of ≡ role.Copper) × (is_bad_span of span setting.layers ≡ false) × CopperStandsIn reader setting.profile keep text
 HasReadText keep of span setting (reading.Drill plated reader) text = (of ≡ drill_role plated) × (is_bad_span of span setting.layers ≡ false) × StandsIn reader setting.profile drill_keep.Holes text
+HasReadText keep of span setting (reading.Mixed reader) text = (of ≡ role.Mixed) × (is_bad_span of span setting.layers ≡ false) × StandsBy reader (mixed_in setting.profile) drill_keep.Holes text
 HasReadText keep of span setting (reading.Failed fail) text = HasFailed of span setting fail text
 HasReadText keep of span setting reading.Skipped text = ⊥
 
@@ -60,9 +65,9 @@ pub record HasOpened (reader : PackageReader) (index : ℕ) (of : Role) (span : 
 -- ---- copper files of a check
 
 -- A reader of a layer has read this text. In the strict profile its pads so far were tried at the holes; in the wide one they are tried at the end.
-abbrev pub HasReadLayer : Profile → HolesView → ℕ → LayerReader → List ℕ → Type 0
-HasReadLayer Strict holes layer reader text = HasTriedPadsOf holes layer reader text
-HasReadLayer Wide holes layer reader text = (holes.search ≡ None) × LayerStandsIn reader Wide keeps.All text
+abbrev pub HasReadLayer : Profile → HolesView → ℕ → CopperReader → List ℕ → Type 0
+HasReadLayer profile holes layer (copper_reader.Strict reader) text = (profile ≡ Strict) × HasTriedPadsOf holes layer reader text
+HasReadLayer profile holes layer (copper_reader.Wide reader) text = (profile ≡ Wide) × (holes.search ≡ None) × WideStandsAfter false reader text
 
 -- Of the copper file of this span, whose layer has this number, in a package of so many copper files, this text was read and shows no fault; or the file
 -- has failed. A file that is passed over has read no text.

@@ -13,7 +13,7 @@ use Rattle.ring_rules.specs.WithoutFindings.{NamesPlaces}
 use Rattle.ring_rules.specs.declared.finding.Drilled.{Drilled}
 use Rattle.ring_rules.specs.declared.finding.Finding.{Finding}
 use Rattle.package_check.specs.LayerViews.{LayerView}
-use Rattle.package_check.specs.FileTexts.{HasLayerView, ReadsLayer, ReadsDrill}
+use Rattle.package_check.specs.FileTexts.{HasLayerView, ReadsLayer, ReadsDrill, ReadsMixed}
 use Rattle.package_check.specs.Reports.{ReportView}
 use Rattle.grid_units.specs.declared.fault.Fault.{Fault}
 use Rattle.package_check.specs.declared.File.{File}
@@ -46,6 +46,7 @@ abbrev pub is_copper : Role → Bool
 is_copper role.Copper = true
 is_copper role.Plated = false
 is_copper role.Unplated = false
+is_copper role.Mixed = false
 
 -- the source for a file of the code
 abbrev pub file_view : Setting → File → FileView
@@ -84,11 +85,19 @@ not_copper = record { place = 0; byte = 0; reason = reason.NotCopper }
 abbrev pub HasCopperContent : Profile → List ℕ → Content → Type 0
 HasCopperContent profile bytes (content.Layer image) = HasLayerView profile bytes image × (image.is_copper ≡ true)
 HasCopperContent profile bytes (content.Drill plated span holes) = ⊥
+HasCopperContent profile bytes (content.Mixed span holes) = ⊥
 
 -- the bytes of a drill file drill just these holes, and the content has its plating and its span
 abbrev pub HasDrillContent : Profile → Bool → Option LayerSpan → List ℕ → Content → Type 0
 HasDrillContent profile plated span bytes (content.Layer image) = ⊥
 HasDrillContent profile plated span bytes (content.Drill has through holes) = ReadsDrill profile bytes (Ok holes) × (has ≡ plated) × (through ≡ span)
+HasDrillContent profile plated span bytes (content.Mixed through holes) = ⊥
+
+-- the bytes of a mixed drill file drill just these holes, each plated as its tool is called, and the content has its span
+abbrev pub HasMixedContent : Profile → Option LayerSpan → List ℕ → Content → Type 0
+HasMixedContent profile span bytes (content.Layer image) = ⊥
+HasMixedContent profile span bytes (content.Drill has through holes) = ⊥
+HasMixedContent profile span bytes (content.Mixed through holes) = ReadsMixed profile span bytes (Ok holes) × (through ≡ span)
 
 -- the bytes of a file have this content, as they are read by its role
 abbrev pub BytesHaveContent : FileView → Content → Type 0
@@ -96,6 +105,7 @@ BytesHaveContent source content = elim source.role [
   | role.Copper ↦ HasCopperContent source.setting.profile source.bytes content
   | role.Plated ↦ HasDrillContent source.setting.profile true source.span source.bytes content
   | role.Unplated ↦ HasDrillContent source.setting.profile false source.span source.bytes content
+  | role.Mixed ↦ HasMixedContent source.setting.profile source.span source.bytes content
 ]
 
 -- a file has this content: its span is not bad, and its bytes have the content
@@ -119,12 +129,18 @@ abbrev pub ReadsHoles : Profile → Bool → Option LayerSpan → List ℕ → R
 ReadsHoles profile plated span bytes (Ok content) = HasDrillContent profile plated span bytes content
 ReadsHoles profile plated span bytes (Err fault) = ReadsDrill profile bytes (Err fault)
 
+-- a mixed drill file has this content, or its text has this fault
+abbrev pub ReadsMixedHoles : Profile → Option LayerSpan → List ℕ → Result Content Fault → Type 0
+ReadsMixedHoles profile span bytes (Ok content) = HasMixedContent profile span bytes content
+ReadsMixedHoles profile span bytes (Err fault) = ReadsMixed profile span bytes (Err fault)
+
 -- the bytes of a file have this content or this fault, as they are read by its role
 abbrev pub ReadsBytes : FileView → Result Content Fault → Type 0
 ReadsBytes source answer = elim source.role [
   | role.Copper ↦ ReadsCopper source.setting.profile source.bytes answer
   | role.Plated ↦ ReadsHoles source.setting.profile true source.span source.bytes answer
   | role.Unplated ↦ ReadsHoles source.setting.profile false source.span source.bytes answer
+  | role.Mixed ↦ ReadsMixedHoles source.setting.profile source.span source.bytes answer
 ]
 
 -- a file whose span is bad has the fault `bad_span`, whatever its bytes are; another has what its bytes have
@@ -136,15 +152,17 @@ ReadsUnlessBadSpan false source answer = ReadsBytes source answer
 abbrev pub Reads : FileView → Result Content Fault → Type 0
 Reads source answer = ReadsUnlessBadSpan (is_bad_span source.role source.span source.setting.layers) source answer
 
--- the counts of a file: flashed pads, other flashes and contours of a layer, round holes and slots of a drill file
+-- the counts of a file: flashed pads, other flashes and contours of a layer, round holes and slots of a drill file, and of a mixed one those that are not plated
 abbrev pub sum_of : Content → FileSum
 sum_of (content.Layer image) = sum.Layer image.flashed image.other image.contours
 sum_of (content.Drill plated span holes) = sum.Drill plated span (count_by is_round holes) (count_by (λ hole. not (is_round hole)) holes)
+sum_of (content.Mixed span holes) = sum.Mixed span (count_by (λ one. is_round one.hole) holes) (count_by (λ one. not (is_round one.hole)) holes) (count_by (λ one. not one.plated) holes)
 
 -- the pads of a copper file, as a list of one; none for a drill file
 abbrev pub pads_of : Content → List (List WidePad)
 pads_of (content.Layer image) = image.pads ∷ []
 pads_of (content.Drill plated span holes) = []
+pads_of (content.Mixed span holes) = []
 
 -- the pads of each copper file, in the order of the files
 abbrev pub layers : List Content → List (List WidePad)
@@ -154,6 +172,7 @@ layers contents = flat_map pads_of contents
 abbrev pub index_of : ℕ × Content → List ℕ
 index_of (file, content.Layer image) = file ∷ []
 index_of (file, content.Drill plated span holes) = []
+index_of (file, content.Mixed span holes) = []
 
 -- the indexes of the copper files among all files, from 0
 abbrev pub layer_indexes : List Content → List ℕ
@@ -168,6 +187,7 @@ file_holes file plated span holes =
 abbrev pub holes_of : ℕ × Content → List Numbered
 holes_of (file, content.Layer image) = []
 holes_of (file, content.Drill plated span holes) = file_holes file plated span holes
+holes_of (file, content.Mixed span holes) = map (λ hole. record { file = file; number = hole.0; drilled = hole.1 }) (enumerate_from 1 holes)
 
 -- the holes of all drill files with their places, file by file
 abbrev pub numbered_holes : List Content → List Numbered

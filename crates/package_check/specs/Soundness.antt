@@ -21,17 +21,13 @@ use Rattle.drill_lines.specs.declared.command.DrillCommand.{DrillCommand}
 use Rattle.drill_text.specs.Grammar as drill
 use Rattle.drill_text.specs.WideGrammar.{IsWideText}
 use Rattle.drill_text.specs.Drilling.{AreHoles}
+use Rattle.drill_text.specs.Plating.{AreCalled}
 use Rattle.manifest.specs.declared.Role.{Role}
 use Rattle.manifest.specs.declared.Role.TheVariants as role
-use Rattle.package_check.specs.FileTexts.{is_copper_function}
+use Rattle.package_check.specs.FileTexts.{is_copper_function, marked}
 use Rattle.package_check.specs.LayerViews.{plain}
 use Rattle.package_check.specs.Package.{FileView, IsReport, is_copper}
 use Rattle.package_check.specs.Reports.{ReportView}
-
--- whether a role is that of a file of plated holes
-abbrev pub is_plated : Role → Bool
-is_plated role.Plated = true
-is_plated _ = false
 
 -- a span is a run of so many layers, which are numbered from 1; without one the holes go through all
 abbrev pub IsRun : ℕ → Option LayerSpan → Type 0
@@ -57,14 +53,22 @@ abbrev pub IsDrillText : Profile → List ℕ → List DrillCommand → Type 0
 IsDrillText Strict bytes commands = drill.IsText bytes commands
 IsDrillText Wide bytes commands = IsWideText bytes commands
 
--- a drill file says these holes: its bytes are a drill text of commands that drill just these, and each has the plating of the file's role and its span
+-- Holes of a drill file with their platings and its span: each hole of a file has the plating that the file's role says, and each of a mixed file is plated or unplated
+-- as the comment before the definition of its tool calls it.
+abbrev pub AreDrilledBy : Role → Option LayerSpan → List DrillCommand → List GridHole → List Drilled → Type 0
+AreDrilledBy role.Mixed span commands holes drilled = (plated : List Bool) × AreCalled commands plated × (drilled ≡ marked span holes plated)
+AreDrilledBy role.Copper span commands holes drilled = drilled ≡ map (λ hole. record { hole = hole; plated = false; span = span }) holes
+AreDrilledBy role.Plated span commands holes drilled = drilled ≡ map (λ hole. record { hole = hole; plated = true; span = span }) holes
+AreDrilledBy role.Unplated span commands holes drilled = drilled ≡ map (λ hole. record { hole = hole; plated = false; span = span }) holes
+
+-- a drill file says these holes: its bytes are a drill text of commands that drill just these, and they have their platings and the span of the file
 pub record SaysHoles (file : FileView) (drilled : List Drilled) : Type 0 where
   pub commands : List DrillCommand
   pub written : IsDrillText file.setting.profile file.bytes commands
   pub holes : List GridHole
   pub made : AreHoles commands holes
   pub run : IsRun file.setting.layers file.span
-  pub is : drilled ≡ map (λ hole. record { hole = hole; plated = is_plated file.role; span = file.span }) holes
+  pub is : AreDrilledBy file.role file.span commands holes drilled
 
 -- a hole lies as the profile allows: in the strict one it is round or a slot along an axis, in the wide one a slot may lie at any angle
 abbrev pub LiesAsAllowed : Profile → GridHole → Type 0

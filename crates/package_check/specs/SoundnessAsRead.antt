@@ -1,10 +1,10 @@
 -- When a package is sound by what the check reads of its files: the rows of the formats, their rules, and what is kept of each file.
-use Rattle.std.specs.Prelude.{◌≡◌, ◌<◌, ℕ, List, [], true, map, length, get_or, Option}
+use Rattle.std.specs.Prelude.{◌≡◌, ◌<◌, ℕ, List, [], true, map, length, get_or}
 use Rattle.std.specs.List.{Contains, flat_map}
 use Rattle.grid_units.specs.Holes.{GridHole, GridRules}
 use Rattle.wide_pads.specs.WidePads.{IsInWidePad}
 use Rattle.ring_rules.specs.WithoutFindings.{IsHoleHeld, AreAllApart}
-use Rattle.grid_units.specs.Spans.{LayerSpan, is_in_span}
+use Rattle.grid_units.specs.Spans.{is_in_span}
 use Rattle.ring_rules.specs.declared.finding.Drilled.{Drilled}
 use Rattle.package_check.specs.Reports.{ReportView}
 use Rattle.package_check.specs.declared.contents.Content.{Content}
@@ -16,18 +16,21 @@ use Rattle.package_check.specs.Soundness.{IsSound, LiesAsAllowed}
 abbrev pub AreLegal : List FileView → Type 0
 AreLegal sources = (contents : List Content) × HaveContents sources contents
 
--- the holes of a file with its plating and its span; a copper file has none
+-- the holes of a file with their plating and its span; a copper file has none
 abbrev pub drilled_in : Content → List Drilled
 drilled_in (content.Layer image) = []
 drilled_in (content.Drill plated span holes) = map (λ hole. record { hole = hole; plated = plated; span = span }) holes
+drilled_in (content.Mixed span holes) = holes
 
--- a hole of some plated drill file that goes through this layer, by its place among the copper files, from 0
+-- a plated hole of some drill file that goes through this layer, by its place among the copper files, from 0
 pub record IsPlatedThrough (contents : List Content) (layer : ℕ) (hole : GridHole) : Type 0 where
-  pub span : Option LayerSpan
-  pub holes : List GridHole
-  pub file : Contains contents (content.Drill true span holes)
-  pub drilled : Contains holes hole
-  pub through : is_in_span layer span ≡ true
+  pub content : Content
+  pub file : Contains contents content
+  pub drilled : Drilled
+  pub among : Contains (drilled_in content) drilled
+  pub same : drilled.hole ≡ hole
+  pub plated : drilled.plated ≡ true
+  pub through : is_in_span layer drilled.span ≡ true
 
 -- Every file is read. On each copper layer of its span, each plated hole, round or a slot, lies as the profile allows, and lies in one pad with its ring; no points of
 -- two holes, of whatever files, are nearer than the gap.

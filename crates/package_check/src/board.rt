@@ -144,6 +144,24 @@ fn slots(holes: &[Hole]) -> usize
     holes.iter().filter(|hole| !hole.is_round()).count()
 }
 
+fn round_drilled(holes: &[Drilled]) -> usize
+    ensures { result ≡ count_by (λ one. is_round one.hole) holes.now }
+{
+    holes.iter().filter(|one| one.hole.is_round()).count()
+}
+
+fn drilled_slots(holes: &[Drilled]) -> usize
+    ensures { result ≡ count_by (λ one. not (is_round one.hole)) holes.now }
+{
+    holes.iter().filter(|one| !one.hole.is_round()).count()
+}
+
+fn unplated(holes: &[Drilled]) -> usize
+    ensures { result ≡ count_by (λ one. not one.plated) holes.now }
+{
+    holes.iter().filter(|one| !one.plated).count()
+}
+
 pub(crate) fn sum_of(content: &Content) -> FileSum
     ensures { result ≡ sum_of content.now }
 {
@@ -162,6 +180,12 @@ pub(crate) fn sum_of(content: &Content) -> FileSum
             span: *span,
             round: round_holes(drill.holes()),
             slots: slots(drill.holes()),
+        },
+        Content::Mixed { span, drill } => FileSum::Mixed {
+            span: *span,
+            round: round_drilled(drill.holes()),
+            slots: drilled_slots(drill.holes()),
+            unplated: unplated(drill.holes()),
         },
     }
 }
@@ -217,6 +241,7 @@ pub(crate) fn push_holes(holes: &mut Vec<Drilled>, content: &Content) -> Result<
             span,
             drill,
         } => push_drilled(holes, *plated, span, drill.holes()),
+        Content::Mixed { drill, .. } => holes.extend_from_slice(drill.holes()),
     }
 }
 
@@ -236,6 +261,7 @@ fn add_content(
             span,
             drill,
         } => push_drilled(holes, plated, &span, drill.holes()),
+        Content::Mixed { drill, .. } => holes.extend_from_slice(drill.holes()),
     }
 }
 
@@ -254,13 +280,20 @@ fn add_contents(
     Ok(())
 }
 
-/// How many holes all files have together, to reserve their list at once.
+/// How many holes a file has, to reserve their list at once.
+pub(crate) fn len_of(content: &Content) -> usize {
+    match content {
+        Content::Layer(_) => 0,
+        Content::Drill { drill, .. } => drill.holes().len(),
+        Content::Mixed { drill, .. } => drill.holes().len(),
+    }
+}
+
+/// How many holes all files have together.
 fn hole_total(contents: &[Content]) -> usize {
     let mut hole_total: usize = 0;
     for content in contents {
-        if let Content::Drill { drill, .. } = content {
-            hole_total = hole_total.saturating_add(drill.holes().len());
-        }
+        hole_total = hole_total.saturating_add(len_of(content));
     }
     hole_total
 }
@@ -294,6 +327,8 @@ pub fn hole_count(file: &FileSum, all: usize) -> usize
 {
     match file {
         FileSum::Layer { .. } => 0,
-        FileSum::Drill { round, slots, .. } => round.saturating_add(*slots).min(all),
+        FileSum::Drill { round, slots, .. } | FileSum::Mixed { round, slots, .. } => {
+            round.saturating_add(*slots).min(all)
+        }
     }
 }

@@ -20,8 +20,7 @@ ghost use Rattle.package_check.specs.SoundnessAsRead.{AreLegal};
 ghost use Rattle.package_check.specs.declared.PackageFault.TheVariants as stop;
 ghost use Rattle.package_check.specs.declared.judged.Judged.{Judged as TheJudged};
 
-use crate::board::{push_holes, sum_of};
-use crate::contents::Content;
+use crate::board::{len_of, push_holes, sum_of};
 use crate::indexed_holes::IndexedHoles;
 use crate::judged::Judged;
 use crate::laws::{findings_name_their_places, passing_is_sound, unique_answer, unique_reading};
@@ -73,9 +72,7 @@ fn hole_total(slots: &[Option<Kept>]) -> usize {
     let mut total: usize = 0;
     for slot in slots {
         if let Some(kept) = slot {
-            if let Content::Drill { drill, .. } = &kept.content {
-                total = total.saturating_add(drill.holes().len());
-            }
+            total = total.saturating_add(len_of(&kept.content));
         }
     }
     total
@@ -154,7 +151,7 @@ fn has_drill(slots: &[Option<Judged>], index: usize) -> bool
     ensures { result ≡ is_drill_in (kept_at {X = TheJudged} slots.now index) }
 {
     match slots.get(index) {
-        Some(Some(one)) => matches!(one.sum, FileSum::Drill { .. }),
+        Some(Some(one)) => matches!(one.sum, FileSum::Drill { .. } | FileSum::Mixed { .. }),
         Some(None) | None => false,
     }
 }

@@ -2,21 +2,22 @@
 ghost use Rattle.std.specs.Prelude.{◌≡◌, ℕ, List, Ok, OnOk, true};
 ghost use Rattle.grid_units.specs.Results.{Answers};
 ghost use Rattle.grid_units.specs.declared.fault.Fail.TheVariants as fails;
-ghost use Rattle.drill_text.specs.Holding.{StandsIn};
+ghost use Rattle.drill_text.specs.Holding.{StandsBy, StandsIn};
+ghost use Rattle.drill_text.specs.Profiles.{mixed_in};
 ghost use Rattle.grid_units.specs.declared.profile.Profile.{Profile as TheProfile};
 ghost use Rattle.drill_text.specs.declared.kept.Keep.TheVariants as drill_keep;
-ghost use Rattle.layer_image.specs.Holding.{LayerStandsIn};
 ghost use Rattle.layer_image.specs.KeptFlashes.{keeps_commands, keeps_flashes};
 ghost use Rattle.package_check.specs.FileTexts.{Draws, HasRows, ReadsLayer};
 ghost use Rattle.package_check.specs.Holding.{is_kind};
-ghost use Rattle.package_check.specs.OpenFiles.{keep_in};
-ghost use Rattle.package_check.specs.Package.{ReadsCopper, ReadsHoles, bad_span, is_bad_span, is_copper, not_copper};
+ghost use Rattle.package_check.specs.OpenFiles.{CopperStandsIn};
+ghost use Rattle.package_check.specs.Package.{ReadsCopper, ReadsHoles, ReadsMixedHoles, bad_span, is_bad_span, is_copper, not_copper};
 
 use crate::Role;
-use crate::readers::{Drill, Layer, Shown, read_holes, read_layer_view};
+use crate::copper_reader::CopperReader;
+use crate::readers::{Drill, Layer, MixedDrill, Shown, read_holes, read_layer_view, read_mixed};
 use drill_text::DrillReader;
-use grid_units::{Fail, Fault, Profile, Reason};
-use layer_image::{Keep, LayerReader};
+use grid_units::{Fail, Fault, Reason};
+use layer_image::Keep;
 use ring_rules::Span;
 use std::alloc::Global;
 
@@ -28,6 +29,10 @@ pub(crate) enum Content {
         plated: bool,
         span: Option<Span>,
         drill: Drill,
+    },
+    Mixed {
+        span: Option<Span>,
+        drill: MixedDrill,
     },
 }
 
@@ -64,19 +69,18 @@ fn require_copper(layer: Layer) -> Result<Content, Fail>
     }
 }
 
-/// The content of the copper file whose text the reader has read in this profile. What is kept of it to be shown is put into `shown`.
+/// The content of the copper file whose text the reader has read. What is kept of it to be shown is put into `shown`.
 pub(crate) fn read_copper(
     alloc: Global,
     keep: Keep,
-    profile: Profile,
     shown: &mut Shown,
-    reader: LayerReader,
+    reader: CopperReader,
 ) -> Result<Content, Fail>
-    ensures copper { (text : List ℕ) → LayerStandsIn reader profile (keep_in profile keep) text → Answers (λ x. x) (ReadsCopper profile text) result }
-    ensures flashes { (text : List ℕ) → LayerStandsIn reader profile (keep_in profile keep) text → keeps_flashes keep ≡ true → OnOk result (HasRows profile text shown.new.rows.items) }
-    ensures drawn { (text : List ℕ) → LayerStandsIn reader profile (keep_in profile keep) text → keeps_commands keep ≡ true → OnOk result (Draws profile text shown.new.drawn.items) }
+    ensures copper { (profile : TheProfile) (text : List ℕ) → CopperStandsIn reader profile keep text → Answers (λ x. x) (ReadsCopper profile text) result }
+    ensures flashes { (profile : TheProfile) (text : List ℕ) → CopperStandsIn reader profile keep text → keeps_flashes keep ≡ true → OnOk result (HasRows profile text shown.new.rows.items) }
+    ensures drawn { (profile : TheProfile) (text : List ℕ) → CopperStandsIn reader profile keep text → keeps_commands keep ≡ true → OnOk result (Draws profile text shown.new.drawn.items) }
 {
-    let layer = read_layer_view(alloc, keep, profile, shown, reader)?;
+    let layer = read_layer_view(alloc, keep, shown, reader)?;
     require_copper(layer)
 }
 
@@ -94,6 +98,18 @@ pub(crate) fn read_drill_content(
         span,
         drill,
     })
+}
+
+/// The content of the mixed drill file whose text the reader has read.
+pub(crate) fn read_mixed_content(
+    alloc: Global,
+    span: Option<Span>,
+    reader: DrillReader,
+) -> Result<Content, Fail>
+    ensures { (profile : TheProfile) (text : List ℕ) → StandsBy reader (mixed_in profile) drill_keep.Holes text → Answers (λ x. x) (ReadsMixedHoles profile span text) result }
+{
+    let drill = read_mixed(alloc, &span, reader)?;
+    Ok(Content::Mixed { span, drill })
 }
 
 pub(crate) fn is_copper(role: Role) -> bool

@@ -3,10 +3,10 @@
 ghost use Rattle.std.specs.Prelude.{◌≡◌, ◌+◌, ◌++◌, ◌∷◌, ℕ, List, [], IfErr, IfOk, IfSome, None, OnOk, false, length, map};
 ghost use Rattle.grid_units.specs.Results.{Answers, IfFault};
 ghost use Rattle.grid_units.specs.declared.profile.Profile.TheVariants.{Strict, Wide};
-ghost use Rattle.layer_image.specs.Holding.{LayerStandsIn, ShowsLayerFault, ShowsLayerFaultIn};
-ghost use Rattle.layer_image.specs.declared.keep.Keep.TheVariants as keep;
+ghost use Rattle.layer_image.specs.Holding.{ShowsLayerFault, ShowsLayerFaultIn};
 ghost use Rattle.wide_pads.specs.WidePads.{wide_pad_covers};
 ghost use Rattle.wide_pads.specs.declared.wide_pad.WidePad.{WidePad as ThePad};
+ghost use Rattle.wide_layers.specs.Holding.{WideStandsAfter};
 ghost use Rattle.wide_layers.specs.WideLayers.{contour_count, flashed_count, other_count};
 ghost use Rattle.package_check.specs.CheckViews.{is_drill_sum};
 ghost use Rattle.package_check.specs.declared.FileSum.TheVariants as sum;
@@ -18,16 +18,17 @@ ghost use Rattle.ring_rules.specs.Search.{HasTried, IsRingIndexOf, IsSearchOver}
 
 use crate::FileSum;
 use crate::contents::not_copper;
+use crate::copper_reader::{CopperReader, PIECE};
 use crate::judged::Judged;
 use crate::pad_size::{PadSize, are_unlike, likely_size, mean_size};
-use crate::readers::{PIECE, is_copper_function};
-use grid_units::{Fail, Profile, Rules};
+use crate::readers::is_copper_function;
+use grid_units::{Fail, Rules};
 use layer_image::{LayerReader, shown_faults};
 use pad_shapes::{Pad, PadShape};
 use ring_rules::{Drilled, Finding, LayerSearch, RingIndex};
 use std::alloc::{AllocError, Global};
 use std::marker::Model;
-use wide_layers::{WideLayer, wide_layer};
+use wide_layers::{WideLayer, WideReader};
 use wide_pads::WidePad;
 
 /// The holes of all drill files of a package, file by file, with an index of them, by which rings and gaps are judged.
@@ -231,7 +232,7 @@ impl IndexedHoles {
         &mut self,
         alloc: Global,
         layer: usize,
-        reader: &mut LayerReader,
+        reader: &mut CopperReader,
         piece: &[u8],
     ) -> Result<(), Fail>
         ensures ok { (text : List ℕ) → HasReadLayer self.old.rules.profile self.old layer reader.old text → OnOk result (HasReadLayer self.old.rules.profile self.new layer reader.new (text ++ piece.now)) }
@@ -239,9 +240,9 @@ impl IndexedHoles {
         ensures holes { self.new.holes ≡ self.old.holes }
         ensures rules { self.new.rules ≡ self.old.rules }
     {
-        match self.rules.profile() {
-            Profile::Strict => self.feed_chunks(alloc, layer, reader, piece),
-            Profile::Wide => reader.feed(piece),
+        match reader {
+            CopperReader::Strict(reader) => self.feed_chunks(alloc, layer, reader, piece),
+            CopperReader::Wide(reader) => reader.feed(piece),
         }
     }
 
@@ -302,15 +303,15 @@ impl IndexedHoles {
         &mut self,
         alloc: Global,
         layer: usize,
-        reader: LayerReader,
+        reader: WideReader,
     ) -> Result<Judged, Fail>
         ensures layer { IfOk result (λ one. is_drill_sum one.sum ≡ false) }
-        ensures judged { self.old.rules.profile ≡ Wide → (text : List ℕ) → self.old.search ≡ None → LayerStandsIn reader Wide keep.All text → Answers (λ x. x) (JudgesCopper self.old.rules self.old.holes layer text) result }
+        ensures judged { self.old.rules.profile ≡ Wide → (text : List ℕ) → self.old.search ≡ None → WideStandsAfter false reader text → Answers (λ x. x) (JudgesCopper self.old.rules self.old.holes layer text) result }
         ensures holes { self.new.holes ≡ self.old.holes }
         ensures rules { self.new.rules ≡ self.old.rules }
     {
-        let whole = reader.finish()?;
-        let wide = wide_layer(alloc, &whole)?;
+        let mut drawn = Vec::new(alloc);
+        let wide = reader.finish(&mut drawn)?;
         if !is_copper_function(wide.file_function()) {
             return Err(not_copper());
         }
@@ -326,16 +327,16 @@ impl IndexedHoles {
         &mut self,
         alloc: Global,
         layer: usize,
-        reader: LayerReader,
+        reader: CopperReader,
     ) -> Result<Judged, Fail>
         ensures layer { IfOk result (λ one. is_drill_sum one.sum ≡ false) }
         ensures judged { (text : List ℕ) → HasReadLayer self.old.rules.profile self.old layer reader text → Answers (λ x. x) (JudgesCopper self.old.rules self.old.holes layer text) result }
         ensures holes { self.new.holes ≡ self.old.holes }
         ensures rules { self.new.rules ≡ self.old.rules }
     {
-        match self.rules.profile() {
-            Profile::Strict => self.judge_strict(alloc, layer, reader),
-            Profile::Wide => self.judge_wide(alloc, layer, reader),
+        match reader {
+            CopperReader::Strict(reader) => self.judge_strict(alloc, layer, reader),
+            CopperReader::Wide(reader) => self.judge_wide(alloc, layer, reader),
         }
     }
 

@@ -28,6 +28,9 @@ pub fn sound_as_read_is_sound()
     drill_text::drilled_holes();
     drill_text::laws::wide_grammar();
     drill_text::laws::wide_holes();
+    drill_text::laws::drill_texts();
+    drill_text::laws::strict_profile();
+    drill_text::laws::mixed_files();
 }
 
 /// A package whose report has no finding is sound.
@@ -48,6 +51,7 @@ pub fn files_say_once()
     layer_image::flashed_pads();
     drill_text::text_grammar();
     drill_text::drilled_holes();
+    drill_text::laws::mixed_files();
 }
 
 /// In the report on a package each finding names a layer and a hole, or two holes, the first before the second.
@@ -76,6 +80,7 @@ pub fn unique_reading()
     drill_text::laws::unique_reading();
     drill_text::laws::readings_in_profiles();
     drill_text::laws::drill_texts();
+    drill_text::laws::readings_of_kinds();
 }
 
 /// A file has a content or a fault.
@@ -85,6 +90,7 @@ pub fn reading_exists()
     layer_image::readings_in_profiles();
     drill_text::laws::first_faults();
     drill_text::laws::readings_in_profiles();
+    drill_text::laws::readings_of_kinds();
 }
 
 /// A package has at most one answer.
@@ -109,5 +115,7 @@ pub fn wide_finds_no_more()
     wide_layers::strict_layers();
     drill_text::laws::drill_texts();
     drill_text::laws::wide_reads_more();
+    drill_text::laws::strict_profile();
+    drill_text::laws::mixed_files();
     ring_rules::laws::wide_finds_no_more::<WidePad, WidePad>();
 }

@@ -4,6 +4,7 @@
 mod board;
 mod checking;
 mod contents;
+mod copper_reader;
 mod indexed_holes;
 mod judged;
 pub mod laws;
@@ -81,6 +82,13 @@ pub enum FileSum {
         span: Option<Span>,
         round: usize,
         slots: usize,
+    },
+    /// A mixed drill file: `unplated` of its holes and slots are not plated.
+    Mixed {
+        span: Option<Span>,
+        round: usize,
+        slots: usize,
+        unplated: usize,
     },
 }
 

@@ -115,6 +115,19 @@ impl Display for FileLine<'_> {
                 )?;
                 write!(f, "{span} name={name}\n")
             }
+            FileSum::Mixed {
+                span,
+                round,
+                slots,
+                unplated,
+            } => {
+                let (plated, span) = ("mixed", SpanWords(span));
+                write!(
+                    f,
+                    "file {number} drill plated={plated} round={round} slots={slots}"
+                )?;
+                write!(f, " unplated={unplated}{span} name={name}\n")
+            }
         }
     }
 }

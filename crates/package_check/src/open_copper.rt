@@ -11,11 +11,11 @@ ghost use Rattle.package_check.specs.OpenFiles.{HasFailed, HasReadCopper};
 ghost use Rattle.package_check.specs.Package.{unnamed_file};
 
 use crate::contents::bad_span;
+use crate::copper_reader::CopperReader;
 use crate::indexed_holes::IndexedHoles;
 use crate::judged::Judged;
-use crate::open_file::keep_in;
 use grid_units::{Fail, Profile};
-use layer_image::{Keep, LayerReader, readings_in_profiles};
+use layer_image::{Keep, readings_in_profiles};
 use ring_rules::Span;
 use std::alloc::Global;
 
@@ -23,7 +23,7 @@ use std::alloc::Global;
 #[derive(Drop)]
 pub(crate) enum CopperReading {
     /// A file whose text so far shows no fault.
-    Layer(LayerReader),
+    Layer(CopperReader),
     /// A file that is refused however its text goes on, or memory ran out.
     Failed(Fail),
     /// A file after one that is refused: nothing of it is read.
@@ -37,10 +37,7 @@ impl CopperReading {
     {
         match span {
             Some(_) => CopperReading::Failed(bad_span()),
-            None => {
-                let keep = keep_in(profile, Keep::Pads);
-                CopperReading::Layer(LayerReader::in_profile(alloc, keep, profile))
-            }
+            None => CopperReading::Layer(CopperReader::new(alloc, Keep::Pads, profile)),
         }
     }
 

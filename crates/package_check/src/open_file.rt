@@ -4,21 +4,25 @@ ghost use Rattle.std.specs.Prelude.{◌≡◌, ◌++◌, ℕ, List, [], IfErr, O
 ghost use Rattle.std.specs.List.{concat};
 ghost use Rattle.grid_units.specs.Results.{Answers};
 ghost use Rattle.grid_units.specs.Spans.{LayerSpan};
+ghost use Rattle.grid_units.specs.declared.profile.Profile.{Profile as TheProfile};
 ghost use Rattle.layer_image.specs.KeptFlashes.{keeps_commands, keeps_flashes};
 ghost use Rattle.layer_image.specs.declared.keep.Keep.{Keep as TheKeep};
 ghost use Rattle.manifest.specs.declared.Role.{Role as TheRole};
 ghost use Rattle.manifest.specs.declared.Role.TheVariants as role;
 ghost use Rattle.package_check.specs.FileTexts.{Draws, HasRows};
-ghost use Rattle.package_check.specs.OpenFiles.{HasFailed, HasOpened, HasReadText, drill_role, keep_in};
+ghost use Rattle.package_check.specs.OpenFiles.{HasFailed, HasOpened, HasReadText, drill_role};
 ghost use Rattle.package_check.specs.Package.{Reads, Setting, is_bad_span, is_copper, unnamed_file};
 ghost use Rattle.package_check.specs.declared.package_reader.PackageReader.{PackageReader as TheReader};
 
 use crate::Role;
-use crate::contents::{Content, bad_span, is_bad_span, read_copper, read_drill_content};
-use crate::readers::{Shown, feed_layer};
+use crate::contents::{
+    Content, bad_span, is_bad_span, read_copper, read_drill_content, read_mixed_content,
+};
+use crate::copper_reader::CopperReader;
+use crate::readers::Shown;
 use drill_text::DrillReader;
 use grid_units::{Fail, Profile};
-use layer_image::{Keep, LayerReader};
+use layer_image::Keep;
 use ring_rules::Span;
 use std::alloc::{AllocError, Global};
 
@@ -26,9 +30,11 @@ use std::alloc::{AllocError, Global};
 #[derive(Drop)]
 pub(crate) enum Reading {
     /// A copper file whose text so far shows no fault.
-    Layer(LayerReader),
+    Layer(CopperReader),
     /// A drill file whose text so far shows no fault.
     Drill { plated: bool, reader: DrillReader },
+    /// A mixed drill file whose text so far shows no fault.
+    Mixed(DrillReader),
     /// A file that is refused however its text goes on, or memory ran out.
     Failed(Fail),
     /// A file after one that is refused: nothing of it is read.
@@ -43,22 +49,18 @@ fn begin_drill(alloc: Global, plated: bool, profile: Profile) -> Reading
     Reading::Drill { plated, reader }
 }
 
-/// What a reader of a layer keeps of it: in the wide profile all, since clear polarity takes pads away.
-pub(crate) fn keep_in(profile: Profile, keep: Keep) -> Keep
-    ensures { result ≡ keep_in profile keep }
+/// A mixed drill file of which nothing was read.
+fn begin_mixed(alloc: Global, profile: Profile) -> Reading
+    ensures { (keep : TheKeep) (span : Option LayerSpan) (layers : ℕ) → is_bad_span role.Mixed span layers ≡ false → HasReadText keep role.Mixed span (record { layers = layers; profile = profile }) result [] }
 {
-    match profile {
-        Profile::Strict => keep,
-        Profile::Wide => Keep::All,
-    }
+    Reading::Mixed(DrillReader::mixed(alloc, drill_text::Keep::Holes, profile))
 }
 
 /// A copper file of which nothing was read.
 fn begin_layer(alloc: Global, keep: Keep, profile: Profile) -> Reading
     ensures { (span : Option LayerSpan) (layers : ℕ) → is_bad_span role.Copper span layers ≡ false → HasReadText keep role.Copper span (record { layers = layers; profile = profile }) result [] }
 {
-    let keep = keep_in(profile, keep);
-    Reading::Layer(LayerReader::in_profile(alloc, keep, profile))
+    Reading::Layer(CopperReader::new(alloc, keep, profile))
 }
 
 impl Reading {
@@ -80,6 +82,7 @@ impl Reading {
             Role::Copper => begin_layer(alloc, keep, profile),
             Role::Plated => begin_drill(alloc, true, profile),
             Role::Unplated => begin_drill(alloc, false, profile),
+            Role::Mixed => begin_mixed(alloc, profile),
         }
     }
 
@@ -90,9 +93,11 @@ impl Reading {
     {
         layer_image::readings_in_profiles();
         drill_text::laws::readings_in_profiles();
+        drill_text::laws::readings_of_kinds();
         match self {
-            Reading::Layer(reader) => feed_layer(reader, piece),
+            Reading::Layer(reader) => reader.feed(piece),
             Reading::Drill { reader, .. } => reader.feed(piece),
+            Reading::Mixed(reader) => reader.feed(piece),
             Reading::Failed(_) | Reading::Skipped => Ok(()),
         }
     }
@@ -102,17 +107,17 @@ impl Reading {
         self,
         alloc: Global,
         keep: Keep,
-        profile: Profile,
         shown: &mut Shown,
         span: Option<Span>,
     ) -> Result<Content, Fail>
-        ensures content { (of : TheRole) (layers : ℕ) (text : List ℕ) → HasReadText keep of span (record { layers = layers; profile = profile }) self text → Answers (λ x. x) (Reads (unnamed_file of span (record { layers = layers; profile = profile }) text)) result }
-        ensures flashes { (of : TheRole) (layers : ℕ) (text : List ℕ) → HasReadText keep of span (record { layers = layers; profile = profile }) self text → keeps_flashes keep ≡ true → is_copper of ≡ true → OnOk result (HasRows profile text shown.new.rows.items) }
-        ensures drawn { (of : TheRole) (layers : ℕ) (text : List ℕ) → HasReadText keep of span (record { layers = layers; profile = profile }) self text → keeps_commands keep ≡ true → is_copper of ≡ true → OnOk result (Draws profile text shown.new.drawn.items) }
+        ensures content { (of : TheRole) (layers : ℕ) (profile : TheProfile) (text : List ℕ) → HasReadText keep of span (record { layers = layers; profile = profile }) self text → Answers (λ x. x) (Reads (unnamed_file of span (record { layers = layers; profile = profile }) text)) result }
+        ensures flashes { (of : TheRole) (layers : ℕ) (profile : TheProfile) (text : List ℕ) → HasReadText keep of span (record { layers = layers; profile = profile }) self text → keeps_flashes keep ≡ true → is_copper of ≡ true → OnOk result (HasRows profile text shown.new.rows.items) }
+        ensures drawn { (of : TheRole) (layers : ℕ) (profile : TheProfile) (text : List ℕ) → HasReadText keep of span (record { layers = layers; profile = profile }) self text → keeps_commands keep ≡ true → is_copper of ≡ true → OnOk result (Draws profile text shown.new.drawn.items) }
     {
         match self {
-            Reading::Layer(reader) => read_copper(alloc, keep, profile, shown, reader),
+            Reading::Layer(reader) => read_copper(alloc, keep, shown, reader),
             Reading::Drill { plated, reader } => read_drill_content(plated, span, reader),
+            Reading::Mixed(reader) => read_mixed_content(alloc, span, reader),
             Reading::Failed(fail) => Err(fail),
             Reading::Skipped => Err(Fail::Memory),
         }

@@ -156,7 +156,7 @@ impl PackageReader {
             ..
         } = file;
         let mut shown = Shown::nothing(self.alloc);
-        let content = reading.finish(self.alloc, self.keep, self.profile, &mut shown, span)?;
+        let content = reading.finish(self.alloc, self.keep, &mut shown, span)?;
         put(&mut self.slots, index, Kept { content, shown })?;
         Ok(())
     }

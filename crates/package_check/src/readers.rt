@@ -1,39 +1,37 @@
 //! What the check keeps of a file as it reads it: pads of a layer, holes of a drill file.
 
-ghost use Rattle.std.specs.Prelude.{◌≡◌, ◌++◌, ◌∷◌, [], ◌==◌, not, ℕ, List, Ok, IfErr, IfOk, OnOk, map, true};
+ghost use Rattle.std.specs.Prelude.{◌≡◌, ◌++◌, ◌∷◌, [], ◌==◌, not, ℕ, Bool, List, Ok, IfOk, OnOk, map, true};
 ghost use Rattle.grid_units.specs.declared.profile.Profile.{Profile as TheProfile};
 ghost use Rattle.grid_units.specs.declared.profile.Profile.TheVariants.{Strict, Wide};
 ghost use Rattle.std.specs.List.{take_while};
 ghost use Rattle.std.specs.Option.{option_copied};
-ghost use Rattle.grid_units.specs.Results.{Answers, IfFault};
+ghost use Rattle.grid_units.specs.Results.{Answers};
 ghost use Rattle.layer_image.specs.Flashes.{pads_of};
-ghost use Rattle.drill_text.specs.Holding.{StandsIn};
+ghost use Rattle.drill_text.specs.Holding.{StandsBy, StandsIn};
+ghost use Rattle.drill_text.specs.Profiles.{mixed_in};
 ghost use Rattle.drill_text.specs.declared.kept.Keep.TheVariants as drill_keep;
-ghost use Rattle.layer_image.specs.Holding.{LayerStandsAfter, LayerStandsIn, ShowsLayerFaultIn};
+ghost use Rattle.layer_image.specs.Holding.{LayerStandsAfter};
 ghost use Rattle.layer_image.specs.KeptFlashes.{keeps_commands, keeps_flashes};
-ghost use Rattle.layer_image.specs.Layers.{ReadsLayerIn};
 ghost use Rattle.layer_image.specs.declared.keep.Keep.{Keep as TheKeep};
 ghost use Rattle.layer_image.specs.declared.keep.Keep.TheVariants as keep;
 ghost use Rattle.further_copper.specs.Features.{rows_of, strict_row};
-ghost use Rattle.gerber_text.specs.Writing.{without_places};
-ghost use Rattle.layer_image.specs.Drawn.{drawn_of};
-ghost use Rattle.package_check.specs.FileTexts.{Draws, HasRows, ReadsLayer, ReadsDrill, is_copper_function, wide_view};
+ghost use Rattle.wide_layers.specs.Holding.{WideStandsAfter};
+ghost use Rattle.package_check.specs.FileTexts.{Draws, HasRows, ReadsLayer, ReadsDrill, ReadsMixed, is_copper_function, marked, wide_view};
 ghost use Rattle.package_check.specs.LayerViews.{plain};
-ghost use Rattle.package_check.specs.OpenFiles.{keep_in};
+ghost use Rattle.package_check.specs.OpenFiles.{CopperStandsIn};
 
+use crate::copper_reader::CopperReader;
 use drill_text::DrillReader;
 use further_copper::FeatureRow;
 use grid_units::numbers::len_before;
-use grid_units::{Fail, Hole, Profile};
-use layer_image::{Drawn, Flash, Keep, LayerReader, What, readings_in_profiles};
+use grid_units::{Fail, Hole};
+use layer_image::{Drawn, Flash, Keep, LayerReader, What};
 use pad_shapes::Pad;
+use ring_rules::{Drilled, Span};
 use std::alloc::{AllocError, Global};
 use std::marker::Model;
-use wide_layers::{WideLayer, wide_layer};
+use wide_layers::{WideLayer, WideReader};
 use wide_pads::WidePad;
-
-/// How many bytes of a layer are read at once: its commands are held for so many bytes alone, and then dropped.
-pub(crate) const PIECE: usize = 65_536;
 
 /// What the check keeps of a copper file.
 #[derive(Drop)]
@@ -122,6 +120,29 @@ impl Drill {
     }
 }
 
+/// What the check keeps of a mixed drill file: its holes, each plated or not, with the span of the file.
+#[derive(Drop)]
+pub(crate) struct MixedDrill {
+    holes: Vec<Drilled>,
+}
+
+impl Model for MixedDrill {
+    ghost use Rattle.std.specs.Prelude.{List};
+    ghost use Rattle.ring_rules.specs.declared.finding.Drilled.{Drilled};
+
+    ghost Value = { List Drilled };
+
+    ghost view = { λ d. d.holes.items };
+}
+
+impl MixedDrill {
+    pub(crate) fn holes(&self) -> &[Drilled]
+        ensures { result.now ≡ self.now }
+    {
+        &self.holes
+    }
+}
+
 /// What is kept of a file to be shown: the rows of its flashes and contours, and what its commands draw, each where it is asked for.
 #[derive(Drop)]
 pub(crate) struct Shown {
@@ -169,18 +190,6 @@ fn first_field(text: &[u8]) -> &[u8]
     ensures { result.now ≡ take_while (λ b. not (b == 44)) text.now }
 {
     &text[..len_before(b',', text)]
-}
-
-/// Feeds a piece of a layer to the reader, [`PIECE`] bytes at a time.
-pub(crate) fn feed_layer(reader: &mut LayerReader, piece: &[u8]) -> Result<(), Fail>
-    ensures ok { (profile : TheProfile) (keep : TheKeep) (text : List ℕ) → LayerStandsIn reader.old profile keep text → OnOk result (LayerStandsIn reader.new profile keep (text ++ piece.now)) }
-    ensures err { (profile : TheProfile) (keep : TheKeep) (text : List ℕ) → LayerStandsIn reader.old profile keep text → IfErr result (IfFault (ShowsLayerFaultIn profile (text ++ piece.now))) }
-{
-    readings_in_profiles();
-    for chunk in piece.chunks(PIECE) {
-        reader.feed(chunk)?;
-    }
-    Ok(())
 }
 
 /// What the check keeps of the copper file whose text the reader has read, or its fault.
@@ -291,24 +300,19 @@ fn wide_view(alloc: Global, wide: WideLayer) -> Result<Layer, AllocError>
     })
 }
 
-/// Puts the rows of a layer in the wide profile, and what its commands draw, into `shown`, each where it is kept.
+/// Puts the rows of a layer in the wide profile into `shown`, where flashes are kept.
 fn show_wide(
     alloc: Global,
     keep: Keep,
     shown: &mut Shown,
-    layer: &layer_image::Layer,
     wide: &WideLayer,
 ) -> Result<(), AllocError>
     ensures rows { keeps_flashes keep ≡ true → OnOk result (shown.new.rows.items ≡ rows_of wide.now.features) }
-    ensures drawn { keeps_commands keep ≡ true → OnOk result (shown.new.drawn.items ≡ drawn_of (without_places layer.now.commands)) }
+    ensures drawn { shown.new.drawn ≡ shown.old.drawn }
 {
     match keep {
         Keep::Pads => {}
-        Keep::Flashes => shown.rows = wide.rows(alloc)?,
-        Keep::All => {
-            shown.rows = wide.rows(alloc)?;
-            shown.drawn = layer.drawn(alloc)?;
-        }
+        Keep::Flashes | Keep::All => shown.rows = wide.rows(alloc)?,
     }
     Ok(())
 }
@@ -319,35 +323,32 @@ fn read_wide(
     alloc: Global,
     keep: Keep,
     shown: &mut Shown,
-    reader: LayerReader,
+    reader: WideReader,
 ) -> Result<Layer, Fail>
-    ensures image { (text : List ℕ) → LayerStandsIn reader Wide (keep_in Wide keep) text → Answers (λ x. x) (ReadsLayer Wide text) result }
-    ensures flashes { (text : List ℕ) → LayerStandsIn reader Wide (keep_in Wide keep) text → keeps_flashes keep ≡ true → OnOk result (HasRows Wide text shown.new.rows.items) }
-    ensures drawn { (text : List ℕ) → LayerStandsIn reader Wide (keep_in Wide keep) text → keeps_commands keep ≡ true → OnOk result (Draws Wide text shown.new.drawn.items) }
+    ensures image { (draws : Bool) (text : List ℕ) → WideStandsAfter draws reader text → Answers (λ x. x) (ReadsLayer Wide text) result }
+    ensures flashes { (draws : Bool) (text : List ℕ) → WideStandsAfter draws reader text → keeps_flashes keep ≡ true → OnOk result (HasRows Wide text shown.new.rows.items) }
+    ensures drawn { (text : List ℕ) → WideStandsAfter true reader text → OnOk result (Draws Wide text shown.new.drawn.items) }
 {
-    let layer = reader.finish()?;
-    let wide = wide_layer(alloc, &layer)?;
-    show_wide(alloc, keep, shown, &layer, &wide)?;
+    let wide = reader.finish(&mut shown.drawn)?;
+    show_wide(alloc, keep, shown, &wide)?;
     let view = wide_view(alloc, wide)?;
     Ok(view)
 }
 
-/// What the check keeps of the copper file whose text the reader has read in this profile, or its fault. What is kept to be shown is put
-/// into `shown`.
+/// What the check keeps of the copper file whose text the reader has read, or its fault. What is kept to be shown is put into `shown`.
 pub(crate) fn read_layer_view(
     alloc: Global,
     keep: Keep,
-    profile: Profile,
     shown: &mut Shown,
-    reader: LayerReader,
+    reader: CopperReader,
 ) -> Result<Layer, Fail>
-    ensures image { (text : List ℕ) → LayerStandsIn reader profile (keep_in profile keep) text → Answers (λ x. x) (ReadsLayer profile text) result }
-    ensures flashes { (text : List ℕ) → LayerStandsIn reader profile (keep_in profile keep) text → keeps_flashes keep ≡ true → OnOk result (HasRows profile text shown.new.rows.items) }
-    ensures drawn { (text : List ℕ) → LayerStandsIn reader profile (keep_in profile keep) text → keeps_commands keep ≡ true → OnOk result (Draws profile text shown.new.drawn.items) }
+    ensures image { (profile : TheProfile) (text : List ℕ) → CopperStandsIn reader profile keep text → Answers (λ x. x) (ReadsLayer profile text) result }
+    ensures flashes { (profile : TheProfile) (text : List ℕ) → CopperStandsIn reader profile keep text → keeps_flashes keep ≡ true → OnOk result (HasRows profile text shown.new.rows.items) }
+    ensures drawn { (profile : TheProfile) (text : List ℕ) → CopperStandsIn reader profile keep text → keeps_commands keep ≡ true → OnOk result (Draws profile text shown.new.drawn.items) }
 {
-    match profile {
-        Profile::Strict => read_strict(alloc, keep, shown, reader),
-        Profile::Wide => read_wide(alloc, keep, shown, reader),
+    match reader {
+        CopperReader::Strict(reader) => read_strict(alloc, keep, shown, reader),
+        CopperReader::Wide(reader) => read_wide(alloc, keep, shown, reader),
     }
 }
 
@@ -359,4 +360,42 @@ pub(crate) fn read_holes(reader: DrillReader) -> Result<Drill, Fail>
     Ok(Drill {
         holes: drill.into_holes(),
     })
+}
+
+/// These holes with this span, each plated or not as the other list says, as long as both lists go on.
+fn marked(
+    alloc: Global,
+    span: &Option<Span>,
+    holes: &[Hole],
+    plated: &[bool],
+) -> Result<Vec<Drilled>, AllocError>
+    ensures { IfOk result (λ all. all.items ≡ marked span.now holes.now plated.now) }
+{
+    let mut all = Vec::with_capacity(alloc, holes.len())?;
+    for (i, hole) in holes.iter().enumerate() {
+        if i >= plated.len() {
+            return Ok(all);
+        }
+        let plated = plated[i];
+        all.push(Drilled {
+            hole: *hole,
+            plated,
+            span: *span,
+        })?;
+    }
+    Ok(all)
+}
+
+/// What the check keeps of the mixed drill file of this span whose text the reader has read, or its fault.
+pub(crate) fn read_mixed(
+    alloc: Global,
+    span: &Option<Span>,
+    reader: DrillReader,
+) -> Result<MixedDrill, Fail>
+    ensures { (profile : TheProfile) (text : List ℕ) → StandsBy reader (mixed_in profile) drill_keep.Holes text → Answers (λ x. x) (ReadsMixed profile span.now text) result }
+{
+    let drill = reader.finish()?;
+    let (holes, plated) = drill.into_plated_holes();
+    let holes = marked(alloc, span, &holes, &plated)?;
+    Ok(MixedDrill { holes })
 }

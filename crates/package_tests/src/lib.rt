@@ -2,6 +2,8 @@
 #![tactic(auto)]
 
 #[cfg(test)]
+mod mixed_calls;
+#[cfg(test)]
 mod package_check_calls;
 #[cfg(test)]
 mod profile_calls;

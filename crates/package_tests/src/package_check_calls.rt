@@ -420,6 +420,16 @@ fn board_in_bytes(
     Ok(reader.board())
 }
 
+/// Why files have no report in a profile.
+pub(crate) fn fault_in(
+    alloc: Global,
+    profile: Profile,
+    rows: &[FileRow],
+) -> Result<Option<PackageFault>, RowFail> {
+    let files = files_of(alloc, rows)?;
+    Ok(check_bytes(alloc, &files, rules_in(profile)?).err())
+}
+
 /// A file's number, from 0, and the reason why the package is refused for it, in place of a report and of a board.
 fn is_refused(alloc: Global, rows: &[FileRow], fault: PackageFault) -> Result<bool, RowFail> {
     let files = files_of(alloc, rows)?;

@@ -29,7 +29,7 @@ use Rattle.printing.specs.Holes.{name_of}
 use Rattle.report.specs.Acceptances.{acceptance_at}
 use Rattle.ring_rules.specs.declared.finding.Drilled.{Drilled}
 use Rattle.report.specs.Causes.{lack_of}
-use Rattle.print_json.specs.Values.{drill_value, file_value, flash_of, gap_value, hole_value, hole_at_place, array_of, or_null, items_of, members_of, layer_number, layer_value, least_gap_value, least_hole, least_ring, meets_value, met_value, picometres, place_value, point_value, ring_of, ring_value, row_value, rules_value, scale_value, span_value, whole, acceptance_value, word, wide_layer_value}
+use Rattle.print_json.specs.Values.{drill_value, mixed_value, file_value, flash_of, gap_value, hole_value, hole_at_place, array_of, or_null, items_of, members_of, layer_number, layer_value, least_gap_value, least_hole, least_ring, meets_value, met_value, picometres, place_value, point_value, ring_of, ring_value, row_value, rules_value, scale_value, span_value, whole, acceptance_value, word, wide_layer_value}
 use Rattle.print_json.specs.Packages.{file_values, gap_values, measure_value, ring_values, input_error_value, report_value}
 use Rattle.print_json.specs.declared.refused.InputError.{InputError}
 use Rattle.print_json.specs.declared.refused.InputError.TheVariants as stops
@@ -71,10 +71,11 @@ span_within : (span : Option LayerSpan) → depth (span_value span) ≤ 1
 span_within span = there_within 1 (λ layers. array_of (whole layers.first ∷ whole layers.last ∷ [])) (λ layers. omega arith) span
 
 file_within : (profile : Profile) (n : ℕ) (name : List ℕ) (sum : FileSum) → depth (file_value profile n name sum) ≤ 2
-unfolding layer_value wide_layer_value drill_value
+unfolding layer_value wide_layer_value drill_value mixed_value
 file_within Strict n name (sums.Layer pads other contours) = omega arith
 file_within Wide n name (sums.Layer pads other contours) = omega arith
 file_within profile n name (sums.Drill plated span round slots) = let layers = span_within span in omega (arith, layers)
+file_within profile n name (sums.Mixed span round slots unplated) = let layers = span_within span in omega (arith, layers)
 
 scale_within : (line : UnitMistake) → depth (scale_value line) ≤ 1
 unfolding scale_value

@@ -132,10 +132,17 @@ drill_value n name plated span round slots =
     object_of ((codes "number", whole n) ∷ (codes "role", word (drill_role plated)) ∷ (codes "name", word name) ∷ (codes "round", whole round) ∷ (codes "slots", whole slots)
     ∷ (codes "span", span_value span) ∷ [])
 
--- a file of either kind in a profile, by its number
+-- a mixed drill file, by its number: `{"number":2,"role":"mixed","name":"all","round":2,"slots":0,"unplated":1,"span":null}`
+unfoldable pub mixed_value : ℕ → List ℕ → Option LayerSpan → ℕ → ℕ → ℕ → Json
+mixed_value n name span round slots unplated =
+    object_of ((codes "number", whole n) ∷ (codes "role", word (codes "mixed")) ∷ (codes "name", word name) ∷ (codes "round", whole round) ∷ (codes "slots", whole slots)
+    ∷ (codes "unplated", whole unplated) ∷ (codes "span", span_value span) ∷ [])
+
+-- a file of any kind in a profile, by its number
 abbrev pub file_value : Profile → ℕ → List ℕ → FileSum → Json
 file_value profile n name (sums.Layer pads other contours) = copper_value profile n name pads other contours
 file_value profile n name (sums.Drill plated span round slots) = drill_value n name plated span round slots
+file_value profile n name (sums.Mixed span round slots unplated) = mixed_value n name span round slots unplated
 
 -- a drill file whose coordinates seem to be off by a factor: `{"drill":2,"bare":3,"factor":"25.4","then":0}`
 unfoldable pub scale_value : UnitMistake → Json

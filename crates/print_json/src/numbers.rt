@@ -83,7 +83,7 @@ fn span_numbers(span: Option<Span>)
 }
 
 /// A file.
-#[tactic(auto, unfolding(crate::specs::Values::layer_value, crate::specs::Values::wide_layer_value, crate::specs::Values::drill_value))]
+#[tactic(auto, unfolding(crate::specs::Values::layer_value, crate::specs::Values::wide_layer_value, crate::specs::Values::drill_value, crate::specs::Values::mixed_value))]
 pub(crate) fn file_numbers(file: &FileJson)
     ensures { HasNumbers (file_value file.now.profile file.now.number file.now.name.now file.now.sum) }
 {
@@ -106,6 +106,17 @@ pub(crate) fn file_numbers(file: &FileJson)
         } => {
             whole_number(round as u128);
             whole_number(slots as u128);
+            span_numbers(span);
+        }
+        FileSum::Mixed {
+            span,
+            round,
+            slots,
+            unplated,
+        } => {
+            whole_number(round as u128);
+            whole_number(slots as u128);
+            whole_number(unplated as u128);
             span_numbers(span);
         }
     }

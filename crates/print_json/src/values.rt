@@ -2,7 +2,7 @@
 
 ghost use Rattle.std.specs.Prelude.{◌≡◌, pos, Some, option_map};
 ghost use Rattle.print_json.specs.Inner.Texts.{value_text};
-ghost use Rattle.print_json.specs.Values.{diameter_of, drill_role, file_value, hole_value, or_null, meets_value, met_value, picometres, point_value, row_value, rules_value, scale_value, span_value, whole, wide_layer_value};
+ghost use Rattle.print_json.specs.Values.{diameter_of, drill_role, file_value, hole_value, or_null, meets_value, met_value, mixed_value, picometres, point_value, row_value, rules_value, scale_value, span_value, whole, wide_layer_value};
 
 use crate::strings::Escaped;
 use grid_units::{Hole, Point, Profile, Rules, Span};
@@ -146,6 +146,33 @@ impl Display for WideLayerJson<'_> {
     }
 }
 
+/// A mixed drill file, by its number:
+/// `{"number":2,"role":"mixed","name":"all","round":2,"slots":0,"unplated":1,"span":null}`.
+#[derive(Clone, Copy)]
+struct MixedJson<'a> {
+    number: u128,
+    name: &'a str,
+    span: Option<Span>,
+    round: usize,
+    slots: usize,
+    unplated: usize,
+}
+
+impl Display for MixedJson<'_> {
+    ghost output = { λ json. Some (value_text (mixed_value json.number json.name.now json.span json.round json.slots json.unplated)) };
+
+    #[tactic(auto, unfolding(crate::specs::Values::mixed_value, json::specs::Print::escape_byte))]
+    fn fmt<W: fmt::Write>(&self, f: &mut Formatter<W>) -> fmt::Result {
+        let (number, name) = (self.number, Escaped(self.name));
+        let (round, slots, unplated) = (self.round, self.slots, self.unplated);
+        let span = SpanJson(self.span);
+        write!(
+            f,
+            r#"{{"number":{number},"role":"mixed","name":"{name}","round":{round},"slots":{slots},"unplated":{unplated},"span":{span}}}"#
+        )
+    }
+}
+
 /// A file, by its number: `{"number":1,"role":"copper","name":"top","pads":1,"other":0}`,
 /// `{"number":2,"role":"plated","name":"pth","round":1,"slots":0,"span":null}`.
 #[derive(Clone, Copy)]
@@ -196,6 +223,23 @@ impl Display for FileJson<'_> {
                     f,
                     r#"{{"number":{number},"role":"{role}","name":"{name}","round":{round},"slots":{slots},"span":{span}}}"#
                 )
+            }
+            FileSum::Mixed {
+                span,
+                round,
+                slots,
+                unplated,
+            } => {
+                let name = self.name;
+                let file = MixedJson {
+                    number,
+                    name,
+                    span,
+                    round,
+                    slots,
+                    unplated,
+                };
+                write!(f, "{file}")
             }
         }
     }

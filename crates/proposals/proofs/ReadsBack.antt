@@ -12,6 +12,7 @@ use Rattle.csv.specs.Writing.{default_writer, read_back, row_text}
 use Rattle.grid_units.specs.Lists.{violation_at, violations, with_prefixes_from}
 use Rattle.grid_units.specs.declared.fault.Reason.{Reason}
 use Rattle.grid_units.specs.declared.fault.Reason.TheVariants.{BadSpan}
+use Rattle.grid_units.specs.declared.profile.Profile.TheVariants.{Strict}
 use Rattle.manifest.specs.declared.Entry.{Entry}
 use Rattle.manifest.specs.Manifest as manifests
 use Rattle.manifest.specs.Manifest.{CsvRecord, broken_after, first_broken_rule, exceeds_layers, entries_of, entry_of, field, is_repeated, manifest, parse_manifest_records, missing_role, joint_fault}
@@ -91,7 +92,7 @@ rows_are entries =
     ap (λ (t : List ℕ). records default_config (strip_bom t)) (text_is entries) ∙ ap (records default_config) (no_mark spans rows) ∙ read_all (heading_row spans ∷ rows)
     ∙ ap (λ (rs : List CsvRecord). heading_row spans ∷ rs) (back spans entries entries)
 
-by_width : (spans : Bool) (rows : List CsvRecord) → parse_manifest_records (heading_row spans ∷ rows) ≡ entries_of (width spans) rows
+by_width : (spans : Bool) (rows : List CsvRecord) → parse_manifest_records Strict (heading_row spans ∷ rows) ≡ entries_of Strict (width spans) rows
 by_width true rows = refl
 by_width false rows = refl
 
@@ -150,9 +151,9 @@ module _ (entries : List Proposal) (distinct : IsOnce entries) (short : list_all
         any_of_map entry_of (λ (e : Entry). bytes_eq e.name (label entries p)) (map (row_in spans entries) before)
         ∙ any_of_map (row_in spans entries) (λ (row : CsvRecord). bytes_eq (entry_of row).name (label entries p)) before ∙ not_repeated entries before p after split distinct
 
-    unbroken : broken_after (width spans) (map (row_in spans entries) before) (row_in spans entries p) ≡ None
+    unbroken : broken_after Strict (width spans) (map (row_in spans entries) before) (row_in spans entries p) ≡ None
     unbroken =
-        ap (λ (b : Bool). first_broken_rule (width spans) b (row_in spans entries p)) new_name
+        ap (λ (b : Bool). first_broken_rule Strict (width spans) b (row_in spans entries p)) new_name
         ∙ no_rule_broken (label entries p) p.file (label_stands entries p file_stands) file_stands spans p.role role_decided named
 
     entry_right : entry_in entries p ≡ entry_of (row_in spans entries p)
@@ -161,8 +162,8 @@ module _ (entries : List Proposal) (distinct : IsOnce entries) (short : list_all
     within : exceeds_layers count (entry_in entries p).span ≡ false
     within = not_beyond count spans (layers_of_role p.role) among
 
-  no_breaks : violations (broken_after (width spans)) rows ≡ []
-  no_breaks = none_after (row_in spans entries) (broken_after (width spans)) [] entries unbroken
+  no_breaks : violations (broken_after Strict (width spans)) rows ≡ []
+  no_breaks = none_after (row_in spans entries) (broken_after Strict (width spans)) [] entries unbroken
 
   files_are : map (entry_in entries) entries ≡ map entry_of rows
   files_are = same_map (entry_in entries) (λ (p : Proposal). entry_of (row_in spans entries p)) [] entries entry_right ∙ twice entries
@@ -203,5 +204,5 @@ module _ (entries : List Proposal) (distinct : IsOnce entries) (short : list_all
   -- the manifest reads back
   pub reads_back : manifest (manifest_text entries) ≡ Ok (map (entry_in entries) entries)
   reads_back =
-      ap parse_manifest_records (rows_are entries) ∙ by_width spans rows
-      ∙ sym (at_end (width spans) rows (map (entry_in entries) entries) None files_are (sym all_right) no_breaks)
+      ap (parse_manifest_records Strict) (rows_are entries) ∙ by_width spans rows
+      ∙ sym (at_end Strict (width spans) rows (map (entry_in entries) entries) None files_are (sym all_right) no_breaks)

@@ -14,7 +14,8 @@ use Rattle.grid_units.specs.declared.fault.Reason.{Reason}
 use Rattle.grid_units.specs.declared.fault.Reason.TheVariants.{BadManifest, BadRole, BadSpan, EmptyName, RepeatedName}
 use Rattle.grid_units.proofs.SpellingsLemmas.{spells_decimal}
 use Rattle.manifest.proofs.EntryFields.{empty_plain, well_formed}
-use Rattle.manifest.specs.Manifest.{CsvRecord, are_empty, are_span_numbers, first_broken_rule, entry_of, field, is_bad_span, is_control, is_copper_role, is_layer_number, is_plain_text, is_well_formed, role_of_word, span_of_fields}
+use Rattle.manifest.specs.Manifest.{CsvRecord, are_empty, are_span_numbers, first_broken_rule, entry_of, field, is_bad_span, is_control, is_copper_role, is_layer_number, is_role_in, is_plain_text, is_well_formed, role_of_word, span_of_fields}
+use Rattle.grid_units.specs.declared.profile.Profile.TheVariants.{Strict}
 use Rattle.manifest.specs.declared.Entry.{Entry}
 use Rattle.manifest.specs.declared.Role.{Role}
 use Rattle.manifest.specs.declared.Role.TheVariants as roles
@@ -139,11 +140,11 @@ neither false true h k = absurd (false≢true k)
 neither false false h k = refl
 
 lawful : (n : ℕ) (row : CsvRecord) → length row ≡ n → n ≤ 5 → is_plain_text (field 0 row) ≡ true → is_valid_name (field 1 row) ≡ true → is_valid_name (field 2 row) ≡ true → is_plain_text (field 3 row) ≡ true
-    → is_plain_text (field 4 row) ≡ true → is_some (role_of_word (field 0 row)) ≡ true → is_bad_span (entry_of row).role (field 3 row) (field 4 row) ≡ false → first_broken_rule n false row ≡ None
+    → is_plain_text (field 4 row) ≡ true → (is_some (role_of_word (field 0 row)) && is_role_in Strict (entry_of row).role) ≡ true → is_bad_span (entry_of row).role (field 3 row) (field 4 row) ≡ false → first_broken_rule Strict n false row ≡ None
 lawful n row len five word name file first last role span =
     let a = both_true (is_plain_text (field 1 row)) (not (length (field 1 row) == 0)) name in
     let b = both_true (is_plain_text (field 2 row)) (not (length (field 2 row) == 0)) file in
-    none_broken (is_well_formed n row) (is_some (role_of_word (field 0 row))) ((length (field 1 row) == 0) || (length (field 2 row) == 0)) (is_bad_span (entry_of row).role (field 3 row) (field 4 row))
+    none_broken (is_well_formed n row) (is_some (role_of_word (field 0 row)) && is_role_in Strict (entry_of row).role) ((length (field 1 row) == 0) || (length (field 2 row) == 0)) (is_bad_span (entry_of row).role (field 3 row) (field 4 row))
     (well_formed row n len five word a.0 b.0 first last) role (neither (length (field 1 row) == 0) (length (field 2 row) == 0) a.1 b.1) span
 
 not_bad : (a n : Bool) → n ≡ true → (a && (false || not n)) ≡ false
@@ -152,8 +153,8 @@ not_bad false n e = refl
 
 module _ (name file : List ℕ) (is_listed_role : is_valid_name name ≡ true) (loads : is_valid_name file ≡ true) where
   -- a drill file's record
-  drill : (spans : Bool) (word : List ℕ) (span : Option LayerRange) → is_plain_text word ≡ true → is_some (role_of_word word) ≡ true → is_copper_role (unwrap_or (role_of_word word) roles.Copper) ≡ false → CanBeNamed span
-      → first_broken_rule (width spans) false (word ∷ name ∷ file ∷ (if spans then span_fields span else [])) ≡ None
+  drill : (spans : Bool) (word : List ℕ) (span : Option LayerRange) → is_plain_text word ≡ true → (is_some (role_of_word word) && is_role_in Strict (unwrap_or (role_of_word word) roles.Copper)) ≡ true → is_copper_role (unwrap_or (role_of_word word) roles.Copper) ≡ false → CanBeNamed span
+      → first_broken_rule Strict (width spans) false (word ∷ name ∷ file ∷ (if spans then span_fields span else [])) ≡ None
   drill false word span w r l h = lawful 3 (word ∷ name ∷ file ∷ []) refl (omega arith) w is_listed_role loads empty_plain empty_plain r refl
   drill true word None w r l h = lawful 5 (word ∷ name ∷ file ∷ [] ∷ [] ∷ []) refl (omega arith) w is_listed_role loads empty_plain empty_plain r refl
   drill true word (Some layers) w r l h =
@@ -166,7 +167,7 @@ module _ (name file : List ℕ) (is_listed_role : is_valid_name name ≡ true) (
       lawful 5 (word ∷ name ∷ file ∷ a ∷ b ∷ []) refl (omega arith) w is_listed_role loads (number_plain layers.first (omega arith)) (number_plain layers.last most) r fine
 
   -- the record breaks no rule
-  pub no_rule_broken : (spans : Bool) (role : ProposedRole) → is_decided role ≡ true → CanBeNamed (layers_of_role role) → first_broken_rule (width spans) false (fields_of spans role name file) ≡ None
+  pub no_rule_broken : (spans : Bool) (role : ProposedRole) → is_decided role ≡ true → CanBeNamed (layers_of_role role) → first_broken_rule Strict (width spans) false (fields_of spans role name file) ≡ None
   no_rule_broken false (Copper place) d h = lawful 3 (codes "copper" ∷ name ∷ file ∷ []) refl (omega arith) (plain (codes "copper") refl) is_listed_role loads empty_plain empty_plain refl refl
   no_rule_broken true (Copper place) d h = lawful 5 (codes "copper" ∷ name ∷ file ∷ [] ∷ [] ∷ []) refl (omega arith) (plain (codes "copper") refl) is_listed_role loads empty_plain empty_plain refl refl
   no_rule_broken spans (Plated span) d h = drill spans (codes "plated") span (plain (codes "plated") refl) refl refl h

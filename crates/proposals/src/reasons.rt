@@ -31,7 +31,7 @@ fn reason_words(because: &ProposalReason) -> &'static str
         ProposalReason::Archive => "a zip archive: unpack it",
         ProposalReason::Folder => "a folder: name its files",
         ProposalReason::FileFunction(_) => "file function ",
-        ProposalReason::MixedHoles => "plated and unplated holes in one file",
+        ProposalReason::MixedHoles => "mixed: role mixed with --profile wide, or export two files",
         ProposalReason::PlatedType => ";TYPE=PLATED",
         ProposalReason::UnplatedType => ";TYPE=NON_PLATED",
         ProposalReason::ByName => "name",

@@ -211,6 +211,9 @@ indexed_from n (content.Layer image ∷ cs) =
 indexed_from n (content.Drill plated span holes ∷ cs) =
     ap length (flat_map-cons pads_of (content.Drill plated span holes) cs)
     ∙ (indexed_from (n + 1) cs ∙ sym (ap length (flat_map-cons index_of (n, content.Drill plated span holes) (enumerate_from (n + 1) cs))))
+indexed_from n (content.Mixed span holes ∷ cs) =
+    ap length (flat_map-cons pads_of (content.Mixed span holes) cs)
+    ∙ (indexed_from (n + 1) cs ∙ sym (ap length (flat_map-cons index_of (n, content.Mixed span holes) (enumerate_from (n + 1) cs))))
 
 as_many_layers : (sources : List FileView) (board : BoardView) → IsBoard sources board → length board.layers ≡ length board.layer_indexes
 as_many_layers sources board b = ap (λ (x : BoardView). length x.layers) b.is ∙ (indexed_from 0 b.contents ∙ sym (ap (λ (x : BoardView). length x.layer_indexes) b.is))

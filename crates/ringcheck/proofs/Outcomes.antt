@@ -10,7 +10,7 @@ use Rattle.std.proofs.lemmas.Result.{IfOk-weaker}
 use Rattle.grid_units.specs.Holes.{GridRules}
 use Rattle.grid_units.specs.declared.profile.Profile.{Profile}
 use Rattle.manifest.specs.declared.Entry.{Entry}
-use Rattle.manifest.specs.Manifest.{manifest}
+use Rattle.manifest.specs.Manifest.{manifest_in}
 use Rattle.package_check.specs.Package.{FileView}
 use Rattle.package_check.specs.SoundnessAsRead.{AreLegal}
 use Rattle.ringcheck_files.specs.declared.Status.{Status}
@@ -125,7 +125,7 @@ module _ (later has : List ℕ → List ℕ → Type 0) (to : (n b : List ℕ) �
   file_along profile entries why (bad_file files held refused) = bad_file files (files_along entries files held) refused
 
   module _ (profile : Profile) (name : List ℕ) where
-    pub listed_along : (entries : List Entry) → HasTable manifest later name entries → HasTable manifest has name entries
+    pub listed_along : (entries : List Entry) → HasTable (manifest_in profile) later name entries → HasTable (manifest_in profile) has name entries
     listed_along entries h = (h.0, to name h.0 h.1, h.2, h.3)
 
     pub package_along : (Holds : List FileView → Type 0) → HoldsForPackage later profile name Holds → HoldsForPackage has profile name Holds
@@ -145,7 +145,7 @@ module _ (later has : List ℕ → List ℕ → Type 0) (to : (n b : List ℕ) �
 
 -- a command passes on a package, or has findings
 pub worked : (has : List ℕ → List ℕ → Type 0) (profile : Profile) (name : List ℕ) (Holds : Bool → List FileView → Type 0) (refusal_style : RefusalStyle) (before after : Option (List ℕ)) (entries : List Entry) (files : List (List ℕ))
-    → HasTable manifest has name entries → HasFiles (within file_limit has) entries files → (passes : Bool) → Holds passes (sources profile entries files)
+    → HasTable (manifest_in profile) has name entries → HasFiles (within file_limit has) entries files → (passes : Bool) → Holds passes (sources profile entries files)
     → SaysPackage has profile name Holds refusal_style before after (status_of passes)
 worked has profile name Holds refusal_style before after entries files listed loaded true h = record { entries = entries; listed = listed; files = files; loaded = loaded; holds = h }
 worked has profile name Holds refusal_style before after entries files listed loaded false h = record { entries = entries; listed = listed; files = files; loaded = loaded; holds = h }

@@ -24,7 +24,7 @@ use Rattle.package_check.specs.LayerViews.{LayerView}
 use Rattle.package_check.specs.FileTexts.{HasLayerView, ReadsDrill, layer_view}
 use Rattle.package_check.specs.Package.{FileView, ReadsBytes, ReadsUnlessBadSpan, ReadsCopper, ReadsHoles, Setting, is_bad_span}
 use Rattle.package_check.specs.AlikePackages.{ReadAlike, AllReadAlike, SameAnswers}
-use Rattle.ringcheck.specs.RewrittenPackages.{kind_of, with_bytes, IsRewritten, AreRewritten, RewritingKeepsAnswers}
+use Rattle.ringcheck.specs.RewrittenPackages.{is_mixed, kind_of, with_bytes, IsRewritten, AreRewritten, RewritingKeepsAnswers}
 
 module _ (layer_once : layers.ReadingIsUniqueIn) (layer_wide : layers.WideReadsMore) (equal : EqualCommands)
     (drill_once : (text : List ℕ) (a b : Result (List DrillCommand) Fault) → drills.Reads text a → drills.Reads text b → a ≡ b)
@@ -60,6 +60,7 @@ module _ (layer_once : layers.ReadingIsUniqueIn) (layer_wide : layers.WideReadsM
   copper_same : (profile : Profile) (s t : List ℕ) → HaveSameCommands kind.Layer s t → (answer : Result Content Fault) → ReadsCopper profile s answer → ReadsCopper profile t answer
   copper_same profile s t h (Ok (content.Layer image)) k = (layer_same profile s t h image k.0, k.1)
   copper_same profile s t h (Ok (content.Drill plated span holes)) k = absurd k
+  copper_same profile s t h (Ok (content.Mixed span holes)) k = absurd k
   copper_same profile s t h (Err f) (inl k) = absurd (no_fault profile s h.0 f h.2 k)
   copper_same profile s t h (Err f) (inr k) = inr (k.0, layer_same profile s t h k.0 k.1, k.2, k.3)
 
@@ -86,18 +87,20 @@ module _ (layer_once : layers.ReadingIsUniqueIn) (layer_wide : layers.WideReadsM
 
   holes_same : (profile : Profile) (plated : Bool) (span : Option LayerSpan) (s t : List ℕ) → HaveSameCommands kind.Drill s t → (answer : Result Content Fault) → ReadsHoles profile plated span s answer → ReadsHoles profile plated span t answer
   holes_same profile plated span s t h (Ok (content.Layer image)) k = absurd k
+  holes_same profile plated span s t h (Ok (content.Mixed through holes)) k = absurd k
   holes_same profile plated span s t h (Ok (content.Drill has through holes)) k = (drill_same profile s t h holes k.0, k.1, k.2)
   holes_same profile plated span s t h (Err f) k = absurd (no_drill_fault profile s h.0 f h.1 k)
 
-  same_bytes : (r : Role) (name : List ℕ) (span : Option LayerSpan) (n : Setting) (s t : List ℕ) → HaveSameCommands (kind_of r) s t → (answer : Result Content Fault)
+  same_bytes : (r : Role) (name : List ℕ) (span : Option LayerSpan) (n : Setting) (s t : List ℕ) → is_mixed r ≡ false → HaveSameCommands (kind_of r) s t → (answer : Result Content Fault)
       → ReadsBytes (record { role = r; name = name; span = span; bytes = s; setting = n }) answer ↔ ReadsBytes (record { role = r; name = name; span = span; bytes = t; setting = n }) answer
-  same_bytes role.Copper name span n s t h answer = (copper_same n.profile s t h answer, copper_same n.profile t s (other_kind s t h) answer)
-  same_bytes role.Plated name span n s t h answer = (holes_same n.profile true span s t h answer, holes_same n.profile true span t s (other_drill s t h) answer)
-  same_bytes role.Unplated name span n s t h answer = (holes_same n.profile false span s t h answer, holes_same n.profile false span t s (other_drill s t h) answer)
+  same_bytes role.Copper name span n s t other h answer = (copper_same n.profile s t h answer, copper_same n.profile t s (other_kind s t h) answer)
+  same_bytes role.Plated name span n s t other h answer = (holes_same n.profile true span s t h answer, holes_same n.profile true span t s (other_drill s t h) answer)
+  same_bytes role.Unplated name span n s t other h answer = (holes_same n.profile false span s t h answer, holes_same n.profile false span t s (other_drill s t h) answer)
+  same_bytes role.Mixed name span n s t other h answer = absurd cc
 
   -- a span that is refused is refused on both sides
-  same_text : (x : FileView) (text : List ℕ) → HaveSameCommands (kind_of x.role) x.bytes text → ReadAlike x (with_bytes x text)
-  same_text x text h answer = by (is_bad_span x.role x.span x.setting.layers) (same_bytes x.role x.name x.span x.setting x.bytes text h answer)
+  same_text : (x : FileView) (text : List ℕ) → is_mixed x.role ≡ false → HaveSameCommands (kind_of x.role) x.bytes text → ReadAlike x (with_bytes x text)
+  same_text x text other h answer = by (is_bad_span x.role x.span x.setting.layers) (same_bytes x.role x.name x.span x.setting x.bytes text other h answer)
     where
       by : (t : Bool) → (ReadsBytes x answer ↔ ReadsBytes (with_bytes x text) answer)
           → ReadsUnlessBadSpan t x answer ↔ ReadsUnlessBadSpan t (with_bytes x text) answer
@@ -106,7 +109,7 @@ module _ (layer_once : layers.ReadingIsUniqueIn) (layer_wide : layers.WideReadsM
 
   one_file : (x y : FileView) → IsRewritten x y → ReadAlike x y
   one_file x y (inl e) = subst (λ (z : FileView). ReadAlike x z) (sym e) (λ answer. (λ h. h, λ h. h))
-  one_file x y (inr h) = subst (λ (z : FileView). ReadAlike x z) (sym h.2) (same_text x h.0 (keeps (kind_of x.role) x.bytes h.0 h.1))
+  one_file x y (inr h) = subst (λ (z : FileView). ReadAlike x z) (sym h.3) (same_text x h.0 h.1 (keeps (kind_of x.role) x.bytes h.0 h.2))
 
   all_files : (xs ys : List FileView) → AreRewritten xs ys → AllReadAlike xs ys
   all_files [] [] h = tt

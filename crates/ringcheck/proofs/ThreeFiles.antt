@@ -5,7 +5,7 @@ use Rattle.grid_units.specs.Holes.{GridRules}
 use Rattle.grid_units.specs.declared.fault.Reason.{Reason}
 use Rattle.grid_units.specs.declared.profile.Profile.{Profile}
 use Rattle.manifest.specs.declared.Entry.{Entry}
-use Rattle.manifest.specs.Manifest.{manifest}
+use Rattle.manifest.specs.Manifest.{manifest_in}
 use Rattle.board_report.specs.Measures.{PackagePasses}
 use Rattle.report.specs.declared.Measure.{Measure}
 use Rattle.package_check.specs.Package.{FileView}
@@ -47,11 +47,11 @@ explained_never_passes why below before after s (inr d) p = cc
 
 -- a package whose manifest is the first file
 held : (m l d : List ℕ) (profile : Profile) (Holds : List FileView → Type 0) → HoldsForPackage (has_three_files m l d) profile (codes "m.csv") Holds
-    → (entries : List Entry) × (manifest m ≡ Ok entries) × (files : List (List ℕ)) × HasFiles (has_three_files m l d) entries files × Holds (sources profile entries files)
+    → (entries : List Entry) × (manifest_in profile m ≡ Ok entries) × (files : List (List ℕ)) × HasFiles (has_three_files m l d) entries files × Holds (sources profile entries files)
 held m l d profile Holds h =
     let listed = h.listed in (
       h.entries,
-      subst (λ (t : List ℕ). manifest t ≡ Ok h.entries) (first_held m l d listed.0 listed.1) listed.3,
+      subst (λ (t : List ℕ). manifest_in profile t ≡ Ok h.entries) (first_held m l d listed.0 listed.1) listed.3,
       h.files,
       has_files_along (within file_limit (has_three_files m l d)) (has_three_files m l d) (λ n b w. w.0) h.entries h.files h.loaded,
       h.holds,
@@ -59,7 +59,7 @@ held m l d profile Holds h =
 
 -- the files that the manifest names are sound
 pub sound_of_three : (m l d : List ℕ) (r : Result GridRules Reason) (before after : Option (List ℕ)) (s : Status) → IsParsedCheckStatus (has_three_files m l d) (codes "m.csv") r before after s → s ≡ status.Pass
-    → (rules : GridRules) × (r ≡ Ok rules) × (entries : List Entry) × (manifest m ≡ Ok entries) × (files : List (List ℕ)) × HasFiles (has_three_files m l d) entries files × IsSound (sources rules.profile entries files) rules
+    → (rules : GridRules) × (r ≡ Ok rules) × (entries : List Entry) × (manifest_in rules.profile m ≡ Ok entries) × (files : List (List ℕ)) × HasFiles (has_three_files m l d) entries files × IsSound (sources rules.profile entries files) rules
 sound_of_three m l d (Err why) before after s says is = absurd (usage_never_passes why before after s says is)
 sound_of_three m l d (Ok rules) before after status.Pass says is = let (entries, listed, files, loaded, holds) = held m l d rules.profile _ says in (rules, refl, entries, listed, files, loaded, holds.sound refl)
 sound_of_three m l d (Ok rules) before after status.Findings says is = cc
@@ -69,7 +69,7 @@ sound_of_three m l d (Ok rules) before after status.Device says is = cc
 
 -- the files that the manifest names pass under just the rules that are met
 pub met_of_three : (below : List ℕ) (m l d : List ℕ) (r : Result MeasureOrder Reason) (before after : Option (List ℕ)) (s : Status) → IsParsedMeasureStatus (has_three_files m l d) (codes "m.csv") r below before after s → s ≡ status.Pass
-    → (order : MeasureOrder) × (r ≡ Ok order) × (entries : List Entry) × (manifest m ≡ Ok entries) × (files : List (List ℕ)) × HasFiles (has_three_files m l d) entries files
+    → (order : MeasureOrder) × (r ≡ Ok order) × (entries : List Entry) × (manifest_in order.profile m ≡ Ok entries) × (files : List (List ℕ)) × HasFiles (has_three_files m l d) entries files
     × (measure : Measure) × PackagePasses order.profile (sources order.profile entries files) measure.meets.ring measure.meets.gap
 met_of_three below m l d (Err why) before after s says is = absurd (explained_never_passes why below before after s says is)
 met_of_three below m l d (Ok order) before after status.Pass says is = let (entries, listed, files, loaded, holds) = held m l d order.profile _ says in (order, refl, entries, listed, files, loaded, holds.measure, holds.met)
@@ -80,7 +80,7 @@ met_of_three below m l d (Ok order) before after status.Device says is = cc
 
 -- the files that the manifest names are sound, where a report has no finding
 pub report_of_three : (below : List ℕ) (m l d : List ℕ) (r : Result (GridRules × Option ℕ × ReportFormat) Reason) (before after : Option (List ℕ)) (s : Status) → IsParsedReportStatus (has_three_files m l d) (codes "m.csv") r below None None before after s → s ≡ status.Pass
-    → (unparsed : GridRules × Option ℕ × ReportFormat) × (r ≡ Ok unparsed) × (entries : List Entry) × (manifest m ≡ Ok entries) × (files : List (List ℕ)) × HasFiles (has_three_files m l d) entries files × IsSound (sources unparsed.0.profile entries files) unparsed.0
+    → (unparsed : GridRules × Option ℕ × ReportFormat) × (r ≡ Ok unparsed) × (entries : List Entry) × (manifest_in unparsed.0.profile m ≡ Ok entries) × (files : List (List ℕ)) × HasFiles (has_three_files m l d) entries files × IsSound (sources unparsed.0.profile entries files) unparsed.0
 report_of_three below m l d (Err why) before after s says is = absurd (explained_never_passes why below before after s says is)
 report_of_three below m l d (Ok (rules, limit, form)) before after status.Pass says is = let (entries, listed, files, loaded, holds) = held m l d rules.profile _ says in ((rules, limit, form), refl, entries, listed, files, loaded, holds.sound (sym holds.judged.0))
 report_of_three below m l d (Ok (rules, limit, form)) before after status.Findings says is = cc

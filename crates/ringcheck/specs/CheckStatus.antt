@@ -7,7 +7,7 @@ use Rattle.grid_units.specs.declared.profile.Profile.{Profile}
 use Rattle.grid_units.specs.declared.fault.Fault.{Fault}
 use Rattle.grid_units.specs.declared.fault.Reason.{Reason}
 use Rattle.manifest.specs.declared.Entry.{Entry}
-use Rattle.manifest.specs.Manifest.{manifest}
+use Rattle.manifest.specs.Manifest.{manifest_in}
 use Rattle.ringcheck_files.specs.declared.Status.{Status}
 use Rattle.ringcheck_files.specs.declared.Status.TheVariants as status
 use Rattle.ringcheck.specs.declared.refusals.RefusalStyle.{RefusalStyle}
@@ -69,7 +69,7 @@ RefusedTable parse plain has name why = (text : List ℕ) × has name text × Re
 -- this profile
 pub record HoldsForPackage (has : Relation) (profile : Profile) (name : List ℕ) (Holds : List FileView → Type 0) : Type 0 where
   pub entries : List Entry
-  pub listed : HasTable manifest has name entries
+  pub listed : HasTable (manifest_in profile) has name entries
   pub files : List (List ℕ)
   pub loaded : HasFiles (within file_limit has) entries files
   pub holds : Holds (sources profile entries files)
@@ -99,8 +99,8 @@ pub data RefusedFile (has : Relation) (profile : Profile) (entries : List Entry)
 
 -- bytes that the loader has are refused: the manifest under this name, or, in this profile, a file that it names
 pub data IsPackageRefusal (has : Relation) (profile : Profile) (name : List ℕ) (why : Refusal) : Type 0 where
-  refused_manifest : RefusedTable manifest of_manifest has name why → IsPackageRefusal has profile name why
-  refused_file : (entries : List Entry) → HasTable manifest has name entries → RefusedFile has profile entries why → IsPackageRefusal has profile name why
+  refused_manifest : RefusedTable (manifest_in profile) of_manifest has name why → IsPackageRefusal has profile name why
+  refused_file : (entries : List Entry) → HasTable (manifest_in profile) has name entries → RefusedFile has profile entries why → IsPackageRefusal has profile name why
 
 -- such bytes are refused, and the writer got just the text of the refusal
 pub record PrintsPackageRefusal (has : Relation) (profile : Profile) (name : List ℕ) (refusal_style : RefusalStyle) (before after : Option (List ℕ)) : Type 0 where

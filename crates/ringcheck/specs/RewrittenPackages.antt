@@ -1,5 +1,5 @@
 -- Packages whose files are rewritten.
-use Rattle.std.specs.Prelude.{◌≡◌, ◌⊎◌, ◌↔◌, ℕ, List, [], ◌∷◌, Result, Ok, ⊤}
+use Rattle.std.specs.Prelude.{◌≡◌, ◌⊎◌, ◌↔◌, ℕ, Bool, true, false, List, [], ◌∷◌, Result, Ok, ⊤}
 use Rattle.grid_units.specs.Holes.{GridRules}
 use Rattle.grid_units.specs.declared.fault.Fault.{Fault}
 use Rattle.manifest.specs.declared.Role.{Role}
@@ -15,14 +15,21 @@ abbrev pub kind_of : Role → Kind
 kind_of role.Copper = kind.Layer
 kind_of role.Plated = kind.Drill
 kind_of role.Unplated = kind.Drill
+kind_of role.Mixed = kind.Drill
 
 -- a file with these bytes in place of its own
 abbrev pub with_bytes : FileView → List ℕ → FileView
 with_bytes source bytes = record { role = source.role; name = source.name; span = source.span; bytes = bytes; setting = source.setting }
 
--- a file is left as it was, or its text is rewritten; a text that is rewritten is one of the strict profile
+-- whether a role is that of a mixed file
+abbrev pub is_mixed : Role → Bool
+is_mixed role.Mixed = true
+is_mixed _ = false
+
+-- A file is left as it was, or its text is rewritten; a text that is rewritten is one of the strict profile. A mixed file is left as it was: the place where it is refused
+-- for a plating may change.
 abbrev pub IsRewritten : FileView → FileView → Type 0
-IsRewritten x y = (y ≡ x) ⊎ ((text : List ℕ) × Rewrites (kind_of x.role) x.bytes (Ok text) × (y ≡ with_bytes x text))
+IsRewritten x y = (y ≡ x) ⊎ ((text : List ℕ) × (is_mixed x.role ≡ false) × Rewrites (kind_of x.role) x.bytes (Ok text) × (y ≡ with_bytes x text))
 
 -- two lists of files: of the first any files, all or none, are rewritten in the second
 abbrev pub AreRewritten : List FileView → List FileView → Type 0

@@ -4,7 +4,7 @@ ghost use Rattle.std.specs.Prelude.{◌≡◌, ◌≢◌, ℕ, List, IfOk};
 ghost use Rattle.grid_units.specs.Holes.{GridRules};
 ghost use Rattle.package_check.specs.Checking.{HasJudgedAll};
 ghost use Rattle.package_check.specs.Package.{FileView};
-ghost use Rattle.manifest.specs.Manifest.{manifest};
+ghost use Rattle.manifest.specs.Manifest.{manifest_in};
 ghost use Rattle.package_check.specs.declared.PackageFault.TheVariants as stop;
 ghost use Rattle.ringcheck.specs.CheckStatus.{HasTable};
 ghost use Rattle.ringcheck.specs.Inner.Reporting.{OfFewer, is_unread};
@@ -83,7 +83,7 @@ pub(crate) fn fewer_findings<'a, L: Loader>(
     loader: &mut L,
     entries: &'a [Entry],
 ) -> Result<Result<u128, Halt<'a>>, Failure>
-    ensures { (name : List ℕ) → HasTable manifest (L.has loader.old) name entries.now → IfOk result (OfFewer (L.has loader.old) name (HasRisen (L.failed loader.old) (L.failed loader.new)) options.now.format options.now.rules report.now) }
+    ensures { (name : List ℕ) → HasTable (manifest_in options.now.rules.profile) (L.has loader.old) name entries.now → IfOk result (OfFewer (L.has loader.old) name (HasRisen (L.failed loader.old) (L.failed loader.new)) options.now.format options.now.rules report.now) }
 {
     if !asks_wide(options, report) {
         return Ok(Ok(0));

@@ -1,7 +1,7 @@
 //! What is done with the package of a manifest.
 
 ghost use Rattle.std.specs.Prelude.{◌≡◌};
-ghost use Rattle.ringcheck.specs.Inner.Jobs.{job_style};
+ghost use Rattle.ringcheck.specs.Inner.Jobs.{job_profile, job_style};
 ghost use Rattle.ringcheck.specs.MeasureStatus.{measure_style};
 ghost use Rattle.ringcheck.specs.ReportStatus.{kept_for, report_style};
 
@@ -82,6 +82,18 @@ pub(crate) fn kept_for(format: ReportFormat) -> Keep
 }
 
 impl Job {
+    /// The profile in which the package is read.
+    pub(crate) fn profile(&self) -> Profile
+        ensures { result ≡ job_profile self.now }
+    {
+        match self {
+            Job::Check(rules) => rules.profile(),
+            Job::Measure(order) => order.profile,
+            Job::Report(options) => options.rules.profile(),
+            Job::Draw(order) => order.profile,
+        }
+    }
+
     /// How a refusal is printed in its place.
     pub(crate) fn style(&self) -> RefusalStyle
         ensures { result ≡ job_style self.now }

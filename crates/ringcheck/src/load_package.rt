@@ -3,7 +3,8 @@
 ghost use Rattle.std.specs.Prelude.{◌≡◌, ◌++◌, ◌≤◌, ◌↔◌, ℕ, List, length, true, IfOk, Result};
 ghost use Rattle.grid_units.specs.Results.{Answers};
 ghost use Rattle.grid_units.specs.declared.fault.Fault.{Fault as TheFault};
-ghost use Rattle.manifest.specs.Manifest.{manifest};
+ghost use Rattle.grid_units.specs.declared.profile.Profile.{Profile as TheProfile};
+ghost use Rattle.manifest.specs.Manifest.{manifest_in};
 ghost use Rattle.package_check.specs.Checking.{HasJudgedAll};
 ghost use Rattle.package_check.specs.Holding.{HasTakenAll, is_kind, setting_of};
 ghost use Rattle.package_check.specs.Package.{is_copper};
@@ -13,8 +14,9 @@ ghost use Rattle.ringcheck.specs.Inner.Loading.{EndsAt, LoadsKind, OfCheckedCopp
 ghost use Rattle.waivers.specs.Reading.{waivers};
 
 use crate::refusals::{Halt, Subject, refused_table};
-use crate::{Entry, LoadFault, Loader, PackageReader, Role, read_manifest};
+use crate::{Entry, LoadFault, Loader, PackageReader, Role};
 use grid_units::{Fail, Profile, Rules};
+use manifest::read_manifest_in;
 use package_check::{Keep, OpenCopper, OpenFile, PackageCheck};
 use ringcheck_files::{ABOVE_LIMIT, FILE_LIMIT, Failure, Sink};
 use std::alloc::{AllocError, Global};
@@ -25,37 +27,38 @@ const MANIFEST_LIMIT: u64 = 1_048_576;
 
 /// What a row of a table is read as: an entry of a manifest, or a waiver.
 pub(crate) trait Row: Sized {
-    /// The rows of a table by its text, or the fault of the text.
-    ghost rows: { List ℕ → Result (List Self) TheFault };
+    /// The rows of a table by its text, or the fault of the text, where the package is read in this profile.
+    ghost rows: { TheProfile → List ℕ → Result (List Self) TheFault };
 
-    /// The rows of a table by its text.
+    /// The rows of a table by its text, where the package is read in this profile.
     ///
     /// # Errors
     ///
     /// The fault of the text; `Memory` where memory runs out.
-    fn read(alloc: Global, text: &[u8]) -> Result<Vec<Self>, Fail>
-        ensures { Answers (λ read. read.items) (λ answer. answer ≡ rows text.now) result };
+    fn read(alloc: Global, profile: Profile, text: &[u8]) -> Result<Vec<Self>, Fail>
+        ensures { Answers (λ read. read.items) (λ answer. answer ≡ rows profile text.now) result };
 }
 
 impl Row for Entry {
-    ghost rows = { manifest };
+    ghost rows = { manifest_in };
 
-    fn read(alloc: Global, text: &[u8]) -> Result<Vec<Entry>, Fail> {
-        read_manifest(alloc, text)
+    fn read(alloc: Global, profile: Profile, text: &[u8]) -> Result<Vec<Entry>, Fail> {
+        read_manifest_in(alloc, profile, text)
     }
 }
 
 impl Row for Waiver {
-    ghost rows = { waivers };
+    ghost rows = { λ profile. waivers };
 
-    fn read(alloc: Global, text: &[u8]) -> Result<Vec<Waiver>, Fail> {
+    fn read(alloc: Global, _profile: Profile, text: &[u8]) -> Result<Vec<Waiver>, Fail> {
         read_waivers(alloc, text)
     }
 }
 
-/// The rows of the table under a name, which is this subject of a refusal.
+/// The rows of the table under a name, which is this subject of a refusal, where the package is read in this profile.
 pub(crate) fn load_table<'a, L: Loader, R: Row + Drop>(
     alloc: Global,
+    profile: Profile,
     loader: &mut L,
     name: &'a str,
     subject: Subject<'a>,
@@ -63,10 +66,10 @@ pub(crate) fn load_table<'a, L: Loader, R: Row + Drop>(
     ensures keeps { (n b : List ℕ) → L.has loader.new n b → L.has loader.old n b }
     ensures kept { (n b : List ℕ) → L.has loader.old n b → L.has loader.new n b }
     ensures counts { L.failed loader.old ≤ L.failed loader.new }
-    ensures loaded { IfOk result (OfTable R.rows (L.has loader.old) name.now subject.entry (HasRisen (L.failed loader.old) (L.failed loader.new))) }
+    ensures loaded { IfOk result (OfTable (R.rows profile) (L.has loader.old) name.now subject.entry (HasRisen (L.failed loader.old) (L.failed loader.new))) }
 {
     match loader.load(alloc, name, MANIFEST_LIMIT) {
-        Ok(text) => match R::read(alloc, text.as_slice()) {
+        Ok(text) => match R::read(alloc, profile, text.as_slice()) {
             Ok(rows) => Ok(Ok(rows)),
             Err(Fail::Memory) => Err(Failure::Memory),
             Err(Fail::Refused(fault)) => {

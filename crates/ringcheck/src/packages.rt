@@ -7,7 +7,7 @@ ghost use Rattle.ringcheck_files.specs.Outcomes.{HasCause, HasRisen};
 ghost use Rattle.ringcheck.specs.DrawStatus.{IsDrawStatus, IsOutlinedDrawStatus, IsParsedDrawStatus};
 ghost use Rattle.ringcheck.specs.Inner.Halting.{IsUnreadAt, OfFiles};
 ghost use Rattle.ringcheck.specs.Inner.Jobs.{Holds, SaysJob, given, job_profile};
-ghost use Rattle.manifest.specs.Manifest.{manifest};
+ghost use Rattle.manifest.specs.Manifest.{manifest_in};
 ghost use Rattle.ringcheck.specs.declared.jobs.Job.TheVariants as jobs;
 ghost use Rattle.ringcheck.specs.MeasureStatus.{IsParsedMeasureStatus};
 ghost use Rattle.ringcheck.specs.ParsedWords as named;
@@ -54,7 +54,7 @@ fn report_files<'a, L: Loader, W: Write>(
     loader: &mut L,
     out: &mut W,
 ) -> Result<Result<bool, Halt<'a>>, Failure>
-    ensures answers { (name : List ℕ) → HasTable manifest (L.has loader.old) name entries.now → map (λ name. name.now) names.now ≡ map (λ entry. entry.name) entries.now
+    ensures answers { (name : List ℕ) → HasTable (manifest_in options.now.rules.profile) (L.has loader.old) name entries.now → map (λ name. name.now) names.now ≡ map (λ entry. entry.name) entries.now
         → IfOk result (OfFiles (L.has loader.old) options.now.rules.profile entries.now (HasRisen (L.failed loader.old) (L.failed loader.new)) (Holds (jobs.Report options.now) (L.has loader.old) name (W.contents out.old) (W.contents out.new))) }
     ensures silent { IfOk result (λ done. IfErr done (λ halt. W.contents out.new ≡ W.contents out.old)) }
 {
@@ -89,7 +89,7 @@ fn answer<'a, L: Loader, W: Write>(
     loader: &mut L,
     out: &mut W,
 ) -> Result<Result<bool, Halt<'a>>, Failure>
-    ensures answers { (name : List ℕ) → HasTable manifest (L.has loader.old) name entries.now → IfOk result (OfFiles (L.has loader.old) (job_profile job.now) entries.now (HasRisen (L.failed loader.old) (L.failed loader.new)) (Holds job.now (L.has loader.old) name (W.contents out.old) (W.contents out.new))) }
+    ensures answers { (name : List ℕ) → HasTable (manifest_in (job_profile job.now)) (L.has loader.old) name entries.now → IfOk result (OfFiles (L.has loader.old) (job_profile job.now) entries.now (HasRisen (L.failed loader.old) (L.failed loader.new)) (Holds job.now (L.has loader.old) name (W.contents out.old) (W.contents out.new))) }
     ensures silent { IfOk result (λ done. IfErr done (λ halt. W.contents out.new ≡ W.contents out.old)) }
 {
     let names = names_of(alloc, entries)?;
@@ -162,7 +162,13 @@ fn run_job<L: Loader, W: Write>(
     ensures says { IfOk result (SaysJob job.now (L.has loader.old) name.now (W.contents out.old) (W.contents out.new)) }
     ensures cause { IfOk result (HasCause (L.failed loader.old) (L.failed loader.new)) }
 {
-    let entries = match load_table::<L, Entry>(alloc, loader, name, Subject::Manifest)? {
+    let entries = match load_table::<L, Entry>(
+        alloc,
+        job.profile(),
+        loader,
+        name,
+        Subject::Manifest,
+    )? {
         Ok(entries) => entries,
         Err(halt) => {
             let is_folder = is_unread_folder(loader, halt, name);
@@ -401,7 +407,13 @@ pub(crate) fn report<L: Loader, W: Write>(
     let outline = unparsed.outline;
     match unparsed.waive {
         None => report_outlined(alloc, named, None, outline, name, loader, out),
-        Some(file) => match load_table::<L, Waiver>(alloc, loader, file, Subject::Waivers)? {
+        Some(file) => match load_table::<L, Waiver>(
+            alloc,
+            named.0.profile(),
+            loader,
+            file,
+            Subject::Waivers,
+        )? {
             Ok(waivers) => {
                 report_outlined(alloc, named, Some(waivers), outline, name, loader, out)
             }

@@ -1,10 +1,10 @@
 //! The flashes and contours of layers in the wide profile, in whole texts and in pieces.
 
 use further_copper::{Feature, FeatureKind};
-use grid_units::{Fail, Profile, Reason};
+use grid_units::{Fail, Reason};
 use layer_image::{Keep, LayerReader};
 use std::alloc::Global;
-use wide_layers::{WideLayer, read_wide_layer, wide_layer};
+use wide_layers::{WideLayer, WideReader, read_wide_layer};
 use wide_pads::WidePad;
 
 /// What is written after the head of a layer, and a letter for each flash and contour in the order of the text: `p` a pad of a standard
@@ -187,13 +187,12 @@ fn is_layer(layer: &WideLayer, letters: &[u8]) -> bool {
 
 /// The layer of a text that comes in pieces of one byte.
 fn read_bytes(alloc: Global, text: &[u8]) -> Result<WideLayer, Fail> {
-    let mut reader = LayerReader::in_profile(alloc, Keep::All, Profile::Wide);
+    let mut reader = WideReader::new(alloc, true);
     for i in 0..text.len() {
         reader.feed(&text[i..i + 1])?;
     }
-    let layer = reader.finish()?;
-    let wide = wide_layer(alloc, &layer)?;
-    Ok(wide)
+    let mut drawn = Vec::new(alloc);
+    reader.finish(&mut drawn)
 }
 
 /// Whether the layer has these flashes and contours, read whole and in pieces.
@@ -258,6 +257,6 @@ fn the_strict_profile_refuses_clear_polarity(rt: HostRuntime) {
         }
         _ => assert!(rt; false),
     }
-    let mut wide = LayerReader::in_profile(rt.alloc(), Keep::All, Profile::Wide);
+    let mut wide = WideReader::new(rt.alloc(), false);
     assert!(rt; wide.feed(&text).is_ok());
 }

@@ -1,11 +1,13 @@
 -- What a reader answers where it fails.
-use Rattle.std.proofs.Common.{ℕ, List, Err}
-use Rattle.grid_units.specs.Results.{Answers, IfFault}
+use Rattle.std.proofs.Common.{ℕ, List, Err, inr}
+use Rattle.grid_units.specs.Lists.{IsLegal}
+use Rattle.grid_units.specs.Results.{Answers, AnswersAlways, IfFault}
 use Rattle.grid_units.specs.declared.fault.Fail.{Fail}
 use Rattle.grid_units.specs.declared.fault.Fail.TheVariants as fails
 use Rattle.grid_units.specs.declared.profile.Profile.TheVariants.{Wide}
-use Rattle.layer_image.specs.declared.keep.Keep.TheVariants as keep
-use Rattle.layer_image.specs.Layers.{LayerImage, ReadsKeptIn}
+use Rattle.gerber_text.specs.Reading.{Entries, ReadsIn, SpellsBeforeFaultIn, entries_after}
+use Rattle.gerber_text.specs.Writing.{without_places}
+use Rattle.layer_image.specs.Rules.{broken_rule}
 use Rattle.layer_image.specs.Holding.{ShowsLayerFaultIn}
 use Rattle.layer_image.proofs.Pieces.{shown_read}
 use Rattle.wide_layers.specs.WideLayers.{ReadsWideLayer, WideImage}
@@ -15,7 +17,7 @@ pub shown_answers : (text : List ℕ) (e : Fail) → IfFault (ShowsLayerFaultIn 
 shown_answers text fails.Memory h = tt
 shown_answers text (fails.Refused f) h = shown_read Wide text f h
 
--- the fault of a layer is that of the layer in the wide profile
-pub layer_answers : (text : List ℕ) (e : Fail) → Answers {T = LayerImage} (λ layer. layer) (ReadsKeptIn Wide keep.All text) (Err e) → Answers {T = WideImage} (λ layer. layer) (ReadsWideLayer text) (Err e)
-layer_answers text fails.Memory h = tt
-layer_answers text (fails.Refused f) h = h
+-- the end that was refused is the layer's fault
+pub end_answers : (text : List ℕ) (gone : Entries) (e : Fail) → AnswersAlways (entries_after gone) (λ answer. ReadsIn Wide text answer) (Err e) → SpellsBeforeFaultIn Wide text e gone → IsLegal broken_rule (without_places gone) → Answers {T = WideImage} (λ layer. layer) (ReadsWideLayer text) (Err e)
+end_answers text gone fails.Memory h kept legal = tt
+end_answers text gone (fails.Refused f) h kept legal = inr (gone, h, kept, legal)

@@ -29,7 +29,7 @@ use Rattle.further_copper.specs.declared.feature.Feature.{Feature}
 use Rattle.further_copper.specs.declared.feature.FeatureKind.TheVariants as kind
 use Rattle.further_copper.specs.Clearing.{is_clear_after}
 use Rattle.further_copper.specs.FurtherPads.{CopperState, contours_in, copper_state_after, flashed_pad}
-use Rattle.further_copper.specs.Features.{contour_feature, dark_kind, features_at, features_of, flash_feature}
+use Rattle.further_copper.specs.Features.{contour_feature, dark_kind, features_at, features_of, flash_feature, why_in}
 use Rattle.further_copper.proofs.ClearingLemmas.{is_clear, stays_dark_after}
 use Rattle.further_copper.proofs.DarkLayers.{all_features}
 use Rattle.wide_layers.specs.WideLayers.{ReadingIsUnique, StrictLayers, plain_pad, plain_pads, wide_image_of}
@@ -57,9 +57,9 @@ plain_contours (p ∷ ps) = plain_contours ps
 -- a flash in dark polarity is the pad of a standard aperture just where the strict profile says so
 plain_kind : (s : CopperState) (at : GridPoint) (w : What) → plain_pad (dark_kind s at w) ≡ pad_in w
 plain_kind s at (what.Pad pad) = refl
-plain_kind s at (what.Other why) = by (flashed_pad s at)
+plain_kind s at (what.Other reason) = by (flashed_pad s at)
   where
-    by : (o : Option GridRounded) → plain_pad (option_map_or (λ pad. kind.Pad (Rounded pad)) o (kind.Other why)) ≡ None
+    by : (o : Option GridRounded) → plain_pad (option_map_or (λ pad. kind.Pad (Rounded pad)) o (kind.Other (why_in s reason))) ≡ None
     by (Some pad) = refl
     by None = refl
 

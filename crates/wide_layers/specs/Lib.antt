@@ -1,1 +1,2 @@
 pub mod WideLayers
+pub mod Holding

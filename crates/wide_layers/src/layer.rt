@@ -1,16 +1,12 @@
 //! Layers in the wide profile.
 
-ghost use Rattle.std.specs.Prelude.{◌≡◌, ℕ, List, Ok, IfOk};
+ghost use Rattle.std.specs.Prelude.{◌≡◌, IfOk};
 ghost use Rattle.std.specs.Option.{option_copied};
-ghost use Rattle.grid_units.specs.declared.profile.Profile.TheVariants.{Wide};
-ghost use Rattle.gerber_text.specs.Writing.{without_places};
-ghost use Rattle.layer_image.specs.Layers.{ReadsLayerIn};
 ghost use Rattle.further_copper.specs.Features.{pads_of, rows_of};
-ghost use Rattle.wide_layers.specs.WideLayers.{contour_count, flashed_count, other_count, wide_image_of};
+ghost use Rattle.wide_layers.specs.WideLayers.{contour_count, flashed_count, other_count};
 
-use further_copper::{Feature, FeatureRow, features};
+use further_copper::{Feature, FeatureRow};
 use grid_units::Text;
-use layer_image::Layer;
 use std::alloc::{AllocError, Global};
 use std::marker::Model;
 use wide_pads::WidePad;
@@ -18,8 +14,8 @@ use wide_pads::WidePad;
 /// A layer in the wide profile. Contracts see its flashes and contours and its file function as lists.
 #[derive(Debug, Drop)]
 pub struct WideLayer {
-    features: Vec<Feature>,
-    file_function: Option<Text>,
+    pub(crate) features: Vec<Feature>,
+    pub(crate) file_function: Option<Text>,
 }
 
 impl Model for WideLayer {
@@ -105,30 +101,4 @@ impl WideLayer {
             None => None,
         }
     }
-}
-
-/// A text in memory of its own, where there is one.
-fn owned(alloc: Global, text: Option<&[u8]>) -> Result<Option<Text>, AllocError>
-    ensures { IfOk result (λ owned. owned ≡ option_copied text.entry) }
-{
-    match text {
-        Some(bytes) => Ok(Some(Text::from_slice(alloc, bytes)?)),
-        None => Ok(None),
-    }
-}
-
-/// The layer in the wide profile of the commands and the flashes that a reader kept of a layer.
-///
-/// # Errors
-///
-/// An `AllocError` where there is no memory for it.
-pub fn wide_layer(alloc: Global, layer: &Layer) -> Result<WideLayer, AllocError>
-    ensures { (text : List ℕ) → ReadsLayerIn Wide text (Ok layer.now) → IfOk result (λ wide. wide ≡ wide_image_of (without_places layer.now.commands)) }
-{
-    let features = features(alloc, layer.commands(), layer.flashes())?;
-    let file_function = owned(alloc, layer.file_function())?;
-    Ok(WideLayer {
-        features,
-        file_function,
-    })
 }

@@ -3,8 +3,9 @@
 
 mod laws;
 mod layer;
-mod reading;
+mod met;
+mod reader;
 
 pub use laws::{strict_layers, unique_reading};
-pub use layer::{WideLayer, wide_layer};
-pub use reading::read_wide_layer;
+pub use layer::WideLayer;
+pub use reader::{WideReader, read_wide_layer};

@@ -1,22 +1,17 @@
 -- How the fields of further copper stand for the commands that it has met.
-use Rattle.std.specs.Prelude.{◌≡◌, ℕ, suc, min, ◌+◌, false, ◌&&◌, ◌||◌, List, [], ◌++◌, drop, length, take, unwrap_or, if◌then◌else◌}
-use Rattle.std.specs.List.{cons_option, flat_map, sum_by}
-use Rattle.grid_units.specs.Lists.{with_prefixes}
+use Rattle.std.specs.Prelude.{◌≡◌, suc, min, ◌+◌, false, ◌&&◌, ◌||◌, List, [], ◌++◌, unwrap_or, if◌then◌else◌}
+use Rattle.std.specs.List.{cons_option}
 use Rattle.gerber_commands.specs.declared.command.Command.{Command}
-use Rattle.layer_image.specs.declared.flash.Flash.{Flash}
-use Rattle.layer_image.specs.Flashes.{flash_copies}
 use Rattle.layer_image.specs.Lookback.{block_set}
 use Rattle.layer_image.specs.Drawn.{DrawState}
 use Rattle.layer_image.specs.Inner.Pencils.{after_command, draw_state}
 use Rattle.further_copper.specs.declared.clearing.Clearing.{Clearing}
 use Rattle.further_copper.specs.declared.copper.Copper.{Copper}
 use Rattle.further_copper.specs.declared.part.Part.{Part}
-use Rattle.further_copper.specs.Blocks.{block_after, changes_block}
-use Rattle.further_copper.specs.Clearing.{cleared, draws, polarity_set}
-use Rattle.further_copper.specs.Contours.{part_by, starts_region}
-use Rattle.further_copper.specs.FurtherPads.{CopperState, copper_state_after, ended_copies, max_regions, mirroring_set}
-use Rattle.further_copper.specs.declared.feature.Feature.{Feature}
-use Rattle.further_copper.specs.Features.{added_features}
+use Rattle.further_copper.specs.Blocks.{changes_block}
+use Rattle.further_copper.specs.Clearing.{draws, polarity_set}
+use Rattle.further_copper.specs.Contours.{contour_of, part_by, starts_region}
+use Rattle.further_copper.specs.FurtherPads.{CopperState, ended_copies, max_regions, mirroring_set}
 
 -- a state whose number of regions counts no further than one more than the most
 abbrev pub capped : CopperState → CopperState
@@ -48,21 +43,15 @@ after c s = record {
   clearing = clearing_with c s.clearing;
 }
 
--- how many flashes these commands make
-abbrev pub flash_count : List Command → ℕ
-flash_count commands = sum_by (λ p. flash_copies (block_after p.0) p.1) (with_prefixes commands)
+-- parts make the same contour as others, whatever parts follow them
+abbrev pub MakeSameContour : List Part → List Part → Type 0
+MakeSameContour kept parts = (more : List Part) → contour_of (kept ++ more) ≡ contour_of (parts ++ more)
 
--- of all flashes those of a command, by how many the commands before it make
-abbrev pub own_flashes : List Flash → List Command × Command → List Flash
-own_flashes all p = take (flash_copies (block_after p.0) p.1) (drop (flash_count p.0) all)
+-- a state with other parts of the last region
+abbrev pub with_parts : List Part → CopperState → CopperState
+with_parts parts s = record { draw = s.draw; mirroring = s.mirroring; block = s.block; parts = parts; regions = s.regions; clearing = s.clearing }
 
--- what a command adds after others, where these are all flashes
-abbrev pub features_among : List Flash → List Command × Command → List Feature
-features_among all p = added_features (copper_state_after p.0) (own_flashes all p) p.1
-
--- these commands were met, where these are all flashes
-pub record HasMet (all : List Flash) (copper : Copper) (commands : List Command) : Type 0 where
-  pub state : copper_state copper ≡ capped (copper_state_after commands)
-  pub left : copper.left.now ≡ drop (flash_count commands) all
-  pub features : copper.features.items ≡ flat_map (features_among all) (with_prefixes commands)
-  pub cleared : copper.cleared ≡ length (flat_map (features_among all) (cleared commands))
+-- a state stands for another: it has parts that make the same contour as those of the other, and else it is the same
+pub record IsLike (s t : CopperState) : Type 0 where
+  pub rest : with_parts t.parts s ≡ t
+  pub parts : MakeSameContour s.parts t.parts

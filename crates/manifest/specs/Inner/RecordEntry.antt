@@ -3,6 +3,7 @@ use Rattle.std.specs.Prelude.{ℕ, Bool, List, Option, Some, None, Result, Ok, E
 use Rattle.grid_units.specs.Numbers.{value}
 use Rattle.grid_units.specs.Spans.{LayerSpan}
 use Rattle.grid_units.specs.declared.fault.Reason.{Reason}
+use Rattle.grid_units.specs.declared.profile.Profile.{Profile}
 use Rattle.grid_units.specs.declared.fault.Reason.TheVariants.{BadSpan}
 use Rattle.manifest.specs.declared.Entry.{Entry}
 use Rattle.manifest.specs.declared.Role.{Role}
@@ -25,6 +26,6 @@ abbrev pub entry_or_reason : Option Reason → Entry → Result Entry Reason
 entry_or_reason None entry = Ok entry
 entry_or_reason (Some why) entry = Err why
 
--- the file that a record names, or the first rule that it breaks; `repeated` says whether an earlier file has its name
-abbrev pub checked_entry : ℕ → Bool → CsvRecord → Result Entry Reason
-checked_entry width repeated row = entry_or_reason (first_broken_rule width repeated row) (entry_of row)
+-- the file that a record names, or the first rule that it breaks in a profile; `repeated` says whether an earlier file has its name
+abbrev pub checked_entry : Profile → ℕ → Bool → CsvRecord → Result Entry Reason
+checked_entry profile width repeated row = entry_or_reason (first_broken_rule profile width repeated row) (entry_of row)

@@ -48,6 +48,7 @@ rings_in (Some one) = one.rings.items
 abbrev pub index_in : ℕ × FileSum → List ℕ
 index_in (file, sum.Layer pads other contours) = file ∷ []
 index_in (file, sum.Drill plated span round slots) = []
+index_in (file, sum.Mixed span round slots unplated) = []
 
 -- the indexes of the copper files among all files, from 0, by the counts of the files
 abbrev pub layer_indexes_in : List FileSum → List ℕ

@@ -4,7 +4,7 @@ ghost use Rattle.std.specs.Prelude.{IsTrue, List, None, Ok, Option, Some, [], co
 ghost use Rattle.std.specs.List.{Contains};
 ghost use Rattle.grid_units.specs.Holes.{GridRules};
 ghost use Rattle.grid_units.specs.declared.profile.Profile.TheVariants.{Strict};
-ghost use Rattle.manifest.specs.Manifest.{manifest};
+ghost use Rattle.manifest.specs.Manifest.{manifest_in};
 ghost use Rattle.manifest.specs.declared.Entry.{Entry as TheEntry};
 ghost use Rattle.board_report.specs.Measures.{PackagePasses};
 ghost use Rattle.report.specs.declared.Measure.{Measure};
@@ -18,7 +18,7 @@ use super::*;
 
 /// Whether a package of three files at hand passes. Then the files that its manifest names, as they stand, are sound.
 fn is_passed<'x>(alloc: Global, records: &'x str, layer: &'x str, drill: &'x str) -> bool
-    ensures { IsTrue result → (rules : GridRules) × (parse_check None (codes "0.125") (codes "0.25") ≡ Ok rules) × (entries : List TheEntry) × (manifest records.now ≡ Ok entries)
+    ensures { IsTrue result → (rules : GridRules) × (parse_check None (codes "0.125") (codes "0.25") ≡ Ok rules) × (entries : List TheEntry) × (manifest_in rules.profile records.now ≡ Ok entries)
         × (files : List (List ℕ)) × HasFiles (λ n b. Contains {X = List ℕ × List ℕ} ((codes "m.csv", records.now) ∷ (codes "top.gbr", layer.now) ∷ (codes "pth.drl", drill.now) ∷ []) (n, b)) entries files
         × IsSound (sources rules.profile entries files) rules }
 {
@@ -51,7 +51,7 @@ const MACRO_LAYER: &str =
 /// Whether a package of three files at hand passes in the wide profile. Then the files that its manifest names, as they stand, are sound
 /// as the wide profile reads them.
 fn is_passed_wide<'x>(alloc: Global, records: &'x str, layer: &'x str, drill: &'x str) -> bool
-    ensures { IsTrue result → (rules : GridRules) × (parse_check (Some (codes "wide")) (codes "0.125") (codes "0.25") ≡ Ok rules) × (entries : List TheEntry) × (manifest records.now ≡ Ok entries)
+    ensures { IsTrue result → (rules : GridRules) × (parse_check (Some (codes "wide")) (codes "0.125") (codes "0.25") ≡ Ok rules) × (entries : List TheEntry) × (manifest_in rules.profile records.now ≡ Ok entries)
         × (files : List (List ℕ)) × HasFiles (λ n b. Contains {X = List ℕ × List ℕ} ((codes "m.csv", records.now) ∷ (codes "top.gbr", layer.now) ∷ (codes "pth.drl", drill.now) ∷ []) (n, b)) entries files
         × IsSound (sources rules.profile entries files) rules }
 {
@@ -79,7 +79,7 @@ fn what_passes_in_a_profile_is_sound_in_it(rt: HostRuntime) {
 /// Whether a package of three files at hand is measured. Then the files that its manifest names, as they stand, pass under
 /// exactly the rules of a measure.
 fn is_measured<'x>(alloc: Global, records: &'x str, layer: &'x str, drill: &'x str) -> bool
-    ensures { IsTrue result → (order : TheOrder) × (parse_measure None None ≡ Ok order) × (entries : List TheEntry) × (manifest records.now ≡ Ok entries) × (files : List (List ℕ))
+    ensures { IsTrue result → (order : TheOrder) × (parse_measure None None ≡ Ok order) × (entries : List TheEntry) × (manifest_in order.profile records.now ≡ Ok entries) × (files : List (List ℕ))
         × HasFiles (λ n b. Contains {X = List ℕ × List ℕ} ((codes "m.csv", records.now) ∷ (codes "top.gbr", layer.now) ∷ (codes "pth.drl", drill.now) ∷ []) (n, b)) entries files
         × (measure : Measure) × PackagePasses order.profile (sources order.profile entries files) measure.meets.ring measure.meets.gap }
 {
@@ -98,7 +98,7 @@ fn what_is_measured_passes_under_just_its_rules(rt: HostRuntime) {
 /// Whether a report finds nothing on a package of three files at hand. Then the files that its manifest names, as they stand,
 /// are sound.
 fn is_told_sound<'x>(alloc: Global, records: &'x str, layer: &'x str, drill: &'x str) -> bool
-    ensures { IsTrue result → (asked : GridRules × Option ℕ × TheFormat) × (parse_report None (codes "0.125") (codes "0.25") None None None None ≡ Ok asked) × (entries : List TheEntry) × (manifest records.now ≡ Ok entries) × (files : List (List ℕ))
+    ensures { IsTrue result → (asked : GridRules × Option ℕ × TheFormat) × (parse_report None (codes "0.125") (codes "0.25") None None None None ≡ Ok asked) × (entries : List TheEntry) × (manifest_in asked.0.profile records.now ≡ Ok entries) × (files : List (List ℕ))
         × HasFiles (λ n b. Contains {X = List ℕ × List ℕ} ((codes "m.csv", records.now) ∷ (codes "top.gbr", layer.now) ∷ (codes "pth.drl", drill.now) ∷ []) (n, b)) entries files
         × IsSound (sources asked.0.profile entries files) asked.0 }
 {

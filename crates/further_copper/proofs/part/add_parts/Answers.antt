@@ -1,14 +1,29 @@
--- The coordinates of an operation are those of its command.
-use Rattle.std.proofs.Common.{◌≡◌, ◌∙◌, OnOk, sym, subst}
-use Rattle.gerber_commands.specs.declared.command.Command.{Command}
-use Rattle.gerber_commands.specs.declared.command.Command.TheVariants.{Operate}
+-- A region starts, or it can make no contour any more, or a part is added.
+use Rattle.std.proofs.Common.{◌++◌, [], List, Option, ap, subst, sym, ◌∙◌}
+use Rattle.std.specs.List.{cons_option}
 use Rattle.layer_image.specs.Inner.Pencils.{draw_state}
-use Rattle.further_copper.specs.Inner.States.{parts_after}
+use Rattle.further_copper.specs.declared.part.Part.{Part}
+use Rattle.further_copper.specs.Contours.{part_by}
+use Rattle.further_copper.specs.Inner.Forgetting.{is_over}
+use Rattle.further_copper.specs.Inner.States.{MakeSameContour, parts_after}
+use Rattle.further_copper.proofs.ForgettingLemmas.{over_stays, started, went_on}
 use Rattle.further_copper.proofs.part.add_parts.Goals as goal
 
-pub returns-in-Operate : goal.returns-in-Operate
-returns-in-Operate c =
-    let p = c.in-Operate in
-    let named : Operate p.action c.get.result c.get-in-Operate.result c.get-in-Operate-2.result c.get-in-Operate-3.result ≡ c.args.command.now =
-    (λ k. Operate p.action (c.get.ensures k) (c.get-in-Operate.ensures k) (c.get-in-Operate-2.ensures k) (c.get-in-Operate-3.ensures k)) ∙ sym p.is in
-    subst (λ (d : Command). OnOk c.add_part.result (c.add_part.new.parts.items ≡ parts_after d (draw_state c.args.pencil.now) c.args.parts.now.items)) named c.add_part.ensures
+pub returns-then-starts_region : goal.returns-then-starts_region
+returns-then-starts_region c =
+    let s = draw_state c.args.pencil.now in
+    let old = c.args.parts.now.items in
+    subst (λ (l : List Part). MakeSameContour l (parts_after c.args.command.now s old)) (sym c.clear.ensures.items) (started c.args.command.now s old (sym c.starts_region.ensures ∙ c.if-starts_region.true))
+
+pub returns-then-is_over : goal.returns-then-is_over
+returns-then-is_over c =
+    let s = draw_state c.args.pencil.now in
+    let old = c.args.parts.now.items in
+    went_on c.args.command.now s old old (sym c.starts_region.ensures ∙ c.if-starts_region.false) (over_stays old (cons_option (part_by s c.args.command.now) []) (ap is_over (sym c.deref.ensures.value) ∙ (sym c.is_over.ensures ∙ c.if-is_over.true)))
+
+pub returns : goal.returns
+returns c =
+    let s = draw_state c.args.pencil.now in
+    let old = c.args.parts.now.items in
+    went_on c.args.command.now s c.add_part.new.parts.items old (sym c.starts_region.ensures ∙ c.if-starts_region.false)
+    (subst (λ (o : Option Part). MakeSameContour c.add_part.new.parts.items (old ++ cons_option o [])) c.part_by.ensures c.in_ok-add_part.ensures)

@@ -11,5 +11,5 @@ abbrev pub invariant-loop-i : goal.invariant-loop-i
 invariant-loop-i l = record {
   had : (name : List ℕ) → contains_by (λ k. slice_cmp nat_cmp name k.now) l.names ≡ is_repeated name (map entry_of (map fields_of (take l.i l.files)));
   named : l.entries.items ≡ map entry_of (map fields_of (take l.i l.files));
-  lawful : violations (broken_after l.width) (map fields_of (take l.i l.files)) ≡ [];
+  lawful : violations (broken_after l.profile l.width) (map fields_of (take l.i l.files)) ≡ [];
 }

@@ -17,15 +17,15 @@ copper_fault profile bytes fails.Memory h = tt
 copper_fault profile bytes (fails.Refused fault) h = inl h
 
 pub returns-in_err-layer-clause-copper : goal.returns-in_err-layer-clause-copper
-returns-in_err-layer-clause-copper c = λ text stands.
+returns-in_err-layer-clause-copper c = λ profile text stands.
     let p = err_from_is_err_and c.from_residual.result c.from_residual.ensures.1 in
-    rw (p.1, p.2) (copper_fault c.args.profile text c.in_err-layer.field-0.0 (c.in_err-layer.ensures.image text stands))
+    rw (p.1, p.2) (copper_fault profile text c.in_err-layer.field-0.0 (c.in_err-layer.ensures.image profile text stands))
 
 pub returns-clause-copper : goal.returns-clause-copper
-returns-clause-copper c = λ text stands. c.require_copper.ensures c.args.profile text (c.in_ok-layer.ensures.image text stands)
+returns-clause-copper c = λ profile text stands. c.require_copper.ensures profile text (c.in_ok-layer.ensures.image profile text stands)
 
 pub returns-clause-flashes : goal.returns-clause-flashes
-returns-clause-flashes c = λ text stands keeps. held c.require_copper.result _ (c.in_ok-layer.ensures.flashes text stands keeps)
+returns-clause-flashes c = λ profile text stands keeps. held c.require_copper.result _ (c.in_ok-layer.ensures.flashes profile text stands keeps)
 
 pub returns-clause-drawn : goal.returns-clause-drawn
-returns-clause-drawn c = λ text stands keeps. held c.require_copper.result _ (c.in_ok-layer.ensures.drawn text stands keeps)
+returns-clause-drawn c = λ profile text stands keeps. held c.require_copper.result _ (c.in_ok-layer.ensures.drawn profile text stands keeps)

@@ -4,5 +4,5 @@ use Rattle.package_check.proofs.laws.files_say_once.Goals as goal
 pub returns : goal.returns
 returns c = record {
   pads = pads_once c.wide_grammar.ensures.unique c.flashed_pads.ensures.unique;
-  holes = holes_once c.text_grammar.ensures.one c.drilled_holes.ensures.one;
+  holes = holes_once c.text_grammar.ensures.one c.drilled_holes.ensures.one c.mixed_files.ensures.listed;
 }

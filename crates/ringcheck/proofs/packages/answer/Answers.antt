@@ -23,7 +23,8 @@ returns-in-Ok-2-clause-answers g c name listed =
 
 pub returns-in-Report-clause-answers : goal.returns-in-Report-clause-answers
 returns-in-Report-clause-answers g c name listed =
-    rw c.in-Report.is (c.report_files.ensures.answers name listed (rw c.as_slice-names.ensures.value c.in_ok-names.ensures))
+    let had = rw c.in-Report.is at listed in
+    rw c.in-Report.is (c.report_files.ensures.answers name had (rw c.as_slice-names.ensures.value c.in_ok-names.ensures))
 
 pub returns-in-Ok-3-clause-answers : goal.returns-in-Ok-3-clause-answers
 returns-in-Ok-3-clause-answers g c name listed =

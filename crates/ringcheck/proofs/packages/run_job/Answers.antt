@@ -1,4 +1,4 @@
-use Rattle.manifest.specs.Manifest.{manifest}
+use Rattle.manifest.specs.Manifest.{manifest_in}
 use Rattle.ringcheck_files.specs.Outcomes.{HasCause, HasRisen}
 use Rattle.ringcheck.specs.declared.refusals.Subject.TheVariants as subject
 use Rattle.ringcheck.specs.Inner.Halting.{RefusesTable}
@@ -15,10 +15,10 @@ returns-in-Err-clause-says g c =
     let job = c.args.job.now in
     let before = g.W.Write.contents c.args.out.now in
     let after = g.W.Write.contents c.print_halt.new.out in
-    halted (RefusesTable manifest has c.args.name.now subject.Manifest) (HasRisen (failed c.args.loader.now) (failed c.load_table.new.loader)) (job_style job) c.args.name.now c.is_unread_folder-is_folder.result before after
+    halted (RefusesTable (manifest_in (job_profile job)) has c.args.name.now subject.Manifest) (HasRisen (failed c.args.loader.now) (failed c.load_table.new.loader)) (job_style job) c.args.name.now c.is_unread_folder-is_folder.result before after
     (SaysJob job has c.args.name.now before after) (λ risen. tt)
     (λ why is printed. record { why = why; refused = refused_manifest is; printed = printed })
-    c.in-Err.halt (rw c.in-Err.is at c.in_ok-entries.ensures.loaded) c.print_halt.result (rw c.style.ensures at c.print_halt.ensures)
+    c.in-Err.halt (rw (c.in-Err.is, c.profile.ensures) at c.in_ok-entries.ensures.loaded) c.print_halt.result (rw c.style.ensures at c.print_halt.ensures)
 
 pub returns-in-Ok-2-clause-says : goal.returns-in-Ok-2-clause-says
 returns-in-Ok-2-clause-says g c =
@@ -28,7 +28,7 @@ returns-in-Ok-2-clause-says g c =
     let before = g.W.Write.contents c.args.out.now in
     let after = g.W.Write.contents c.answer.new.out in
     let entries = c.in-Ok.entries.items in
-    let listed = rw c.in-Ok.is at c.in_ok-entries.ensures.loaded in
+    let listed = rw (c.in-Ok.is, c.profile.ensures) at c.in_ok-entries.ensures.loaded in
     let known = listed_along has later c.in_ok-entries.ensures.kept (job_profile job) c.args.name.now entries listed in
     let (files, held, holds) = rw (c.in-Ok-2.is, c.as_slice.ensures.value) at c.in_ok-passes.ensures.answers c.args.name.now known in
     let has_files_along = files_along later has c.in_ok-entries.ensures.keeps entries files held in
@@ -44,7 +44,7 @@ returns-clause-says g c =
     let before = g.W.Write.contents c.args.out.now in
     let after = g.W.Write.contents c.print_halt-in-Err-2.new.out in
     let entries = c.in-Ok.entries.items in
-    let listed = rw c.in-Ok.is at c.in_ok-entries.ensures.loaded in
+    let listed = rw (c.in-Ok.is, c.profile.ensures) at c.in_ok-entries.ensures.loaded in
     let silent = rw c.in-Err-2.is at c.in_ok-passes.ensures.silent in
     halted (RefusedFile later (job_profile job) entries) (HasRisen (failed c.load_table.new.loader) (failed c.answer.new.loader)) (job_style job) c.path_of-path.result.now c.is_unread_folder-is_folder-in-Err-2.result before after
     (SaysJob job has c.args.name.now before after) (λ risen. tt)
@@ -60,7 +60,7 @@ returns-clause-cause g c =
     let before = g.W.Write.contents c.args.out.now in
     let after = g.W.Write.contents c.print_halt-in-Err-2.new.out in
     let entries = c.in-Ok.entries.items in
-    let listed = rw c.in-Ok.is at c.in_ok-entries.ensures.loaded in
+    let listed = rw (c.in-Ok.is, c.profile.ensures) at c.in_ok-entries.ensures.loaded in
     let silent = rw c.in-Err-2.is at c.in_ok-passes.ensures.silent in
     halted (RefusedFile later (job_profile job) entries) (HasRisen (failed c.load_table.new.loader) (failed c.answer.new.loader)) (job_style job) c.path_of-path.result.now c.is_unread_folder-is_folder-in-Err-2.result before after
     (HasCause (failed c.args.loader.now) (failed c.answer.new.loader))

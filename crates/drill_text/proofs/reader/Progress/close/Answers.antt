@@ -1,21 +1,20 @@
 use Rattle.std.proofs.Common.{◌≡◌, ◌+◌, ℕ, suc, List, [], ◌∷◌, ◌++◌, Err, length, sym, ap, subst, ◌∙◌, arith}
 use Rattle.std.proofs.lemmas.List.{length-append}
 use Rattle.std.proofs.lemmas.Result.{err_from_is_err_and}
-use Rattle.grid_units.specs.declared.profile.Profile.{Profile}
 use Rattle.grid_units.specs.declared.fault.Fail.{Fail}
 use Rattle.grid_units.specs.declared.fault.Fail.TheVariants.{Memory, Refused}
 use Rattle.grid_units.specs.Results.{IfFault}
 use Rattle.drill_text.specs.declared.kept.Keep.{Keep}
 use Rattle.drill_text.specs.declared.reader.Progress.{Progress}
 use Rattle.drill_text.specs.Lines.{Splits, bytes_of}
-use Rattle.drill_text.specs.Profiles.{spelled_in, shown_by}
+use Rattle.drill_text.specs.Profiles.{Kind, spelled_in, shown_by}
 use Rattle.drill_text.specs.Keeping.{HasReadIn}
 use Rattle.drill_text.specs.Holding.{Holds, Refuses}
 use Rattle.drill_text.proofs.SplitsLemmas.{Splits-close, bytes_of-push}
 use Rattle.drill_text.proofs.PieceLemmas.{closed}
 use Rattle.drill_text.proofs.reader.Progress.close.Goals as goal
 
-refused : (old : Progress) (e : Fail) → ((p : Profile) (keep : Keep) (text : List ℕ) (h : Holds old p keep text) → IfFault (λ f. spelled_in p h.lines old.line.items h.commands ≡ Err f) e) → Refuses old (10 ∷ []) e
+refused : (old : Progress) (e : Fail) → ((p : Kind) (keep : Keep) (text : List ℕ) (h : Holds old p keep text) → IfFault (λ f. spelled_in p h.lines old.line.items h.commands ≡ Err f) e) → Refuses old (10 ∷ []) e
 refused old Memory k = tt
 refused old (Refused f) k = λ p keep text h. record { lines = h.lines ++ old.line.items ∷ []; rest = []; splits = Splits-close text h.lines old.line.items h.splits; fault = closed old text old.line.items h ∙ k p keep text h }
 
@@ -31,7 +30,7 @@ returns-clause-ok c p keep text h =
       splits = subst (λ (x : List ℕ). Splits (text ++ 10 ∷ []) lines x) (sym c.clear.ensures.items) (Splits-close text h.lines old.line.items h.splits);
       commands = k.0;
       spelled = ap (shown_by p lines) c.clear.ensures.items ∙ (closed old text old.line.items h ∙ (ap (λ (x : List ℕ). spelled_in p h.lines x h.commands) line ∙ k.1));
-      has_read = subst (λ (x : List ℕ). HasReadIn c.parse_line.new.reader c.parse_line.new.state c.parse_line.new.kept p keep (h.lines ++ x ∷ []) k.0) (sym line) k.2;
+      has_read = subst (λ (x : List ℕ). HasReadIn c.parse_line.new.reader c.parse_line.new.judge c.parse_line.new.kept p keep (h.lines ++ x ∷ []) k.0) (sym line) k.2;
       count = omega (arith, h.count, length-append h.lines (old.line.items ∷ []));
       start = omega (arith, h.offset, ap length h.splits.whole, length-append (bytes_of h.lines) old.line.items, ap length (bytes_of-push h.lines old.line.items), length-append (bytes_of h.lines) (old.line.items ++ 10 ∷ []), length-append old.line.items (10 ∷ []));
       offset = omega (arith, h.offset, length-append text (10 ∷ []));

@@ -2,7 +2,7 @@ use Rattle.std.proofs.Common.{◌≡◌, ◌+◌, ◌-◌, ℕ, List, ◌++◌, 
 use Rattle.std.proofs.lemmas.List.{length-append, length-take, length-drop, take-append-drop}
 use Rattle.std.proofs.lemmas.Result.{err_from_is_err_and, IfErr-weaker}
 use Rattle.grid_units.specs.Results.{fault}
-use Rattle.drill_text.specs.Profiles.{ShowsIn}
+use Rattle.drill_text.specs.Profiles.{ShowsBy}
 use Rattle.grid_units.specs.declared.fault.Reason.TheVariants.{TooLong}
 use Rattle.drill_text.specs.Holding.{Refuses, RefusesText}
 use Rattle.grid_units.specs.Results.{IfFault}
@@ -28,4 +28,4 @@ returns-clause-err c q keep text h =
     let room = text_limit - c.args.self.now.offset in
     let new = c.take_all-2.new.self in
     let joined : (text ++ take room piece) ++ drop room piece ≡ text ++ piece = append_assoc text (take room piece) (drop room piece) ∙ ap (λ (x : List ℕ). text ++ x) (take-append-drop room piece) in
-    subst (IfFault (λ f. ShowsIn q (text ++ piece) (Err f))) (sym c.refusal.ensures) (subst (λ (x : List ℕ). ShowsIn q x (Err (fault (new.lines + 1) text_limit TooLong))) joined (too_long_text new (text ++ take room piece) (drop room piece) (omega (arith, h.offset, c.args.self.now.in_text, c.if-piece-room.false, length-append text (take room piece), length-take room piece)) (omega (arith, c.if-piece-room.false, length-drop room piece)) (c.in_ok-take_all.ensures.ok q keep text h)))
+    subst (IfFault (λ f. ShowsBy q (text ++ piece) (Err f))) (sym c.refusal.ensures) (subst (λ (x : List ℕ). ShowsBy q x (Err (fault (new.lines + 1) text_limit TooLong))) joined (too_long_text new (text ++ take room piece) (drop room piece) (omega (arith, h.offset, c.args.self.now.in_text, c.if-piece-room.false, length-append text (take room piece), length-take room piece)) (omega (arith, c.if-piece-room.false, length-drop room piece)) (c.in_ok-take_all.ensures.ok q keep text h)))

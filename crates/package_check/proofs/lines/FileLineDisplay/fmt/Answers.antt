@@ -19,3 +19,10 @@ returns-in_ok-write-in-Drill-clause-writes g c = λ plain ok.
     (ap (λ (word : List ℕ). drill_words line.number word c.in-Drill.round c.in-Drill.slots ++ (span_words c.in-Drill.span ++ name_words line.name.now)) c.yes_or_no-plated.ensures
     ∙ (sym (append_assoc (drill_words line.number _ c.in-Drill.round c.in-Drill.slots) (span_words c.in-Drill.span) (name_words line.name.now)) ∙ ap (file_line line.profile line.number line.name.now) (sym c.in-Drill.is)))
     (has_written_append _ _ _ _ _ _ first (c.write-in-Drill-2.ensures.writes first.plain ok))
+
+pub returns-in_ok-write-in-Mixed-clause-writes : goal.returns-in_ok-write-in-Mixed-clause-writes
+unfolding drill_words
+returns-in_ok-write-in-Mixed-clause-writes g c = λ plain ok.
+    let line = c.args.self.now in
+    let first = c.in_ok-write-in-Mixed.ensures.writes plain refl in
+    has_written_of_eq _ _ _ _ _ (ap (file_line line.profile line.number line.name.now) (sym c.in-Mixed.is)) (has_written_append _ _ _ _ _ _ first (c.write-in-Mixed-2.ensures.writes first.plain ok))

@@ -4,8 +4,8 @@ use Rattle.grid_units.specs.declared.profile.Profile.{Profile}
 use Rattle.manifest.specs.declared.Role.TheVariants as role
 use Rattle.package_check.specs.OpenFiles.{HasReadCopper, HasReadLayer}
 use Rattle.package_check.specs.declared.open_copper.CopperReading.{CopperReading}
-use Rattle.package_check.proofs.CopperPieces.{also_on, no_span, read_on}
-use Rattle.package_check.proofs.OpenFiles.{layer_errs}
+use Rattle.package_check.proofs.CopperPieces.{no_span, read_on}
+use Rattle.package_check.proofs.OpenFiles.{also_on, layer_errs}
 use Rattle.package_check.proofs.open_copper.CopperReading.feed.Goals as goal
 
 pub returns-in-Layer-clause-ok : goal.returns-in-Layer-clause-ok

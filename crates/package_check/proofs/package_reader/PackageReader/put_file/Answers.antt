@@ -5,13 +5,14 @@ pub returns-clause-read : goal.returns-clause-read
 returns-clause-read c = λ text h.
     let role = c.args.file.role in
     let layers = c.args.self.now.layers in
+    let profile = c.args.self.now.profile in
     let read = c.in_ok-content.ensures in
     let one : Kept = record { content = c.in_ok-content.content; shown = c.finish.new.shown } in (
       one,
       record {
-        content = read.content role layers text h;
-        rows = λ keeps copper. read.flashes role layers text h keeps copper;
-        drawn = λ keeps copper. read.drawn role layers text h keeps copper;
+        content = read.content role layers profile text h;
+        rows = λ keeps copper. read.flashes role layers profile text h keeps copper;
+        drawn = λ keeps copper. read.drawn role layers profile text h keeps copper;
       },
       c.in_ok-put.ensures.put,
     )

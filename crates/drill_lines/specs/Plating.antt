@@ -1,0 +1,42 @@
+-- What a comment of a header says of the tools that are defined after it (docs/FORMATS.md, Mixed drill files).
+use Rattle.std.specs.Prelude.{ℕ, Bool, ◌||◌, ◌==◌, List, length, take, drop, codes, if◌then◌else◌, Option, Some, None}
+use Rattle.std.specs.List.{after_first, before_first, prefix_len}
+use Rattle.std.specs.Str.{bytes_eq}
+use Rattle.grid_units.specs.Ascii as ascii
+use Rattle.drill_lines.specs.declared.plating.Plating.{Plating}
+use Rattle.drill_lines.specs.declared.plating.Plating.TheVariants.{Plated, Unplated, Unsaid}
+
+-- a space
+abbrev pub is_space : ℕ → Bool
+is_space b = b == ascii.space
+
+-- a comma, which separates the fields of an attribute
+abbrev pub is_comma : ℕ → Bool
+is_comma b = b == ascii.comma
+
+-- the text without the spaces before it, as `#@! TD` of ` #@! TD`
+abbrev pub without_spaces : List ℕ → List ℕ
+without_spaces text = drop (prefix_len is_space text) text
+
+-- the attributes are taken back that may have said it: all of them, or the aperture function
+abbrev pub takes_back : List ℕ → Bool
+takes_back text = bytes_eq text (codes "#@! TD") || bytes_eq (take (length (codes "#@! TD.AperFunction")) text) (codes "#@! TD.AperFunction")
+
+-- what the word of an aperture function says: `Plated`, `NonPlated`, or neither, as `ViaDrill` does
+abbrev pub function_plating : List ℕ → Plating
+function_plating word = if bytes_eq word (codes "Plated") then Plated else if bytes_eq word (codes "NonPlated") then Unplated else Unsaid
+
+-- what an attribute says: `#@! TA.AperFunction,Plated,PTH,ViaDrill` that holes are plated. Other attributes say nothing of it
+abbrev pub attribute_plating : List ℕ → Option Plating
+attribute_plating text =
+    if takes_back text then Some Unsaid
+    else if bytes_eq (before_first is_comma text) (codes "#@! TA.AperFunction") then Some (function_plating (before_first is_comma (after_first is_comma text)))
+    else None
+
+-- what the text of a comment says of the tools after it: `TYPE=PLATED` that their holes are plated, `TYPE=NON_PLATED` that they are
+-- not, an attribute what it says. None of a comment that says nothing of it
+unfoldable pub said_plating : List ℕ → Option Plating
+said_plating text =
+    if bytes_eq text (codes "TYPE=PLATED") then Some Plated
+    else if bytes_eq text (codes "TYPE=NON_PLATED") then Some Unplated
+    else attribute_plating (without_spaces text)

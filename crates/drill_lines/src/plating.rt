@@ -1,0 +1,94 @@
+//! The comments that say whether the holes of a tool are plated.
+
+ghost use Rattle.std.specs.Prelude.{◌≡◌, drop};
+ghost use Rattle.std.specs.List.{after_first, before_first, prefix_len};
+ghost use Rattle.drill_lines.specs.Plating as says;
+ghost use Rattle.drill_lines.specs.Plating.{is_comma, is_space, said_plating};
+
+use crate::line::begins;
+use grid_units::numbers::{len_before, repeat_len};
+
+/// What the comments of a mixed drill file say of the tools that are defined after them.
+#[derive(Clone, Copy, Debug, PartialEq, Eq)]
+pub enum Plating {
+    /// Their holes are plated.
+    Plated,
+    /// Their holes are not plated.
+    Unplated,
+    /// Nothing, or no longer what was said before.
+    Unsaid,
+}
+
+/// The text without the spaces before it.
+fn without_spaces(text: &[u8]) -> &[u8]
+    ensures { result.now ≡ drop (prefix_len is_space text.now) text.now }
+{
+    &text[repeat_len(b' ', text)..]
+}
+
+/// The bytes before the first comma.
+fn before_comma(text: &[u8]) -> &[u8]
+    ensures { result.now ≡ before_first is_comma text.now }
+{
+    &text[..len_before(b',', text)]
+}
+
+/// The bytes after the first comma, none where there is no comma.
+fn after_comma(text: &[u8]) -> &[u8]
+    ensures { result.now ≡ after_first is_comma text.now }
+{
+    let at = len_before(b',', text);
+    if at < text.len() {
+        &text[at + 1..]
+    } else {
+        &[]
+    }
+}
+
+/// What the word of an aperture function says: `Plated`, `NonPlated` or another.
+fn function_plating(word: &[u8]) -> Plating
+    ensures { result ≡ says.function_plating word.now }
+{
+    if word == b"Plated".as_slice() {
+        Plating::Plated
+    } else if word == b"NonPlated".as_slice() {
+        Plating::Unplated
+    } else {
+        Plating::Unsaid
+    }
+}
+
+/// Whether an attribute is taken back that may have said it: each of them, or the aperture function.
+fn takes_back(text: &[u8]) -> bool
+    ensures { result ≡ says.takes_back text.now }
+{
+    text == b"#@! TD".as_slice() || begins(b"#@! TD.AperFunction", text)
+}
+
+/// What an attribute in a comment says of the tools after it, `None` where it says nothing of that.
+fn attribute_plating(text: &[u8]) -> Option<Plating>
+    ensures { result ≡ says.attribute_plating text.now }
+{
+    if takes_back(text) {
+        Some(Plating::Unsaid)
+    } else if before_comma(text) == b"#@! TA.AperFunction".as_slice() {
+        Some(function_plating(before_comma(after_comma(text))))
+    } else {
+        None
+    }
+}
+
+/// What the text of a comment says of the tools after it: that their holes are plated (`TYPE=PLATED`), that they are not, or that
+/// neither is said any longer. `None` where it says nothing of that.
+#[tactic(auto, unfolding(crate::specs::Plating::said_plating))]
+pub fn said_plating(text: &[u8]) -> Option<Plating>
+    ensures { result ≡ said_plating text.now }
+{
+    if text == b"TYPE=PLATED".as_slice() {
+        Some(Plating::Plated)
+    } else if text == b"TYPE=NON_PLATED".as_slice() {
+        Some(Plating::Unplated)
+    } else {
+        attribute_plating(without_spaces(text))
+    }
+}

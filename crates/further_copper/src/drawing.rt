@@ -1,0 +1,44 @@
+//! What the commands so far draw, where that is asked for.
+
+ghost use Rattle.std.specs.Prelude.{◌≡◌, ◌++◌, [], OnOk, if◌then◌else◌};
+ghost use Rattle.std.specs.List.{cons_option};
+ghost use Rattle.layer_image.specs.Drawn.{drawn_by};
+ghost use Rattle.layer_image.specs.Inner.Pencils.{draw_state};
+
+use gerber_text::Command;
+use layer_image::{Drawn, Pencil};
+use std::alloc::{AllocError, Global};
+
+/// What the commands so far draw, in order, where that is asked for.
+#[derive(Drop)]
+pub(crate) struct Drawing {
+    pub(crate) asked: bool,
+    pub(crate) parts: Vec<Drawn>,
+}
+
+impl Drawing {
+    /// Nothing is drawn.
+    pub(crate) fn new(alloc: Global, asked: bool) -> Drawing
+        ensures asked { result.asked ≡ asked }
+        ensures parts { result.parts.items ≡ [] }
+    {
+        Drawing {
+            asked,
+            parts: Vec::new(alloc),
+        }
+    }
+
+    /// Adds what one more command draws in the state that it meets.
+    pub(crate) fn take(&mut self, pencil: &Pencil, command: &Command) -> Result<(), AllocError>
+        ensures parts { OnOk result (self.new.parts.items ≡ self.old.parts.items ++ (if self.old.asked then cons_option (drawn_by (draw_state pencil.now) command.now) [] else [])) }
+        ensures asked { self.new.asked ≡ self.old.asked }
+    {
+        if !self.asked {
+            return Ok(());
+        }
+        if let Some(part) = pencil.drawn(command)? {
+            self.parts.push(part)?;
+        }
+        Ok(())
+    }
+}

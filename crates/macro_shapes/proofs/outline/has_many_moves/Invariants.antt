@@ -1,0 +1,8 @@
+use Rattle.std.proofs.Common.{◌≡◌, ◌≤◌, ◌+◌, ◌∷◌, drop, length}
+use Rattle.std.specs.Prelude.{zip}
+use Rattle.std.specs.List.{filter_map}
+use Rattle.macro_shapes.specs.Primitives.{moved}
+use Rattle.macro_shapes.proofs.outline.has_many_moves.Given as goal
+
+abbrev pub invariant-loop-next : goal.invariant-loop-next
+invariant-loop-next l = (l.count ≤ 256) × (l.count + length (filter_map moved (zip (l.last ∷ drop l.next-index l.run) (drop l.next-index l.run))) ≡ length (filter_map moved (zip (l.fn.before ∷ l.run) l.run)))

@@ -1,0 +1,11 @@
+-- The run moves on from its first point.
+use Rattle.std.proofs.Common.{◌∙◌, List, length, ap}
+use Rattle.std.specs.Prelude.{nat_lt}
+use Rattle.grid_units.specs.Points.{GridPoint}
+use Rattle.macro_shapes.proofs.RunsOfPoints.{many_either_way, moves_from_own_first}
+use Rattle.macro_shapes.proofs.outline.has_many_stops.Goals as goal
+
+pub returns-in-len1-up : goal.returns-in-len1-up
+returns-in-len1-up c =
+    let run = c.args.run.now in
+    c.has_many_moves.ensures ∙ ap (λ (l : List GridPoint). nat_lt 256 (length l)) (moves_from_own_first run c.first-item.result c.first-item.is) ∙ many_either_way run

@@ -1,0 +1,13 @@
+use Rattle.std.proofs.Common.{◌≡◌, ℕ, List, ◌++◌}
+use Rattle.std.specs.Slice.Iter.{chunks_rest, chunks_size}
+use Rattle.layer_image.specs.declared.keep.Keep.{Keep}
+use Rattle.layer_image.specs.Holding.{LayerStandsIn}
+use Rattle.grid_units.specs.declared.profile.Profile.{Profile}
+use Rattle.package_check.proofs.copper_reader.feed_layer.Given as goal
+
+abbrev pub invariant-loop-chunk : goal.invariant-loop-chunk
+invariant-loop-chunk l =
+    goal.iterator-loop-chunk.can_next l.chunk-iterator
+    × goal.iterator-loop-chunk.is_finite l.chunk-iterator
+    × (chunks_size l.chunk-iterator ≡ 65536)
+    × ((profile : Profile) (keep : Keep) (text : List ℕ) → LayerStandsIn l.initial.reader profile keep text → (done : List ℕ) × LayerStandsIn l.reader profile keep (text ++ done) × (done ++ chunks_rest l.chunk-iterator ≡ l.piece))

@@ -1,0 +1,9 @@
+use Rattle.std.proofs.Common.{◌≡◌, ◌≤◌, length, take}
+use Rattle.package_check.specs.FileTexts.{marked}
+use Rattle.package_check.proofs.readers.marked.Given as goal
+
+abbrev pub invariant-loop-i : goal.invariant-loop-i
+invariant-loop-i l = record {
+  so_far : l.all.items ≡ marked l.span (take l.i l.holes) (take l.i l.plated);
+  within : l.i ≤ length l.plated;
+}

@@ -1,0 +1,24 @@
+use Rattle.std.proofs.Common.{List, Ok, subst, sym, ◌∙◌}
+use Rattle.std.proofs.lemmas.Result.{err_from_is_err_and}
+use Rattle.drill_text.specs.Profiles.{mixed_in}
+use Rattle.drill_text.specs.declared.kept.Keep.TheVariants as keep
+use Rattle.ring_rules.specs.declared.finding.Drilled.{Drilled}
+use Rattle.package_check.specs.FileTexts.{ReadsMixed, marked}
+use Rattle.package_check.proofs.OpenFiles.{mixed_fault, mixed_read}
+use Rattle.package_check.proofs.readers.read_mixed.Goals as goal
+
+pub returns-in_err-drill : goal.returns-in_err-drill
+returns-in_err-drill c = λ profile text stands.
+    let p = err_from_is_err_and c.from_residual.result c.from_residual.ensures.1 in
+    rw (p.1, p.2) (mixed_fault profile c.args.span.now text c.in_err-drill.field-0.0 (c.in_err-drill.ensures.exact_by (mixed_in profile) keep.Holes text stands))
+
+pub returns-in_err-holes : goal.returns-in_err-holes
+returns-in_err-holes c = λ profile text stands.
+    let p = err_from_is_err_and c.from_residual-in_err-holes.result c.from_residual-in_err-holes.ensures.1 in
+    rw (p.1, p.2) tt
+
+pub returns : goal.returns
+returns c = λ profile text stands.
+    let drill = c.in_ok-drill.drill in
+    let read = mixed_read profile c.args.span.now text drill (c.in_ok-drill.ensures.exact_by (mixed_in profile) keep.Holes text stands) in
+    subst (λ (hs : List Drilled). ReadsMixed profile c.args.span.now text (Ok hs)) (sym (c.in_ok-holes.ensures ∙ (λ i. marked c.args.span.now ((c.deref.ensures.value ∙ c.into_plated_holes-holes.ensures.holes) i) ((c.deref-2.ensures.value ∙ c.into_plated_holes-holes.ensures.plated) i)))) read

@@ -1,0 +1,37 @@
+-- Some bytes more; a fault of what follows them is one of the whole piece.
+use Rattle.std.proofs.Common.{◌≡◌, ◌-◌, ◌++◌, ℕ, List, length, take, drop, ap, subst, ◌∙◌, arith, append_assoc}
+use Rattle.std.proofs.lemmas.List.{length-drop, length-take, take-append-drop, take_rest, take_all}
+use Rattle.std.proofs.lemmas.Result.{err_from_is_err_and}
+use Rattle.grid_units.specs.Results.{IfFault}
+use Rattle.grid_units.specs.declared.profile.Profile.TheVariants.{Wide}
+use Rattle.gerber_text.proofs.ShowsLemmas.{two_takes}
+use Rattle.layer_image.specs.Holding.{ShowsLayerFaultIn}
+use Rattle.wide_layers.specs.Holding.{WideStandsAfter}
+use Rattle.wide_layers.proofs.reader.WideReader.take_parts.Goals as goal
+
+pub returns-in_err-taken-clause-err : goal.returns-in_err-taken-clause-err
+returns-in_err-taken-clause-err c draws text h =
+    let p = err_from_is_err_and c.from_residual.result c.from_residual.ensures.1 in
+    let piece = c.args.piece.now in
+    let n = c.loop-taken.taken in
+    let so_far = text ++ take n piece in
+    let whole : so_far ++ take (length piece - n) (drop n piece) ≡ text ++ piece = ap (λ (x : List ℕ). so_far ++ x) (take_rest piece n) ∙ (append_assoc text (take n piece) (drop n piece) ∙ ap (λ (x : List ℕ). text ++ x) (take-append-drop n piece)) in
+    rw (p.1, p.2) (subst (λ (t : List ℕ). IfFault (ShowsLayerFaultIn Wide t) c.in_err-taken.field-0.0) whole (c.in_err-taken.ensures.err draws so_far (c.loop-taken.invariant.stands draws text h)))
+
+pub loop-taken-preserved : goal.loop-taken-preserved
+loop-taken-preserved c =
+    let piece = c.args.piece.now in
+    let n = c.loop-taken.taken in
+    let k = c.in_ok-taken.field-0 in
+    record {
+      within = omega (arith, c.in_ok-taken.ensures.taken, length-drop n piece, length-take (length piece - n) (drop n piece));
+      stands = λ draws text h.
+          let so_far = text ++ take n piece in
+          subst (WideStandsAfter draws c.take_leading.new.self) (two_takes text piece n k) (c.in_ok-taken.ensures.ok draws so_far (c.loop-taken.invariant.stands draws text h));
+    }
+
+pub returns-clause-ok : goal.returns-clause-ok
+returns-clause-ok c draws text h =
+    let piece = c.args.piece.now in
+    let n = c.loop-taken.taken in
+    subst (λ (x : List ℕ). WideStandsAfter draws c.loop-taken.self (text ++ x)) (take_all n piece (omega arith)) (c.loop-taken.invariant.stands draws text h)
