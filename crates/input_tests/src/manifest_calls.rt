@@ -436,8 +436,8 @@ const REFUSED_WIDE: [(&str, u64, Reason); 9] = [
 #[test]
 fn mixed_files_obey_the_rules_of_the_others(rt: HostRuntime) {
     for &(text, place, reason) in &REFUSED_WIDE {
-        let told = refusal_in(rt, Profile::Wide, text.as_bytes());
-        assert!(rt; told == Some((place, 0, reason)), "of {text}");
+        let refusal = refusal_in(rt, Profile::Wide, text.as_bytes());
+        assert!(rt; refusal == Some((place, 0, reason)), "of {text}");
     }
 }
 
@@ -445,7 +445,7 @@ fn mixed_files_obey_the_rules_of_the_others(rt: HostRuntime) {
 #[test]
 fn the_profiles_agree_elsewhere(rt: HostRuntime) {
     for &(text, place, reason) in &REFUSED {
-        let told = refusal_in(rt, Profile::Wide, text.as_bytes());
-        assert!(rt; told == Some((place, 0, reason)), "of {text}");
+        let refusal = refusal_in(rt, Profile::Wide, text.as_bytes());
+        assert!(rt; refusal == Some((place, 0, reason)), "of {text}");
     }
 }

@@ -101,9 +101,9 @@ fn files_that_do_not_say_it_are_refused(rt: HostRuntime) {
             reason: Reason::NoPlating,
         };
         let rows = [TOP, (Role::Mixed, "pth", None, bytes)];
-        let told = fault_in(rt.alloc(), Profile::Wide, &rows);
+        let refusal = fault_in(rt.alloc(), Profile::Wide, &rows);
         assert!(rt;
-            told == Ok(Some(PackageFault::File { index: 1, fault })),
+            refusal == Ok(Some(PackageFault::File { index: 1, fault })),
             "{place}"
         );
     }

@@ -45,7 +45,7 @@ fn each_word_has_a_page(rt: HostRuntime) {
 
 #[test]
 fn there_are_so_many_words(rt: HostRuntime) {
-    assert!(rt; words().lines().count() == 47 + 14);
+    assert!(rt; words().lines().count() == 47 + 18);
 }
 
 /// A word, and a setting that its page names.

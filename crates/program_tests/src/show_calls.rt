@@ -145,7 +145,7 @@ const WIDE_LAYERS: [(&str, &str); 14] = [
     // A macro without a shape, and one that is turned by 45 degrees.
     (
         "%AMA*7,0,0,1,0.5,0.1,0*%\n%AMT*4,1,3,0,0,3,0,0,2,0,0,0*%\n%ADD10A*%\n%ADD11T*%\nD10*\nX0Y0D03*\nD11*\n%LR45*%\nX0Y0D03*\n",
-        "1,macro,0.000000000,0.000000000,,\n2,macro,0.000000000,0.000000000,,\n",
+        "1,macro,0.000000000,0.000000000,,\n2,turned,0.000000000,0.000000000,,\n",
     ),
     // A square of 2 mm, counterclockwise from its lower left corner: its first corner is where its first side ends.
     (
