@@ -5,9 +5,9 @@ use Rattle.std.proofs.lemmas.Bool.{false≢true}
 use Rattle.std.proofs.lemmas.Slice.Eq.{bytes_eq-Decides}
 use Rattle.clap.specs.Words.{Text}
 use Rattle.command_line.specs.declared.Request.{Request}
-use Rattle.command_line.specs.declared.Request.TheVariants.{Measure, Report, Draw, Show, Rewrite, Manifest, Explain}
-use Rattle.command_line.specs.ProgramArgs.{IsRequestOf, IsDraw, IsExplain, IsManifest, IsMeasure, IsReport, IsRewrite, IsShow}
-use Rattle.command_line.proofs.CommandWords.{draw_options, measure_options, report_options, rewrite_options, show_options, word_options}
+use Rattle.command_line.specs.declared.Request.TheVariants.{Check, Measure, Report, Draw, Show, Rewrite, Manifest, Explain}
+use Rattle.command_line.specs.ProgramArgs.{IsRequestOf, IsCheck, IsDraw, IsExplain, IsManifest, IsMeasure, IsReport, IsRewrite, IsShow}
+use Rattle.command_line.proofs.CommandWords.{check_options, draw_options, measure_options, report_options, rewrite_options, show_options, word_options}
 use Rattle.command_line.proofs.GivenOptions.{first_is, rows_of}
 use Rattle.command_line.proofs.ManifestWords.{rows_of_manifest}
 
@@ -18,6 +18,16 @@ some_is x y e = cc
 differ : (a : Text) {b : Text} → a ≡ b → bytes_eq a b ≡ false → ⊥
 differ a {b} same e = false≢true (sym e ∙ (bytes_eq-Decides a b).1 same)
 
+pub is_check : (r g : Text) (f : Option Text) (m : Text) (request : Request) → IsRequestOf (Some (codes "check", rows_of (check_options r g f m))) request → IsCheck r g f m request
+is_check r g f m (Check ring gap profile manifest) a =
+    let all = check_options r g f m in (
+      some_is ring.now r (sym a.1 ∙ first_is (codes "ring") all),
+      some_is gap.now g (sym a.2 ∙ first_is (codes "gap") all),
+      sym a.3 ∙ first_is (codes "profile") all,
+      some_is manifest.now m (sym a.4 ∙ first_is (codes "manifest") all),
+    )
+is_check r g f m request a = absurd (differ (codes "check") a.0 refl)
+
 pub is_measure : (p o : Option Text) (m : Text) (request : Request) → IsRequestOf (Some (codes "measure", rows_of (measure_options p o m))) request → IsMeasure p o m request
 is_measure p o m (Measure profile format manifest) a =
     let all = measure_options p o m in
@@ -25,10 +35,10 @@ is_measure p o m (Measure profile format manifest) a =
 is_measure p o m request a = absurd (differ (codes "measure") a.0 refl)
 
 pub is_report : (r g : Text) (f n v l o : Option Text) (m : Text) (request : Request) → IsRequestOf (Some (codes "report", rows_of (report_options r g f n v l o m))) request → IsReport r g f n v l o m request
-is_report r g f n v l o m (Report ring gap profile limit waive outline format manifest) a =
+is_report r g f n v l o m (Report options manifest) a =
     let all = report_options r g f n v l o m in (
-      some_is ring.now r (sym a.1 ∙ first_is (codes "ring") all),
-      some_is gap.now g (sym a.2 ∙ first_is (codes "gap") all),
+      some_is options.ring.now r (sym a.1 ∙ first_is (codes "ring") all),
+      some_is options.gap.now g (sym a.2 ∙ first_is (codes "gap") all),
       sym a.3 ∙ first_is (codes "profile") all,
       sym a.4 ∙ first_is (codes "max") all,
       sym a.5 ∙ first_is (codes "waive") all,
@@ -39,7 +49,7 @@ is_report r g f n v l o m (Report ring gap profile limit waive outline format ma
 is_report r g f n v l o m request a = absurd (differ (codes "report") a.0 refl)
 
 pub is_draw : (o : Option (Text × Text)) (f l : Option Text) (m : Text) (request : Request) → IsRequestOf (Some (codes "draw", rows_of (draw_options o f l m))) request → IsDraw o f l m request
-is_draw o f l m (Draw ring gap profile outline manifest) a =
+is_draw o f l m (Draw options manifest) a =
     let all = draw_options o f l m in (
       sym a.1 ∙ first_is (codes "ring") all,
       sym a.2 ∙ first_is (codes "gap") all,

@@ -104,14 +104,15 @@ IsRequestOf (Some (name, rows)) (Check ring gap profile manifest) =
 IsRequestOf (Some (name, rows)) (Measure profile format manifest) =
     (name ≡ codes "measure") × (first_of (codes "profile") rows ≡ option_map (λ p. p.now) profile)
     × (first_of (codes "format") rows ≡ option_map (λ f. f.now) format) × (first_of (codes "manifest") rows ≡ Some manifest.now)
-IsRequestOf (Some (name, rows)) (Report ring gap profile limit waive outline format manifest) =
-    (name ≡ codes "report") × (first_of (codes "ring") rows ≡ Some ring.now) × (first_of (codes "gap") rows ≡ Some gap.now)
-    × (first_of (codes "profile") rows ≡ option_map (λ p. p.now) profile) × (first_of (codes "max") rows ≡ option_map (λ n. n.now) limit) × (first_of (codes "waive") rows ≡ option_map (λ w. w.now) waive)
-    × (first_of (codes "outline") rows ≡ option_map (λ o. o.now) outline) × (first_of (codes "format") rows ≡ option_map (λ f. f.now) format)
+IsRequestOf (Some (name, rows)) (Report options manifest) =
+    (name ≡ codes "report") × (first_of (codes "ring") rows ≡ Some options.ring.now) × (first_of (codes "gap") rows ≡ Some options.gap.now)
+    × (first_of (codes "profile") rows ≡ option_map (λ p. p.now) options.profile) × (first_of (codes "max") rows ≡ option_map (λ n. n.now) options.limit)
+    × (first_of (codes "waive") rows ≡ option_map (λ w. w.now) options.waive) × (first_of (codes "outline") rows ≡ option_map (λ o. o.now) options.outline)
+    × (first_of (codes "format") rows ≡ option_map (λ f. f.now) options.format)
     × (first_of (codes "manifest") rows ≡ Some manifest.now)
-IsRequestOf (Some (name, rows)) (Draw ring gap profile outline manifest) =
-    (name ≡ codes "draw") × (first_of (codes "ring") rows ≡ option_map (λ r. r.now) ring) × (first_of (codes "gap") rows ≡ option_map (λ g. g.now) gap)
-    × (first_of (codes "profile") rows ≡ option_map (λ p. p.now) profile) × (first_of (codes "outline") rows ≡ option_map (λ o. o.now) outline) × (first_of (codes "manifest") rows ≡ Some manifest.now)
+IsRequestOf (Some (name, rows)) (Draw options manifest) =
+    (name ≡ codes "draw") × (first_of (codes "ring") rows ≡ option_map (λ r. r.now) options.ring) × (first_of (codes "gap") rows ≡ option_map (λ g. g.now) options.gap)
+    × (first_of (codes "profile") rows ≡ option_map (λ p. p.now) options.profile) × (first_of (codes "outline") rows ≡ option_map (λ o. o.now) options.outline) × (first_of (codes "manifest") rows ≡ Some manifest.now)
 IsRequestOf (Some (name, rows)) (Show kind profile file) =
     (name ≡ codes "show") × (first_of (codes "kind") rows ≡ Some kind.now) × (first_of (codes "profile") rows ≡ option_map (λ p. p.now) profile)
     × (first_of (codes "file") rows ≡ Some file.now)
@@ -154,21 +155,13 @@ check_words ring gap profile manifest = codes "check" ∷ codes "--ring" ∷ rin
 -- the request is a check with just this ring, gap and manifest, and just this word for a profile or none
 abbrev pub IsCheck : Text → Text → Option Text → Text → Request → Type 0
 IsCheck r g p m (Check ring gap profile manifest) = (ring.now ≡ r) × (gap.now ≡ g) × (option_map (λ w. w.now) profile ≡ p) × (manifest.now ≡ m)
-IsCheck r g p m (Measure profile format manifest) = ⊥
-IsCheck r g p m (Report ring gap profile limit waive outline format manifest) = ⊥
-IsCheck r g p m (Draw ring gap profile outline manifest) = ⊥
-IsCheck r g p m (Show kind profile file) = ⊥
-IsCheck r g p m (Rewrite kind file) = ⊥
-IsCheck r g p m (Manifest why files) = ⊥
-IsCheck r g p m (Explain word) = ⊥
+IsCheck r g p m _ = ⊥
 
--- the answer is a check with just these words, running out of memory aside
-abbrev pub ParsesAsCheck : Text → Text → Option Text → Text → Result Request Refusal → Type 0
-ParsesAsCheck r g p m (Ok request) = IsCheck r g p m request
-ParsesAsCheck r g p m (Err Memory) = Unit {0}
-ParsesAsCheck r g p m (Err (Help text)) = ⊥
-ParsesAsCheck r g p m (Err Version) = ⊥
-ParsesAsCheck r g p m (Err (Usage text)) = ⊥
+-- the answer is such a request, running out of memory aside
+abbrev pub ParsesAs : (Request → Type 0) → Result Request Refusal → Type 0
+ParsesAs IsExpected (Ok request) = IsExpected request
+ParsesAs IsExpected (Err Memory) = Unit {0}
+ParsesAs IsExpected (Err _) = ⊥
 
 -- ---- what the words of a command on one file ask for
 
@@ -178,14 +171,8 @@ show_words kind profile file = codes "show" ∷ codes "--kind" ∷ kind ∷ (opt
 
 -- the request is to show this file as one of this kind, with just this word for a profile or none
 abbrev pub IsShow : Text → Option Text → Text → Request → Type 0
-IsShow k p f (Check ring gap profile manifest) = ⊥
-IsShow k p f (Measure profile format manifest) = ⊥
-IsShow k p f (Report ring gap profile limit waive outline format manifest) = ⊥
-IsShow k p f (Draw ring gap profile outline manifest) = ⊥
 IsShow k p f (Show kind profile file) = (kind.now ≡ k) × (option_map (λ w. w.now) profile ≡ p) × (file.now ≡ f)
-IsShow k p f (Rewrite kind file) = ⊥
-IsShow k p f (Manifest why files) = ⊥
-IsShow k p f (Explain word) = ⊥
+IsShow k p f _ = ⊥
 
 -- the words `rewrite --kind K F`
 abbrev pub rewrite_words : Text → Text → List Text
@@ -193,22 +180,8 @@ rewrite_words kind file = codes "rewrite" ∷ codes "--kind" ∷ kind ∷ file �
 
 -- the request is to rewrite this file as one of this kind
 abbrev pub IsRewrite : Text → Text → Request → Type 0
-IsRewrite k f (Check ring gap profile manifest) = ⊥
-IsRewrite k f (Measure profile format manifest) = ⊥
-IsRewrite k f (Report ring gap profile limit waive outline format manifest) = ⊥
-IsRewrite k f (Draw ring gap profile outline manifest) = ⊥
-IsRewrite k f (Show kind profile file) = ⊥
 IsRewrite k f (Rewrite kind file) = (kind.now ≡ k) × (file.now ≡ f)
-IsRewrite k f (Manifest why files) = ⊥
-IsRewrite k f (Explain word) = ⊥
-
--- the answer is such a request, running out of memory aside
-abbrev pub ParsesAs : (Request → Type 0) → Result Request Refusal → Type 0
-ParsesAs IsExpected (Ok request) = IsExpected request
-ParsesAs IsExpected (Err Memory) = Unit {0}
-ParsesAs IsExpected (Err (Help text)) = ⊥
-ParsesAs IsExpected (Err Version) = ⊥
-ParsesAs IsExpected (Err (Usage text)) = ⊥
+IsRewrite k f _ = ⊥
 
 -- ---- what the words of the other commands ask for
 
@@ -222,14 +195,8 @@ manifest_words why files = codes "manifest" ∷ (if why then codes "--why" ∷ f
 
 -- the request is for a manifest of these files, or for the table of why
 abbrev pub IsManifest : Bool → List Text → Request → Type 0
-IsManifest w fs (Check ring gap profile manifest) = ⊥
-IsManifest w fs (Measure profile format manifest) = ⊥
-IsManifest w fs (Report ring gap profile limit waive outline format manifest) = ⊥
-IsManifest w fs (Draw ring gap profile outline manifest) = ⊥
-IsManifest w fs (Show kind profile file) = ⊥
-IsManifest w fs (Rewrite kind file) = ⊥
 IsManifest w fs (Manifest why files) = (why ≡ w) × (map (λ file. file.now) files.items ≡ fs)
-IsManifest w fs (Explain word) = ⊥
+IsManifest w fs _ = ⊥
 
 -- the words `measure [--profile P] [--format F] M`
 abbrev pub measure_words : Option Text → Option Text → Text → List Text
@@ -237,14 +204,8 @@ measure_words profile format manifest = codes "measure" ∷ (option_words (codes
 
 -- the request is to measure the package of this manifest, with just these words for a profile and a format or with none
 abbrev pub IsMeasure : Option Text → Option Text → Text → Request → Type 0
-IsMeasure p o m (Check ring gap profile manifest) = ⊥
 IsMeasure p o m (Measure profile format manifest) = (option_map (λ w. w.now) profile ≡ p) × (option_map (λ f. f.now) format ≡ o) × (manifest.now ≡ m)
-IsMeasure p o m (Report ring gap profile limit waive outline format manifest) = ⊥
-IsMeasure p o m (Draw ring gap profile outline manifest) = ⊥
-IsMeasure p o m (Show kind profile file) = ⊥
-IsMeasure p o m (Rewrite kind file) = ⊥
-IsMeasure p o m (Manifest why files) = ⊥
-IsMeasure p o m (Explain word) = ⊥
+IsMeasure p o m _ = ⊥
 
 -- the words `report --ring R --gap G [--profile P] [--max N] [--waive V] [--outline O] [--format F] M`
 abbrev pub report_words : Text → Text → Option Text → Option Text → Option Text → Option Text → Option Text → Text → List Text
@@ -255,15 +216,10 @@ report_words ring gap profile limit waive outline format manifest =
 
 -- the request is a report with just this ring, gap and manifest, and just these of a profile, a limit of findings, a file of waivers, a file of an outline and a format
 abbrev pub IsReport : Text → Text → Option Text → Option Text → Option Text → Option Text → Option Text → Text → Request → Type 0
-IsReport r g p n v l o m (Check ring gap profile manifest) = ⊥
-IsReport r g p n v l o m (Measure profile format manifest) = ⊥
-IsReport r g p n v l o m (Report ring gap profile limit waive outline format manifest) =
-    (ring.now ≡ r) × (gap.now ≡ g) × (option_map (λ w. w.now) profile ≡ p) × (option_map (λ t. t.now) limit ≡ n) × (option_map (λ w. w.now) waive ≡ v) × (option_map (λ f. f.now) outline ≡ l) × (option_map (λ f. f.now) format ≡ o) × (manifest.now ≡ m)
-IsReport r g p n v l o m (Draw ring gap profile outline manifest) = ⊥
-IsReport r g p n v l o m (Show kind profile file) = ⊥
-IsReport r g p n v l o m (Rewrite kind file) = ⊥
-IsReport r g p n v l o m (Manifest why files) = ⊥
-IsReport r g p n v l o m (Explain word) = ⊥
+IsReport r g p n v l o m (Report options manifest) =
+    (options.ring.now ≡ r) × (options.gap.now ≡ g) × (option_map (λ w. w.now) options.profile ≡ p) × (option_map (λ t. t.now) options.limit ≡ n)
+    × (option_map (λ w. w.now) options.waive ≡ v) × (option_map (λ f. f.now) options.outline ≡ l) × (option_map (λ f. f.now) options.format ≡ o) × (manifest.now ≡ m)
+IsReport r g p n v l o m _ = ⊥
 
 -- the words `draw [--profile P] [--outline O] M` or `draw --ring R --gap G [--profile P] [--outline O] M`
 abbrev pub draw_words : Option (Text × Text) → Option Text → Option Text → Text → List Text
@@ -278,16 +234,10 @@ are_plain_rules (Some (ring, gap)) = is_plain_word ring && is_plain_word gap
 
 -- the request is to draw the package of this manifest, with just this ring and gap or with neither, and just these of a profile and a file of an outline
 abbrev pub IsDraw : Option (Text × Text) → Option Text → Option Text → Text → Request → Type 0
-IsDraw o p l m (Check ring gap profile manifest) = ⊥
-IsDraw o p l m (Measure profile format manifest) = ⊥
-IsDraw o p l m (Report ring gap profile limit waive outline format manifest) = ⊥
-IsDraw o p l m (Draw ring gap profile outline manifest) =
-    (option_map (λ r. r.now) ring ≡ option_map (λ rules. rules.0) o) × (option_map (λ g. g.now) gap ≡ option_map (λ rules. rules.1) o)
-    × (option_map (λ w. w.now) profile ≡ p) × (option_map (λ f. f.now) outline ≡ l) × (manifest.now ≡ m)
-IsDraw o p l m (Show kind profile file) = ⊥
-IsDraw o p l m (Rewrite kind file) = ⊥
-IsDraw o p l m (Manifest why files) = ⊥
-IsDraw o p l m (Explain word) = ⊥
+IsDraw o p l m (Draw options manifest) =
+    (option_map (λ r. r.now) options.ring ≡ option_map (λ rules. rules.0) o) × (option_map (λ g. g.now) options.gap ≡ option_map (λ rules. rules.1) o)
+    × (option_map (λ w. w.now) options.profile ≡ p) × (option_map (λ f. f.now) options.outline ≡ l) × (manifest.now ≡ m)
+IsDraw o p l m _ = ⊥
 
 -- the words `explain` or `explain W`
 abbrev pub explain_words : Option Text → List Text
@@ -296,19 +246,11 @@ explain_words (Some word) = codes "explain" ∷ word ∷ []
 
 -- the request is to explain this word, or to list the words
 abbrev pub IsExplain : Option Text → Request → Type 0
-IsExplain o (Check ring gap profile manifest) = ⊥
-IsExplain o (Measure profile format manifest) = ⊥
-IsExplain o (Report ring gap profile limit waive outline format manifest) = ⊥
-IsExplain o (Draw ring gap profile outline manifest) = ⊥
-IsExplain o (Show kind profile file) = ⊥
-IsExplain o (Rewrite kind file) = ⊥
-IsExplain o (Manifest why files) = ⊥
 IsExplain o (Explain word) = option_map (λ w. w.now) word ≡ o
+IsExplain o _ = ⊥
 
 -- the answer is the version, running out of memory aside
 abbrev pub ParsesAsVersion : Result Request Refusal → Type 0
-ParsesAsVersion (Ok request) = ⊥
 ParsesAsVersion (Err Memory) = Unit {0}
-ParsesAsVersion (Err (Help text)) = ⊥
 ParsesAsVersion (Err Version) = Unit {0}
-ParsesAsVersion (Err (Usage text)) = ⊥
+ParsesAsVersion _ = ⊥

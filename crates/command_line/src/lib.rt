@@ -15,10 +15,10 @@
 ghost use Rattle.std.specs.Prelude.{◌≡◌, ◌∷◌, [], Bool, IfOk, IfSome, Some, None, List, Option, true, codes, length, map, option_map, string_bytes};
 ghost use Rattle.std.specs.List.{list_any};
 ghost use Rattle.clap.specs.Words.{Row, Text, first_of, found_of, kind_of, one_of, rows_of, subcommand_rows_of};
-ghost use Rattle.command_line.specs.ProgramArgs.{ParsesAs, ParsesAsCheck, ParsesLine, ParsesAsVersion, IsRequestOf, IsDraw, IsExplain, IsManifest, IsMeasure, IsReport, IsRewrite, IsShow, IsFlagValue, are_plain_rules, are_plain_words, check_words, draw_words, explain_words, is_plain_if_some, is_plain_word, manifest_words, measure_words, report_words, rewrite_words, show_words};
+ghost use Rattle.command_line.specs.ProgramArgs.{ParsesAs, ParsesLine, ParsesAsVersion, IsRequestOf, IsCheck, IsDraw, IsExplain, IsManifest, IsMeasure, IsReport, IsRewrite, IsShow, IsFlagValue, are_plain_rules, are_plain_words, check_words, draw_words, explain_words, is_plain_if_some, is_plain_word, manifest_words, measure_words, report_words, rewrite_words, show_words};
 ghost use Rattle.command_line.specs.RefusalTexts as texts;
 ghost use Rattle.command_line.specs.RefusalTexts.{EndsUsageWith, EndsWith, TellsFault};
-ghost use Rattle.command_line.specs.Inner.RequestSteps.{HasCheckRows, IsCheckIfSome, IsRefusalFor};
+ghost use Rattle.command_line.specs.Inner.RequestSteps.{IsRefusalFor};
 
 mod commands;
 
@@ -26,6 +26,38 @@ use clap::error::ErrorKind;
 use clap::{ArgMatches, Error};
 pub use commands::{VERSION, VERSION_LINE};
 use std::alloc::{AllocError, Global};
+
+/// The words of the options of a report, as they stand.
+#[derive(Clone, Copy, Debug)]
+pub struct ReportWords<'a> {
+    /// The ring in mm.
+    pub ring: &'a str,
+    /// The gap in mm.
+    pub gap: &'a str,
+    /// The word for the profile that the files are read in, where one is given.
+    pub profile: Option<&'a str>,
+    /// The most findings to show; without it all of them are shown.
+    pub limit: Option<&'a str>,
+    /// The name of a file of waivers, where one is given.
+    pub waive: Option<&'a str>,
+    /// The name of a file with the board's edge, where one is given.
+    pub outline: Option<&'a str>,
+    /// The word for a format, where one is given.
+    pub format: Option<&'a str>,
+}
+
+/// The words of the options of a picture, as they stand.
+#[derive(Clone, Copy, Debug)]
+pub struct PictureWords<'a> {
+    /// The ring in mm. It may be there without the gap.
+    pub ring: Option<&'a str>,
+    /// The gap in mm. It may be there without the ring.
+    pub gap: Option<&'a str>,
+    /// The word for the profile that the files are read in, where one is given.
+    pub profile: Option<&'a str>,
+    /// The name of a file with the board's edge, where one is given.
+    pub outline: Option<&'a str>,
+}
 
 /// What the words ask for. The texts are words of the command line as they stand; no number in them has been read yet.
 #[derive(Debug, Drop)]
@@ -45,28 +77,14 @@ pub enum Request<'a> {
         format: Option<&'a str>,
         manifest: &'a str,
     },
-    /// Print each finding under the ring and the gap, by how much it lacks, and why. The ring and the gap are texts in mm. `profile` is the
-    /// word for the profile that the files are read in, where one is given, and `limit` is the limit of findings, also a text: without it
-    /// all of them are shown. `waive` is the name of a file of waivers, `outline` that of a file with the board's edge, and `format` the
-    /// word for a format, where they are given.
+    /// Print each finding under the ring and the gap, by how much it lacks, and why.
     Report {
-        ring: &'a str,
-        gap: &'a str,
-        profile: Option<&'a str>,
-        limit: Option<&'a str>,
-        waive: Option<&'a str>,
-        outline: Option<&'a str>,
-        format: Option<&'a str>,
+        options: ReportWords<'a>,
         manifest: &'a str,
     },
-    /// Draw the package of a manifest, with the findings under a ring and a gap where they are given. Both are texts in mm;
-    /// one of them may be there without the other. `profile` is the word for the profile that the files are read in, and `outline` the
-    /// name of a file with the board's edge, where they are given.
+    /// Draw the package of a manifest, with the findings under a ring and a gap where they are given.
     Draw {
-        ring: Option<&'a str>,
-        gap: Option<&'a str>,
-        profile: Option<&'a str>,
-        outline: Option<&'a str>,
+        options: PictureWords<'a>,
         manifest: &'a str,
     },
     /// Print the table of a file, read as a layer or as a drill file. `profile` is the word for the profile that it is read in, where one
@@ -117,7 +135,7 @@ pub enum Refusal {
 pub fn parse<'a>(alloc: Global, words: &'a [&'a str]) -> Result<Request<'a>, Refusal>
     ensures exact { ParsesLine (map (λ w. w.now) words.entry.now) result }
     ensures check { (r g : Text) (profile : Option Text) (m : Text) → map (λ w. w.now) words.entry.now ≡ check_words r g profile m → is_plain_word r ≡ true
-        → is_plain_word g ≡ true → is_plain_if_some profile ≡ true → is_plain_word m ≡ true → ParsesAsCheck r g profile m result }
+        → is_plain_word g ≡ true → is_plain_if_some profile ≡ true → is_plain_word m ≡ true → ParsesAs (IsCheck r g profile m) result }
     ensures measure { (profile format : Option Text) (m : Text) → map (λ w. w.now) words.entry.now ≡ measure_words profile format m → is_plain_if_some profile ≡ true
         → is_plain_if_some format ≡ true → is_plain_word m ≡ true → ParsesAs (IsMeasure profile format m) result }
     ensures report { (r g : Text) (profile limit waive outline format : Option Text) (m : Text) → map (λ w. w.now) words.entry.now ≡ report_words r g profile limit waive outline format m
@@ -161,9 +179,7 @@ fn word_count(words: &[&str]) -> usize
 
 /// The request of a parsed line.
 fn request_of<'a>(alloc: Global, matches: &ArgMatches<'a>) -> Option<Request<'a>>
-    ensures request { IfSome result (λ request. IsRequestOf (subcommand_rows_of matches.now) request) }
-    ensures check { (r g : Text) (profile : Option Text) (m : Text) (rows : List Row) → subcommand_rows_of matches.now ≡ Some (codes "check", rows)
-        → HasCheckRows r g profile m rows → IsCheckIfSome r g profile m result }
+    ensures { IfSome result (λ request. IsRequestOf (subcommand_rows_of matches.now) request) }
 {
     let (name, values) = matches.subcommand()?;
     match name {
@@ -180,60 +196,56 @@ fn request_of<'a>(alloc: Global, matches: &ArgMatches<'a>) -> Option<Request<'a>
 }
 
 fn check_request<'a>(values: &ArgMatches<'a>) -> Option<Request<'a>>
-    ensures request { IfSome result (λ request. IsRequestOf (Some (codes "check", rows_of (found_of values.now))) request) }
-    ensures check { (r g : Text) (profile : Option Text) (m : Text) → HasCheckRows r g profile m (rows_of (found_of values.now)) → IsCheckIfSome r g profile m result }
+    ensures { IfSome result (λ request. IsRequestOf (Some (codes "check", rows_of (found_of values.now))) request) }
 {
+    let (ring, gap) = (value(values, "ring")?, value(values, "gap")?);
+    let (profile, manifest) = (value(values, "profile"), value(values, "manifest")?);
     Some(Request::Check {
-        ring: value(values, "ring")?,
-        gap: value(values, "gap")?,
-        profile: value(values, "profile"),
-        manifest: value(values, "manifest")?,
+        ring,
+        gap,
+        profile,
+        manifest,
     })
 }
 
 fn measure_request<'a>(values: &ArgMatches<'a>) -> Option<Request<'a>>
     ensures { IfSome result (λ request. IsRequestOf (Some (codes "measure", rows_of (found_of values.now))) request) }
 {
-    let manifest = value(values, "manifest")?;
     let (profile, format) = (value(values, "profile"), value(values, "format"));
     Some(Request::Measure {
         profile,
         format,
-        manifest,
+        manifest: value(values, "manifest")?,
     })
 }
 
 fn report_request<'a>(values: &ArgMatches<'a>) -> Option<Request<'a>>
     ensures { IfSome result (λ request. IsRequestOf (Some (codes "report", rows_of (found_of values.now))) request) }
 {
-    let ring = value(values, "ring")?;
-    let gap = value(values, "gap")?;
-    let package = value(values, "manifest")?;
-    let (profile, outline) = (value(values, "profile"), value(values, "outline"));
-    Some(Request::Report {
-        ring,
-        gap,
-        profile,
+    let options = ReportWords {
+        ring: value(values, "ring")?,
+        gap: value(values, "gap")?,
+        profile: value(values, "profile"),
         limit: value(values, "max"),
         waive: value(values, "waive"),
-        outline,
+        outline: value(values, "outline"),
         format: value(values, "format"),
-        manifest: package,
-    })
+    };
+    let manifest = value(values, "manifest")?;
+    Some(Request::Report { options, manifest })
 }
 
 fn draw_request<'a>(values: &ArgMatches<'a>) -> Option<Request<'a>>
     ensures { IfSome result (λ request. IsRequestOf (Some (codes "draw", rows_of (found_of values.now))) request) }
 {
-    let package = value(values, "manifest")?;
-    let (gap, profile) = (value(values, "gap"), value(values, "profile"));
-    Some(Request::Draw {
+    let options = PictureWords {
         ring: value(values, "ring"),
-        gap,
-        profile,
+        gap: value(values, "gap"),
+        profile: value(values, "profile"),
         outline: value(values, "outline"),
-        manifest: package,
-    })
+    };
+    let manifest = value(values, "manifest")?;
+    Some(Request::Draw { options, manifest })
 }
 
 fn show_request<'a>(values: &ArgMatches<'a>) -> Option<Request<'a>>

@@ -2,7 +2,7 @@
 
 ghost use Rattle.std.specs.Prelude.{◌≡◌, pos, Some, option_map};
 ghost use Rattle.print_json.specs.Inner.Texts.{value_text};
-ghost use Rattle.print_json.specs.Values.{diameter_of, drill_role, file_value, hole_value, or_null, meets_value, met_value, mixed_value, picometres, point_value, row_value, rules_value, scale_value, span_value, whole, wide_layer_value};
+ghost use Rattle.print_json.specs.Values.{diameter_of, drill_role, copper_value, file_value, hole_value, or_null, meets_value, met_value, mixed_value, picometres, point_value, row_value, rules_value, scale_value, span_value, whole};
 
 use crate::strings::Escaped;
 use grid_units::{Hole, Point, Profile, Rules, Span};
@@ -122,9 +122,10 @@ impl Display for SpanJson {
     }
 }
 
-/// A copper file in the wide profile, by its number: `{"number":1,"role":"copper","name":"top","pads":1,"other":0,"contours":2}`.
+/// A copper file, by its number: `{"number":1,"role":"copper","name":"top","pads":1,"other":0}`, and in the wide profile with `"contours":2` at its end.
 #[derive(Clone, Copy)]
-struct WideLayerJson<'a> {
+struct LayerJson<'a> {
+    profile: Profile,
     number: u128,
     name: &'a str,
     pads: usize,
@@ -132,17 +133,23 @@ struct WideLayerJson<'a> {
     contours: usize,
 }
 
-impl Display for WideLayerJson<'_> {
-    ghost output = { λ json. Some (value_text (wide_layer_value json.number json.name.now json.pads json.other json.contours)) };
+impl Display for LayerJson<'_> {
+    ghost output = { λ json. Some (value_text (copper_value json.profile json.number json.name.now json.pads json.other json.contours)) };
 
-    #[tactic(auto, unfolding(crate::specs::Values::wide_layer_value, json::specs::Print::escape_byte))]
+    #[tactic(auto, unfolding(crate::specs::Values::layer_value, crate::specs::Values::wide_layer_value, json::specs::Print::escape_byte))]
     fn fmt<W: fmt::Write>(&self, f: &mut Formatter<W>) -> fmt::Result {
         let (number, name) = (self.number, Escaped(self.name));
         let (pads, other, contours) = (self.pads, self.other, self.contours);
-        write!(
-            f,
-            r#"{{"number":{number},"role":"copper","name":"{name}","pads":{pads},"other":{other},"contours":{contours}}}"#
-        )
+        match self.profile {
+            Profile::Strict => write!(
+                f,
+                r#"{{"number":{number},"role":"copper","name":"{name}","pads":{pads},"other":{other}}}"#
+            ),
+            Profile::Wide => write!(
+                f,
+                r#"{{"number":{number},"role":"copper","name":"{name}","pads":{pads},"other":{other},"contours":{contours}}}"#
+            ),
+        }
     }
 }
 
@@ -174,7 +181,8 @@ impl Display for MixedJson<'_> {
 }
 
 /// A file, by its number: `{"number":1,"role":"copper","name":"top","pads":1,"other":0}`,
-/// `{"number":2,"role":"plated","name":"pth","round":1,"slots":0,"span":null}`.
+/// `{"number":2,"role":"plated","name":"pth","round":1,"slots":0,"span":null}`, or
+/// `{"number":2,"role":"mixed","name":"all","round":2,"slots":0,"unplated":1,"span":null}`.
 #[derive(Clone, Copy)]
 pub(crate) struct FileJson<'a> {
     pub(crate) profile: Profile,
@@ -186,39 +194,32 @@ pub(crate) struct FileJson<'a> {
 impl Display for FileJson<'_> {
     ghost output = { λ json. Some (value_text (file_value json.profile json.number json.name.now json.sum)) };
 
-    #[tactic(auto, unfolding(crate::specs::Values::layer_value, crate::specs::Values::drill_value, json::specs::Print::escape_byte))]
+    #[tactic(auto, unfolding(crate::specs::Values::drill_value, json::specs::Print::escape_byte))]
     fn fmt<W: fmt::Write>(&self, f: &mut Formatter<W>) -> fmt::Result {
-        let (number, name) = (self.number, Escaped(self.name));
         match self.sum {
             FileSum::Layer {
                 pads,
                 other,
                 contours,
-            } => match self.profile {
-                Profile::Strict => write!(
-                    f,
-                    r#"{{"number":{number},"role":"copper","name":"{name}","pads":{pads},"other":{other}}}"#
-                ),
-                Profile::Wide => {
-                    let name = self.name;
-                    let file = WideLayerJson {
-                        number,
-                        name,
-                        pads,
-                        other,
-                        contours,
-                    };
-                    write!(f, "{file}")
-                }
-            },
+            } => {
+                let layer = LayerJson {
+                    profile: self.profile,
+                    number: self.number,
+                    name: self.name,
+                    pads,
+                    other,
+                    contours,
+                };
+                write!(f, "{layer}")
+            }
             FileSum::Drill {
                 plated,
                 span,
                 round,
                 slots,
             } => {
-                let role = Escaped(drill_role(plated));
-                let span = SpanJson(span);
+                let (number, name) = (self.number, Escaped(self.name));
+                let (role, span) = (Escaped(drill_role(plated)), SpanJson(span));
                 write!(
                     f,
                     r#"{{"number":{number},"role":"{role}","name":"{name}","round":{round},"slots":{slots},"span":{span}}}"#
@@ -230,10 +231,9 @@ impl Display for FileJson<'_> {
                 slots,
                 unplated,
             } => {
-                let name = self.name;
                 let file = MixedJson {
-                    number,
-                    name,
+                    number: self.number,
+                    name: self.name,
                     span,
                     round,
                     slots,

@@ -2,7 +2,7 @@
 use Rattle.std.proofs.Common.{ℕ, List, Option, is_some, option_map, sym}
 use Rattle.command_line.specs.ProgramArgs.{IsCheck, IsDraw, IsReport}
 use Rattle.command_line.specs.declared.Request.{Request}
-use Rattle.command_line.specs.declared.Request.TheVariants.{Check, Measure, Report, Draw, Show, Rewrite, Manifest, Explain}
+use Rattle.command_line.specs.declared.Request.TheVariants.{Check, Report, Draw}
 use Rattle.ringcheck_files.specs.LoaderRelation.{Relation}
 use Rattle.ringcheck_files.specs.declared.Status.{Status}
 use Rattle.ringcheck.specs.ParsedWords.{parse_check, parse_draw, parse_report, profile_of}
@@ -16,47 +16,23 @@ use Rattle.ringcheck.specs.Sentences.{below_report}
 pub check_status : (has : Relation) (r g : List ℕ) (p : Option (List ℕ)) (m : List ℕ) (request : Request) (failed_before failed_after : ℕ) (before after : Option (List ℕ)) (s : Status)
     → IsCheck r g p m request → IsRequestStatus request has failed_before failed_after before after s → IsParsedCheckStatus has m (parse_check p r g) before after s
 check_status has r g p m (Check ring gap profile manifest) failed_before failed_after before after s (er, eg, ep, em) says = rw (sym er, sym eg, sym ep, sym em) says
-check_status has r g p m (Measure profile format manifest) failed_before failed_after before after s h says = absurd h
-check_status has r g p m (Report ring gap profile limit waive outline format manifest) failed_before failed_after before after s h says = absurd h
-check_status has r g p m (Draw ring gap profile outline manifest) failed_before failed_after before after s h says = absurd h
-check_status has r g p m (Show kind profile file) failed_before failed_after before after s h says = absurd h
-check_status has r g p m (Rewrite kind file) failed_before failed_after before after s h says = absurd h
-check_status has r g p m (Manifest why files) failed_before failed_after before after s h says = absurd h
-check_status has r g p m (Explain word) failed_before failed_after before after s h says = absurd h
+check_status has r g p m request failed_before failed_after before after s h says = absurd h
 
 -- and of its files alone
 pub legal_status : (has : Relation) (r g : List ℕ) (p : Option (List ℕ)) (m : List ℕ) (request : Request) (s : Status) → IsCheck r g p m request → IsLegalRequest request has s → IsParsedLegalStatus has m (profile_of p) s
 legal_status has r g p m (Check ring gap profile manifest) s (er, eg, ep, em) says = rw (sym ep, sym em) says
-legal_status has r g p m (Measure profile format manifest) s h says = absurd h
-legal_status has r g p m (Report ring gap profile limit waive outline format manifest) s h says = absurd h
-legal_status has r g p m (Draw ring gap profile outline manifest) s h says = absurd h
-legal_status has r g p m (Show kind profile file) s h says = absurd h
-legal_status has r g p m (Rewrite kind file) s h says = absurd h
-legal_status has r g p m (Manifest why files) s h says = absurd h
-legal_status has r g p m (Explain word) s h says = absurd h
+legal_status has r g p m request s h says = absurd h
 
 -- of a report
 pub report_status : (has : Relation) (r g : List ℕ) (p n v l o : Option (List ℕ)) (m : List ℕ) (request : Request) (failed_before failed_after : ℕ) (before after : Option (List ℕ)) (s : Status)
     → IsReport r g p n v l o m request → IsRequestStatus request has failed_before failed_after before after s → IsParsedReportStatus has m (parse_report p r g n v l o) (below_report p r g n (is_some l) o) v l before after s
-report_status has r g p n v l o m (Report ring gap profile limit waive outline format manifest) failed_before failed_after before after s (er, eg, ep, en, ev, el, eo, em) says =
+report_status has r g p n v l o m (Report options manifest) failed_before failed_after before after s (er, eg, ep, en, ev, el, eo, em) says =
     rw (sym er, sym eg, sym ep, sym en, sym ev, sym el, sym eo, sym em) says
-report_status has r g p n v l o m (Check ring gap profile manifest) failed_before failed_after before after s h says = absurd h
-report_status has r g p n v l o m (Measure profile format manifest) failed_before failed_after before after s h says = absurd h
-report_status has r g p n v l o m (Draw ring gap profile outline manifest) failed_before failed_after before after s h says = absurd h
-report_status has r g p n v l o m (Show kind profile file) failed_before failed_after before after s h says = absurd h
-report_status has r g p n v l o m (Rewrite kind file) failed_before failed_after before after s h says = absurd h
-report_status has r g p n v l o m (Manifest why files) failed_before failed_after before after s h says = absurd h
-report_status has r g p n v l o m (Explain word) failed_before failed_after before after s h says = absurd h
+report_status has r g p n v l o m request failed_before failed_after before after s h says = absurd h
 
 -- of a picture
 pub draw_status : (has : Relation) (o : Option (List ℕ × List ℕ)) (p l : Option (List ℕ)) (m : List ℕ) (request : Request) (failed_before failed_after : ℕ) (before after : Option (List ℕ)) (s : Status)
     → IsDraw o p l m request → IsRequestStatus request has failed_before failed_after before after s
     → IsParsedDrawStatus has m (parse_draw p (option_map (λ both. both.0) o) (option_map (λ both. both.1) o)) l before after s
-draw_status has o p l m (Draw ring gap profile outline manifest) failed_before failed_after before after s (er, eg, ep, el, em) says = rw (sym er, sym eg, sym ep, sym el, sym em) says
-draw_status has o p l m (Check ring gap profile manifest) failed_before failed_after before after s h says = absurd h
-draw_status has o p l m (Measure profile format manifest) failed_before failed_after before after s h says = absurd h
-draw_status has o p l m (Report ring gap profile limit waive outline format manifest) failed_before failed_after before after s h says = absurd h
-draw_status has o p l m (Show kind profile file) failed_before failed_after before after s h says = absurd h
-draw_status has o p l m (Rewrite kind file) failed_before failed_after before after s h says = absurd h
-draw_status has o p l m (Manifest why files) failed_before failed_after before after s h says = absurd h
-draw_status has o p l m (Explain word) failed_before failed_after before after s h says = absurd h
+draw_status has o p l m (Draw options manifest) failed_before failed_after before after s (er, eg, ep, el, em) says = rw (sym er, sym eg, sym ep, sym el, sym em) says
+draw_status has o p l m request failed_before failed_after before after s h says = absurd h

@@ -33,11 +33,13 @@ IsRequestStatus (Check ring gap profile manifest) has failed_before failed_after
     IsParsedCheckStatus has manifest.now (parse_check (word_bytes profile) ring.now gap.now) before after s
 IsRequestStatus (Measure profile format manifest) has failed_before failed_after before after s =
     IsParsedMeasureStatus has manifest.now (parse_measure (word_bytes profile) (word_bytes format)) (below_measure (word_bytes profile) (word_bytes format)) before after s
-IsRequestStatus (Report ring gap profile limit waive outline format manifest) has failed_before failed_after before after s =
-    IsParsedReportStatus has manifest.now (parse_report (word_bytes profile) ring.now gap.now (word_bytes limit) (word_bytes waive) (word_bytes outline) (word_bytes format))
-    (below_report (word_bytes profile) ring.now gap.now (word_bytes limit) (is_some (word_bytes outline)) (word_bytes format)) (word_bytes waive) (word_bytes outline) before after s
-IsRequestStatus (Draw ring gap profile outline manifest) has failed_before failed_after before after s =
-    IsParsedDrawStatus has manifest.now (parse_draw (word_bytes profile) (word_bytes ring) (word_bytes gap)) (word_bytes outline) before after s
+IsRequestStatus (Report options manifest) has failed_before failed_after before after s =
+    IsParsedReportStatus has manifest.now
+    (parse_report (word_bytes options.profile) options.ring.now options.gap.now (word_bytes options.limit) (word_bytes options.waive) (word_bytes options.outline) (word_bytes options.format))
+    (below_report (word_bytes options.profile) options.ring.now options.gap.now (word_bytes options.limit) (is_some (word_bytes options.outline)) (word_bytes options.format))
+    (word_bytes options.waive) (word_bytes options.outline) before after s
+IsRequestStatus (Draw options manifest) has failed_before failed_after before after s =
+    IsParsedDrawStatus has manifest.now (parse_draw (word_bytes options.profile) (word_bytes options.ring) (word_bytes options.gap)) (word_bytes options.outline) before after s
 IsRequestStatus (Show kind profile file) has failed_before failed_after before after s =
     IsParsedShowStatus (profile_of (word_bytes profile)) (below_show (word_bytes profile)) (parse_kind kind.now) has file.now before after s
 IsRequestStatus (Rewrite kind file) has failed_before failed_after before after s = IsParsedFileStatus job.Rewrite (parse_kind kind.now) has file.now before after s
@@ -48,13 +50,7 @@ IsRequestStatus (Explain word) has failed_before failed_after before after s = I
 -- what a status says of the files of a request's package: of a check, that each is of the profile that it names
 abbrev pub IsLegalRequest : Request → Relation → Status → Type 0
 IsLegalRequest (Check ring gap profile manifest) has s = IsParsedLegalStatus has manifest.now (profile_of (word_bytes profile)) s
-IsLegalRequest (Measure profile format manifest) has s = ⊤
-IsLegalRequest (Report ring gap profile limit waive outline format manifest) has s = ⊤
-IsLegalRequest (Draw ring gap profile outline manifest) has s = ⊤
-IsLegalRequest (Show kind profile file) has s = ⊤
-IsLegalRequest (Rewrite kind file) has s = ⊤
-IsLegalRequest (Manifest why files) has s = ⊤
-IsLegalRequest (Explain word) has s = ⊤
+IsLegalRequest _ has s = ⊤
 
 -- what a status says of words that are no request: just the help, the version's line, or `usage` and what is wrong was written, or it is Device
 abbrev pub IsNoRequestStatus : Refusal → Option (List ℕ) → Option (List ℕ) → Status → Type 0

@@ -20,13 +20,12 @@ use crate::fewer::fewer_findings;
 use crate::jobs::{Job, Order, PictureOrder, kept_for, report_style};
 use crate::load_package::{check_files, load_table, take_files};
 use crate::outlines::{load_outline, print_no_outline};
-use crate::parsed_words::{
-    PictureWords, ReportFormat, ReportWords, parse_check, parse_draw, parse_measure, parse_report,
-};
+use crate::parsed_words::{ReportFormat, parse_check, parse_draw, parse_measure, parse_report};
 use crate::refusals::{Halt, Subject, print_halt};
 use crate::reports::{Reported, print_judged, report_on_taken};
 use crate::sentences::{NoMeasure, NoReport, is_for_people};
 use crate::{Entry, Loader, checks, drawings, measures};
+use command_line::{PictureWords, ReportWords};
 use grid_units::{Profile, Reason, Rules};
 use package_check::Keep;
 use ringcheck_files::{Failure, Status, refuse_word};

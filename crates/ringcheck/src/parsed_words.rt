@@ -3,6 +3,7 @@
 ghost use Rattle.std.specs.Prelude.{◌≡◌, option_map};
 ghost use Rattle.ringcheck.specs.ParsedWords as words;
 
+use command_line::{PictureWords, ReportWords};
 use grid_units::numbers::{capped_value, is_digits};
 use grid_units::{Dec, Profile, Reason, Rules, Unit};
 
@@ -155,18 +156,6 @@ pub(crate) fn parse_limit(word: Option<&str>) -> Result<Option<usize>, Reason>
     }
 }
 
-/// The words of the options of a report.
-#[derive(Clone, Copy, Debug)]
-pub(crate) struct ReportWords<'a> {
-    pub(crate) profile: Option<&'a str>,
-    pub(crate) ring: &'a str,
-    pub(crate) gap: &'a str,
-    pub(crate) limit: Option<&'a str>,
-    pub(crate) waive: Option<&'a str>,
-    pub(crate) outline: Option<&'a str>,
-    pub(crate) format: Option<&'a str>,
-}
-
 /// The rules in their profile, the limit of findings and the format of a report, read in this order.
 #[tactic(auto, unfolding(crate::specs::ParsedWords::parse_report))]
 pub(crate) fn parse_report(
@@ -195,15 +184,6 @@ fn drawn_under(
         (Some(ring), Some(gap)) => Ok(Some(parse_rules(ring, gap)?.in_profile(profile))),
         (Some(_), None) | (None, Some(_)) => Err(Reason::BadRule),
     }
-}
-
-/// The words of the options of a picture.
-#[derive(Clone, Copy, Debug)]
-pub(crate) struct PictureWords<'a> {
-    pub(crate) profile: Option<&'a str>,
-    pub(crate) ring: Option<&'a str>,
-    pub(crate) gap: Option<&'a str>,
-    pub(crate) outline: Option<&'a str>,
 }
 
 /// The profile and the rules of a picture. The profile is read first.

@@ -17,7 +17,6 @@ ghost use Rattle.ringcheck.specs.ShowStatus.{IsParsedShowStatus};
 
 use crate::Loader;
 use crate::packages::{check, draw, measure, report};
-use crate::parsed_words::{PictureWords, ReportWords};
 use crate::tables::show;
 use command_line::{Refusal, Request, VERSION_LINE, parse};
 use ringcheck_files::{Failure, FileJob, Status, explain, print, print_manifest};
@@ -25,46 +24,6 @@ use std::alloc::Global;
 use std::fmt;
 use std::fmt::{Display, Formatter};
 use std::io::Write;
-
-/// The words of the options of a report.
-fn report_words<'a>(
-    ring: &'a str,
-    gap: &'a str,
-    profile: Option<&'a str>,
-    limit: Option<&'a str>,
-    waive: Option<&'a str>,
-    outline: Option<&'a str>,
-    format: Option<&'a str>,
-) -> ReportWords<'a>
-    ensures { result ≡ record { profile = profile.entry; ring = ring.entry; gap = gap.entry; limit = limit.entry; waive = waive.entry; outline = outline.entry; format = format.entry } }
-{
-    ReportWords {
-        profile,
-        ring,
-        gap,
-        limit,
-        waive,
-        outline,
-        format,
-    }
-}
-
-/// The words of a picture's options.
-fn picture_words<'a>(
-    ring: Option<&'a str>,
-    gap: Option<&'a str>,
-    profile: Option<&'a str>,
-    outline: Option<&'a str>,
-) -> PictureWords<'a>
-    ensures { result ≡ record { profile = profile.entry; ring = ring.entry; gap = gap.entry; outline = outline.entry } }
-{
-    PictureWords {
-        profile,
-        ring,
-        gap,
-        outline,
-    }
-}
 
 /// Does what a request asks for.
 fn carry_out<L: Loader, W: Write>(
@@ -84,34 +43,13 @@ fn carry_out<L: Loader, W: Write>(
             profile,
             manifest,
         } => check(alloc, *profile, ring, gap, manifest, loader, out),
-        Request::Report {
-            ring,
-            gap,
-            profile,
-            limit,
-            waive,
-            outline,
-            format,
-            manifest,
-        } => {
-            let unparsed = report_words(ring, gap, *profile, *limit, *waive, *outline, *format);
-            report(alloc, &unparsed, manifest, loader, out)
-        }
+        Request::Report { options, manifest } => report(alloc, options, manifest, loader, out),
         Request::Measure {
             profile,
             format,
             manifest,
         } => measure(alloc, *profile, *format, manifest, loader, out),
-        Request::Draw {
-            ring,
-            gap,
-            profile,
-            outline,
-            manifest,
-        } => {
-            let unparsed = picture_words(*ring, *gap, *profile, *outline);
-            draw(alloc, &unparsed, manifest, loader, out)
-        }
+        Request::Draw { options, manifest } => draw(alloc, options, manifest, loader, out),
         Request::Show {
             kind,
             profile,

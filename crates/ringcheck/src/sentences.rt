@@ -3,7 +3,8 @@
 ghost use Rattle.std.specs.Prelude.{◌≡◌, Some, is_some, option_map};
 ghost use Rattle.ringcheck.specs.Sentences as sentences;
 
-use crate::parsed_words::{ReportWords, parse_length, parse_limit, parse_rules, profile_of};
+use crate::parsed_words::{parse_length, parse_limit, parse_rules, profile_of};
+use command_line::ReportWords;
 use grid_units::Reason;
 use std::fmt;
 use std::fmt::{Display, Formatter};

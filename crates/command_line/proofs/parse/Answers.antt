@@ -4,11 +4,10 @@ use Rattle.clap.specs.Lexer.{usize_max}
 use Rattle.clap.specs.Words.{Row, Text, fault_of, is_simple, is_simple_and_free, subcommand_of, takes}
 use Rattle.command_line.specs.ProgramArgs.{ParsesLine, IsRequestOf, manifest_words, ringcheck_app}
 use Rattle.command_line.proofs.ParseResult.{fault_told, request_is_parsed, refused, version_told}
-use Rattle.command_line.proofs.CommandWords.{check_answer, check_options, draw_answer, explain_answer, is_free_command, is_plain_command, measure_answer, report_answer, rewrite_answer, show_answer, version_fault}
-use Rattle.command_line.proofs.GivenOptions.{first_is, rows_of}
+use Rattle.command_line.proofs.CommandWords.{check_answer, draw_answer, explain_answer, is_free_command, is_plain_command, measure_answer, report_answer, rewrite_answer, show_answer, version_fault}
 use Rattle.command_line.proofs.ManifestWords.{manifest_answer}
 use Rattle.command_line.proofs.NamedCommand.{answer}
-use Rattle.command_line.proofs.Requests.{is_draw, is_explain, is_manifest, is_measure, is_report, is_rewrite, is_show}
+use Rattle.command_line.proofs.Requests.{is_check, is_draw, is_explain, is_manifest, is_measure, is_report, is_rewrite, is_show}
 use Rattle.command_line.proofs.parse.Goals as goal
 
 -- the files fit where the words do
@@ -21,13 +20,10 @@ returns-in-Some c =
     let parsed = c.in-Ok-try_get_matches_from.ensures.matches (ap is_simple c.in-Ok.ensures ∙ is_plain_command) in
     let faultless = c.in-Ok-try_get_matches_from.ensures.kinds (ap is_simple_and_free c.in-Ok.ensures ∙ is_free_command) in
     let asks = λ (words : List Text) (found : Option (Text × List Row)) (e : map (λ (w : Bor Text). w.now) c.args.words.now ≡ words) (is : answer words ≡ (true, found)).
-    subst (λ o. IsRequestOf o c.in-Some.request) (parsed.1 ∙ ap₂ subcommand_of c.in-Ok.ensures e ∙ (λ i. (is i).1)) c.in-Some.ensures.request in
+    subst (λ o. IsRequestOf o c.in-Some.request) (parsed.1 ∙ ap₂ subcommand_of c.in-Ok.ensures e ∙ (λ i. (is i).1)) c.in-Some.ensures in
     record {
-      exact = request_is_parsed _ _ _ c.in-Some.request c.in-Ok.ensures faultless parsed.1 c.in-Some.ensures.request;
-      check = λ r g f m e p q t s.
-          let all = check_options r g f m in
-          c.in-Some.ensures.check r g f m (rows_of all) (parsed.1 ∙ ap₂ subcommand_of c.in-Ok.ensures e ∙ (λ i. (check_answer r g f m p q t s i).1))
-          (first_is (codes "ring") all, first_is (codes "gap") all, first_is (codes "profile") all, first_is (codes "manifest") all);
+      exact = request_is_parsed _ _ _ c.in-Some.request c.in-Ok.ensures faultless parsed.1 c.in-Some.ensures;
+      check = λ r g f m e p q t s. is_check r g f m c.in-Some.request (asks _ _ e (check_answer r g f m p q t s));
       measure = λ p o m e q t s. is_measure p o m c.in-Some.request (asks _ _ e (measure_answer p o m q t s));
       report = λ r g f n v l o m e p q y t w x u s. is_report r g f n v l o m c.in-Some.request (asks _ _ e (report_answer r g f n v l o m p q y t w x u s));
       draw = λ o f l m e p y t s. is_draw o f l m c.in-Some.request (asks _ _ e (draw_answer o f l m p y t s));
