@@ -1,5 +1,7 @@
 -- The kinds of causes why holes lack their rings, and their words (docs/FORMATS.md, Report for people).
 use Rattle.std.specs.Prelude.{◌==◌, ℕ, Bool, List, [], ◌∷◌, codes}
+use Rattle.grid_units.specs.declared.profile.Profile.{Profile}
+use Rattle.grid_units.specs.declared.profile.Profile.TheVariants.{Strict, Wide}
 use Rattle.layer_image.specs.declared.flash.Why.{Why}
 use Rattle.layer_image.specs.declared.flash.Why.TheVariants as why
 use Rattle.report.specs.declared.RingCause.{RingCause}
@@ -66,17 +68,22 @@ kind_words kinds.Cleared = codes "only a cleared flash"
 kind_words kinds.Bare = codes "no pad at the hole"
 kind_words kinds.Oblique = codes "oblique slot"
 
--- the hint that a report prints for a kind
-abbrev pub hint : CauseKind → List ℕ
-hint kinds.TooSmall = codes "the pad's own radius or half side is less than the hole's radius and the ring"
-hint kinds.OffCentre = codes "the pad is large enough for a hole at its centre; drill files are rounded: see `ringcheck explain ring`"
-hint kinds.Edge = codes "move the hole or enlarge the pad: rings in rounded pads and contours are measured to their edge"
-hint kinds.Macro = codes "flashes by a macro are not judged: choose circle, oval or rectangle: see `ringcheck explain macro`"
-hint kinds.Polygon = codes "polygon flashes are not judged"
-hint kinds.Holed = codes "flashes with a hole are not judged"
-hint kinds.Scaled = codes "scaled flashes are not judged"
-hint kinds.Turned = codes "flashes turned by other than quarters are not judged"
-hint kinds.Clear = codes "a flash in clear polarity takes copper away"
-hint kinds.Cleared = codes "copper drawn before a clear object does not count"
-hint kinds.Bare = codes "none was flashed here, or its copper is drawn or of a shape that is not judged, or origin or format differ: see `ringcheck explain none`"
-hint kinds.Oblique = codes "plated slots that lie along no axis are not judged"
+-- the hint for flashes by a macro: in the wide profile those of some forms are judged
+abbrev pub macro_hint : Profile → List ℕ
+macro_hint Strict = codes "flashes by a macro are not judged: choose circle, oval or rectangle: see `ringcheck explain macro`"
+macro_hint Wide = codes "macros of this form are not judged: choose circle, oval or rectangle: see `ringcheck explain macro`"
+
+-- the hint that a report in a profile prints for a kind
+abbrev pub hint : Profile → CauseKind → List ℕ
+hint profile kinds.TooSmall = codes "the pad's own radius or half side is less than the hole's radius and the ring"
+hint profile kinds.OffCentre = codes "the pad is large enough for a hole at its centre; drill files are rounded: see `ringcheck explain ring`"
+hint profile kinds.Edge = codes "move the hole or enlarge the pad: rings in rounded pads and contours are measured to their edge"
+hint profile kinds.Macro = macro_hint profile
+hint profile kinds.Polygon = codes "polygon flashes are not judged"
+hint profile kinds.Holed = codes "flashes with a hole are not judged"
+hint profile kinds.Scaled = codes "scaled flashes are not judged"
+hint profile kinds.Turned = codes "flashes turned by other than quarters are not judged"
+hint profile kinds.Clear = codes "a flash in clear polarity takes copper away"
+hint profile kinds.Cleared = codes "copper drawn before a clear object does not count"
+hint profile kinds.Bare = codes "none was flashed here, or its copper is drawn or of a shape that is not judged, or origin or format differ: see `ringcheck explain none`"
+hint profile kinds.Oblique = codes "plated slots that lie along no axis are not judged"

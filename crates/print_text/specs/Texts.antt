@@ -223,12 +223,12 @@ abbrev pub counted_words : ℕ → List ℕ → List ℕ → List ℕ
 counted_words count words hint = decimal count ++ (codes " " ++ (words ++ (codes ": " ++ (hint ++ ascii.line_feed ∷ []))))
 
 -- the line of a kind of cause, by the number of its rings; nothing where it is 0
-abbrev pub count_line : CauseKind → ℕ → List ℕ
-count_line kind count = if count == 0 then [] else counted_words count (kind_words kind) (hint kind)
+abbrev pub count_line : Profile → CauseKind → ℕ → List ℕ
+count_line profile kind count = if count == 0 then [] else counted_words count (kind_words kind) (hint profile kind)
 
--- the line of a kind of cause, for these rings
-abbrev pub kind_line : List RingLack → CauseKind → List ℕ
-kind_line rings kind = count_line kind (count_by (λ lack. is_of_kind kind lack.cause) rings)
+-- the line of a kind of cause in a profile, for these rings
+abbrev pub kind_line : Profile → List RingLack → CauseKind → List ℕ
+kind_line profile rings kind = count_line profile kind (count_by (λ lack. is_of_kind kind lack.cause) rings)
 
 -- the ring of a hole in its pad; nothing where it lies in no pad or is an oblique slot
 abbrev pub ring_of : RingCause → Option ℤ
@@ -382,7 +382,7 @@ findings_text names report limit rings gaps =
 
 -- the third part: the causes, and the smallest ring and gap
 abbrev pub causes_text : BoardReport → List ℕ
-causes_text report = flat_map (kind_line report.rings.items) all_kinds ++ smallest_lines report.rules report.rings.items report.gaps.items
+causes_text report = flat_map (kind_line report.rules.profile report.rings.items) all_kinds ++ smallest_lines report.rules report.rings.items report.gaps.items
 
 -- how many findings are not there in the wide profile: `3 of these are not there with --profile wide`; no line for none
 abbrev pub fewer_line : ℕ → List ℕ

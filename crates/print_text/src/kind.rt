@@ -1,8 +1,9 @@
 //! The kinds of causes, in the order in which a report counts them.
 
 ghost use Rattle.std.specs.Prelude.{◌≡◌};
-ghost use Rattle.print_text.specs.Causes.{flash_kind, hint, is_of_kind, kind_of, kind_words};
+ghost use Rattle.print_text.specs.Causes.{flash_kind, hint, is_of_kind, kind_of, kind_words, macro_hint};
 
+use grid_units::Profile;
 use layer_image::Why;
 use report::RingCause;
 
@@ -95,9 +96,23 @@ pub(crate) fn kind_words(kind: CauseKind) -> &'static str
     }
 }
 
-/// The hint that a report prints for a kind.
-pub(crate) fn hint(kind: CauseKind) -> &'static str
-    ensures { result.now ≡ hint kind }
+/// The hint for flashes by a macro: in the wide profile those of some forms are judged.
+fn macro_hint(profile: Profile) -> &'static str
+    ensures { result.now ≡ macro_hint profile }
+{
+    match profile {
+        Profile::Strict => {
+            "flashes by a macro are not judged: choose circle, oval or rectangle: see `ringcheck explain macro`"
+        }
+        Profile::Wide => {
+            "macros of this form are not judged: choose circle, oval or rectangle: see `ringcheck explain macro`"
+        }
+    }
+}
+
+/// The hint that a report in a profile prints for a kind.
+pub(crate) fn hint(profile: Profile, kind: CauseKind) -> &'static str
+    ensures { result.now ≡ hint profile kind }
 {
     match kind {
         CauseKind::TooSmall => {
@@ -109,9 +124,7 @@ pub(crate) fn hint(kind: CauseKind) -> &'static str
         CauseKind::Edge => {
             "move the hole or enlarge the pad: rings in rounded pads and contours are measured to their edge"
         }
-        CauseKind::Macro => {
-            "flashes by a macro are not judged: choose circle, oval or rectangle: see `ringcheck explain macro`"
-        }
+        CauseKind::Macro => macro_hint(profile),
         CauseKind::Polygon => "polygon flashes are not judged",
         CauseKind::Holed => "flashes with a hole are not judged",
         CauseKind::Scaled => "scaled flashes are not judged",

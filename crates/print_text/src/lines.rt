@@ -255,16 +255,28 @@ impl Display for GapLine<'_> {
     }
 }
 
-/// The line of a kind of cause, by the rings of the report: their number, the words and the hint; nothing where there are none.
-impl Line<&[RingLack]> for CauseKind {
-    ghost text = { λ rings kind. kind_line rings.now kind };
+/// The rings of a report, with the profile that the files were read in.
+#[derive(Clone, Copy)]
+pub(crate) struct ProfileRings<'a> {
+    pub(crate) profile: Profile,
+    pub(crate) rings: &'a [RingLack],
+}
 
-    fn fmt_on<W: fmt::Write>(&self, page: &&[RingLack], f: &mut Formatter<W>) -> fmt::Result {
-        let count = rings_of_kind(page, *self);
+/// The line of a kind of cause, by the rings of the report: their number, the words and the hint; nothing where there are none.
+impl Line<ProfileRings<'_>> for CauseKind {
+    ghost text = { λ page kind. kind_line page.profile page.rings.now kind };
+
+    fn fmt_on<W: fmt::Write>(&self, page: &ProfileRings<'_>, f: &mut Formatter<W>) -> fmt::Result {
+        let count = rings_of_kind(page.rings, *self);
         if count == 0 {
             return Ok(());
         }
-        write!(f, "{count} {}: {}\n", kind_words(*self), hint(*self))
+        write!(
+            f,
+            "{count} {}: {}\n",
+            kind_words(*self),
+            hint(page.profile, *self)
+        )
     }
 }
 

@@ -8,8 +8,8 @@ ghost use Rattle.print_text.specs.Texts.{causes_text, gaps_text, groups_text, he
 
 use crate::kind::CAUSE_KINDS;
 use crate::lines::{
-    FewerLine, FileNames, GapLine, GapsLine, LastLine, LayerLine, MeetsLine, MoreLine, RingLine,
-    RulesLine, SmallestLine, WaiverFile,
+    FewerLine, FileNames, GapLine, GapsLine, LastLine, LayerLine, MeetsLine, MoreLine,
+    ProfileRings, RingLine, RulesLine, SmallestLine, WaiverFile,
 };
 use crate::runs::{Run, runs_of};
 use crate::summary::write_groups;
@@ -276,8 +276,12 @@ impl Display for CausesText<'_> {
 
     fn fmt<W: fmt::Write>(&self, f: &mut Formatter<W>) -> fmt::Result {
         let rings = self.0.rings.as_slice();
+        let page = ProfileRings {
+            profile: self.0.rules.profile(),
+            rings,
+        };
         let kinds = Lines {
-            page: &rings,
+            page: &page,
             lines: &CAUSE_KINDS,
         };
         let smallest = SmallestLines {

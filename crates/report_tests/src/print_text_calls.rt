@@ -538,6 +538,24 @@ fn causes_and_scales_are_printed(rt: HostRuntime) {
     assert!(rt; is_printed(rt.alloc(), &["top", "pth"], &EACH_CAUSE, None, text));
 }
 
+/// A hole in a flash by a macro, in the wide profile.
+const WIDE_MACRO: ReportRow = ReportRow {
+    profile: Profile::Wide,
+    rules: (150_000_000, 250_000_000),
+    rings: &[(9, UNSEEN, CauseRow::Other(Why::Macro, 1))],
+    ..ANY
+};
+
+#[test]
+fn macros_of_some_forms_are_judged_in_the_wide_profile(rt: HostRuntime) {
+    let text = "rules: annular ring 0.15 mm, hole to hole 0.25 mm, profile wide\n\
+        hole to hole: 0 gaps too small\n\
+        1 only a macro flash: macros of this form are not judged: choose circle, oval or rectangle: see `ringcheck explain macro`\n\
+        this board meets annular ring any, hole to hole any\n\
+        FINDINGS 1\n";
+    assert!(rt; is_printed(rt.alloc(), &["top", "pth"], &WIDE_MACRO, None, text));
+}
+
 const HOLED: [&str; 2] = ["top_layer", "pth"];
 
 /// The reasons for the rings and gaps of a board with three of each.
