@@ -32,7 +32,7 @@ fn asks(rt: HostRuntime, line: &str, request: &str) -> bool {
 
 /// What is printed where words ask for nothing.
 #[derive(Clone, Copy)]
-enum Told<'a> {
+enum Answer<'a> {
     Usage,
     Version,
     /// Help with these parts.
@@ -41,12 +41,12 @@ enum Told<'a> {
     Screen,
 }
 
-fn is_refusal(refusal: &Refusal, told: Told) -> bool {
-    match (refusal, told) {
-        (Refusal::Usage(_), Told::Usage) => true,
-        (Refusal::Version, Told::Version) => true,
-        (Refusal::Help(text), Told::Help(parts)) => has_parts(text.as_str(), parts),
-        (Refusal::Help(text), Told::Screen) => fits_a_screen(text.as_str()),
+fn is_refusal(refusal: &Refusal, answer: Answer) -> bool {
+    match (refusal, answer) {
+        (Refusal::Usage(_), Answer::Usage) => true,
+        (Refusal::Version, Answer::Version) => true,
+        (Refusal::Help(text), Answer::Help(parts)) => has_parts(text.as_str(), parts),
+        (Refusal::Help(text), Answer::Screen) => fits_a_screen(text.as_str()),
         _ => false,
     }
 }
@@ -66,17 +66,17 @@ fn fits_a_screen(text: &str) -> bool {
         && text.contains("Usage: ringcheck ")
 }
 
-fn words_tell(rt: HostRuntime, words: &[&str], told: Told) -> bool {
+fn words_give(rt: HostRuntime, words: &[&str], answer: Answer) -> bool {
     match parse(rt.alloc(), words) {
         Ok(_) => false,
-        Err(refusal) => is_refusal(&refusal, told),
+        Err(refusal) => is_refusal(&refusal, answer),
     }
 }
 
 /// Whether the words of a line are answered so.
-fn tells(rt: HostRuntime, line: &str, told: Told) -> bool {
+fn gives(rt: HostRuntime, line: &str, answer: Answer) -> bool {
     match words_of(rt, line) {
-        Ok(words) => words_tell(rt, &words, told),
+        Ok(words) => words_give(rt, &words, answer),
         Err(_) => false,
     }
 }
@@ -266,7 +266,7 @@ const REFUSED: [&str; 57] = [
 #[test]
 fn other_words_are_refused(rt: HostRuntime) {
     for &line in &REFUSED {
-        assert!(rt; tells(rt, line, Told::Usage), "{line}");
+        assert!(rt; gives(rt, line, Answer::Usage), "{line}");
     }
 }
 
@@ -346,7 +346,7 @@ const HELP: [(&str, Parts); 10] = [
 #[test]
 fn help_names_commands_and_options(rt: HostRuntime) {
     for &(line, parts) in &HELP {
-        assert!(rt; tells(rt, line, Told::Help(parts)), "{line}");
+        assert!(rt; gives(rt, line, Answer::Help(parts)), "{line}");
     }
 }
 
@@ -365,7 +365,7 @@ const PAGES: [&str; 9] = [
 #[test]
 fn help_fits_a_screen(rt: HostRuntime) {
     for &line in &PAGES {
-        assert!(rt; tells(rt, line, Told::Screen), "{line}");
+        assert!(rt; gives(rt, line, Answer::Screen), "{line}");
     }
 }
 
@@ -453,59 +453,59 @@ fn a_measure_is_asked_for(rt: HostRuntime) {
 const REPORTS: [(&str, &str); 13] = [
     (
         "report --ring 0.125 --gap 0.2 m.csv",
-        "Report { ring: \"0.125\", gap: \"0.2\", profile: None, limit: None, waive: None, outline: None, format: None, manifest: \"m.csv\" }",
+        "Report { options: ReportWords { ring: \"0.125\", gap: \"0.2\", profile: None, limit: None, waive: None, outline: None, format: None }, manifest: \"m.csv\" }",
     ),
     (
         "report --ring 0.125 --gap 0.2 --max 2 m.csv",
-        "Report { ring: \"0.125\", gap: \"0.2\", profile: None, limit: Some(\"2\"), waive: None, outline: None, format: None, manifest: \"m.csv\" }",
+        "Report { options: ReportWords { ring: \"0.125\", gap: \"0.2\", profile: None, limit: Some(\"2\"), waive: None, outline: None, format: None }, manifest: \"m.csv\" }",
     ),
     (
         "report --max 2 m.csv --gap 0.2 --ring 0.125",
-        "Report { ring: \"0.125\", gap: \"0.2\", profile: None, limit: Some(\"2\"), waive: None, outline: None, format: None, manifest: \"m.csv\" }",
+        "Report { options: ReportWords { ring: \"0.125\", gap: \"0.2\", profile: None, limit: Some(\"2\"), waive: None, outline: None, format: None }, manifest: \"m.csv\" }",
     ),
     // in a format
     (
         "report --ring 0.125 --gap 0.2 --format json m.csv",
-        "Report { ring: \"0.125\", gap: \"0.2\", profile: None, limit: None, waive: None, outline: None, format: Some(\"json\"), manifest: \"m.csv\" }",
+        "Report { options: ReportWords { ring: \"0.125\", gap: \"0.2\", profile: None, limit: None, waive: None, outline: None, format: Some(\"json\") }, manifest: \"m.csv\" }",
     ),
     (
         "report --ring 0.125 --gap 0.2 --max 2 --format json m.csv",
-        "Report { ring: \"0.125\", gap: \"0.2\", profile: None, limit: Some(\"2\"), waive: None, outline: None, format: Some(\"json\"), manifest: \"m.csv\" }",
+        "Report { options: ReportWords { ring: \"0.125\", gap: \"0.2\", profile: None, limit: Some(\"2\"), waive: None, outline: None, format: Some(\"json\") }, manifest: \"m.csv\" }",
     ),
     (
         "report --format=json m.csv --gap 0.2 --max=2 --ring 0.125",
-        "Report { ring: \"0.125\", gap: \"0.2\", profile: None, limit: Some(\"2\"), waive: None, outline: None, format: Some(\"json\"), manifest: \"m.csv\" }",
+        "Report { options: ReportWords { ring: \"0.125\", gap: \"0.2\", profile: None, limit: Some(\"2\"), waive: None, outline: None, format: Some(\"json\") }, manifest: \"m.csv\" }",
     ),
     (
         "report m.csv --gap 0.2 --ring 0.125 --format text",
-        "Report { ring: \"0.125\", gap: \"0.2\", profile: None, limit: None, waive: None, outline: None, format: Some(\"text\"), manifest: \"m.csv\" }",
+        "Report { options: ReportWords { ring: \"0.125\", gap: \"0.2\", profile: None, limit: None, waive: None, outline: None, format: Some(\"text\") }, manifest: \"m.csv\" }",
     ),
     // with waivers
     (
         "report --ring 0.125 --gap 0.2 --waive w.csv m.csv",
-        "Report { ring: \"0.125\", gap: \"0.2\", profile: None, limit: None, waive: Some(\"w.csv\"), outline: None, format: None, manifest: \"m.csv\" }",
+        "Report { options: ReportWords { ring: \"0.125\", gap: \"0.2\", profile: None, limit: None, waive: Some(\"w.csv\"), outline: None, format: None }, manifest: \"m.csv\" }",
     ),
     (
         "report --ring 0.125 --gap 0.2 --max 2 --waive w.csv --format json m.csv",
-        "Report { ring: \"0.125\", gap: \"0.2\", profile: None, limit: Some(\"2\"), waive: Some(\"w.csv\"), outline: None, format: Some(\"json\"), manifest: \"m.csv\" }",
+        "Report { options: ReportWords { ring: \"0.125\", gap: \"0.2\", profile: None, limit: Some(\"2\"), waive: Some(\"w.csv\"), outline: None, format: Some(\"json\") }, manifest: \"m.csv\" }",
     ),
     (
         "report m.csv --format=waivers --waive=w.csv --gap 0.2 --ring 0.125",
-        "Report { ring: \"0.125\", gap: \"0.2\", profile: None, limit: None, waive: Some(\"w.csv\"), outline: None, format: Some(\"waivers\"), manifest: \"m.csv\" }",
+        "Report { options: ReportWords { ring: \"0.125\", gap: \"0.2\", profile: None, limit: None, waive: Some(\"w.csv\"), outline: None, format: Some(\"waivers\") }, manifest: \"m.csv\" }",
     ),
     // with an outline
     (
         "report --outline edge.gbr --format html --ring 0.125 --gap 0.2 m.csv",
-        "Report { ring: \"0.125\", gap: \"0.2\", profile: None, limit: None, waive: None, outline: Some(\"edge.gbr\"), format: Some(\"html\"), manifest: \"m.csv\" }",
+        "Report { options: ReportWords { ring: \"0.125\", gap: \"0.2\", profile: None, limit: None, waive: None, outline: Some(\"edge.gbr\"), format: Some(\"html\") }, manifest: \"m.csv\" }",
     ),
     // in a profile
     (
         "report --profile wide --ring 0.125 --gap 0.2 m.csv",
-        "Report { ring: \"0.125\", gap: \"0.2\", profile: Some(\"wide\"), limit: None, waive: None, outline: None, format: None, manifest: \"m.csv\" }",
+        "Report { options: ReportWords { ring: \"0.125\", gap: \"0.2\", profile: Some(\"wide\"), limit: None, waive: None, outline: None, format: None }, manifest: \"m.csv\" }",
     ),
     (
         "report m.csv --gap=0.2 --ring=0.125 --max=2 --profile=strict",
-        "Report { ring: \"0.125\", gap: \"0.2\", profile: Some(\"strict\"), limit: Some(\"2\"), waive: None, outline: None, format: None, manifest: \"m.csv\" }",
+        "Report { options: ReportWords { ring: \"0.125\", gap: \"0.2\", profile: Some(\"strict\"), limit: Some(\"2\"), waive: None, outline: None, format: None }, manifest: \"m.csv\" }",
     ),
 ];
 
@@ -519,31 +519,31 @@ fn a_report_is_asked_for(rt: HostRuntime) {
 const PICTURES: [(&str, &str); 7] = [
     (
         "draw m.csv",
-        "Draw { ring: None, gap: None, profile: None, outline: None, manifest: \"m.csv\" }",
+        "Draw { options: PictureWords { ring: None, gap: None, profile: None, outline: None }, manifest: \"m.csv\" }",
     ),
     (
         "draw --ring 0.125 --gap 0.2 m.csv",
-        "Draw { ring: Some(\"0.125\"), gap: Some(\"0.2\"), profile: None, outline: None, manifest: \"m.csv\" }",
+        "Draw { options: PictureWords { ring: Some(\"0.125\"), gap: Some(\"0.2\"), profile: None, outline: None }, manifest: \"m.csv\" }",
     ),
     (
         "draw --ring 0.125 m.csv",
-        "Draw { ring: Some(\"0.125\"), gap: None, profile: None, outline: None, manifest: \"m.csv\" }",
+        "Draw { options: PictureWords { ring: Some(\"0.125\"), gap: None, profile: None, outline: None }, manifest: \"m.csv\" }",
     ),
     (
         "draw --outline edge.gbr m.csv",
-        "Draw { ring: None, gap: None, profile: None, outline: Some(\"edge.gbr\"), manifest: \"m.csv\" }",
+        "Draw { options: PictureWords { ring: None, gap: None, profile: None, outline: Some(\"edge.gbr\") }, manifest: \"m.csv\" }",
     ),
     (
         "draw m.csv --gap 0.2 --outline=edge.gbr --ring 0.125",
-        "Draw { ring: Some(\"0.125\"), gap: Some(\"0.2\"), profile: None, outline: Some(\"edge.gbr\"), manifest: \"m.csv\" }",
+        "Draw { options: PictureWords { ring: Some(\"0.125\"), gap: Some(\"0.2\"), profile: None, outline: Some(\"edge.gbr\") }, manifest: \"m.csv\" }",
     ),
     (
         "draw --profile wide m.csv",
-        "Draw { ring: None, gap: None, profile: Some(\"wide\"), outline: None, manifest: \"m.csv\" }",
+        "Draw { options: PictureWords { ring: None, gap: None, profile: Some(\"wide\"), outline: None }, manifest: \"m.csv\" }",
     ),
     (
         "draw m.csv --gap 0.2 --profile=loose --ring 0.125",
-        "Draw { ring: Some(\"0.125\"), gap: Some(\"0.2\"), profile: Some(\"loose\"), outline: None, manifest: \"m.csv\" }",
+        "Draw { options: PictureWords { ring: Some(\"0.125\"), gap: Some(\"0.2\"), profile: Some(\"loose\"), outline: None }, manifest: \"m.csv\" }",
     ),
 ];
 
@@ -569,7 +569,7 @@ fn an_explanation_is_asked_for(rt: HostRuntime) {
 #[test]
 fn the_version_is_asked_for(rt: HostRuntime) {
     for &word in &["--version", "-V"] {
-        assert!(rt; tells(rt, word, Told::Version), "{word}");
+        assert!(rt; gives(rt, word, Answer::Version), "{word}");
     }
 }
 
