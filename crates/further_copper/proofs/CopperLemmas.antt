@@ -1,12 +1,12 @@
 -- What one more command changes of further copper.
-use Rattle.std.proofs.Common.{◌≡◌, ◌∙◌, ◌≤◌, ℕ, zero, suc, ◌+◌, ◌&&◌, ◌||◌, ◌⊎◌, inl, inr, Bool, true, false, not, map, nat_le, None, List, [], ◌∷◌, ◌++◌, Option, length, refl, sym, ap, subst, arith, append-nil, append_assoc}
+use Rattle.std.proofs.Common.{◌≡◌, ◌∙◌, ◌≤◌, ℕ, ℤ, suc, ◌+◌, ◌&&◌, ◌||◌, inl, inr, Bool, true, false, not, map, nat_le, None, Some, List, [], ◌∷◌, ◌++◌, Option, length, unwrap_or, refl, sym, ap, subst, arith, append-nil, append_assoc}
 use Rattle.std.specs.Prelude.{min, if◌then◌else◌}
-use Rattle.std.specs.List.{cons_option, filter_map, flat_map, sum_by}
-use Rattle.std.proofs.lemmas.Grind.{flat_map-append}
+use Rattle.std.specs.List.{cons_option, filter_map, sum_by}
 use Rattle.std.proofs.lemmas.List.Elements.{filter_map-append}
 use Rattle.std.proofs.lemmas.List.Sums.{sum_by_push}
 use Rattle.grid_units.specs.Lists.{with_prefixes}
 use Rattle.grid_units.proofs.LookbackLemmas.{last_or-more, with_prefixes-append}
+use Rattle.gerber_commands.specs.declared.command.Action.{Action}
 use Rattle.gerber_commands.specs.declared.command.Command.{Command}
 use Rattle.gerber_commands.specs.declared.command.Command.TheVariants as command
 use Rattle.gerber_text.specs.FastPath.{text_command}
@@ -20,22 +20,23 @@ use Rattle.layer_image.specs.declared.flash.Flash.{Flash}
 use Rattle.layer_image.specs.Flashes.{added_flashes}
 use Rattle.layer_image.specs.Lookback.{block_set, no_repeat, state_after}
 use Rattle.layer_image.specs.Drawn.{DrawState, draw_state_after, draw_unit, drawn_by, drawn_of}
-use Rattle.layer_image.specs.Inner.Pencils.{draw_state}
+use Rattle.layer_image.specs.Inner.Pencils.{after_command, draw_state}
 use Rattle.layer_image.proofs.DigitLemmas.{test_no, test_yes}
 use Rattle.layer_image.proofs.DrawnLemmas.{draw_state_after-more, drawn_of-more}
 use Rattle.further_copper.specs.declared.part.Part.{Part}
 use Rattle.further_copper.specs.Blocks.{block_after, copy_count, is_repeated}
-use Rattle.further_copper.specs.Clearing.{cleared, clears_all}
+use Rattle.further_copper.specs.Clearing.{clears_all, is_drawing}
 use Rattle.further_copper.specs.Placing.{no_mirroring, shapes_at}
 use Rattle.further_copper.specs.Contours.{contour_of, in_last_region, part_by, region_parts, starts_region}
 use Rattle.further_copper.specs.declared.copper.Copper.{Copper}
 use Rattle.further_copper.specs.declared.drawing.Drawing.{Drawing}
 use Rattle.further_copper.specs.FurtherPads.{CopperState, clears_in, contours_in, copper_state_after, ended_copies, ended_regions, has_room, max_regions, mirroring_set}
 use Rattle.further_copper.specs.declared.feature.Feature.{Feature}
-use Rattle.further_copper.specs.Features.{added_features, contour_feature, features_at, flash_feature}
-use Rattle.further_copper.specs.Holding.{HasMet}
+use Rattle.further_copper.specs.Features.{added_features, contour_feature, features_at, flash_feature, standing, taken_away}
+use Rattle.further_copper.specs.Holding.{HasMet, HasMetSince}
 use Rattle.further_copper.specs.Inner.States.{IsLike, MakeSameContour, after, capped, copper_state, parts_after, with_parts}
-use Rattle.further_copper.proofs.ClearingLemmas.{after_last-more, cleared-more, clearing_after-more}
+use Rattle.further_copper.proofs.ClearingLemmas.{after_last-more, clearing_after-more}
+use Rattle.further_copper.proofs.StandingLemmas.{features_of-more, few-more, standing-more}
 
 -- what a position adds to the last region
 abbrev part_at : List Command × Command → Option Part
@@ -85,27 +86,6 @@ contours_capped s c = refl
 
 added_capped : (s : CopperState) (flashes : List Flash) (c : Command) → added_features (capped s) flashes c ≡ added_features s flashes c
 added_capped s flashes c = ap (λ (pads : List GridRounded). map (flash_feature s) flashes ++ map contour_feature pads) (contours_capped s c)
-
--- what one more position gives
-flat_more : {A : Type 0} (gives : List Command × Command → List A) (before : List Command) (c : Command)
-    → flat_map gives (with_prefixes before ++ (before, c) ∷ []) ≡ flat_map gives (with_prefixes before) ++ gives (before, c)
-flat_more {A} gives before c = flat_map-append gives (with_prefixes before) ((before, c) ∷ []) ∙ ap (λ (l : List A). flat_map gives (with_prefixes before) ++ l) (append-nil (gives (before, c)))
-
--- a list of positions with one more
-flat_all-more : {A : Type 0} (gives : List Command × Command → List A) (before : List Command) (c : Command)
-    → flat_map gives (with_prefixes (before ++ c ∷ [])) ≡ flat_map gives (with_prefixes before) ++ gives (before, c)
-flat_all-more gives before c = ap (flat_map gives) (with_prefixes-append before (c ∷ [])) ∙ flat_more gives before c
-
--- how many are taken away with one more command
-cleared_count-more : (before : List Command) (c : Command)
-    → length (flat_map features_at (cleared (before ++ c ∷ [])))
-    ≡ (if clears_all (before, c) then length (flat_map features_at (with_prefixes before) ++ features_at (before, c)) else length (flat_map features_at (cleared before)))
-cleared_count-more before c = ap (λ (l : List (List Command × Command)). length (flat_map features_at l)) (cleared-more before c) ∙ by (clears_all (before, c))
-  where
-    by : (b : Bool) → length (flat_map features_at (if b then with_prefixes before ++ (before, c) ∷ [] else cleared before))
-        ≡ (if b then length (flat_map features_at (with_prefixes before) ++ features_at (before, c)) else length (flat_map features_at (cleared before)))
-    by true = ap length (flat_more features_at before c)
-    by false = refl
 
 -- ---- a state that stands for another
 
@@ -169,7 +149,7 @@ pub record IsAdded (old : Copper) (c : Command) (own : List Flash) (added : Copp
 
 -- all of them were taken away where the command does
 pub record IsMarked (old : Copper) (c : Command) (marked : Copper) : Type 0 where
-  pub cleared : marked.cleared ≡ (if clears_in (copper_state old) c then length old.features.items else old.cleared)
+  pub cleared : marked.cleared ≡ (if clears_in (copper_state old) c then Some (length old.features.items) else old.cleared)
   pub features : marked.features.items ≡ old.features.items
   pub state : copper_state marked ≡ copper_state old
   pub drawing : marked.drawing ≡ old.drawing
@@ -191,34 +171,117 @@ drawn-more draws asked commands c s parts same state are = (λ i. are i ++ (if s
     by false = refl
 
 -- these commands and one more were met
-pub met_more : (draws : Bool) (old drawn added marked new : Copper) (own : List Flash) (commands : List Command) (c : Command)
-    → HasMet draws old commands → own ≡ added_flashes (state_after commands) c → IsDrawn old c drawn → IsAdded drawn c own added → IsMarked added c marked → IsAdvanced marked c new → HasMet draws new (commands ++ c ∷ [])
-met_more draws old drawn added marked new own commands c met own_is is_drawn is_added is_marked advanced =
+pub met_more : (draws : Bool) (given : List Feature) (old drawn added marked new : Copper) (own : List Flash) (commands : List Command) (c : Command)
+    → HasMetSince draws given old commands → own ≡ added_flashes (state_after commands) c → IsDrawn old c drawn → IsAdded drawn c own added → IsMarked added c marked → IsAdvanced marked c new → HasMetSince draws given new (commands ++ c ∷ [])
+met_more draws given old drawn added marked new own commands c met own_is is_drawn is_added is_marked advanced =
     let then_state : CopperState = copper_state_after commands in
+    let held : List Feature = old.features.items in
+    let more : List Feature = features_at (commands, c) in
     let added_state : copper_state added ≡ copper_state old = is_added.state ∙ is_drawn.state in
-    let features : added.features.items ≡ flat_map features_at (with_prefixes commands) ++ features_at (commands, c) =
-    is_added.features ∙ (λ i. (is_drawn.features ∙ met.features) i ++ added_features (is_drawn.state i) (own_is i) c)
-    ∙ ap (λ (l : List Feature). flat_map features_at (with_prefixes commands) ++ l)
+    let features : added.features.items ≡ held ++ more =
+    is_added.features ∙ (λ i. is_drawn.features i ++ added_features (is_drawn.state i) (own_is i) c)
+    ∙ ap (λ (l : List Feature). held ++ l)
     (added_like (copper_state old) (capped then_state) (added_flashes (state_after commands) c) c met.state ∙ added_capped then_state (added_flashes (state_after commands) c) c) in
     let clears : clears_in (copper_state added) c ≡ clears_all (commands, c) = ap (λ (s : CopperState). clears_in s c) added_state ∙ clears_like (copper_state old) (capped then_state) c met.state in
     let state : IsLike (after c (copper_state marked)) (capped (copper_state_after (commands ++ c ∷ []))) =
     subst (λ (s : CopperState). IsLike (after c s) (capped (copper_state_after (commands ++ c ∷ [])))) (sym (is_marked.state ∙ added_state))
     (subst (IsLike (after c (copper_state old))) (sym (copper_state_after-more commands c)) (after_like c (copper_state old) (capped then_state) met.state)) in
+    let now_held : new.features.items ≡ held ++ more = advanced.features ∙ is_marked.features ∙ features in
+    let now_cleared : new.cleared ≡ (if clears_all (commands, c) then Some (length (held ++ more)) else old.cleared) =
+    advanced.cleared ∙ is_marked.cleared ∙ (λ i. if clears i then Some (length (features i)) else (is_added.cleared ∙ is_drawn.cleared) i) in
     record {
       state = like_like (copper_state new) (after c (copper_state marked)) (capped (copper_state_after (commands ++ c ∷ []))) advanced.state state;
-      features = advanced.features ∙ is_marked.features ∙ features ∙ sym (flat_all-more features_at commands c);
-      cleared = advanced.cleared ∙ is_marked.cleared
-          ∙ (λ i. if clears i then length (features i) else (is_added.cleared ∙ is_drawn.cleared ∙ met.cleared) i)
-          ∙ sym (cleared_count-more commands c);
+      features = (λ i. standing (now_cleared i) given (now_held i)) ∙ standing-more (clears_all (commands, c)) given old.cleared held more met.few
+          ∙ ap (λ (l : List Feature). if clears_all (commands, c) then filter_map taken_away (l ++ more) else l ++ more) met.features ∙ sym (features_of-more commands c);
+      few = subst (λ (l : List Feature). unwrap_or new.cleared 0 ≤ length l) (sym now_held) (subst (λ (k : Option ℕ). unwrap_or k 0 ≤ length (held ++ more)) (sym now_cleared) (few-more (clears_all (commands, c)) old.cleared held more met.few));
       asked = ap (λ (d : Drawing). d.asked) (advanced.drawing ∙ is_marked.drawing ∙ is_added.drawing) ∙ is_drawn.asked ∙ met.asked;
       drawn = ap (λ (d : Drawing). d.parts.items) (advanced.drawing ∙ is_marked.drawing ∙ is_added.drawing) ∙ is_drawn.parts
           ∙ drawn-more draws old.drawing.asked commands c (draw_state old.pencil) old.drawing.parts.items met.asked (ap (λ (s : CopperState). s.draw) met.state.rest) met.drawn;
     }
 
--- ---- a comment or an attribute
+-- ---- an operation that draws nothing and takes nothing away
+
+-- the flashes of an operation were added
+pub record IsFlashed (old : Copper) (own : List Flash) (added : Copper) : Type 0 where
+  pub features : added.features.items ≡ old.features.items ++ map (flash_feature (copper_state old)) own
+  pub state : copper_state added ≡ copper_state old
+  pub cleared : added.cleared ≡ old.cleared
+  pub drawing : added.drawing ≡ old.drawing
+
+-- the region and the pencil have gone on with an operation
+pub record IsMovedOn (added : Copper) (c : Command) (new : Copper) : Type 0 where
+  pub draw : draw_state new.pencil ≡ after_command c (draw_state added.pencil)
+  pub parts : MakeSameContour new.parts.items (added.parts.items ++ cons_option (part_by (draw_state added.pencil) c) [])
+  pub mirroring : new.mirroring ≡ added.mirroring
+  pub block : new.block ≡ added.block
+  pub regions : new.regions ≡ added.regions
+  pub clearing : new.clearing ≡ added.clearing
+  pub features : new.features.items ≡ added.features.items
+  pub cleared : new.cleared ≡ added.cleared
+  pub drawing : new.drawing ≡ added.drawing
 
 regions_stay : (r s : ℕ) → r ≡ min s (suc max_regions) → r ≡ min (r + 0) (suc max_regions)
 regions_stay r s h = omega (arith, h)
+
+no_clearing : (b d : Bool) → ((b && false) || (d && false)) ≡ false
+no_clearing true true = refl
+no_clearing true false = refl
+no_clearing false true = refl
+no_clearing false false = refl
+
+still_dark : (b : Bool) → false ≡ ((b && false) || false)
+still_dark true = refl
+still_dark false = refl
+
+-- an operation is no start of a region, so its part is added
+operation_stays : (added new : Copper) (a : Action) (x y i j : Option ℤ) → added.clearing.clear ≡ false → added.clearing.in_block ≡ false → added.regions ≡ min (added.regions + 0) (suc max_regions)
+    → IsMovedOn added (command.Operate a x y i j) new → IsLike (copper_state new) (after (command.Operate a x y i j) (copper_state added))
+operation_stays added new a x y i j dark fresh regions moved = record {
+  rest = λ k. record {
+    draw = moved.draw k;
+    mirroring = moved.mirroring k;
+    block = moved.block k;
+    parts = added.parts.items ++ cons_option (part_by (draw_state added.pencil) (command.Operate a x y i j)) [];
+    regions = (moved.regions ∙ regions) k;
+    clearing = (moved.clearing ∙ (λ l. record { clear = added.clearing.clear; in_block = (fresh ∙ still_dark (is_drawing a) ∙ (λ m. (is_drawing a && sym dark m) || sym fresh m)) l })) k;
+  };
+  parts = moved.parts;
+}
+
+-- these commands and an operation were met
+pub operation_more : (draws : Bool) (given : List Feature) (old added new : Copper) (own : List Flash) (commands : List Command) (a : Action) (x y i j : Option ℤ)
+    → old.drawing.asked ≡ false → old.clearing.clear ≡ false → old.clearing.in_block ≡ false
+    → HasMetSince draws given old commands → own ≡ added_flashes (state_after commands) (command.Operate a x y i j) → IsFlashed old own added → IsMovedOn added (command.Operate a x y i j) new
+    → HasMetSince draws given new (commands ++ command.Operate a x y i j ∷ [])
+operation_more draws given old added new own commands a x y i j idle dark fresh met own_is flashed moved =
+    let c = command.Operate a x y i j in
+    let now_dark : added.clearing.clear ≡ false = ap (λ (s : CopperState). s.clearing.clear) flashed.state ∙ dark in
+    let now_fresh : added.clearing.in_block ≡ false = ap (λ (s : CopperState). s.clearing.in_block) flashed.state ∙ fresh in
+    let regions : added.regions ≡ min (ended_regions commands) (suc max_regions) = ap (λ (s : CopperState). s.regions) flashed.state ∙ ap (λ (s : CopperState). s.regions) met.state.rest in
+    met_more draws given old old added added new own commands c met own_is (record {
+      parts = sym (append-nil old.drawing.parts.items) ∙ ap (λ (b : Bool). old.drawing.parts.items ++ (if b then cons_option (drawn_by (draw_state old.pencil) c) [] else [])) (sym idle);
+      asked = refl;
+      state = refl;
+      features = refl;
+      cleared = refl;
+    }) (record {
+      features = flashed.features ∙ ap (λ (l : List Feature). old.features.items ++ l) (sym (append-nil (map (flash_feature (copper_state old)) own)));
+      state = flashed.state;
+      cleared = flashed.cleared;
+      drawing = flashed.drawing;
+    }) (record {
+      cleared = ap (λ (b : Bool). if b then Some (length added.features.items) else added.cleared) (sym ((λ k. (is_drawing a && now_dark k) || (is_repeated added.block && now_fresh k)) ∙ no_clearing (is_drawing a) (is_repeated added.block)));
+      features = refl;
+      state = refl;
+      drawing = refl;
+    }) (record {
+      state = operation_stays added new a x y i j now_dark now_fresh (regions_stay added.regions (ended_regions commands) regions) moved;
+      features = moved.features;
+      cleared = moved.cleared;
+      drawing = moved.drawing;
+    })
+
+-- ---- a comment or an attribute
 
 -- a command that makes no flash, draws nothing, adds no contour and changes no state
 record IsIdle (c : Command) : Type 0 where
@@ -257,7 +320,7 @@ text_idle kinds.Remove text = record {
 
 -- what another copy of the open block takes away was taken away
 pub record IsMarkedByCopies (old marked : Copper) : Type 0 where
-  pub cleared : marked.cleared ≡ (if is_repeated old.block && old.clearing.in_block then length old.features.items else old.cleared)
+  pub cleared : marked.cleared ≡ (if is_repeated old.block && old.clearing.in_block then Some (length old.features.items) else old.cleared)
   pub features : marked.features.items ≡ old.features.items
   pub state : copper_state marked ≡ copper_state old
   pub drawing : marked.drawing ≡ old.drawing
@@ -274,13 +337,13 @@ nothing_drawn asked parts o h = sym (append-nil parts) ∙ ap (λ (l : List Draw
     by false = refl
 
 -- these commands and a comment or an attribute were met
-pub text_more : (draws : Bool) (old marked : Copper) (commands : List Command) (kind : TextKind) (text : List ℕ) → HasMet draws old commands → IsMarkedByCopies old marked → HasMet draws marked (commands ++ text_command kind text ∷ [])
-text_more draws old marked commands kind text met is_marked =
+pub text_more : (draws : Bool) (given : List Feature) (old marked : Copper) (commands : List Command) (kind : TextKind) (text : List ℕ) → HasMetSince draws given old commands → IsMarkedByCopies old marked → HasMetSince draws given marked (commands ++ text_command kind text ∷ [])
+text_more draws given old marked commands kind text met is_marked =
     let c = text_command kind text in
     let idle = text_idle kind text in
     let s = copper_state old in
     let regions : marked.regions ≡ min (ended_regions commands) (suc max_regions) = ap (λ (t : CopperState). t.regions) (is_marked.state) ∙ ap (λ (t : CopperState). t.regions) met.state.rest in
-    met_more draws old old old marked marked [] commands c met (idle.flashes commands) (record {
+    met_more draws given old old old marked marked [] commands c met (idle.flashes commands) (record {
       parts = nothing_drawn old.drawing.asked old.drawing.parts.items (drawn_by (draw_state old.pencil) c) (idle.draws (draw_state old.pencil));
       asked = refl;
       state = refl;
@@ -292,7 +355,7 @@ text_more draws old marked commands kind text met is_marked =
       cleared = refl;
       drawing = refl;
     }) (record {
-      cleared = is_marked.cleared ∙ ap (λ (b : Bool). if b then length old.features.items else old.cleared) (sym (idle.clears s));
+      cleared = is_marked.cleared ∙ ap (λ (b : Bool). if b then Some (length old.features.items) else old.cleared) (sym (idle.clears s));
       features = is_marked.features;
       state = is_marked.state;
       drawing = is_marked.drawing;
@@ -304,11 +367,11 @@ text_more draws old marked commands kind text met is_marked =
     })
 
 -- no command was met
-pub none_met : (draws : Bool) (copper : Copper) → copper_state copper ≡ capped (copper_state_after []) → copper.features.items ≡ [] → copper.cleared ≡ 0 → copper.drawing.asked ≡ draws → copper.drawing.parts.items ≡ [] → HasMet draws copper []
+pub none_met : (draws : Bool) (copper : Copper) → copper_state copper ≡ capped (copper_state_after []) → copper.features.items ≡ [] → copper.cleared ≡ None → copper.drawing.asked ≡ draws → copper.drawing.parts.items ≡ [] → HasMet draws copper []
 none_met draws copper state features cleared asked parts = record {
   state = subst (λ (s : CopperState). IsLike s (capped (copper_state_after []))) (sym state) (like_itself (capped (copper_state_after [])));
-  features = features;
-  cleared = cleared;
+  features = λ i. standing (cleared i) [] (features i);
+  few = omega (arith, ap (λ (k : Option ℕ). unwrap_or k 0) cleared);
   asked = asked;
   drawn = parts ∙ by draws;
 }

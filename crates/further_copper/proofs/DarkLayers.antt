@@ -1,5 +1,5 @@
 -- A layer without clear polarity has all of its flashes and contours.
-use Rattle.std.proofs.Common.{◌≡◌, ◌++◌, Bool, false, List}
+use Rattle.std.proofs.Common.{◌≡◌, ◌++◌, false, List}
 use Rattle.std.specs.List.{filter_map, flat_map, list_any}
 use Rattle.grid_units.specs.Lists.{with_prefixes}
 use Rattle.gerber_commands.specs.declared.command.Command.{Command}

@@ -1,8 +1,9 @@
 -- Parts that make no contour, whatever parts follow them.
-use Rattle.std.proofs.Common.{◌≡◌, ◌∙◌, ℕ, suc, ◌+◌, Bool, true, false, ◌&&◌, List, [], ◌∷◌, ◌++◌, drop, length, reverse, take, Option, None, Some, refl, sym, ap, arith, append-nil, append_assoc}
+use Rattle.std.proofs.Common.{◌≡◌, ◌∙◌, ℕ, suc, ◌+◌, Bool, true, false, ◌&&◌, inl, inr, List, [], ◌∷◌, ◌++◌, drop, length, reverse, take, Option, None, Some, refl, sym, ap, arith, append-nil, append_assoc}
 use Rattle.std.specs.Prelude.{if◌then◌else◌, nat_lt, option_and_then, option_map}
 use Rattle.std.specs.Option.{option_map_or, option_or}
 use Rattle.std.specs.List.{cons_option, list_all, list_any}
+use Rattle.std.proofs.lemmas.Bool.{or_cases}
 use Rattle.std.proofs.lemmas.Option.{none-some}
 use Rattle.grid_units.specs.Points.{GridPoint}
 use Rattle.pad_shapes.specs.Rounded.{GridRounded}
@@ -12,10 +13,12 @@ use Rattle.gerber_commands.specs.declared.command.Command.{Command}
 use Rattle.layer_image.specs.Drawn.{DrawState}
 use Rattle.further_copper.specs.declared.part.Part.{Part}
 use Rattle.further_copper.specs.declared.part.Part.TheVariants as part
-use Rattle.further_copper.specs.Contours.{after_moves, contour_of, ends_of, is_clockwise, is_counterclockwise, is_move, leading_sides, part_by, points_of, polygon_by, polygon_of_sides, starts_region}
-use Rattle.further_copper.specs.Inner.Forgetting.{has_many_corners, has_many_ends, is_over}
+use Rattle.further_copper.specs.Contours.{contour_of, ends_of, is_clockwise, is_counterclockwise, is_move, leading_sides, part_by, points_of, polygon_by, polygon_of_sides, starts_region}
+use Rattle.further_copper.specs.Inner.Forgetting.{is_over, starts_no_pad, starts_no_polygon}
 use Rattle.further_copper.specs.Inner.States.{MakeSameContour, parts_after}
+use Rattle.further_copper.specs.Inner.Turns.{turns_both_ways}
 use Rattle.further_copper.proofs.PointsLemmas.{some_is}
+use Rattle.further_copper.proofs.TurnsLemmas.{none_round_both}
 
 -- parts of which the first is no move make no contour
 over : (parts more : List Part) → is_over parts ≡ true → contour_of (parts ++ more) ≡ None
@@ -28,7 +31,7 @@ over (part.Other ∷ ps) more h = refl
 pub over_stays : (parts further : List Part) → is_over parts ≡ true → MakeSameContour parts (parts ++ further)
 over_stays parts further h = λ more. over parts more h ∙ sym (ap contour_of (append_assoc parts further more) ∙ over parts (further ++ more) h)
 
--- ---- the sides of a contour with too many corners
+-- ---- the sides of a contour that is none
 
 mapped_some : {X Y : Type 0} (f : X → Y) (o : Option X) (y : Y) → option_map f o ≡ Some y → (x : X) × (o ≡ Some x) × (f x ≡ y)
 mapped_some f None y e = absurd (none-some y e)
@@ -68,13 +71,19 @@ ends_with (part.Side from to bent ∷ ps) more ends h =
 abbrev none_round : Option GridRounded
 none_round = None
 
--- no polygon goes round a run with too many stops that goes on, either way
-neither_way : (sides : List Part) (run rest : List GridPoint) → nat_lt 256 (length (stops run)) ≡ true → polygon_by sides (run ++ rest) ≡ None
+-- no polygon goes round a run that goes on from one that starts none, either way
+neither_there : (run rest : List GridPoint) → starts_no_polygon run ≡ true → (polygon_round (run ++ rest) ≡ None) × (polygon_round (reverse (run ++ rest)) ≡ None)
+neither_there run rest h = elim (or_cases (nat_lt 256 (length (stops run))) (turns_both_ways run) h) [
+  | inl many ↦
+      let long = many_stops_longer run rest many in
+      (none_round_many (run ++ rest) long, none_round_many (reverse (run ++ rest)) (many_stops_back (run ++ rest) long))
+  | inr both ↦ none_round_both run rest both
+]
+
+neither_way : (sides : List Part) (run rest : List GridPoint) → starts_no_polygon run ≡ true → polygon_by sides (run ++ rest) ≡ None
 neither_way sides run rest h =
-    let long = many_stops_longer run rest h in
-    let there : polygon_round (run ++ rest) ≡ None = none_round_many (run ++ rest) long in
-    let back : polygon_round (reverse (run ++ rest)) ≡ None = none_round_many (reverse (run ++ rest)) (many_stops_back (run ++ rest) long) in
-    (λ i. option_or (if list_any is_clockwise sides then None else there i) (if list_any is_counterclockwise sides then None else back i)) ∙ by (list_any is_clockwise sides) (list_any is_counterclockwise sides)
+    let none = neither_there run rest h in
+    (λ i. option_or (if list_any is_clockwise sides then None else none.0 i) (if list_any is_counterclockwise sides then None else none.1 i)) ∙ by (list_any is_clockwise sides) (list_any is_counterclockwise sides)
   where
     by : (b d : Bool) → option_or (if b then none_round else none_round) (if d then none_round else none_round) ≡ none_round
     by true true = refl
@@ -82,8 +91,8 @@ neither_way sides run rest h =
     by false true = refl
     by false false = refl
 
--- sides with too many ends that go on
-no_polygon : (sides further : List Part) (run : List GridPoint) → points_of sides ≡ Some run → nat_lt 256 (length (stops run)) ≡ true → polygon_of_sides (sides ++ further) ≡ None
+-- such sides that go on
+no_polygon : (sides further : List Part) (run : List GridPoint) → points_of sides ≡ Some run → starts_no_polygon run ≡ true → polygon_of_sides (sides ++ further) ≡ None
 no_polygon [] further run e h = absurd (none-some run e)
 no_polygon (part.Move ∷ ps) further run e h = absurd (none-some run e)
 no_polygon (part.Other ∷ ps) further run e h = absurd (none-some run e)
@@ -99,7 +108,7 @@ no_polygon (part.Side from to bent ∷ ps) further run e h =
     by all (Some rest) = neither_way all run rest h
 
 -- a move and such sides make no contour, whatever follows
-no_contour : (sides more : List Part) (run : List GridPoint) → points_of sides ≡ Some run → nat_lt 256 (length (stops run)) ≡ true → contour_of (part.Move ∷ (sides ++ more)) ≡ None
+no_contour : (sides more : List Part) (run : List GridPoint) → points_of sides ≡ Some run → starts_no_polygon run ≡ true → contour_of (part.Move ∷ (sides ++ more)) ≡ None
 no_contour [] more run e h = absurd (none-some run e)
 no_contour (part.Move ∷ ps) more run e h = absurd (none-some run e)
 no_contour (part.Other ∷ ps) more run e h = absurd (none-some run e)
@@ -112,19 +121,19 @@ no_contour (part.Side from to bent ∷ ps) more run e h =
     by true firsts = ap polygon_of_sides firsts ∙ no_polygon (part.Side from to bent ∷ ps) (take (leading_sides more) more) run e h
     by false firsts = refl
 
-many_corners : (parts more : List Part) → has_many_corners parts ≡ true → contour_of (parts ++ more) ≡ None
-many_corners [] more h = absurd cc
-many_corners (part.Side from to bent ∷ ps) more h = absurd cc
-many_corners (part.Other ∷ ps) more h = absurd cc
-many_corners (part.Move ∷ ps) more h = by (points_of ps) refl h
+none_starts : (parts more : List Part) → starts_no_pad parts ≡ true → contour_of (parts ++ more) ≡ None
+none_starts [] more h = absurd cc
+none_starts (part.Side from to bent ∷ ps) more h = absurd cc
+none_starts (part.Other ∷ ps) more h = absurd cc
+none_starts (part.Move ∷ ps) more h = by (points_of ps) refl h
   where
-    by : (o : Option (List GridPoint)) → points_of ps ≡ o → option_map_or (λ points. nat_lt 256 (length (stops points))) o false ≡ true → contour_of (part.Move ∷ (ps ++ more)) ≡ None
+    by : (o : Option (List GridPoint)) → points_of ps ≡ o → option_map_or starts_no_polygon o false ≡ true → contour_of (part.Move ∷ (ps ++ more)) ≡ None
     by None e k = absurd cc
     by (Some run) e k = no_contour ps more run e k
 
 -- so one part that makes no contour stands for them
-pub forgotten : (parts : List Part) → has_many_corners parts ≡ true → MakeSameContour (part.Other ∷ []) parts
-forgotten parts h = λ more. sym (many_corners parts more h)
+pub forgotten : (parts : List Part) → starts_no_pad parts ≡ true → MakeSameContour (part.Other ∷ []) parts
+forgotten parts h = λ more. sym (none_starts parts more h)
 
 pub kept_all : (parts : List Part) → MakeSameContour parts parts
 kept_all parts = λ more. refl

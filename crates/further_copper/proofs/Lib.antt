@@ -1,9 +1,12 @@
 pub mod ClearingLemmas
+pub mod StandingLemmas
 pub mod CopperLemmas
 pub mod UnclearedPositions
 pub mod PointsLemmas
 pub mod CopiesLemmas
 pub mod ContourLemmas
+pub mod ShortRuns
+pub mod TurnsLemmas
 pub mod ForgettingLemmas
 pub mod OrientLemmas
 pub mod OwnFlashes

@@ -1,5 +1,5 @@
 -- The flashes and contours of a layer that is read in the wide profile, in the order of its text (docs/FORMATS.md, Further copper).
-use Rattle.std.specs.Prelude.{Bool, true, false, List, ◌++◌, map, Option, None, Some, option_map, is_none, if◌then◌else◌}
+use Rattle.std.specs.Prelude.{Bool, true, false, ℕ, List, ◌++◌, drop, map, take, Option, None, Some, option_map, is_none, if◌then◌else◌}
 use Rattle.std.specs.Option.{option_map_or}
 use Rattle.std.specs.List.{filter_map, flat_map}
 use Rattle.grid_units.specs.Points.{GridPoint}
@@ -66,6 +66,12 @@ taken_away f = option_map (λ k. record { at = f.at; what = k }) (taken_kind f.w
 -- the flashes and contours of a list of commands, in order: what is left of those that clear polarity takes away, then those that count
 abbrev pub features_of : List Command → List Feature
 features_of commands = filter_map taken_away (flat_map features_at (cleared commands)) ++ flat_map features_at (uncleared commands)
+
+-- What stands of some flashes and contours with those that come after them: as they are, or with all up to so many of the later ones taken
+-- away.
+abbrev pub standing : Option ℕ → List Feature → List Feature → List Feature
+standing None first later = first ++ later
+standing (Some count) first later = filter_map taken_away (first ++ take count later) ++ drop count later
 
 -- ---- the pads among them
 

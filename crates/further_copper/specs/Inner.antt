@@ -1,2 +1,3 @@
 pub mod Forgetting
 pub mod States
+pub mod Turns

@@ -1,6 +1,6 @@
 //! The flashes and contours of a layer, command by command.
 
-ghost use Rattle.std.specs.Prelude.{◌≡◌, ◌++◌, ◌∷◌, ◌&&◌, ◌≤◌, [], ℕ, Bool, List, OnOk, IfOk, min, suc, true, ◌+◌, drop, length, map, take, unwrap_or, option_and_then, if◌then◌else◌};
+ghost use Rattle.std.specs.Prelude.{◌≡◌, ◌++◌, ◌∷◌, ◌&&◌, ◌≤◌, [], ℕ, Bool, List, OnOk, IfOk, Some, false, min, suc, true, ◌+◌, drop, length, map, take, unwrap_or, option_and_then, if◌then◌else◌};
 ghost use Rattle.std.specs.Option.{option_copied};
 ghost use Rattle.std.specs.List.{cons_option, filter_map};
 ghost use Rattle.pad_shapes.specs.Placed.{shape_at};
@@ -15,7 +15,8 @@ ghost use Rattle.layer_image.specs.Inner.Pencils.{draw_state};
 ghost use Rattle.further_copper.specs.Blocks.{copy_count, is_repeated};
 ghost use Rattle.further_copper.specs.FurtherPads.{CopperState, clears_in, contour_by, contours_in, ended_copies, flash_shape, has_room, macro_shape, macro_why, max_regions, mirroring_set, region_contour, why_of_shape};
 ghost use Rattle.further_copper.specs.Features.{added_features, contour_feature, dark_kind, features_of, flash_feature, taken_away, why_in};
-ghost use Rattle.further_copper.specs.Inner.States.{IsLike, after, copper_state};
+ghost use Rattle.further_copper.specs.declared.feature.Feature.{Feature as TheFeature};
+ghost use Rattle.further_copper.specs.Inner.States.{IsLike, after, command_of, copper_state};
 
 use crate::clearing::Clearing;
 use crate::contour::contour_of;
@@ -23,8 +24,9 @@ use crate::copies::{lay, no_repeat};
 use crate::drawing::Drawing;
 use crate::feature::{Feature, FeatureKind};
 use crate::mirroring::{Mirroring, oriented, quarter_turns};
-use crate::part::{Part, add_parts};
-use gerber_text::{Command, Interpolation, StepRepeat};
+use crate::next_features::NextFeatures;
+use crate::part::{Part, add_operation, add_parts};
+use gerber_text::{Command, Interpolation, LeadingOperation, StepRepeat};
 use grid_units::Point;
 use layer_image::{Drawn, Flash, Pencil, What, Why};
 use pad_shapes::{PlacedRounded, SharedRounded};
@@ -37,8 +39,8 @@ const ONE: i64 = 100_000_000;
 /// The most regions of a layer whose contours count as pads, each copy counted.
 const MAX_REGIONS: u64 = 4_194_304;
 
-/// The flashes and contours of the commands so far, whatever clear polarity takes away of them, and what these commands draw, where that is
-/// asked for. It keeps the shapes and macros that the commands define, and the operations of the last region, and no command.
+/// The flashes and contours of the commands so far that were not taken out, whatever clear polarity takes away of them, and what these commands
+/// draw, where that is asked for. It keeps the shapes and macros that the commands define, and the operations of the last region, and no command.
 #[derive(Drop)]
 pub struct Copper {
     alloc: Global,
@@ -49,13 +51,14 @@ pub struct Copper {
     regions: u64,
     clearing: Clearing,
     features: Vec<Feature>,
-    /// How many of the flashes and contours stood there when the last ones were taken away.
-    cleared: usize,
+    /// How many of these flashes and contours clear polarity took away, if it took away any since they were last taken out: then all before
+    /// them too.
+    cleared: Option<usize>,
     drawing: Drawing,
 }
 
 impl Copper {
-    ghost use Rattle.further_copper.specs.Holding.{HasMet};
+    ghost use Rattle.further_copper.specs.Holding.{HasMet, HasMetSince, with_next};
 
     /// No command was met. What is drawn is kept where `draws` says so.
     pub fn new(alloc: Global, draws: bool) -> Copper
@@ -77,7 +80,7 @@ impl Copper {
             regions: 0,
             clearing,
             features,
-            cleared: 0,
+            cleared: None,
             drawing,
         }
     }
@@ -88,7 +91,7 @@ impl Copper {
     ///
     /// An `AllocError` where there is no memory for them.
     pub fn take(&mut self, command: &Command, flashes: &[Flash]) -> Result<(), AllocError>
-        ensures { (draws : Bool) (commands : List TheCommand) → HasMet draws self.old commands → flashes.now ≡ added_flashes (state_after commands) command.now → OnOk result (HasMet draws self.new (commands ++ command.now ∷ [])) }
+        ensures { (draws : Bool) (given : List TheFeature) (commands : List TheCommand) → HasMetSince draws given self.old commands → flashes.now ≡ added_flashes (state_after commands) command.now → OnOk result (HasMetSince draws given self.new (commands ++ command.now ∷ [])) }
     {
         self.draw(command)?;
         self.add(command, flashes)?;
@@ -103,7 +106,7 @@ impl Copper {
     ///
     /// An `AllocError`, which does not come.
     pub fn take_mode(&mut self, mode: Option<Interpolation>) -> Result<(), AllocError>
-        ensures { (draws : Bool) (commands : List TheCommand) → HasMet draws self.old commands → OnOk result (HasMet draws self.new (commands ++ modes_of mode)) }
+        ensures { (draws : Bool) (given : List TheFeature) (commands : List TheCommand) → HasMetSince draws given self.old commands → OnOk result (HasMetSince draws given self.new (commands ++ modes_of mode)) }
     {
         match mode {
             Some(mode) => self.take(&Command::Mode(mode), &[]),
@@ -111,9 +114,64 @@ impl Copper {
         }
     }
 
+    /// Takes in an operation and the interpolation before it, if there is one, as [`Copper::take`] takes in their commands. The flashes are
+    /// those of the operation.
+    ///
+    /// # Errors
+    ///
+    /// An `AllocError` where there is no memory for them.
+    pub fn operate(
+        &mut self,
+        operation: &LeadingOperation,
+        flashes: &[Flash],
+    ) -> Result<(), AllocError>
+        ensures { (draws : Bool) (given : List TheFeature) (commands : List TheCommand) → HasMetSince draws given self.old commands → flashes.now ≡ added_flashes (state_after (commands ++ modes_of operation.now.mode)) (command_of operation.now) → OnOk result (HasMetSince draws given self.new ((commands ++ modes_of operation.now.mode) ++ command_of operation.now ∷ [])) }
+    {
+        self.take_mode(operation.mode)?;
+        if self.is_plain() {
+            return self.add_operation(operation, flashes);
+        }
+        let LeadingOperation {
+            action,
+            x,
+            y,
+            i,
+            j,
+            ..
+        } = *operation;
+        self.take(&Command::Operate { action, x, y, i, j }, flashes)
+    }
+
+    /// Whether nothing is to be drawn, polarity is dark, and nothing of the open block was drawn in clear polarity. So it is with most
+    /// operations.
+    fn is_plain(&self) -> bool
+        ensures asked { result ≡ true → self.now.drawing.asked ≡ false }
+        ensures clear { result ≡ true → self.now.clearing.clear ≡ false }
+        ensures in_block { result ≡ true → self.now.clearing.in_block ≡ false }
+    {
+        !self.drawing.asked && !self.clearing.clear && !self.clearing.in_block
+    }
+
+    /// Takes in an operation that draws nothing and takes nothing away.
+    fn add_operation(
+        &mut self,
+        operation: &LeadingOperation,
+        flashes: &[Flash],
+    ) -> Result<(), AllocError>
+        requires asked { self.old.drawing.asked ≡ false }
+        requires clear { self.old.clearing.clear ≡ false }
+        requires in_block { self.old.clearing.in_block ≡ false }
+        ensures { (draws : Bool) (given : List TheFeature) (commands : List TheCommand) → HasMetSince draws given self.old commands → flashes.now ≡ added_flashes (state_after commands) (command_of operation.now) → OnOk result (HasMetSince draws given self.new (commands ++ command_of operation.now ∷ [])) }
+    {
+        self.add_flashes(flashes)?;
+        add_operation(self.alloc, &mut self.parts, &self.pencil, operation)?;
+        self.pencil.set_point(operation.x.get(), operation.y.get());
+        Ok(())
+    }
+
     /// Takes in a comment or an attribute, whatever its text.
     pub fn take_text(&mut self)
-        ensures { (draws : Bool) (commands : List TheCommand) (kind : TheKind) (text : List ℕ) → HasMet draws self.old commands → HasMet draws self.new (commands ++ text_command kind text ∷ []) }
+        ensures { (draws : Bool) (given : List TheFeature) (commands : List TheCommand) (kind : TheKind) (text : List ℕ) → HasMetSince draws given self.old commands → HasMetSince draws given self.new (commands ++ text_command kind text ∷ []) }
     {
         self.clear_by_copies();
     }
@@ -131,14 +189,14 @@ impl Copper {
 
     /// Takes away all flashes and contours where another copy of the open block does.
     fn clear_by_copies(&mut self)
-        ensures cleared { self.new.cleared ≡ (if is_repeated self.old.block && self.old.clearing.in_block then length self.old.features.items else self.old.cleared) }
+        ensures cleared { self.new.cleared ≡ (if is_repeated self.old.block && self.old.clearing.in_block then Some (length self.old.features.items) else self.old.cleared) }
         ensures features { self.new.features.items ≡ self.old.features.items }
         ensures state { copper_state self.new ≡ copper_state self.old }
         ensures drawing { self.new.drawing ≡ self.old.drawing }
     {
         if self.is_repeated() && self.clearing.in_block {
             let count = self.features.len();
-            self.cleared = count;
+            self.cleared = Some(count);
         }
     }
 
@@ -149,14 +207,27 @@ impl Copper {
         ensures cleared { self.new.cleared ≡ self.old.cleared }
         ensures drawing { self.new.drawing ≡ self.old.drawing }
     {
-        if !flashes.is_empty() {
-            self.add_flashes(flashes)?;
-        }
+        self.add_flashes(flashes)?;
         self.add_contours(command)
     }
 
-    /// Adds the flashes of a command.
+    /// Adds the flashes of a command, which most commands have not.
+    #[inline]
     fn add_flashes(&mut self, flashes: &[Flash]) -> Result<(), AllocError>
+        ensures features { OnOk result (self.new.features.items ≡ self.old.features.items ++ map (flash_feature (copper_state self.old)) flashes.now) }
+        ensures state { copper_state self.new ≡ copper_state self.old }
+        ensures cleared { self.new.cleared ≡ self.old.cleared }
+        ensures drawing { self.new.drawing ≡ self.old.drawing }
+    {
+        if flashes.is_empty() {
+            return Ok(());
+        }
+        self.add_each(flashes)
+    }
+
+    /// Adds flashes.
+    #[inline(never)]
+    fn add_each(&mut self, flashes: &[Flash]) -> Result<(), AllocError>
         ensures features { OnOk result (self.new.features.items ≡ self.old.features.items ++ map (flash_feature (copper_state self.old)) flashes.now) }
         ensures state { copper_state self.new ≡ copper_state self.old }
         ensures cleared { self.new.cleared ≡ self.old.cleared }
@@ -188,13 +259,13 @@ impl Copper {
 
     /// Takes away all flashes and contours where a command does.
     fn clear_where(&mut self, command: &Command)
-        ensures cleared { self.new.cleared ≡ (if clears_in (copper_state self.old) command.now then length self.old.features.items else self.old.cleared) }
+        ensures cleared { self.new.cleared ≡ (if clears_in (copper_state self.old) command.now then Some (length self.old.features.items) else self.old.cleared) }
         ensures features { self.new.features.items ≡ self.old.features.items }
         ensures state { copper_state self.new ≡ copper_state self.old }
         ensures drawing { self.new.drawing ≡ self.old.drawing }
     {
         if self.clears(command) {
-            self.cleared = self.features.len();
+            self.cleared = Some(self.features.len());
         }
     }
 
@@ -314,6 +385,31 @@ impl Copper {
         }
     }
 
+    /// Takes out the flashes and contours since the last time, in the order of the text, of which clear polarity has taken away what it takes.
+    ///
+    /// # Errors
+    ///
+    /// An `AllocError` where there is no memory for them.
+    pub fn take_features(&mut self) -> Result<NextFeatures, AllocError>
+        ensures { (draws : Bool) (given : List TheFeature) (commands : List TheCommand) → HasMetSince draws given self.old commands → IfOk result (λ next. (with_next given next ≡ features_of commands) × HasMetSince draws (features_of commands) self.new commands) }
+    {
+        let features = std::mem::replace(&mut self.features, Vec::new(self.alloc));
+        match self.cleared.take() {
+            Some(cleared) => {
+                let count = cleared.min(features.len());
+                let features = with_first_taken_away(self.alloc, features, count)?;
+                Ok(NextFeatures {
+                    takes_away: true,
+                    features,
+                })
+            }
+            None => Ok(NextFeatures {
+                takes_away: false,
+                features,
+            }),
+        }
+    }
+
     /// The flashes and contours, in the order of the text, of which clear polarity has taken away what it takes, and what is drawn, which is
     /// put into `drawn` where it was asked for.
     ///
@@ -325,7 +421,7 @@ impl Copper {
         ensures drawn { (commands : List TheCommand) → HasMet true self commands → drawn.new.items ≡ drawn_of commands }
     {
         *drawn = self.drawing.parts;
-        let count = self.cleared.min(self.features.len());
+        let count = self.cleared.unwrap_or(0).min(self.features.len());
         with_first_taken_away(self.alloc, self.features, count)
     }
 

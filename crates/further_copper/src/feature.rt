@@ -1,11 +1,12 @@
 //! The flashes and contours of a layer.
 
-ghost use Rattle.std.specs.Prelude.{◌≡◌};
-ghost use Rattle.further_copper.specs.Features.{feature_row, is_contour, is_flashed_pad, is_other, is_pad_row, pad_in, row_kind, strict_row, taken_away, taken_kind};
+ghost use Rattle.std.specs.Prelude.{◌≡◌, IfOk};
+ghost use Rattle.further_copper.specs.Features.{feature_row, is_contour, is_flashed_pad, is_other, is_pad_row, pad_in, pads_of, row_kind, strict_row, taken_away, taken_kind};
 
 use grid_units::Point;
 use layer_image::{Flash, What, Why};
 use pad_shapes::PlacedRounded;
+use std::alloc::{AllocError, Global};
 use wide_pads::WidePad;
 
 /// What a flash or a contour is once the whole layer is drawn.
@@ -158,4 +159,18 @@ impl Feature {
             None => None,
         }
     }
+}
+
+/// The pads among flashes and contours, in order.
+///
+/// # Errors
+///
+/// An `AllocError` where there is no memory for the list.
+pub fn into_pads(alloc: Global, features: Vec<Feature>) -> Result<Vec<WidePad>, AllocError>
+    ensures { IfOk result (λ pads. pads.items ≡ pads_of features.items) }
+{
+    features
+        .into_iter()
+        .filter_map(|feature| feature.what.into_pad())
+        .collect(alloc)
 }

@@ -1,17 +1,19 @@
 //! Regions that can make no contour any more, whatever follows: of their parts one alone is kept.
 
 ghost use Rattle.std.specs.Prelude.{◌≡◌, IfOk, OnOk};
-ghost use Rattle.further_copper.specs.Inner.Forgetting.{has_many_corners, has_many_ends, is_over};
+ghost use Rattle.further_copper.specs.Inner.Forgetting.{are_sides_of_none, is_over, starts_no_pad, starts_no_polygon};
 ghost use Rattle.further_copper.specs.Inner.States.{MakeSameContour};
 
 use crate::contour::points_of;
 use crate::part::Part;
+use crate::turns::turns_both_ways;
+use grid_units::Point;
 use macro_shapes::has_many_stops;
 use std::alloc::{AllocError, Global};
 
-/// How many parts there are when they are first looked at for a contour that has too many corners. They are looked at again each time their
-/// number has doubled.
-const FIRST_LOOK: usize = 512;
+/// How many parts there are when they are first looked at for a contour that has too many corners or is not convex. They are looked at again
+/// each time their number has doubled.
+const FIRST_LOOK: usize = 8;
 
 /// Whether the first of these parts is no move: such a region has no contour.
 pub(crate) fn is_over(parts: &[Part]) -> bool
@@ -23,24 +25,31 @@ pub(crate) fn is_over(parts: &[Part]) -> bool
     }
 }
 
-/// Whether these are the sides of a contour that has more corners than a pad may have.
-fn has_many_ends(alloc: Global, sides: &[Part]) -> Result<bool, AllocError>
-    ensures { IfOk result (λ answer. answer ≡ has_many_ends sides.now) }
+/// Whether no convex polygon with so few corners as a pad may have starts with these points.
+fn starts_no_polygon(points: &[Point]) -> bool
+    ensures { result ≡ starts_no_polygon points.now }
+{
+    has_many_stops(points) || turns_both_ways(points)
+}
+
+/// Whether these are sides that start the contour of no pad.
+fn are_sides_of_none(alloc: Global, sides: &[Part]) -> Result<bool, AllocError>
+    ensures { IfOk result (λ answer. answer ≡ are_sides_of_none sides.now) }
 {
     match points_of(alloc, sides)? {
-        Some(points) => Ok(has_many_stops(&points)),
+        Some(points) => Ok(starts_no_polygon(&points)),
         None => Ok(false),
     }
 }
 
-/// Whether a move stands first, and then the sides of a contour that has more corners than a pad may have.
-fn has_many_corners(alloc: Global, parts: &[Part]) -> Result<bool, AllocError>
-    ensures { IfOk result (λ answer. answer ≡ has_many_corners parts.now) }
+/// Whether a move stands first, and then sides that start the contour of no pad.
+fn starts_no_pad(alloc: Global, parts: &[Part]) -> Result<bool, AllocError>
+    ensures { IfOk result (λ answer. answer ≡ starts_no_pad parts.now) }
 {
     match parts {
         [first, sides @ ..] => {
             if first.is_move() {
-                has_many_ends(alloc, sides)
+                are_sides_of_none(alloc, sides)
             } else {
                 Ok(false)
             }
@@ -58,8 +67,8 @@ fn is_time_to_look(count: usize) -> bool {
 fn look(alloc: Global, parts: &mut Vec<Part>) -> Result<(), AllocError>
     ensures { OnOk result (MakeSameContour parts.new.items parts.old.items) }
 {
-    let many = has_many_corners(alloc, parts)?;
-    if !many {
+    let over = starts_no_pad(alloc, parts)?;
+    if !over {
         return Ok(());
     }
     parts.clear();

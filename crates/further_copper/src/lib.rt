@@ -11,7 +11,10 @@ mod feature;
 mod forget;
 pub mod laws;
 mod mirroring;
+mod next_features;
 mod part;
+mod turns;
 
 pub use copper::Copper;
-pub use feature::{Feature, FeatureKind, FeatureRow, RowKind};
+pub use feature::{Feature, FeatureKind, FeatureRow, RowKind, into_pads};
+pub use next_features::NextFeatures;

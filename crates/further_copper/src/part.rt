@@ -6,10 +6,10 @@ ghost use Rattle.gerber_commands.specs.declared.command.Command.TheVariants as c
 ghost use Rattle.layer_image.specs.Drawn.{current_point};
 ghost use Rattle.further_copper.specs.Contours.{arc_side, end_of, is_clockwise, is_counterclockwise, is_move, part_by, part_of, side_between, side_by, start_of, starts_region, straight_side};
 ghost use Rattle.layer_image.specs.Inner.Pencils.{draw_state};
-ghost use Rattle.further_copper.specs.Inner.States.{MakeSameContour, parts_after};
+ghost use Rattle.further_copper.specs.Inner.States.{MakeSameContour, command_of, parts_after};
 
 use crate::forget::{forget, is_over};
-use gerber_text::{Action, Command, Interpolation, QuadrantMode};
+use gerber_text::{Action, Command, Interpolation, LeadingOperation, QuadrantMode};
 use grid_units::Point;
 use layer_image::Pencil;
 use std::alloc::{AllocError, Global};
@@ -211,6 +211,33 @@ fn add_part(alloc: Global, parts: &mut Vec<Part>, part: Option<Part>) -> Result<
         }
         None => Ok(()),
     }
+}
+
+/// Adds what an operation adds to the region that is open, where one is. Parts that can make no contour any more are not kept.
+pub(crate) fn add_operation(
+    alloc: Global,
+    parts: &mut Vec<Part>,
+    pencil: &Pencil,
+    operation: &LeadingOperation,
+) -> Result<(), AllocError>
+    ensures { OnOk result (MakeSameContour parts.new.items (parts.old.items ++ cons_option (part_by (draw_state pencil.now) (command_of operation.now)) [])) }
+{
+    if !pencil.in_region() {
+        return Ok(());
+    }
+    if is_over(parts) {
+        return Ok(());
+    }
+    let LeadingOperation {
+        action,
+        x,
+        y,
+        i,
+        j,
+        ..
+    } = *operation;
+    let part = part_of(pencil, action, x.get(), y.get(), i.get(), j.get());
+    add_part(alloc, parts, Some(part))
 }
 
 /// Adds what a command adds to the last region, which may start with it. Parts that can make no contour any more are not kept.

@@ -84,7 +84,7 @@ const FLASHES: [(&[u8], &[Pad]); 16] = [
 ];
 
 /// The commands of a layer, and the further pads in the order of the text.
-const LAYERS: [(&[u8], &[Pad]); 24] = [
+const LAYERS: [(&[u8], &[Pad]); 26] = [
     // A square of 2 mm, from its lower left corner.
     (
         b"G36*\nX-1000000Y-1000000D02*\nX1000000D01*\nY1000000D01*\nX-1000000D01*\nY-1000000D01*\nG37*\n",
@@ -133,6 +133,28 @@ const LAYERS: [(&[u8], &[Pad]); 24] = [
     (
         b"G36*\nX-1000000Y-1000000D02*\nX1000000D01*\nX0Y0D01*\nX1000000Y1000000D01*\nX-1000000D01*\nY-1000000D01*\nG37*\n",
         &[],
+    ),
+    // A cross of twelve sides, which turns both ways, and a square after it.
+    (
+        b"G36*\nX-1000000Y-3000000D02*\nX1000000Y-3000000D01*\nX1000000Y-1000000D01*\nX3000000Y-1000000D01*\nX3000000Y1000000D01*\nX1000000Y1000000D01*\nX1000000Y3000000D01*\nX-1000000Y3000000D01*\nX-1000000Y1000000D01*\nX-3000000Y1000000D01*\nX-3000000Y-1000000D01*\nX-1000000Y-1000000D01*\nX-1000000Y-3000000D01*\nG37*\nG36*\nX-1000000Y-1000000D02*\nX1000000D01*\nY1000000D01*\nX-1000000D01*\nY-1000000D01*\nG37*\n",
+        &[(0, &SQUARE)],
+    ),
+    // Eight sides.
+    (
+        b"G36*\nX400000Y-1000000D02*\nX1000000Y-400000D01*\nX1000000Y400000D01*\nX400000Y1000000D01*\nX-400000Y1000000D01*\nX-1000000Y400000D01*\nX-1000000Y-400000D01*\nX-400000Y-1000000D01*\nX400000Y-1000000D01*\nG37*\n",
+        &[(
+            0,
+            &[
+                (1_000, -400),
+                (1_000, 400),
+                (400, 1_000),
+                (-400, 1_000),
+                (-1_000, 400),
+                (-1_000, -400),
+                (-400, -1_000),
+                (400, -1_000),
+            ],
+        )],
     ),
     // Sides that cross.
     (
@@ -299,9 +321,9 @@ fn features_of(alloc: Global, pieces: &[&[u8]]) -> Option<Vec<Feature>> {
     let mut scan = Scan::new(alloc, Keep::Flashes);
     let mut copper = Copper::new(alloc, false);
     for entry in layer.commands() {
-        let count = scan.flash_count();
         scan.take(alloc, entry).ok()?;
-        copper.take(&entry.what, scan.flashes_from(count)).ok()?;
+        copper.take(&entry.what, scan.flashes()).ok()?;
+        scan.clear_flashes();
     }
     let mut drawn = Vec::new(alloc);
     copper.finish(&mut drawn).ok()

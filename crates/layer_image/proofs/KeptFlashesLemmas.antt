@@ -1,8 +1,6 @@
 -- Flashes that are added to others.
-use Rattle.std.proofs.Common.{◌≡◌, ◌+◌, cond, Bool, true, false, ℕ, suc, List, [], ◌∷◌, ◌++◌, drop, length, length-append, refl, sym, ap, ◌∙◌, append-nil, append_assoc, arith}
-use Rattle.std.specs.Prelude.{min}
+use Rattle.std.proofs.Common.{◌≡◌, ◌+◌, cond, Bool, true, false, ℕ, suc, List, [], ◌∷◌, ◌++◌, length, length-append, refl, sym, ap, ◌∙◌, append-nil, append_assoc, arith}
 use Rattle.std.specs.List.{cons_option}
-use Rattle.std.proofs.lemmas.List.{drop_min}
 use Rattle.std.proofs.lemmas.List.Elements.{filter_map-append}
 use Rattle.std.proofs.lemmas.List.Sums.{sum_by-append}
 use Rattle.pad_shapes.specs.declared.pad.Pad.{Pad}
@@ -12,10 +10,6 @@ use Rattle.layer_image.specs.declared.flash.Flash.{Flash}
 use Rattle.layer_image.specs.declared.flashes.Flashes.{Flashes}
 use Rattle.layer_image.specs.Flashes.{pads_of, pad_in, is_other, other_count}
 use Rattle.layer_image.specs.KeptFlashes.{Adds, keeps_flashes, keeps_pads}
-
--- the flashes from a place on, which may lie past their end
-pub from_capped : (n : ℕ) (flashes : List Flash) → drop (min n (length flashes)) flashes ≡ drop n flashes
-from_capped n flashes = drop_min n flashes
 
 -- nothing is kept of nothing
 pub kept_none : {A : Type 0} (b : Bool) (xs : List A) → xs ≡ xs ++ cond b [] []

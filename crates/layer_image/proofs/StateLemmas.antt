@@ -40,7 +40,7 @@ keeps_more old new parts first more keeps adds = record {
   count = adds.count ∙ (λ i. keeps.count i + length more) ∙ sym (length-append first more);
   others = adds.others ∙ (λ i. keeps.others i + other_count more) ∙ sym (others_append first more);
   pads = ap (λ l. parts.taken ++ l) adds.pads ∙ sym (append_assoc parts.taken old.pads.items _) ∙ (λ i. keeps.pads i ++ cond (keeps_pads (keeps.same i)) (pads_of more) []) ∙ sym (kept_pads (keeps_pads parts.keep) first more);
-  all = adds.all ∙ (λ i. keeps.all i ++ cond (keeps_flashes (keeps.same i)) more []) ∙ sym (kept_append (keeps_flashes parts.keep) first more);
+  all = ap (λ l. parts.dropped ++ l) adds.all ∙ sym (append_assoc parts.dropped old.all.items _) ∙ (λ i. keeps.all i ++ cond (keeps_flashes (keeps.same i)) more []) ∙ sym (kept_append (keeps_flashes parts.keep) first more);
 }
 
 pub state_after_one_more : (old new : State) (parts : KeptParts) (before : List Command) (c : Command) → IsStateAfter old parts before → Applies old c new → IsStateAfter new parts (before ++ c ∷ [])

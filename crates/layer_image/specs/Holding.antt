@@ -43,7 +43,7 @@ pub record HasScanned (scan : Scan) (parts : KeptParts) (before : List Command) 
 abbrev pub is_scanning_region : Scan → Bool
 is_scanning_region scan = scan.state.state.in_region
 
--- the flashes that a scan keeps
+-- the flashes that a scan holds, without those that were taken from it
 abbrev pub scanned_flashes : Scan → List Flash
 scanned_flashes scan = scan.state.state.flashes.all.items
 

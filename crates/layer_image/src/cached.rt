@@ -6,7 +6,7 @@ ghost use Rattle.gerber_commands.specs.declared.command.Command.TheVariants as c
 ghost use Rattle.layer_image.specs.Inner.FastOperations.{AreCachedValues, changes_cached};
 ghost use Rattle.layer_image.specs.Flashes.{is_flash};
 ghost use Rattle.layer_image.specs.Rules.{first_broken};
-ghost use Rattle.layer_image.specs.KeptFlashes.{KeptParts, flash_count, taking_pads, without_pads};
+ghost use Rattle.layer_image.specs.KeptFlashes.{KeptParts, flash_count, taking_flashes, taking_pads, without_pads};
 ghost use Rattle.layer_image.specs.Inner.IsStateAfter.{IsStateAfter, AppliesOrRefuses, state_of};
 
 use crate::cached_values::CachedValues;
@@ -45,6 +45,14 @@ impl CachedState {
         ensures gone { (parts : KeptParts) (before : List Command) → IsStateAfter self.old.state parts before → IsStateAfter self.new.state (taking_pads parts self.old.state.flashes) before }
     {
         self.state.flashes.clear_pads();
+    }
+
+    /// Drops the flashes that are held.
+    pub(crate) fn clear_flashes(&mut self)
+        ensures none { self.new.state.flashes.all.items ≡ [] }
+        ensures gone { (parts : KeptParts) (before : List Command) → IsStateAfter self.old.state parts before → IsStateAfter self.new.state (taking_flashes parts self.old.state.flashes) before }
+    {
+        self.state.flashes.clear_flashes();
     }
 
     /// Checks one more command, and applies it where it breaks no rule.

@@ -30,7 +30,7 @@ pub(crate) struct Flashes {
 }
 
 impl Flashes {
-    ghost use Rattle.layer_image.specs.KeptFlashes.{Adds, KeepsFlashes, KeptParts, flash_count, taking_pads, without_pads};
+    ghost use Rattle.layer_image.specs.KeptFlashes.{Adds, KeepsFlashes, KeptParts, flash_count, taking_flashes, taking_pads, without_pads};
 
     /// No flashes so far.
     pub(crate) fn new(alloc: Global, keep: Keep) -> Self
@@ -58,6 +58,14 @@ impl Flashes {
         ensures gone { (parts : KeptParts) (flashes : List TheFlash) → KeepsFlashes self.old parts flashes → KeepsFlashes self.new (taking_pads parts self.old) flashes }
     {
         self.pads.clear();
+    }
+
+    /// Drops the flashes. The memory that they took stays with the list.
+    pub(crate) fn clear_flashes(&mut self)
+        ensures none { self.new.all.items ≡ [] }
+        ensures gone { (parts : KeptParts) (flashes : List TheFlash) → KeepsFlashes self.old parts flashes → KeepsFlashes self.new (taking_flashes parts self.old) flashes }
+    {
+        self.all.clear();
     }
 
     /// Adds one flash.

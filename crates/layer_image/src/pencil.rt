@@ -108,8 +108,8 @@ impl Pencil {
         self.apertures.insert(number, aperture)
     }
 
-    /// Makes the point of an operation the current one.
-    fn set_point(&mut self, x: Option<i64>, y: Option<i64>)
+    /// Makes the point of an operation the current one, as [`Pencil::take`] does with its command.
+    pub fn set_point(&mut self, x: Option<i64>, y: Option<i64>)
         ensures { (action : TheAction) (i j : Option ℤ) → draw_state self.new ≡ after_command (command.Operate action x y i j) (draw_state self.old) }
     {
         self.x = x.unwrap_or(self.x);

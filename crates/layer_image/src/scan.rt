@@ -1,6 +1,6 @@
 //! A scan over commands: each is judged and then dropped, and what the layer is made of is kept.
 
-ghost use Rattle.std.specs.Prelude.{◌≡◌, ◌++◌, [], ◌∷◌, ℕ, List, OnOk, IfErr, drop, length, false};
+ghost use Rattle.std.specs.Prelude.{◌≡◌, ◌++◌, [], ◌∷◌, ℕ, List, OnOk, IfErr, false};
 ghost use Rattle.grid_units.specs.Results.{IfFault};
 ghost use Rattle.gerber_commands.specs.declared.command.Command.{Command};
 ghost use Rattle.gerber_text.specs.FastPath.{text_command};
@@ -9,7 +9,7 @@ ghost use Rattle.gerber_text.specs.Holding.{passed_entries};
 ghost use Rattle.layer_image.specs.Faults.{fail_at, IsFirstFault};
 ghost use Rattle.gerber_text.specs.Writing.{without_places};
 ghost use Rattle.layer_image.specs.FileFunction.{file_function_of};
-ghost use Rattle.layer_image.specs.KeptFlashes.{KeptParts, taking_pads, without_pads};
+ghost use Rattle.layer_image.specs.KeptFlashes.{KeptParts, taking_flashes, taking_pads, without_pads};
 
 use crate::cached::CachedState;
 use crate::flash::Flash;
@@ -125,20 +125,19 @@ impl Scan {
         self.state.state.in_region
     }
 
-    /// How many flashes are kept.
-    pub fn flash_count(&self) -> usize
-        ensures { result ≡ length (scanned_flashes self.now) }
+    /// The flashes that are held, in order: those since the last [`Scan::clear_flashes`]. None where flashes are not kept.
+    pub fn flashes(&self) -> &[Flash]
+        ensures { result.now ≡ scanned_flashes self.now }
     {
-        self.state.state.flashes.all.len()
+        &self.state.state.flashes.all
     }
 
-    /// The flashes that are kept, in order, without so many first ones.
-    #[tactic(auto, using(crate::proofs::KeptFlashesLemmas::from_capped))]
-    pub fn flashes_from(&self, count: usize) -> &[Flash]
-        ensures { result.now ≡ drop count (scanned_flashes self.now) }
+    /// Drops the flashes that are held. The memory that they took serves the next ones.
+    pub fn clear_flashes(&mut self)
+        ensures none { scanned_flashes self.new ≡ [] }
+        ensures gone { (parts : KeptParts) (before : Entries) → HasScannedLegal self.old parts before → HasScannedLegal self.new (taking_flashes parts self.old.state.state.flashes) before }
     {
-        let all = &self.state.state.flashes.all;
-        &all[count.min(all.len())..]
+        self.state.clear_flashes();
     }
 
     /// What follows `.FileFunction,` in the last file attribute or comment that names it, if one does.

@@ -1,6 +1,6 @@
 //! Outlines of a macro: the polygons that closed runs of points go round.
 
-ghost use Rattle.std.specs.Prelude.{◌≡◌, ◌<◌, ◌∷◌, IfOk, nat_lt, option_map, reverse, length, zip};
+ghost use Rattle.std.specs.Prelude.{◌≡◌, ◌<◌, ◌∷◌, IfOk, None, if◌then◌else◌, nat_lt, option_map, reverse, length, zip};
 ghost use Rattle.pad_shapes.specs.Rounded.{max_corners};
 ghost use Rattle.macro_shapes.specs.Primitives.{is_same, is_count, run_of, is_closed, point_at, moved, moves, stops, are_different, rounded_of, polygon_of, either_way, outline_of, outline_at, outline, polygon_round};
 ghost use Rattle.std.specs.List.{filter_map, list_any};
@@ -165,6 +165,22 @@ fn polygon_of(alloc: Global, corners: &[Point]) -> Result<Option<Rounded>, Alloc
     }
 }
 
+/// The polygon of corners in this order, where no two of them are equal. That is asked last, since it takes a square of their number.
+fn polygon_of_different(alloc: Global, corners: &[Point]) -> Result<Option<Rounded>, AllocError>
+    ensures { IfOk result (λ answer. answer ≡ (if are_different corners.now then polygon_of corners.now else None)) }
+{
+    match polygon_of(alloc, corners)? {
+        Some(found) => {
+            if are_different(corners) {
+                Ok(Some(found))
+            } else {
+                Ok(None)
+            }
+        }
+        None => Ok(None),
+    }
+}
+
 /// The points of a run from its last one back.
 fn reversed(alloc: Global, run: &[Point]) -> Result<Vec<Point>, AllocError>
     ensures { IfOk result (λ found. found.items ≡ reverse run.now) }
@@ -204,10 +220,10 @@ pub fn polygon_round(alloc: Global, run: &[Point]) -> Result<Option<Rounded>, Al
         return Ok(None);
     }
     let corners = stops(alloc, run)?;
-    if corners.len() < 3 || !are_different(&corners) {
+    if corners.len() < 3 {
         return Ok(None);
     }
-    polygon_of(alloc, &corners)
+    polygon_of_different(alloc, &corners)
 }
 
 /// The outline of a run of points, where it is judged.

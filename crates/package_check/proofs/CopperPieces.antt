@@ -1,5 +1,5 @@
 -- A check that reads a copper file piece by piece.
-use Rattle.std.proofs.Common.{◌≡◌, ℕ, Bool, true, false, List, [], Ok, Err, Option, None, Some, Result, OnOk, IfErr, ap, subst, sym, ◌∙◌}
+use Rattle.std.proofs.Common.{◌≡◌, ℕ, Bool, true, false, List, [], Ok, Err, Option, None, Some, Result, OnOk, ap, subst, sym, ◌∙◌}
 use Rattle.std.specs.declared.alloc.AllocError.{AllocError}
 use Rattle.grid_units.specs.Holes.{GridRules}
 use Rattle.grid_units.specs.Results.{Answers}
@@ -21,7 +21,7 @@ use Rattle.layer_image.specs.declared.keep.Keep.TheVariants as keep
 use Rattle.package_check.specs.declared.copper_reader.CopperReader.{CopperReader}
 use Rattle.package_check.specs.declared.copper_reader.CopperReader.TheVariants as copper_reader
 use Rattle.package_check.specs.HoleViews.{HolesView}
-use Rattle.package_check.proofs.JudgedCopper.{none_tried}
+use Rattle.package_check.proofs.JudgedCopper.{none_given, none_tried}
 use Rattle.package_check.specs.declared.open_copper.OpenCopper.{OpenCopper}
 use Rattle.package_check.proofs.OpenFiles.{failed_read}
 
@@ -77,7 +77,7 @@ ended start check after file index layer span text name r h takes =
 -- a reader that has read nothing
 pub nothing_read : (p q : Profile) (holes : HolesView) (layer : ℕ) (reader : CopperReader) → q ≡ p → holes.search ≡ None → CopperStandsIn reader p keep.Pads [] → HasReadLayer q holes layer reader []
 nothing_read p q holes layer (copper_reader.Strict reader) is none stands = (is ∙ stands.0, none_tried holes layer reader [] stands.1 none)
-nothing_read p q holes layer (copper_reader.Wide reader) is none stands = (is ∙ stands.0, none, stands.1)
+nothing_read p q holes layer (copper_reader.Wide reader) is none stands = (is ∙ stands.0, none_given holes layer reader [] stands.1 none)
 
 -- what was read in a profile was read in the same one
 pub read_on : (p q : Profile) (holes : HolesView) (layer : ℕ) (reader : CopperReader) (text : List ℕ) (r : Result (Unit {0}) Fail) → p ≡ q → OnOk r (HasReadLayer p holes layer reader text) → OnOk r (HasReadLayer q holes layer reader text)

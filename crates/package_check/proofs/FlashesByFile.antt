@@ -1,5 +1,5 @@
 -- Flashes, and what is drawn, that are kept file by file.
-use Rattle.std.proofs.Common.{◌≡◌, ◌<◌, ◌∷◌, ℕ, zero, suc, List, [], Result, Ok, length, get_or, arith, refl, true, ap, subst, ◌∙◌}
+use Rattle.std.proofs.Common.{◌≡◌, ◌<◌, ◌∷◌, ℕ, zero, suc, List, [], Result, Ok, length, get_or, arith, refl, true, ap, ◌∙◌}
 use Rattle.std.proofs.lemmas.Bool.{false≢true}
 use Rattle.grid_units.specs.declared.fault.Fault.{Fault}
 use Rattle.gerber_text.specs.Writing.{without_places}
@@ -7,12 +7,11 @@ use Rattle.layer_image.specs.Drawn.{drawn_of}
 use Rattle.layer_image.specs.KeptFlashes.{keeps_commands, keeps_flashes}
 use Rattle.layer_image.specs.Layers.{LayerImage, ReadingIsUniqueIn}
 use Rattle.layer_image.specs.declared.drawn.Drawn.{Drawn}
-use Rattle.further_copper.specs.declared.feature.FeatureRow.{FeatureRow}
 use Rattle.layer_image.specs.declared.keep.Keep.{Keep}
 use Rattle.layer_image.specs.declared.keep.Keep.TheVariants as keep
-use Rattle.package_check.specs.FileTexts.{Draws, HasRows}
+use Rattle.package_check.specs.FileTexts.{Draws}
 use Rattle.package_check.specs.Package.{FileView}
-use Rattle.package_check.specs.Boards.{AreDrawnOf, AreFileLists, AreRowsOf}
+use Rattle.package_check.specs.Boards.{AreDrawnOf, AreFileLists}
 
 -- flashes are kept where commands are
 pub flashes_too : (kept : Keep) → keeps_commands kept ≡ true → keeps_flashes kept ≡ true

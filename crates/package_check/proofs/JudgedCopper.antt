@@ -1,5 +1,5 @@
 -- A copper file whose pads are tried as they are read.
-use Rattle.std.proofs.Common.{◌≡◌, ◌++◌, ℕ, List, [], None, Ok, Err, false, true, ap, inl, subst, sym, inr, refl, ◌∙◌, ◌+◌, length, map, add-zero, append_assoc}
+use Rattle.std.proofs.Common.{◌≡◌, ◌++◌, ℕ, Bool, List, [], ◌∷◌, None, Ok, Err, false, true, ap, inl, subst, sym, inr, refl, ◌∙◌, length, map}
 use Rattle.grid_units.specs.Holes.{GridRules}
 use Rattle.grid_units.specs.Results.{Answers, IfFault}
 use Rattle.grid_units.specs.declared.fault.Fault.{Fault}
@@ -14,12 +14,23 @@ use Rattle.grid_units.specs.declared.profile.Profile.{Profile}
 use Rattle.grid_units.specs.declared.profile.Profile.TheVariants.{Strict, Wide}
 use Rattle.wide_pads.specs.WidePads.{wide_pad_covers}
 use Rattle.wide_pads.specs.declared.wide_pad.WidePad.{WidePad}
-use Rattle.std.proofs.lemmas.List.{append-nil, map-append}
+use Rattle.std.proofs.lemmas.List.{map-append}
 use Rattle.package_check.specs.LayerViews.{plain}
-use Rattle.pad_shapes.specs.Rounded.{GridRounded}
 use Rattle.gerber_text.specs.Writing.{without_places}
-use Rattle.wide_layers.specs.WideLayers.{ReadsWideLayer, WideImage, contour_count, flashed_count, other_count, wide_image_of}
-use Rattle.further_copper.specs.Features.{pads_of}
+use Rattle.wide_layers.specs.WideLayers.{ReadsWideLayer, WideImage, contour_count, flashed_count, other_count, wide_image_of, with_rest}
+use Rattle.wide_layers.specs.declared.layer.WideRest.{WideRest}
+use Rattle.further_copper.specs.Features.{pad_in, pads_of, taken_away, taken_kind}
+use Rattle.further_copper.specs.Holding.{with_next}
+use Rattle.further_copper.specs.declared.feature.Feature.{Feature}
+use Rattle.further_copper.specs.declared.feature.FeatureKind.{FeatureKind}
+use Rattle.further_copper.specs.declared.feature.FeatureKind.TheVariants as kind
+use Rattle.further_copper.specs.declared.next_features.NextFeatures.{NextFeatures}
+use Rattle.grid_units.specs.Points.{GridPoint}
+use Rattle.std.specs.Prelude.{option_map, if◌then◌else◌}
+use Rattle.std.specs.List.{cons_option, filter_map}
+use Rattle.std.proofs.lemmas.List.Elements.{filter_map-append}
+use Rattle.wide_layers.specs.Holding.{WideStandsAfter}
+use Rattle.wide_layers.specs.declared.reader.WideReader.{WideReader}
 use Rattle.pad_shapes.specs.declared.pad.Pad.{Pad}
 use Rattle.ring_rules.specs.Findings.{layer_findings}
 use Rattle.ring_rules.specs.declared.finding.Drilled.{Drilled}
@@ -27,7 +38,7 @@ use Rattle.ring_rules.specs.declared.finding.Finding.{Finding}
 use Rattle.std.specs.Global.{Vec}
 use Rattle.package_check.specs.FileTexts.{HasLayerView, is_copper_function, layer_view, wide_view}
 use Rattle.package_check.specs.HoleViews.{HolesView}
-use Rattle.package_check.specs.Judging.{HasTriedIn, HasTriedPadsOf, JudgesCopper}
+use Rattle.package_check.specs.Judging.{HasTriedFeaturesOf, HasTriedIn, HasTriedPadsOf, JudgesCopper}
 use Rattle.package_check.specs.Package.{not_copper}
 use Rattle.package_check.specs.declared.contents.Content.TheVariants as content
 use Rattle.package_check.specs.declared.FileSum.TheVariants as sum
@@ -93,7 +104,34 @@ pub rings_there : (later rules : GridRules) (there holes : List Drilled) (layer 
 rings_there later rules there holes layer tried pads rings same_rules same_holes same_pads is =
     is ∙ (λ j. layer_findings wide_pad_covers (same_rules j).profile (same_rules j).ring (same_holes j) layer (same_pads j))
 
--- ---- layers in the wide profile, which are judged whole
+-- ---- layers in the wide profile
+
+-- no flash and no contour was taken out so far, and no pad tried
+pub none_given : (holes : HolesView) (layer : ℕ) (reader : WideReader) (text : List ℕ) → WideStandsAfter false reader text → holes.search ≡ None → HasTriedFeaturesOf holes layer reader text
+none_given holes layer reader text stands none = record { given = []; read = stands; tried = subst (HasTriedIn holes.holes holes.index layer []) (sym none) refl }
+
+-- clear polarity leaves no pad
+one_taken : (at : GridPoint) (k : FeatureKind) (rest : List Feature) → pads_of (cons_option (option_map (λ (j : FeatureKind). record { at = at; what = j }) (taken_kind k)) rest) ≡ pads_of rest
+one_taken at (kind.Pad pad) rest = refl
+one_taken at (kind.Contour pad) rest = refl
+one_taken at (kind.Other why) rest = refl
+one_taken at kind.Clear rest = refl
+one_taken at kind.Cleared rest = refl
+
+no_pads : (features : List Feature) → pads_of (filter_map taken_away features) ≡ []
+no_pads [] = refl
+no_pads (f ∷ fs) = one_taken f.at f.what (filter_map taken_away fs) ∙ no_pads fs
+
+-- the pads of what stands, where all before the next ones is taken away or nothing is
+pub pads_taken : (given : List Feature) (next : NextFeatures) → next.takes_away ≡ true → pads_of (with_next given next) ≡ pads_of next.features.items
+pads_taken given next takes =
+    ap (λ (b : Bool). pads_of ((if b then filter_map taken_away given else given) ++ next.features.items)) takes
+    ∙ filter_map-append (λ (f : Feature). pad_in f.what) (filter_map taken_away given) next.features.items ∙ ap (λ (l : List WidePad). l ++ pads_of next.features.items) (no_pads given)
+
+pub pads_more : (given : List Feature) (next : NextFeatures) → next.takes_away ≡ false → pads_of (with_next given next) ≡ pads_of given ++ pads_of next.features.items
+pads_more given next takes =
+    ap (λ (b : Bool). pads_of ((if b then filter_map taken_away given else given) ++ next.features.items)) takes
+    ∙ filter_map-append (λ (f : Feature). pad_in f.what) given next.features.items
 
 -- what is left of a whole layer
 module _ (rules : GridRules) (wide : rules.profile ≡ Wide) (holes : List Drilled) (layer : ℕ) (text : List ℕ) (whole : LayerImage) (image : WideImage) (reads : layers.ReadsLayerIn Wide text (Ok whole))
@@ -112,7 +150,7 @@ module _ (rules : GridRules) (wide : rules.profile ≡ Wide) (holes : List Drill
   whole_refused e refused other = subst (λ (x : Fail). Answers {T = Judged} (λ one. one) (JudgesCopper rules holes layer text) (Err x)) (sym refused) (whole_no_copper other)
 
 -- the fault of a whole layer is that of its file
-pub whole_fault : (rules : GridRules) → rules.profile ≡ Wide → (holes : List Drilled) (layer : ℕ) (text : List ℕ) (e : Fail) → Answers {T = WideImage} (λ layer. layer) (ReadsWideLayer text) (Err e)
+pub whole_fault : (rules : GridRules) → rules.profile ≡ Wide → (holes : List Drilled) (layer : ℕ) (text : List ℕ) (given : List Feature) (e : Fail) → Answers {T = WideRest} (with_rest given) (ReadsWideLayer text) (Err e)
     → Answers {T = Judged} (λ one. one) (JudgesCopper rules holes layer text) (Err e)
-whole_fault rules wide holes layer text fails.Memory h = tt
-whole_fault rules wide holes layer text (fails.Refused f) h = inl (subst (λ (p : Profile). layers.ReadsLayerIn p text (Err f)) (sym wide) h)
+whole_fault rules wide holes layer text given fails.Memory h = tt
+whole_fault rules wide holes layer text given (fails.Refused f) h = inl (subst (λ (p : Profile). layers.ReadsLayerIn p text (Err f)) (sym wide) h)

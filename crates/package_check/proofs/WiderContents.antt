@@ -1,11 +1,10 @@
 -- What files say in the strict profile, they say in the wide one, with further pads.
-use Rattle.std.proofs.Common.{◌≡◌, ◌⊎◌, inl, inr, ◌↔◌, ◌<◌, ◌+◌, ◌++◌, ℕ, zero, suc, Bool, true, false, List, [], ◌∷◌, Option, None, Some, Result, Ok, Err, length, map, get_or, arith, refl, ap, ap₂, sym, subst, ◌∙◌}
+use Rattle.std.proofs.Common.{◌≡◌, ◌⊎◌, inl, inr, ◌↔◌, ◌<◌, ◌+◌, ◌++◌, ℕ, zero, suc, Bool, true, false, List, [], ◌∷◌, Option, None, Some, Ok, length, map, get_or, arith, refl, ap, ap₂, sym, subst, ◌∙◌}
 use Rattle.std.specs.Prelude.{⊤}
 use Rattle.std.specs.List.{Contains, cons_option, enumerate_from, filter, flat_map}
-use Rattle.std.proofs.lemmas.Bool.{false≢true}
 use Rattle.std.proofs.lemmas.List.Concat.{flat_map-cons}
 use Rattle.std.proofs.lemmas.List.Elements.{Contains-append_cases, Contains-append_left}
-use Rattle.grid_units.specs.Holes.{GridHole, GridRules}
+use Rattle.grid_units.specs.Holes.{GridHole}
 use Rattle.grid_units.specs.Spans.{LayerSpan}
 use Rattle.grid_units.specs.declared.profile.Profile.TheVariants.{Strict, Wide}
 use Rattle.drill_lines.specs.declared.command.DrillCommand.{DrillCommand}
@@ -24,14 +23,12 @@ use Rattle.wide_pads.specs.declared.wide_pad.WidePad.TheVariants.{Plain, Rounded
 use Rattle.manifest.specs.declared.Role.{Role}
 use Rattle.manifest.specs.declared.Role.TheVariants as role
 use Rattle.ring_rules.specs.Findings.{gap_findings, ring_findings}
-use Rattle.ring_rules.specs.WithoutFindings.{AreAmong, FindsNoObliqueInWide, WideFindsNoMore as RingsFindNoMore}
-use Rattle.ring_rules.specs.declared.finding.Drilled.{Drilled}
+use Rattle.ring_rules.specs.WithoutFindings.{FindsNoObliqueInWide, WideFindsNoMore as RingsFindNoMore}
 use Rattle.ring_rules.specs.declared.finding.Finding.{Finding}
-use Rattle.ring_rules.specs.declared.finding.Finding.TheVariants.{Ring, Oblique, Gap}
-use Rattle.package_check.specs.FileTexts.{HasLayerView, ReadsDrill, is_copper_function, layer_view, wide_view}
+use Rattle.ring_rules.specs.declared.finding.Finding.TheVariants.{Ring, Oblique}
+use Rattle.package_check.specs.FileTexts.{HasLayerView, ReadsDrill, is_copper_function, wide_view}
 use Rattle.package_check.specs.LayerViews.{LayerView, plain}
-use Rattle.package_check.specs.Package.{FileView, HasContent, BytesHaveContent, HaveContents, Setting, drilled, holes_of, index_of, layer_indexes, layers, numbered_holes, pads_of, report_on}
-use Rattle.package_check.specs.Reports.{ReportView}
+use Rattle.package_check.specs.Package.{FileView, BytesHaveContent, HaveContents, drilled, holes_of, index_of, layers, numbered_holes, pads_of, report_on}
 use Rattle.package_check.specs.WiderProfile.{FindsNoMore, WideFindsNoMore, is_gap, read_in}
 use Rattle.package_check.specs.declared.Numbered.{Numbered}
 use Rattle.package_check.specs.declared.contents.Content.{Content}

@@ -1,8 +1,7 @@
 -- Which findings are those of gaps.
-use Rattle.std.proofs.Common.{◌≡◌, ◌<◌, ◌+◌, ◌++◌, ℕ, zero, suc, Bool, true, false, not, cond, ◌&&◌, List, [], ◌∷◌, length, map, get_or, arith, refl, ap, ap₂, sym, subst, ◌∙◌}
+use Rattle.std.proofs.Common.{◌≡◌, ◌<◌, ◌++◌, ℕ, zero, suc, Bool, true, false, cond, List, [], ◌∷◌, length, map, get_or, arith, refl, ap, sym, subst, ◌∙◌}
 use Rattle.std.specs.List.{AllByRecursion, Contains, enumerate_from, filter, flat_map}
 use Rattle.std.proofs.lemmas.List.Concat.{flat_map-cons}
-use Rattle.pad_shapes.specs.Shapes.{covers_both_ends}
 use Rattle.grid_units.specs.Points.{GridPoint}
 use Rattle.grid_units.specs.declared.profile.Profile.{Profile}
 use Rattle.ring_rules.specs.Findings.{finding_of, gap_findings, hole_findings, is_refused_slot, is_ring_finding, layer_findings, ring_findings}

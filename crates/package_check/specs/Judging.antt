@@ -1,11 +1,15 @@
 -- What a check keeps of a file, where the rings of a layer are looked for as its file is read, and its pads are dropped.
-use Rattle.std.specs.Prelude.{◌≡◌, ℕ, List, [], map, Option, None, Some, Result, Ok, Err}
+use Rattle.std.specs.Prelude.{◌≡◌, ℕ, false, List, [], map, Option, None, Some, Result, Ok, Err}
 use Rattle.grid_units.specs.Holes.{GridRules}
 use Rattle.grid_units.specs.declared.fault.Fault.{Fault}
 use Rattle.layer_image.specs.Holding.{LayerStandsAfterPads}
 use Rattle.layer_image.specs.declared.keep.Keep.TheVariants as keep
 use Rattle.layer_image.specs.declared.reader.LayerReader.{LayerReader}
+use Rattle.further_copper.specs.Features.{pads_of}
+use Rattle.further_copper.specs.declared.feature.Feature.{Feature}
 use Rattle.pad_shapes.specs.declared.pad.Pad.{Pad}
+use Rattle.wide_layers.specs.Holding.{WideStandsSince}
+use Rattle.wide_layers.specs.declared.reader.WideReader.{WideReader}
 use Rattle.wide_pads.specs.WidePads.{wide_pad_covers}
 use Rattle.wide_pads.specs.declared.wide_pad.WidePad.{WidePad}
 use Rattle.ring_rules.specs.Findings.{layer_findings}
@@ -31,6 +35,13 @@ pub record HasTriedPadsOf (holes : HolesView) (layer : ℕ) (reader : LayerReade
   pub dropped : List Pad
   pub read : LayerStandsAfterPads reader keep.Pads dropped text
   pub tried : HasTriedIn holes.holes holes.index layer (map plain dropped) holes.search
+
+-- a reader has read this text of a layer in the wide profile, and of its flashes and contours just the pads among those that were taken out were
+-- tried, as they stand now
+pub record HasTriedFeaturesOf (holes : HolesView) (layer : ℕ) (reader : WideReader) (text : List ℕ) : Type 0 where
+  pub given : List Feature
+  pub read : WideStandsSince false given reader text
+  pub tried : HasTriedIn holes.holes holes.index layer (pads_of given) holes.search
 
 -- the findings of rings on the layer of a file with this content, by the layer's number from 0; a drill file has none
 abbrev pub rings_of : GridRules → List Drilled → ℕ → Content → List Finding

@@ -17,7 +17,7 @@ use Rattle.manifest.specs.declared.Role.TheVariants as role
 use Rattle.package_check.specs.CheckViews.{CheckView, holes_of}
 use Rattle.package_check.specs.HoleViews.{HolesView}
 use Rattle.package_check.specs.Holding.{is_wanted, setting_of}
-use Rattle.package_check.specs.Judging.{HasTriedPadsOf}
+use Rattle.package_check.specs.Judging.{HasTriedFeaturesOf, HasTriedPadsOf}
 use Rattle.package_check.specs.Package.{Reads, Setting, is_bad_span, unnamed_file}
 use Rattle.package_check.specs.declared.copper_reader.CopperReader.{CopperReader}
 use Rattle.package_check.specs.declared.copper_reader.CopperReader.TheVariants as copper_reader
@@ -64,10 +64,10 @@ pub record HasOpened (reader : PackageReader) (index : ℕ) (of : Role) (span : 
 
 -- ---- copper files of a check
 
--- A reader of a layer has read this text. In the strict profile its pads so far were tried at the holes; in the wide one they are tried at the end.
+-- a reader of a layer has read this text, and its pads so far were tried at the holes
 abbrev pub HasReadLayer : Profile → HolesView → ℕ → CopperReader → List ℕ → Type 0
 HasReadLayer profile holes layer (copper_reader.Strict reader) text = (profile ≡ Strict) × HasTriedPadsOf holes layer reader text
-HasReadLayer profile holes layer (copper_reader.Wide reader) text = (profile ≡ Wide) × (holes.search ≡ None) × WideStandsAfter false reader text
+HasReadLayer profile holes layer (copper_reader.Wide reader) text = (profile ≡ Wide) × HasTriedFeaturesOf holes layer reader text
 
 -- Of the copper file of this span, whose layer has this number, in a package of so many copper files, this text was read and shows no fault; or the file
 -- has failed. A file that is passed over has read no text.

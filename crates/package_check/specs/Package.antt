@@ -1,5 +1,5 @@
 -- The answer to a package: its report, or the first file that is refused.
-use Rattle.std.specs.Prelude.{◌≡◌, ◌⊎◌, ◌<◌, ◌+◌, ◌++◌, ℕ, Bool, true, false, not, ◌||◌, ◌&&◌, nat_le, List, [], ◌∷◌, length, map, take, get_or, count_by, Result, Ok, Err, ⊤, Option, None, Some}
+use Rattle.std.specs.Prelude.{◌≡◌, ◌⊎◌, ◌<◌, ◌++◌, ℕ, Bool, true, false, not, ◌||◌, ◌&&◌, nat_le, List, [], ◌∷◌, length, map, take, get_or, count_by, Result, Ok, Err, ⊤, Option, None, Some}
 use Rattle.std.specs.List.{All, flat_map, enumerate_from}
 use Rattle.grid_units.specs.Holes.{GridHole, GridRules}
 use Rattle.grid_units.specs.declared.profile.Profile.{Profile}

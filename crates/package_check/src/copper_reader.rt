@@ -12,7 +12,7 @@ use layer_image::{Keep, LayerReader, readings_in_profiles};
 use std::alloc::Global;
 use wide_layers::WideReader;
 
-/// How many bytes of a layer are read at once in the strict profile.
+/// How many bytes of a layer are read before its pads are tried.
 pub(crate) const PIECE: usize = 65_536;
 
 /// A reader of a copper file in a profile.

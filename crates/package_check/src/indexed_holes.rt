@@ -6,11 +6,11 @@ ghost use Rattle.grid_units.specs.declared.profile.Profile.TheVariants.{Strict, 
 ghost use Rattle.layer_image.specs.Holding.{ShowsLayerFault, ShowsLayerFaultIn};
 ghost use Rattle.wide_pads.specs.WidePads.{wide_pad_covers};
 ghost use Rattle.wide_pads.specs.declared.wide_pad.WidePad.{WidePad as ThePad};
-ghost use Rattle.wide_layers.specs.Holding.{WideStandsAfter};
-ghost use Rattle.wide_layers.specs.WideLayers.{contour_count, flashed_count, other_count};
+ghost use Rattle.further_copper.specs.Features.{pads_of};
+ghost use Rattle.further_copper.specs.Holding.{with_next};
+ghost use Rattle.further_copper.specs.declared.feature.Feature.{Feature as TheFeature};
 ghost use Rattle.package_check.specs.CheckViews.{is_drill_sum};
-ghost use Rattle.package_check.specs.declared.FileSum.TheVariants as sum;
-ghost use Rattle.package_check.specs.Judging.{HasTriedIn, HasTriedPadsOf, JudgesCopper};
+ghost use Rattle.package_check.specs.Judging.{HasTriedFeaturesOf, HasTriedIn, HasTriedPadsOf, JudgesCopper};
 ghost use Rattle.package_check.specs.LayerViews.{plain};
 ghost use Rattle.package_check.specs.OpenFiles.{HasReadLayer};
 ghost use Rattle.ring_rules.specs.Findings.{gap_findings, layer_findings};
@@ -22,13 +22,14 @@ use crate::copper_reader::{CopperReader, PIECE};
 use crate::judged::Judged;
 use crate::pad_size::{PadSize, are_unlike, likely_size, mean_size};
 use crate::readers::is_copper_function;
+use further_copper::{NextFeatures, into_pads};
 use grid_units::{Fail, Rules};
-use layer_image::{LayerReader, shown_faults};
+use layer_image::{LayerReader, readings_in_profiles, shown_faults};
 use pad_shapes::{Pad, PadShape};
 use ring_rules::{Drilled, Finding, LayerSearch, RingIndex};
 use std::alloc::{AllocError, Global};
 use std::marker::Model;
-use wide_layers::{WideLayer, WideReader};
+use wide_layers::WideReader;
 use wide_pads::WidePad;
 
 /// The holes of all drill files of a package, file by file, with an index of them, by which rings and gaps are judged.
@@ -38,6 +39,8 @@ pub(crate) struct IndexedHoles {
     index: RingIndex,
     /// The size of the pads for which the index is quick. It is right for all.
     size: PadSize,
+    /// Whether no pad of the layer that is being read was tried.
+    is_fresh: bool,
     /// How many pads were tried by the index.
     tried: usize,
     rules: Rules,
@@ -57,17 +60,6 @@ impl Model for IndexedHoles {
     ghost invariant = { λ h. IsRingIndexOf h.holes.items h.index × (h.rules ≡ h.index.rules) × IfSome h.search (IsSearchOver h.index) };
 }
 
-/// The counts of a layer that was read in the wide profile.
-fn wide_sum(wide: &WideLayer) -> FileSum
-    ensures { result ≡ sum.Layer (flashed_count wide.now.features) (other_count wide.now.features) (contour_count wide.now.features) }
-{
-    FileSum::Layer {
-        pads: wide.flashed_count(),
-        other: wide.other_count(),
-        contours: wide.contour_count(),
-    }
-}
-
 impl IndexedHoles {
     /// These holes, with an index of them for these rules.
     pub(crate) fn new(
@@ -84,6 +76,7 @@ impl IndexedHoles {
             holes,
             index,
             size,
+            is_fresh: true,
             tried: 0,
             rules,
             search: None,
@@ -92,7 +85,7 @@ impl IndexedHoles {
 
     /// Whether a new index is worth its time: no pad of the layer was tried, or an eighth as many by this index as there are holes.
     fn is_worth_another(&self) -> bool {
-        self.search.is_none() || self.holes.len() / 8 <= self.tried
+        self.is_fresh || self.holes.len() / 8 <= self.tried
     }
 
     /// The search on the layer that is being read, if one has begun, over another index of these holes. It is taken out.
@@ -131,13 +124,23 @@ impl IndexedHoles {
         Ok(())
     }
 
+    /// Forgets the pads of a layer that were tried.
+    fn forget_pads(&mut self)
+        ensures search { self.new.search ≡ None }
+        ensures holes { self.new.holes ≡ self.old.holes }
+        ensures rules { self.new.rules ≡ self.old.rules }
+    {
+        self.search = None;
+    }
+
     /// Forgets the search on a layer, so that the next pads are the first ones of another.
     pub(crate) fn forget_search(&mut self)
         ensures search { self.new.search ≡ None }
         ensures holes { self.new.holes ≡ self.old.holes }
         ensures rules { self.new.rules ≡ self.old.rules }
     {
-        self.search = None;
+        self.forget_pads();
+        self.is_fresh = true;
     }
 
     /// The search on a layer of this number, which is taken out; one that has tried no pad, where none has begun.
@@ -184,6 +187,7 @@ impl IndexedHoles {
         let mut search = self.take_search(alloc, layer)?;
         search.try_pads(&self.index, pads);
         self.search = Some(search);
+        self.is_fresh = false;
         self.tried = self.tried.saturating_add(pads.len());
         Ok(())
     }
@@ -227,7 +231,64 @@ impl IndexedHoles {
         Ok(())
     }
 
-    /// Feeds a piece of a layer of this number to the reader. In the strict profile its pads are tried and dropped.
+    /// Forgets the search on a layer where the next flashes and contours take away all before them, and tries the pads among them.
+    fn try_next(
+        &mut self,
+        alloc: Global,
+        layer: usize,
+        next: NextFeatures,
+    ) -> Result<(), AllocError>
+        ensures tried { (given : List TheFeature) → HasTriedIn self.old.holes self.old.index layer (pads_of given) self.old.search → OnOk result (HasTriedIn self.new.holes self.new.index layer (pads_of (with_next given next)) self.new.search) }
+        ensures holes { self.new.holes ≡ self.old.holes }
+        ensures rules { self.new.rules ≡ self.old.rules }
+    {
+        if next.takes_away {
+            self.forget_pads();
+        }
+        let pads = into_pads(alloc, next.features)?;
+        self.try_wide(alloc, layer, &pads)
+    }
+
+    /// Feeds a chunk of a layer in the wide profile to the reader, takes out the flashes and contours that it ends, and tries the pads among them.
+    fn feed_wide_chunk(
+        &mut self,
+        alloc: Global,
+        layer: usize,
+        reader: &mut WideReader,
+        chunk: &[u8],
+    ) -> Result<(), Fail>
+        ensures ok { (text : List ℕ) → HasTriedFeaturesOf self.old layer reader.old text → OnOk result (HasTriedFeaturesOf self.new layer reader.new (text ++ chunk.now)) }
+        ensures err { (text : List ℕ) → HasTriedFeaturesOf self.old layer reader.old text → IfErr result (IfFault (ShowsLayerFaultIn Wide (text ++ chunk.now))) }
+        ensures holes { self.new.holes ≡ self.old.holes }
+        ensures rules { self.new.rules ≡ self.old.rules }
+    {
+        reader.feed(chunk)?;
+        let next = reader.take_features()?;
+        self.try_next(alloc, layer, next)?;
+        Ok(())
+    }
+
+    /// Feeds a piece of a layer in the wide profile to the reader, [`PIECE`] bytes at a time, and tries and drops its pads.
+    fn feed_wide(
+        &mut self,
+        alloc: Global,
+        layer: usize,
+        reader: &mut WideReader,
+        piece: &[u8],
+    ) -> Result<(), Fail>
+        ensures ok { (text : List ℕ) → HasTriedFeaturesOf self.old layer reader.old text → OnOk result (HasTriedFeaturesOf self.new layer reader.new (text ++ piece.now)) }
+        ensures err { (text : List ℕ) → HasTriedFeaturesOf self.old layer reader.old text → IfErr result (IfFault (ShowsLayerFaultIn Wide (text ++ piece.now))) }
+        ensures holes { self.new.holes ≡ self.old.holes }
+        ensures rules { self.new.rules ≡ self.old.rules }
+    {
+        readings_in_profiles();
+        for chunk in piece.chunks(PIECE) {
+            self.feed_wide_chunk(alloc, layer, reader, chunk)?;
+        }
+        Ok(())
+    }
+
+    /// Feeds a piece of a layer of this number to the reader. Its pads are tried and dropped.
     pub(crate) fn feed(
         &mut self,
         alloc: Global,
@@ -242,20 +303,24 @@ impl IndexedHoles {
     {
         match reader {
             CopperReader::Strict(reader) => self.feed_chunks(alloc, layer, reader, piece),
-            CopperReader::Wide(reader) => reader.feed(piece),
+            CopperReader::Wide(reader) => self.feed_wide(alloc, layer, reader, piece),
         }
     }
 
-    /// Tries the pads of a layer of this number that was read in the wide profile, by an index that suits them.
+    /// Tries the next pads of a layer of this number in the wide profile, by an index that suits them.
     fn try_wide(&mut self, alloc: Global, layer: usize, pads: &[WidePad]) -> Result<(), AllocError>
-        ensures tried { self.old.search ≡ None → OnOk result (HasTriedIn self.new.holes self.new.index layer pads.now self.new.search) }
+        ensures tried { (tried : List ThePad) → HasTriedIn self.old.holes self.old.index layer tried self.old.search → OnOk result (HasTriedIn self.new.holes self.new.index layer (tried ++ pads.now) self.new.search) }
         ensures holes { self.new.holes ≡ self.old.holes }
         ensures rules { self.new.rules ≡ self.old.rules }
     {
+        if pads.is_empty() {
+            return Ok(());
+        }
         self.suit(alloc, pads)?;
         let mut search = self.take_search(alloc, layer)?;
         search.try_pads(&self.index, pads);
         self.search = Some(search);
+        self.is_fresh = false;
         self.tried = self.tried.saturating_add(pads.len());
         Ok(())
     }
@@ -298,7 +363,7 @@ impl IndexedHoles {
         Ok(Judged { sum, rings })
     }
 
-    /// The same in the wide profile, where no pad was tried yet.
+    /// The same in the wide profile.
     fn judge_wide(
         &mut self,
         alloc: Global,
@@ -306,19 +371,22 @@ impl IndexedHoles {
         reader: WideReader,
     ) -> Result<Judged, Fail>
         ensures layer { IfOk result (λ one. is_drill_sum one.sum ≡ false) }
-        ensures judged { self.old.rules.profile ≡ Wide → (text : List ℕ) → self.old.search ≡ None → WideStandsAfter false reader text → Answers (λ x. x) (JudgesCopper self.old.rules self.old.holes layer text) result }
+        ensures judged { self.old.rules.profile ≡ Wide → (text : List ℕ) → HasTriedFeaturesOf self.old layer reader text → Answers (λ x. x) (JudgesCopper self.old.rules self.old.holes layer text) result }
         ensures holes { self.new.holes ≡ self.old.holes }
         ensures rules { self.new.rules ≡ self.old.rules }
     {
-        let mut drawn = Vec::new(alloc);
-        let wide = reader.finish(&mut drawn)?;
-        if !is_copper_function(wide.file_function()) {
+        let rest = reader.finish_rest()?;
+        if !is_copper_function(rest.file_function()) {
             return Err(not_copper());
         }
-        let sum = wide_sum(&wide);
-        let pads = wide.into_pads(alloc)?;
-        self.try_wide(alloc, layer, &pads)?;
+        let counts = rest.counts;
+        self.try_next(alloc, layer, rest.next)?;
         let rings = self.rings(alloc, layer)?;
+        let sum = FileSum::Layer {
+            pads: counts.flashed,
+            other: counts.other,
+            contours: counts.contours,
+        };
         Ok(Judged { sum, rings })
     }
 

@@ -288,14 +288,13 @@ fn read_strict(
 fn wide_view(alloc: Global, wide: WideLayer) -> Result<Layer, AllocError>
     ensures { IfOk result (λ view. view ≡ wide_view wide) }
 {
-    let (flashed, contours) = (wide.flashed_count(), wide.contour_count());
-    let other = wide.other_count();
+    let counts = wide.counts();
     let is_copper = is_copper_function(wide.file_function());
     Ok(Layer {
         pads: wide.into_pads(alloc)?,
-        flashed,
-        contours,
-        other,
+        flashed: counts.flashed,
+        contours: counts.contours,
+        other: counts.other,
         is_copper,
     })
 }

@@ -1,8 +1,9 @@
 //! Reports in both profiles on packages whose copper the strict profile counts as no pads.
 
-use crate::package_check_calls::{FileRow, is_reported};
+use crate::package_check_calls::{FileRow, RowFail, is_reported};
 use grid_units::Profile;
 use package_check::Role;
+use std::alloc::{AllocError, Global};
 
 /// A flash of a square of 0.5 mm that a macro rounds by 0.25 mm on each side.
 const ROUNDED: FileRow = (
@@ -77,6 +78,55 @@ const REPORTS: [(Profile, &[FileRow], &str); 6] = [
         "file 1 layer pads=0 other=0 name=top\nfile 2 drill plated=yes round=1 slots=0 name=pth\nRING layer=1 drill=2 hole=1 x=0.000000000 y=0.000000000 diameter=0.400000000\nFINDINGS 1\n",
     ),
 ];
+
+/// What a layer of one pad begins with.
+const HEAD: &[u8] = b"%FSLAX46Y46*%\n%MOMM*%\n%ADD10C,0.65*%\nD10*\nX0Y0D03*\n";
+
+/// A comment of 50 bytes.
+const COMMENT: &[u8] = b"G04 the pad is far away from what follows here. *\n";
+
+/// A flash in clear polarity.
+const CLEAR: &[u8] = b"%LPC*%\nX5000000Y0D03*\n";
+
+/// What follows a pad, 100,000 bytes of comments and a flash in clear polarity, and the report in the wide profile after its first line.
+const LATE: [(&[u8], &str); 2] = [
+    (
+        b"",
+        "file 1 layer pads=0 other=2 contours=0 name=top\nfile 2 drill plated=yes round=1 slots=0 name=pth\nRING layer=1 drill=2 hole=1 x=0.000000000 y=0.000000000 diameter=0.400000000\nFINDINGS 1\n",
+    ),
+    (
+        b"%LPD*%\nX0Y0D03*\n",
+        "file 1 layer pads=1 other=2 contours=0 name=top\nfile 2 drill plated=yes round=1 slots=0 name=pth\nPASS\n",
+    ),
+];
+
+/// A layer that ends so, after a flash in clear polarity far behind its first pad.
+fn late_layer(alloc: Global, rest: &[u8]) -> Result<Vec<u8>, AllocError> {
+    let mut text = Vec::new(alloc);
+    text.extend_from_slice(HEAD)?;
+    for _ in 0..2_000 {
+        text.extend_from_slice(COMMENT)?;
+    }
+    text.extend_from_slice(CLEAR)?;
+    text.extend_from_slice(rest)?;
+    text.extend_from_slice(b"M02*\n")?;
+    Ok(text)
+}
+
+/// Whether the report on such a layer and a hole in the middle has these lines.
+fn is_reported_late(alloc: Global, rest: &[u8], lines: &str) -> Result<bool, RowFail> {
+    let text = late_layer(alloc, rest)?;
+    let top = (Role::Copper, "top", None, &text[..]);
+    is_reported(alloc, Profile::Wide, &[top, MIDDLE], lines)
+}
+
+#[test]
+fn clear_polarity_takes_away_pads_that_were_tried(rt: HostRuntime) {
+    for &(rest, lines) in &LATE {
+        let reported = is_reported_late(rt.alloc(), rest, lines);
+        assert!(rt; reported == Ok(true), "{lines}");
+    }
+}
 
 #[test]
 fn reports_tell_their_profile(rt: HostRuntime) {

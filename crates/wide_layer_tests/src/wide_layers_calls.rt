@@ -1,10 +1,10 @@
 //! The flashes and contours of layers in the wide profile, in whole texts and in pieces.
 
-use further_copper::{Feature, FeatureKind};
+use further_copper::{Feature, FeatureKind, NextFeatures};
 use grid_units::{Fail, Reason};
 use layer_image::{Keep, LayerReader};
 use std::alloc::Global;
-use wide_layers::{WideLayer, WideReader, read_wide_layer};
+use wide_layers::{FeatureCounts, WideLayer, WideReader, read_wide_layer};
 use wide_pads::WidePad;
 
 /// What is written after the head of a layer, and a letter for each flash and contour in the order of the text: `p` a pad of a standard
@@ -179,10 +179,53 @@ fn has_letters(features: &[Feature], letters: &[u8]) -> bool {
 
 /// Whether a layer has these flashes and contours, and counts them so.
 fn is_layer(layer: &WideLayer, letters: &[u8]) -> bool {
-    has_letters(layer.features(), letters)
-        && layer.flashed_count() == count(b"pm", letters)
-        && layer.contour_count() == count(b"c", letters)
-        && layer.other_count() == count(b"olx", letters)
+    has_letters(layer.features(), letters) && are_counts(layer.counts(), letters)
+}
+
+/// Whether these are the counts of flashes and contours with these letters.
+fn are_counts(counts: FeatureCounts, letters: &[u8]) -> bool {
+    counts.flashed == count(b"pm", letters)
+        && counts.contours == count(b"c", letters)
+        && counts.other == count(b"olx", letters)
+}
+
+/// The letter of what is left of a flash or contour that is taken away.
+fn left_of(letter: u8) -> Option<u8> {
+    match letter {
+        b'c' => None,
+        b'l' => Some(b'l'),
+        _ => Some(b'x'),
+    }
+}
+
+/// The letters of what stands of these flashes and contours, and of the next ones.
+fn with_next(alloc: Global, letters: Vec<u8>, next: &NextFeatures) -> Option<Vec<u8>> {
+    let mut all = letters;
+    if next.takes_away {
+        all = all
+            .iter()
+            .filter_map(|it| left_of(*it))
+            .collect(alloc)
+            .ok()?;
+    }
+    for feature in &next.features {
+        all.push(letter(&feature.what)).ok()?;
+    }
+    Some(all)
+}
+
+/// Whether the layer of a text has these flashes and contours where they are taken out after each byte.
+fn stands_as(alloc: Global, text: &[u8], expected: &[u8]) -> Option<bool> {
+    let mut reader = WideReader::new(alloc, false);
+    let mut letters = Vec::new(alloc);
+    for i in 0..text.len() {
+        reader.feed(&text[i..i + 1]).ok()?;
+        let next = reader.take_features().ok()?;
+        letters = with_next(alloc, letters, &next)?;
+    }
+    let rest = reader.finish_rest().ok()?;
+    letters = with_next(alloc, letters, &rest.next)?;
+    Some(letters.as_slice() == expected && are_counts(rest.counts, expected))
 }
 
 /// The layer of a text that comes in pieces of one byte.
@@ -195,13 +238,17 @@ fn read_bytes(alloc: Global, text: &[u8]) -> Result<WideLayer, Fail> {
     reader.finish(&mut drawn)
 }
 
-/// Whether the layer has these flashes and contours, read whole and in pieces.
+/// Whether the layer has these flashes and contours, read whole and in pieces, and taken out on the way.
 fn reads_as(alloc: Global, body: &[u8], letters: &[u8]) -> bool {
     let Some(text) = layer_text(alloc, body) else {
         return false;
     };
     match (read_wide_layer(alloc, &text), read_bytes(alloc, &text)) {
-        (Ok(whole), Ok(in_pieces)) => { is_layer(&whole, letters) && is_layer(&in_pieces, letters) }
+        (Ok(whole), Ok(in_pieces)) => {
+            is_layer(&whole, letters)
+                && is_layer(&in_pieces, letters)
+                && stands_as(alloc, &text, letters) == Some(true)
+        }
         _ => false,
     }
 }

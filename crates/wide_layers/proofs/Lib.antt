@@ -1,3 +1,4 @@
 pub mod Readings
 pub mod MetLemmas
 pub mod StrictReading
+pub mod CountsLemmas

@@ -15,6 +15,9 @@ use Rattle.further_copper.specs.declared.feature.Feature.{Feature}
 use Rattle.further_copper.specs.declared.feature.FeatureKind.{FeatureKind}
 use Rattle.further_copper.specs.declared.feature.FeatureKind.TheVariants as kind
 use Rattle.further_copper.specs.Features.{features_of, is_contour, is_flashed_pad, is_other}
+use Rattle.further_copper.specs.Holding.{with_next}
+use Rattle.wide_layers.specs.declared.counts.FeatureCounts.{FeatureCounts}
+use Rattle.wide_layers.specs.declared.layer.WideRest.{WideRest}
 
 -- a layer in the wide profile: its flashes and contours, in the order of the text; the text after `.FileFunction,`, if it is named
 pub record WideImage : Type 0 where
@@ -34,6 +37,14 @@ ReadsWideLayer text (Err f) = ReadsLayerIn Wide text (Err f)
 abbrev pub DrawsWidely : List ℕ → List Drawn → Type 0
 DrawsWidely text drawn = (layer : LayerImage) × ReadsLayerIn Wide text (Ok layer) × (drawn ≡ drawn_of (without_places layer.commands))
 
+-- the text after `.FileFunction,`, where just the rest of a layer is left
+abbrev pub rest_function : WideRest → Option (List ℕ)
+rest_function rest = rest.file_function
+
+-- the whole layer, of what stands of the flashes and contours that were taken out before, and its rest
+abbrev pub with_rest : List Feature → WideRest → WideImage
+with_rest given rest = record { features = with_next given rest.next; file_function = rest_function rest }
+
 -- ---- kinds of flashes and contours
 
 -- how many flashes are pads
@@ -47,6 +58,12 @@ contour_count features = count_by (λ f. is_contour f.what) features
 -- how many flashes are no pads
 abbrev pub other_count : List Feature → ℕ
 other_count features = count_by (λ f. is_other f.what) features
+
+-- these are the numbers of the flashes and contours of each kind
+pub record AreCountsOf (counts : FeatureCounts) (features : List Feature) : Type 0 where
+  pub flashed : counts.flashed ≡ flashed_count features
+  pub contours : counts.contours ≡ contour_count features
+  pub other : counts.other ≡ other_count features
 
 -- the pad of a standard aperture, if it is one
 abbrev pub plain_pad : FeatureKind → Option Pad

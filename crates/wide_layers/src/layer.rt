@@ -3,13 +3,24 @@
 ghost use Rattle.std.specs.Prelude.{◌≡◌, IfOk};
 ghost use Rattle.std.specs.Option.{option_copied};
 ghost use Rattle.further_copper.specs.Features.{pads_of, rows_of};
-ghost use Rattle.wide_layers.specs.WideLayers.{contour_count, flashed_count, other_count};
+ghost use Rattle.wide_layers.specs.WideLayers.{AreCountsOf};
 
-use further_copper::{Feature, FeatureRow};
+use crate::counts::FeatureCounts;
+use further_copper::{Feature, FeatureRow, NextFeatures, into_pads};
 use grid_units::Text;
 use std::alloc::{AllocError, Global};
 use std::marker::Model;
 use wide_pads::WidePad;
+
+/// The text of a file function, where one is named.
+fn named(file_function: &Option<Text>) -> Option<&[u8]>
+    ensures { option_copied result ≡ file_function.now }
+{
+    match file_function {
+        Some(text) => Some(text.bytes()),
+        None => None,
+    }
+}
 
 /// A layer in the wide profile. Contracts see its flashes and contours and its file function as lists.
 #[derive(Debug, Drop)]
@@ -34,34 +45,11 @@ impl WideLayer {
         &self.features
     }
 
-    /// How many flashes are pads.
-    pub fn flashed_count(&self) -> usize
-        ensures { result ≡ flashed_count self.now.features }
+    /// How many flashes and contours there are of each kind.
+    pub fn counts(&self) -> FeatureCounts
+        ensures { AreCountsOf result self.now.features }
     {
-        self.features
-            .iter()
-            .filter(|feature| feature.what.is_flashed_pad())
-            .count()
-    }
-
-    /// How many contours count as pads.
-    pub fn contour_count(&self) -> usize
-        ensures { result ≡ contour_count self.now.features }
-    {
-        self.features
-            .iter()
-            .filter(|feature| feature.what.is_contour())
-            .count()
-    }
-
-    /// How many flashes are no pads.
-    pub fn other_count(&self) -> usize
-        ensures { result ≡ other_count self.now.features }
-    {
-        self.features
-            .iter()
-            .filter(|feature| feature.what.is_other())
-            .count()
+        FeatureCounts::of(&self.features)
     }
 
     /// The pads, in the order of the text: flashes and contours.
@@ -72,10 +60,7 @@ impl WideLayer {
     pub fn into_pads(self, alloc: Global) -> Result<Vec<WidePad>, AllocError>
         ensures { IfOk result (λ pads. pads.items ≡ pads_of self.features) }
     {
-        self.features
-            .into_iter()
-            .filter_map(|feature| feature.what.into_pad())
-            .collect(alloc)
+        into_pads(alloc, self.features)
     }
 
     /// The rows of the flashes and contours, in the order of the text.
@@ -96,9 +81,26 @@ impl WideLayer {
     pub fn file_function(&self) -> Option<&[u8]>
         ensures { option_copied result ≡ self.now.file_function }
     {
-        match &self.file_function {
-            Some(text) => Some(text.bytes()),
-            None => None,
-        }
+        named(&self.file_function)
+    }
+}
+
+/// What is left of a layer that was read in the wide profile: the flashes and contours that were not taken out while it was read.
+#[derive(Debug, Drop)]
+pub struct WideRest {
+    pub next: NextFeatures,
+    /// How many flashes and contours the whole layer has of each kind.
+    pub counts: FeatureCounts,
+    pub(crate) file_function: Option<Text>,
+}
+
+impl WideRest {
+    ghost use Rattle.wide_layers.specs.WideLayers.{rest_function};
+
+    /// What follows `.FileFunction,` in the last file attribute or comment that names it, such as `Copper,L1,Top`.
+    pub fn file_function(&self) -> Option<&[u8]>
+        ensures { option_copied result ≡ rest_function self.now }
+    {
+        named(&self.file_function)
     }
 }

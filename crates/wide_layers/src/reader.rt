@@ -4,26 +4,32 @@ ghost use Rattle.std.specs.Prelude.{◌≡◌, ◌++◌, ◌<◌, ◌≤◌, [],
 ghost use Rattle.grid_units.specs.Results.{Answers, IfFault};
 ghost use Rattle.grid_units.specs.declared.profile.Profile.TheVariants.{Wide};
 ghost use Rattle.layer_image.specs.Holding.{ShowsLayerFaultIn};
-ghost use Rattle.wide_layers.specs.WideLayers.{DrawsWidely, ReadsWideLayer};
+ghost use Rattle.further_copper.specs.Holding.{with_next};
+ghost use Rattle.further_copper.specs.declared.feature.Feature.{Feature as TheFeature};
+ghost use Rattle.wide_layers.specs.WideLayers.{AreCountsOf, DrawsWidely, ReadsWideLayer, with_rest};
 
-use crate::layer::WideLayer;
+use crate::counts::FeatureCounts;
+use crate::layer::{WideLayer, WideRest};
 use crate::met::Met;
+use further_copper::NextFeatures;
 use gerber_text::WordReader;
 use grid_units::{Fail, Profile};
 use layer_image::Drawn;
-use std::alloc::Global;
+use std::alloc::{AllocError, Global};
 
-/// A reader of a layer in the wide profile that comes in pieces. It keeps the flashes and contours so far, what is drawn where that is asked
-/// for, the state and the unfinished item, and neither the text nor its commands.
+/// A reader of a layer in the wide profile that comes in pieces. It keeps the flashes and contours that were not taken out, what is drawn where
+/// that is asked for, the state and the unfinished item, and neither the text nor its commands.
 #[derive(Drop)]
 pub struct WideReader {
     words: WordReader,
     met: Met,
+    /// The counts of the flashes and contours that were taken out.
+    counts: FeatureCounts,
     failed: Option<Fail>,
 }
 
 impl WideReader {
-    ghost use Rattle.wide_layers.specs.Holding.{WideStandsAfter, wide_failure};
+    ghost use Rattle.wide_layers.specs.Holding.{WideStandsAfter, WideStandsSince, wide_failure};
 
     /// A reader that has read nothing. What is drawn is kept where `draws` says so.
     pub fn new(alloc: Global, draws: bool) -> WideReader
@@ -32,6 +38,7 @@ impl WideReader {
         WideReader {
             words: WordReader::in_profile(alloc, Profile::Wide),
             met: Met::new(alloc, draws),
+            counts: FeatureCounts::none(),
             failed: None,
         }
     }
@@ -43,8 +50,8 @@ impl WideReader {
     /// The first fault that the text shows so far, whatever follows; `Memory` where an allocation failed. A reader
     /// that has failed returns its failure again.
     pub fn feed(&mut self, piece: &[u8]) -> Result<(), Fail>
-        ensures ok { (draws : Bool) (text : List ℕ) → WideStandsAfter draws self.old text → OnOk result (WideStandsAfter draws self.new (text ++ piece.now)) }
-        ensures err { (draws : Bool) (text : List ℕ) → WideStandsAfter draws self.old text → IfErr result (IfFault (ShowsLayerFaultIn Wide (text ++ piece.now))) }
+        ensures ok { (draws : Bool) (given : List TheFeature) (text : List ℕ) → WideStandsSince draws given self.old text → OnOk result (WideStandsSince draws given self.new (text ++ piece.now)) }
+        ensures err { (draws : Bool) (given : List TheFeature) (text : List ℕ) → WideStandsSince draws given self.old text → IfErr result (IfFault (ShowsLayerFaultIn Wide (text ++ piece.now))) }
         ensures failed { IfSome (wide_failure self.old) (λ e. result ≡ Err e) }
         ensures fails { IfErr result (λ e. wide_failure self.new ≡ Some e) }
     {
@@ -60,8 +67,8 @@ impl WideReader {
 
     /// Takes the next piece of the text, part by part.
     fn take_parts(&mut self, piece: &[u8]) -> Result<(), Fail>
-        ensures ok { (draws : Bool) (text : List ℕ) → WideStandsAfter draws self.old text → OnOk result (WideStandsAfter draws self.new (text ++ piece.now)) }
-        ensures err { (draws : Bool) (text : List ℕ) → WideStandsAfter draws self.old text → IfErr result (IfFault (ShowsLayerFaultIn Wide (text ++ piece.now))) }
+        ensures ok { (draws : Bool) (given : List TheFeature) (text : List ℕ) → WideStandsSince draws given self.old text → OnOk result (WideStandsSince draws given self.new (text ++ piece.now)) }
+        ensures err { (draws : Bool) (given : List TheFeature) (text : List ℕ) → WideStandsSince draws given self.old text → IfErr result (IfFault (ShowsLayerFaultIn Wide (text ++ piece.now))) }
     {
         let mut taken = 0;
         while taken < piece.len() {
@@ -75,8 +82,8 @@ impl WideReader {
     fn take_leading(&mut self, bytes: &[u8]) -> Result<usize, Fail>
         requires { 0 < length bytes.now }
         ensures taken { IfOk result (λ n. (0 < n) × (n ≤ length bytes.now)) }
-        ensures ok { (draws : Bool) (text : List ℕ) → WideStandsAfter draws self.old text → IfOk result (λ n. WideStandsAfter draws self.new (text ++ take n bytes.now)) }
-        ensures err { (draws : Bool) (text : List ℕ) → WideStandsAfter draws self.old text → IfErr result (IfFault (ShowsLayerFaultIn Wide (text ++ bytes.now))) }
+        ensures ok { (draws : Bool) (given : List TheFeature) (text : List ℕ) → WideStandsSince draws given self.old text → IfOk result (λ n. WideStandsSince draws given self.new (text ++ take n bytes.now)) }
+        ensures err { (draws : Bool) (given : List TheFeature) (text : List ℕ) → WideStandsSince draws given self.old text → IfErr result (IfFault (ShowsLayerFaultIn Wide (text ++ bytes.now))) }
     {
         match self.words.pass_operation(bytes) {
             Some(passed) => {
@@ -95,8 +102,8 @@ impl WideReader {
     fn take_other(&mut self, bytes: &[u8]) -> Result<usize, Fail>
         requires { 0 < length bytes.now }
         ensures taken { IfOk result (λ n. (0 < n) × (n ≤ length bytes.now)) }
-        ensures ok { (draws : Bool) (text : List ℕ) → WideStandsAfter draws self.old text → IfOk result (λ n. WideStandsAfter draws self.new (text ++ take n bytes.now)) }
-        ensures err { (draws : Bool) (text : List ℕ) → WideStandsAfter draws self.old text → IfErr result (IfFault (ShowsLayerFaultIn Wide (text ++ bytes.now))) }
+        ensures ok { (draws : Bool) (given : List TheFeature) (text : List ℕ) → WideStandsSince draws given self.old text → IfOk result (λ n. WideStandsSince draws given self.new (text ++ take n bytes.now)) }
+        ensures err { (draws : Bool) (given : List TheFeature) (text : List ℕ) → WideStandsSince draws given self.old text → IfErr result (IfFault (ShowsLayerFaultIn Wide (text ++ bytes.now))) }
     {
         if self.met.in_region() {
             return self.take_part(bytes);
@@ -117,8 +124,8 @@ impl WideReader {
     fn take_part(&mut self, bytes: &[u8]) -> Result<usize, Fail>
         requires { 0 < length bytes.now }
         ensures taken { IfOk result (λ n. (0 < n) × (n ≤ length bytes.now)) }
-        ensures ok { (draws : Bool) (text : List ℕ) → WideStandsAfter draws self.old text → IfOk result (λ n. WideStandsAfter draws self.new (text ++ take n bytes.now)) }
-        ensures err { (draws : Bool) (text : List ℕ) → WideStandsAfter draws self.old text → IfErr result (IfFault (ShowsLayerFaultIn Wide (text ++ bytes.now))) }
+        ensures ok { (draws : Bool) (given : List TheFeature) (text : List ℕ) → WideStandsSince draws given self.old text → IfOk result (λ n. WideStandsSince draws given self.new (text ++ take n bytes.now)) }
+        ensures err { (draws : Bool) (given : List TheFeature) (text : List ℕ) → WideStandsSince draws given self.old text → IfErr result (IfFault (ShowsLayerFaultIn Wide (text ++ bytes.now))) }
     {
         let outcome = self.words.feed_part(bytes);
         self.met.take_all(self.words.commands())?;
@@ -127,7 +134,49 @@ impl WideReader {
         Ok(len)
     }
 
-    /// Ends the text, and returns its layer. What the text draws is put into `drawn`, where that was asked for.
+    /// Takes out the flashes and contours since the last time, in the order of the text.
+    ///
+    /// # Errors
+    ///
+    /// An `AllocError` where there is no memory for them.
+    pub fn take_features(&mut self) -> Result<NextFeatures, AllocError>
+        ensures { (draws : Bool) (given : List TheFeature) (text : List ℕ) → WideStandsSince draws given self.old text → IfOk result (λ next. WideStandsSince draws (with_next given next) self.new text) }
+    {
+        let next = self.met.take_features()?;
+        self.counts = self.counts.with_next(&next)?;
+        Ok(next)
+    }
+
+    /// Ends the text, and returns what is left of its layer: what was not taken out before.
+    ///
+    /// # Errors
+    ///
+    /// The first fault of the text. A reader that has failed returns its failure again.
+    pub fn finish_rest(self) -> Result<WideRest, Fail>
+        ensures exact { (draws : Bool) (given : List TheFeature) (text : List ℕ) → WideStandsSince draws given self text → Answers (with_rest given) (ReadsWideLayer text) result }
+        ensures counts { (draws : Bool) (given : List TheFeature) (text : List ℕ) → WideStandsSince draws given self text → IfOk result (λ rest. AreCountsOf rest.counts (with_next given rest.next)) }
+        ensures failed { IfSome (wide_failure self) (λ e. result ≡ Err e) }
+    {
+        let WideReader {
+            words,
+            met,
+            counts,
+            failed,
+        } = self;
+        if let Some(fail) = failed {
+            return Err(fail);
+        }
+        words.finish()?;
+        let (next, file_function) = met.finish_rest()?;
+        let counts = counts.with_next(&next)?;
+        Ok(WideRest {
+            next,
+            counts,
+            file_function,
+        })
+    }
+
+    /// Ends the text, and returns its layer, where nothing was taken out. What the text draws is put into `drawn`, where that was asked for.
     ///
     /// # Errors
     ///
@@ -137,7 +186,12 @@ impl WideReader {
         ensures drawn { (text : List ℕ) → WideStandsAfter true self text → OnOk result (DrawsWidely text drawn.new.items) }
         ensures failed { IfSome (wide_failure self) (λ e. result ≡ Err e) }
     {
-        let WideReader { words, met, failed } = self;
+        let WideReader {
+            words,
+            met,
+            failed,
+            ..
+        } = self;
         if let Some(fail) = failed {
             return Err(fail);
         }

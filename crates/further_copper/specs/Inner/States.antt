@@ -2,6 +2,8 @@
 use Rattle.std.specs.Prelude.{◌≡◌, suc, min, ◌+◌, false, ◌&&◌, ◌||◌, List, [], ◌++◌, unwrap_or, if◌then◌else◌}
 use Rattle.std.specs.List.{cons_option}
 use Rattle.gerber_commands.specs.declared.command.Command.{Command}
+use Rattle.gerber_commands.specs.declared.command.Command.TheVariants as command
+use Rattle.gerber_text.specs.declared.fast_path.LeadingOperation.{LeadingOperation}
 use Rattle.layer_image.specs.Lookback.{block_set}
 use Rattle.layer_image.specs.Drawn.{DrawState}
 use Rattle.layer_image.specs.Inner.Pencils.{after_command, draw_state}
@@ -12,6 +14,10 @@ use Rattle.further_copper.specs.Blocks.{changes_block}
 use Rattle.further_copper.specs.Clearing.{draws, polarity_set}
 use Rattle.further_copper.specs.Contours.{contour_of, part_by, starts_region}
 use Rattle.further_copper.specs.FurtherPads.{CopperState, ended_copies, max_regions, mirroring_set}
+
+-- the command of an operation that a reader has passed
+abbrev pub command_of : LeadingOperation → Command
+command_of operation = command.Operate operation.action operation.x operation.y operation.i operation.j
 
 -- a state whose number of regions counts no further than one more than the most
 abbrev pub capped : CopperState → CopperState

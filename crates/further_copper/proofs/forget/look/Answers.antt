@@ -2,17 +2,17 @@
 use Rattle.std.proofs.Common.{◌≡◌, ◌∙◌, List, [], ◌∷◌, ◌++◌, ap, subst, sym, true}
 use Rattle.further_copper.specs.declared.part.Part.{Part}
 use Rattle.further_copper.specs.declared.part.Part.TheVariants as part
-use Rattle.further_copper.specs.Inner.Forgetting.{has_many_corners}
+use Rattle.further_copper.specs.Inner.Forgetting.{starts_no_pad}
 use Rattle.further_copper.specs.Inner.States.{MakeSameContour}
 use Rattle.further_copper.proofs.ForgettingLemmas.{forgotten, kept_all}
 use Rattle.further_copper.proofs.forget.look.Goals as goal
 
-pub returns-then-not-many : goal.returns-then-not-many
-returns-then-not-many c = kept_all c.args.parts.now.items
+pub returns-then-not-over : goal.returns-then-not-over
+returns-then-not-over c = kept_all c.args.parts.now.items
 
 pub returns : goal.returns
 returns c =
     let old = c.args.parts.now.items in
-    let many : has_many_corners old ≡ true = ap has_many_corners (sym c.deref.ensures.value) ∙ (sym c.in_ok-many.ensures ∙ c.if-not-many.false) in
+    let over : starts_no_pad old ≡ true = ap starts_no_pad (sym c.deref.ensures.value) ∙ (sym c.in_ok-over.ensures ∙ c.if-not-over.false) in
     let one : c.push.new.self.items ≡ part.Other ∷ [] = c.in_ok-push.ensures.items ∙ ap (λ (l : List Part). l ++ part.Other ∷ []) c.clear.ensures.items in
-    subst (λ (l : List Part). MakeSameContour l old) (sym one) (forgotten old many)
+    subst (λ (l : List Part). MakeSameContour l old) (sym one) (forgotten old over)

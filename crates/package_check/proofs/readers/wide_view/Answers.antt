@@ -5,8 +5,8 @@ use Rattle.package_check.proofs.readers.wide_view.Goals as goal
 pub returns : goal.returns
 returns c = λ i. record {
   pads = c.in_ok-into_pads.ensures i;
-  flashed = c.flashed_count-flashed.ensures i;
-  contours = c.contour_count-contours.ensures i;
-  other = c.other_count-other.ensures i;
+  flashed = c.counts-counts.ensures.flashed i;
+  contours = c.counts-counts.ensures.contours i;
+  other = c.counts-counts.ensures.other i;
   is_copper = (c.is_copper_function-is_copper.ensures ∙ ap is_copper_function c.file_function.ensures) i;
 }

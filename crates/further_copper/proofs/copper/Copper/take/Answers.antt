@@ -3,7 +3,7 @@ use Rattle.further_copper.proofs.CopperLemmas.{met_more}
 use Rattle.further_copper.proofs.copper.Copper.take.Goals as goal
 
 pub returns : goal.returns
-returns c draws commands met own = met_more draws c.args.self.now c.draw.new.self c.add.new.self c.clear_where.new.self c.advance.new.self c.args.flashes.now commands c.args.command.now met own (record {
+returns c draws given commands met own = met_more draws given c.args.self.now c.draw.new.self c.add.new.self c.clear_where.new.self c.advance.new.self c.args.flashes.now commands c.args.command.now met own (record {
   parts = c.in_ok-draw.ensures.parts;
   asked = c.draw.ensures.asked;
   state = c.draw.ensures.state;

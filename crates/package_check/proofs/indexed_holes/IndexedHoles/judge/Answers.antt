@@ -14,4 +14,4 @@ pub returns-in-Wide-clause-judged : goal.returns-in-Wide-clause-judged
 returns-in-Wide-clause-judged c = λ text h.
     let old = c.args.self.now in
     let was = subst (λ (r : CopperReader). HasReadLayer old.rules.profile old c.args.layer r text) c.in-Wide.is h in
-    c.judge_wide.ensures.judged was.0 text was.1 was.2
+    c.judge_wide.ensures.judged was.0 text was.1

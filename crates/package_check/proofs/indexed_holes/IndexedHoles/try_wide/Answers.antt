@@ -1,22 +1,21 @@
-use Rattle.std.proofs.Common.{List, [], map, refl, ap, subst, sym, ◌∙◌}
+-- The next pads are tried after those before them.
+use Rattle.std.proofs.Common.{map, ap, subst, sym, ◌∙◌, List}
 use Rattle.wide_pads.specs.WidePads.{wide_pad_covers}
-use Rattle.ring_rules.proofs.TriedPads.{tried_more_by_map}
+use Rattle.ring_rules.proofs.TriedPads.{tried_more}
 use Rattle.ring_rules.specs.Search.{HasTried}
 use Rattle.ring_rules.specs.declared.finding.Drilled.{Drilled}
 use Rattle.ring_rules.specs.declared.ring_index.RingIndex.{RingIndex}
 use Rattle.package_check.specs.HoleViews.{HolesView}
-use Rattle.package_check.specs.Judging.{HasTriedIn}
 use Rattle.package_check.proofs.indexed_holes.IndexedHoles.try_wide.Goals as goal
 
 pub returns-clause-tried : goal.returns-clause-tried
-returns-clause-tried c = λ none.
-    let old = c.args.self.now in
+returns-clause-tried c = λ tried h.
     let mid = c.suit.new.self in
     let layer = c.args.layer in
     let search = c.in_ok-search.search in
-    let start = subst (HasTriedIn old.holes old.index layer []) (sym none) refl in
     let same_holes = ap (λ (v : HolesView). v.holes) c.self.view_is ∙ c.in_ok-search.ensures.holes in
     let same_index = ap (λ (v : HolesView). v.index) c.self.view_is ∙ c.in_ok-search.ensures.index in
-    c.try_pads.ensures.tried c.self.inside.holes.items layer []
-    (subst (λ (hs : List Drilled). HasTried wide_pad_covers hs layer [] c.self.inside.index search) (sym same_holes)
-    (subst (λ (ix : RingIndex). HasTried wide_pad_covers mid.holes layer [] ix search) (sym same_index) (c.in_ok-search.ensures.tried [] (c.in_ok-suit.ensures.tried layer [] start))))
+    tried_more wide_pad_covers c.self.inside.holes.items layer tried c.args.pads.now c.self.inside.index c.try_pads.new.self
+    (c.try_pads.ensures.tried c.self.inside.holes.items layer (map wide_pad_covers tried)
+    (subst (λ (hs : List Drilled). HasTried wide_pad_covers hs layer tried c.self.inside.index search) (sym same_holes)
+    (subst (λ (ix : RingIndex). HasTried wide_pad_covers mid.holes layer tried ix search) (sym same_index) (c.in_ok-search.ensures.tried tried (c.in_ok-suit.ensures.tried layer tried h)))))

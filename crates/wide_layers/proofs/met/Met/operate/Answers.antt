@@ -1,33 +1,34 @@
 -- The operation is judged, and its flashes are those that the judge has added.
-use Rattle.std.proofs.Common.{◌++◌, List, [], drop, refl, subst, sym}
+use Rattle.std.proofs.Common.{◌++◌, ◌∙◌, List, subst, sym}
 use Rattle.std.proofs.lemmas.Result.{err_from_is_err_and}
+use Rattle.gerber_commands.specs.Rows.{modes_of}
 use Rattle.gerber_commands.specs.declared.command.Command.{Command}
 use Rattle.gerber_commands.specs.declared.command.Command.TheVariants.{Operate}
 use Rattle.gerber_text.specs.Holding.{passed_entries}
 use Rattle.gerber_text.specs.Writing.{without_places}
-use Rattle.layer_image.specs.declared.keep.Keep.TheVariants as keep
-use Rattle.layer_image.specs.declared.scan.Scan.{Scan}
-use Rattle.layer_image.specs.Holding.{HasScannedLegal, scanned_flashes}
-use Rattle.layer_image.specs.KeptFlashes.{without_pads}
-use Rattle.further_copper.specs.Holding.{HasMet}
-use Rattle.wide_layers.proofs.MetLemmas.{after_operation, operation_flashes}
+use Rattle.layer_image.specs.Flashes.{flashes_of}
+use Rattle.layer_image.specs.KeptFlashes.{without_flashes}
+use Rattle.further_copper.specs.Holding.{HasMetSince}
+use Rattle.wide_layers.proofs.MetLemmas.{after_operation, all_dropped, flashes_with_mode, own_flashes}
 use Rattle.wide_layers.proofs.met.Met.operate.Goals as goal
 
 pub returns-in_err-operate-clause-refused : goal.returns-in_err-operate-clause-refused
-returns-in_err-operate-clause-refused c draws before h =
+returns-in_err-operate-clause-refused c draws given before h =
     let p = err_from_is_err_and c.from_residual.result c.from_residual.ensures.1 in
-    rw (p.1, p.2) (c.in_err-operate.ensures.refused (without_pads keep.Flashes []) before h.scanned)
+    rw (p.1, p.2) (c.in_err-operate.ensures.refused (without_flashes (flashes_of (without_places before))) before h.scanned)
 
 pub returns-clause-ok : goal.returns-clause-ok
-returns-clause-ok c draws before h =
+returns-clause-ok c draws given before h =
     let passed = c.args.passed in
     let found = passed.operation in
     let what = Operate found.action found.x found.y found.i found.j in
-    let count = c.flash_count-count.result in
-    let scanned = c.in_ok-operate.ensures.ok (without_pads keep.Flashes []) before h.scanned in
+    let all = before ++ passed_entries passed in
+    let dropped = flashes_of (without_places before) in
+    let scanned = c.in_ok-operate.ensures.ok (without_flashes dropped) before h.scanned in
+    let commands = after_operation before passed.place passed.byte found.mode what in
     record {
-      scanned = subst (λ (s : Scan). HasScannedLegal s (without_pads keep.Flashes []) (before ++ passed_entries passed)) (sym c.in_ok-lay.ensures.scan) scanned;
-      copper = subst (λ (l : List Command). HasMet draws c.lay.new.self.copper l) (sym (after_operation before passed.place passed.byte found.mode what))
-          (c.in_ok-lay.ensures.copper draws (without_places before) h.copper
-          (operation_flashes c.args.self.now.scan c.operate.new.self before passed.place passed.byte found.mode what count (drop count (scanned_flashes c.operate.new.self)) h.scanned scanned c.flash_count-count.ensures refl));
+      scanned = all_dropped c.operate.new.self c.clear_flashes.new.self dropped all scanned (c.clear_flashes.ensures.gone (without_flashes dropped) all scanned);
+      copper = subst (λ (l : List Command). HasMetSince draws given c.operate-2.new.self l) (sym commands)
+          (c.in_ok-operate-2.ensures draws given (without_places before) h.copper
+          (c.flashes.ensures ∙ own_flashes c.operate.new.self dropped all (without_places before ++ modes_of found.mode) what scanned commands (sym (flashes_with_mode (without_places before) found.mode))));
     }

@@ -9,23 +9,23 @@ use Rattle.wide_layers.specs.Holding.{HasMetLegal}
 use Rattle.wide_layers.proofs.met.Met.take_all.Goals as goal
 
 pub loop-entry-preserved : goal.loop-entry-preserved
-loop-entry-preserved c draws before h =
+loop-entry-preserved c draws given before h =
     let cs = c.args.entries.now in
     let i = c.loop-entry.entry-index in
     let e = c.entry-item.result in
     let so_far = before ++ take i cs in
     let more : before ++ take (i + 1) cs ≡ so_far ++ e ∷ [] = ap (λ (x : Entries). before ++ x) (take_next cs i e (omega arith) c.entry-item.is) ∙ sym (append_assoc before (take i cs) (e ∷ [])) in
-    subst (HasMetLegal draws c.take.new.self) (sym more) (c.in_ok-take.ensures.ok draws so_far (c.loop-entry.invariant draws before h))
+    subst (HasMetLegal draws given c.take.new.self) (sym more) (c.in_ok-take.ensures.ok draws given so_far (c.loop-entry.invariant draws given before h))
 
 pub returns-in_err-take-clause-refused : goal.returns-in_err-take-clause-refused
-returns-in_err-take-clause-refused c draws before h =
+returns-in_err-take-clause-refused c draws given before h =
     let p = err_from_is_err_and c.from_residual.result c.from_residual.ensures.1 in
     let cs = c.args.entries.now in
     let i = c.loop-entry.entry-index in
-    rw (p.1, p.2) (fault_of_all before cs i c.entry-item.result c.in_err-take.field-0.0 (omega arith) c.entry-item.is (c.in_err-take.ensures.refused draws (before ++ take i cs) (c.loop-entry.invariant draws before h)))
+    rw (p.1, p.2) (fault_of_all before cs i c.entry-item.result c.in_err-take.field-0.0 (omega arith) c.entry-item.is (c.in_err-take.ensures.refused draws given (before ++ take i cs) (c.loop-entry.invariant draws given before h)))
 
 pub returns-clause-ok : goal.returns-clause-ok
-returns-clause-ok c draws before h =
+returns-clause-ok c draws given before h =
     let cs = c.args.entries.now in
     let i = c.loop-entry.entry-index in
-    subst (λ (x : Entries). HasMetLegal draws c.loop-entry.self (before ++ x)) (take_all i cs (omega arith)) (c.loop-entry.invariant draws before h)
+    subst (λ (x : Entries). HasMetLegal draws given c.loop-entry.self (before ++ x)) (take_all i cs (omega arith)) (c.loop-entry.invariant draws given before h)

@@ -1,5 +1,5 @@
 -- The words are all met, so the layer is that of the commands that are gone.
-use Rattle.std.proofs.Common.{[], ◌≡◌, ◌++◌, Ok, true, refl, ap, subst, ◌∙◌, append-nil}
+use Rattle.std.proofs.Common.{◌≡◌, ◌++◌, Ok, refl, ap, subst, ◌∙◌, append-nil}
 use Rattle.std.proofs.lemmas.Result.{err_from_is_err_and}
 use Rattle.grid_units.specs.declared.profile.Profile.TheVariants.{Wide}
 use Rattle.gerber_text.specs.Reading.{Entries, ReadsIn, SpellsBeforeFaultIn}

@@ -8,41 +8,44 @@ use Rattle.layer_image.proofs.Pieces.{gone_shown}
 use Rattle.wide_layers.proofs.reader.WideReader.take_leading.Goals as goal
 
 pub returns-in_err-operate-in-Some-clause-err : goal.returns-in_err-operate-in-Some-clause-err
-returns-in_err-operate-in-Some-clause-err c draws text h =
+returns-in_err-operate-in-Some-clause-err c draws given text h =
     let p = err_from_is_err_and c.from_residual.result c.from_residual.ensures.1 in
     let passed = c.in-Some.passed in
-    rw (p.1, p.2) (gone_shown Wide text c.args.bytes.now passed.len c.pass_operation.new.self (h.gone ++ passed_entries passed) c.in_err-operate-in-Some.field-0.0 (c.in-Some.ensures.some_in h.none Wide h.gone text h.words) (c.pass_operation.ensures.held ∙ h.none) (c.in_err-operate-in-Some.ensures.refused draws h.gone h.met))
+    rw (p.1, p.2) (gone_shown Wide text c.args.bytes.now passed.len c.pass_operation.new.self (h.gone ++ passed_entries passed) c.in_err-operate-in-Some.field-0.0 (c.in-Some.ensures.some_in h.none Wide h.gone text h.words) (c.pass_operation.ensures.held ∙ h.none) (c.in_err-operate-in-Some.ensures.refused draws given h.gone h.met))
 
 pub returns-in_ok-operate-in-Some-clause-ok : goal.returns-in_ok-operate-in-Some-clause-ok
-returns-in_ok-operate-in-Some-clause-ok c draws text h =
+returns-in_ok-operate-in-Some-clause-ok c draws given text h =
     let passed = c.in-Some.passed in
     record {
       sound = h.sound;
       gone = h.gone ++ passed_entries passed;
       words = c.in-Some.ensures.some_in h.none Wide h.gone text h.words;
       none = c.pass_operation.ensures.held ∙ h.none;
-      met = c.in_ok-operate-in-Some.ensures.ok draws h.gone h.met;
+      met = c.in_ok-operate-in-Some.ensures.ok draws given h.gone h.met;
+      counts = h.counts;
     }
 
 -- where no operation was passed, nothing has changed
 pub returns-in-None-clause-err : goal.returns-in-None-clause-err
-returns-in-None-clause-err c draws text h =
+returns-in-None-clause-err c draws given text h =
     let same : c.pass_operation.new.self ≡ c.args.self.now.words = c.in-None.ensures.none in
-    c.take_other.ensures.err draws text (record {
+    c.take_other.ensures.err draws given text (record {
       sound = h.sound;
       gone = h.gone;
       words = subst (λ (w : WordReader). StandsIn w Wide h.gone text) (sym same) h.words;
       none = ap held same ∙ h.none;
       met = h.met;
+      counts = h.counts;
     })
 
 pub returns-in-None-clause-ok : goal.returns-in-None-clause-ok
-returns-in-None-clause-ok c draws text h =
+returns-in-None-clause-ok c draws given text h =
     let same : c.pass_operation.new.self ≡ c.args.self.now.words = c.in-None.ensures.none in
-    c.take_other.ensures.ok draws text (record {
+    c.take_other.ensures.ok draws given text (record {
       sound = h.sound;
       gone = h.gone;
       words = subst (λ (w : WordReader). StandsIn w Wide h.gone text) (sym same) h.words;
       none = ap held same ∙ h.none;
       met = h.met;
+      counts = h.counts;
     })

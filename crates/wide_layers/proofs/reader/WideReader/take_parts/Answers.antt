@@ -6,17 +6,17 @@ use Rattle.grid_units.specs.Results.{IfFault}
 use Rattle.grid_units.specs.declared.profile.Profile.TheVariants.{Wide}
 use Rattle.gerber_text.proofs.ShowsLemmas.{two_takes}
 use Rattle.layer_image.specs.Holding.{ShowsLayerFaultIn}
-use Rattle.wide_layers.specs.Holding.{WideStandsAfter}
+use Rattle.wide_layers.specs.Holding.{WideStandsSince}
 use Rattle.wide_layers.proofs.reader.WideReader.take_parts.Goals as goal
 
 pub returns-in_err-taken-clause-err : goal.returns-in_err-taken-clause-err
-returns-in_err-taken-clause-err c draws text h =
+returns-in_err-taken-clause-err c draws given text h =
     let p = err_from_is_err_and c.from_residual.result c.from_residual.ensures.1 in
     let piece = c.args.piece.now in
     let n = c.loop-taken.taken in
     let so_far = text ++ take n piece in
     let whole : so_far ++ take (length piece - n) (drop n piece) ≡ text ++ piece = ap (λ (x : List ℕ). so_far ++ x) (take_rest piece n) ∙ (append_assoc text (take n piece) (drop n piece) ∙ ap (λ (x : List ℕ). text ++ x) (take-append-drop n piece)) in
-    rw (p.1, p.2) (subst (λ (t : List ℕ). IfFault (ShowsLayerFaultIn Wide t) c.in_err-taken.field-0.0) whole (c.in_err-taken.ensures.err draws so_far (c.loop-taken.invariant.stands draws text h)))
+    rw (p.1, p.2) (subst (λ (t : List ℕ). IfFault (ShowsLayerFaultIn Wide t) c.in_err-taken.field-0.0) whole (c.in_err-taken.ensures.err draws given so_far (c.loop-taken.invariant.stands draws given text h)))
 
 pub loop-taken-preserved : goal.loop-taken-preserved
 loop-taken-preserved c =
@@ -25,13 +25,13 @@ loop-taken-preserved c =
     let k = c.in_ok-taken.field-0 in
     record {
       within = omega (arith, c.in_ok-taken.ensures.taken, length-drop n piece, length-take (length piece - n) (drop n piece));
-      stands = λ draws text h.
+      stands = λ draws given text h.
           let so_far = text ++ take n piece in
-          subst (WideStandsAfter draws c.take_leading.new.self) (two_takes text piece n k) (c.in_ok-taken.ensures.ok draws so_far (c.loop-taken.invariant.stands draws text h));
+          subst (WideStandsSince draws given c.take_leading.new.self) (two_takes text piece n k) (c.in_ok-taken.ensures.ok draws given so_far (c.loop-taken.invariant.stands draws given text h));
     }
 
 pub returns-clause-ok : goal.returns-clause-ok
-returns-clause-ok c draws text h =
+returns-clause-ok c draws given text h =
     let piece = c.args.piece.now in
     let n = c.loop-taken.taken in
-    subst (λ (x : List ℕ). WideStandsAfter draws c.loop-taken.self (text ++ x)) (take_all n piece (omega arith)) (c.loop-taken.invariant.stands draws text h)
+    subst (λ (x : List ℕ). WideStandsSince draws given c.loop-taken.self (text ++ x)) (take_all n piece (omega arith)) (c.loop-taken.invariant.stands draws given text h)
