@@ -49,6 +49,20 @@ def rounded_rectangle(rng, half_x, half_y, radius):
     return parts + more
 
 
+def centre_of_arc(rng, across, up):
+    """The centre of an arc as its start sees it, whose end lies so far away: amid, equally far from both, or nearer to one, just so much that it is none."""
+    x, y, way = across // 2, up // 2, rng.random()
+    if way < 0.3:  # moved across the way to the end
+        turn = rng.choice([-2, -1, 1, 2])
+        x, y = x - turn * (up // 2), y + turn * (across // 2)
+    elif way < 0.5:  # moved so that the radii differ by about 2 um
+        near = rng.choice([-1, 1]) * (1_000 + rng.choice([-1, 0, 0, 1, 2]))
+        x, y = (x + near, y) if abs(across) > abs(up) else (x, y + near)
+    elif way < 0.6:  # elsewhere
+        x, y = rng.choice([(0, 0), (x, -y), (y, x), (across, up), (2 * x, y)])
+    return x, y
+
+
 def oblong(rng, x, y, u, v, width):
     """HorizOval: a line and a disc at each of its ends."""
     parts = [f"20,1,{mm(width)},{mm(x)},{mm(y)},{mm(u)},{mm(v)},0", f"1,1,{mm(width)},{mm(x)},{mm(y)}", f"1,1,{mm(width)},{mm(u)},{mm(v)}"]
@@ -120,7 +134,8 @@ class Layer:
         way = rng.random()
         for (u, v), (s, t) in zip(closed, closed[1:]):
             if way < 0.25:  # arcs, of which the centre lies amid
-                words.append(f"{rng.choice(['G03', 'G03', 'G02'])}X{s}Y{t}I{(s - u) // 2}J{(t - v) // 2}D01*")
+                across, up = centre_of_arc(rng, s - u, t - v)
+                words.append(f"{rng.choice(['G03', 'G03', 'G02'])}X{s}Y{t}I{across}J{up}D01*")
             else:
                 words.append(f"X{s}Y{t}D01*")
         if rng.random() < 0.07:  # a second contour in the region

@@ -1,5 +1,7 @@
-# jq -r -f junit.jq FILE.json: the XML of JUnit. Of a report it has a case for each finding, skipped where it is waived; of a measure or
-# of a report without findings one case that passes; of a refusal one that fails.
+# ringcheck report --profile wide --ring MM --gap MM --format json MANIFEST > FILE.json
+# jq -r --arg file MANIFEST -f junit.jq FILE.json: the XML of JUnit. Of a report it has a case for each finding, skipped where it is waived; of
+# a measure or of a report without findings one case that passes; of a refusal one that fails. `--arg file` gives the manifest its name. Without
+# `--profile wide` the report is of the profile strict, which takes least on trust: only flashed discs, rectangles and obrounds are pads there.
 # text as XML has it: control bytes as blanks, and U+FFFE and U+FFFF, which XML has not, as U+FFFD
 def xml:
   gsub("[[:cntrl:]]"; " ") | explode | map(if . == 65534 or . == 65535 then 65533 else . end) | implode
@@ -10,18 +12,18 @@ def mm:
   else ((. / 1e9 | floor) as $whole | "\($whole).\("000000000\(. - $whole * 1e9)"[-9:])" | sub("\\.?0+$"; "")) end;
 def place: if .from_pm == .to_pm then "\(.from_pm[0] | mm),\(.from_pm[1] | mm)"
   else "\(.from_pm[0] | mm),\(.from_pm[1] | mm) to \(.to_pm[0] | mm),\(.to_pm[1] | mm)" end;
-def hole: "hole \(.hole) of file \(.drill) at \(place)";
+def hole($files): "hole \(.hole) of \($files[.drill - 1].name) at \(place)";
 # what a finding measures, the rule for it, and why
 def measured($rules):
   if .kind == "gap" then "gap \(.has_pm | mm) mm (rule \($rules.gap_pm | mm) mm)"
   elif .has_pm != null then "annular ring \(.has_pm | mm) mm (rule \($rules.ring_pm | mm) mm), \(.cause)"
   elif .cause == "none" then "no pad at the hole"
   else "annular ring not judged, \(.cause)" end;
-# what a refusal is of: the file by its name, the file of waivers or the manifest
-def refused: if .waivers then "waivers" elif .name then .name else "manifest" end;
+# what a refusal is of: the file by its name, the file of waivers, or the manifest, by its name where that is given
+def refused: if .waivers then "waivers" elif .name then .name else $ARGS.named.file // "manifest" end;
 # why a refusal is, and where: only what it says
 def stopped:
-  .result + if .reason then " \(.reason)" else "" end
+  if .result == "device" then "cannot be read" else .result end + if .reason then " \(.reason)" else "" end
   + if .place then " at place \(.place)" else "" end + if .byte then ", byte \(.byte)" else "" end;
 def suite($tests; $failures; $skipped):
   "<testsuite name=\"ringcheck\" tests=\"\($tests)\" failures=\"\($failures)\" skipped=\"\($skipped)\">";
@@ -44,7 +46,8 @@ def skipped: "<skipped message=\"\(xml)\"/>";
     (.findings[]
     | "#\(.number) \(measured($report.rules))" as $text
     | case(
-        if .kind == "ring" then "\($report.files[.layer - 1].name): \(.at | hole)" else "\(.at | hole), \(.and | hole)" end;
+        if .kind == "ring" then "\($report.files[.layer - 1].name): \(.at | hole($report.files))"
+        else "\(.at | hole($report.files)), \(.and | hole($report.files))" end;
         if .waived != null then "\($text), waived: \(.waived)" | skipped else $text | failure end))
   end,
   "</testsuite>"

@@ -1,10 +1,14 @@
 #!/usr/bin/env python3
 """Holds the wrong bodies to the prover: each turns the meaning of a function, and the prover must refuse it by a goal of that function.
 
-    ./try_planted [--jobs N] [CRATE..]              tries the bodies that have no line in planted/TRIED.csv, or an old one
-    ./try_planted --all [--resume] [--jobs N] [..]  tries all; with --resume not those that were tried today as they stand
-    scripts/check_planted                           fails where a body has no line or an old one; it tries nothing
+    ./try_planted [--all] [--jobs N] [CRATE..]      tries the bodies that are not remembered as refused; with --all it forgets first
+    scripts/check_planted                           looks whether the bodies are well formed and apply; it tries nothing
     scripts/check_planted --afresh [CRATE..]        tries some bodies from nothing: those that the commit's hash picks
+    scripts/check_planted --gate-begins             notes right before a gate, and with --gate-passed right after one that passed,
+    scripts/check_planted --gate-passed             which libraries that gate has left
+
+Status 0 of ./try_planted: every body of the repository is remembered as refused, also those of crates that it was not asked for. Status 0 of
+check_planted: there is nothing to mend; with --afresh: each body that was tried is refused. Else 1, and 2 for words that are not understood.
 
 A body is a file planted/CRATE/NAME.edit (or crates/CRATE/must-fail/NAME.edit, which `rt ci` tries too): lines `file: src/X.rt`, then
 pairs `old: TEXT` and `new: TEXT`, each TEXT one line that stands just once in that file. A line `# SENTENCE` says what the body turns;
@@ -13,79 +17,60 @@ pairs `old: TEXT` and `new: TEXT`, each TEXT one line that stands just once in t
 What counts as refused. The prover prints of each function whether it is proved, and if not which of its goals it did not prove. A body
 is refused only by an unproved goal of the function that it edits (or of its caller): not by a function that "calls .., which is not
 proved", not by a proof file that names what the edit took away, and not by a text that does not compile. Where a body changes a definition
-of `specs` that a law states, a refused lemma that the law's proof cites counts too. So one check tries many
-bodies at once: those that change the inside of functions, each of another one. The proof of a function rests on its own body and on the
-contracts of what it calls, which such bodies leave as they are, so none of them changes what is said of another. A body that changes
-anything else (a constant, a contract, a definition) is tried alone. Where a check does not compile, its bodies are tried by halves.
+of `specs` that a law states, a refused lemma that the law's proof cites counts too.
 
-What is kept. A line of planted/TRIED.csv: crate, body, day, kit, the function and its goal that failed, and a digest of all that the
-answer depends on: the body's text, its crate's `src` (without tests and comments), `specs` and `proofs`, HANDLES, the lines of crates.txt,
-and what its crate reads of the libraries below it. A check reads of a library only its public interface, which has no code: a function's
-code and proof are private to it, and so are a function that is not `pub` and the fields of a type that has a model of its own. And it
-reads only what is named: so of each library those types, constants, traits, impls and contracts of functions count whose names the crate, or
-what it reads, has anywhere in its text (a name that two things have counts for both), and those files of `specs` and `proofs` that one
-of these imports. The bodies of `const` functions and of a trait's own methods are kept, comments are not. With the same digest and the same
-kit the prover gives the same answer, since it reads the same. Another kit than a line's is said, and is no failure; `--all` is for that.
+So one check tries many bodies at once: those that change the inside of functions, each of another one. The proof of a function rests on its
+own body and on the contracts of what it calls, which such bodies leave as they are, so none of them changes what is said of another. A body
+that changes anything else (a constant, a contract, a definition) is tried alone. Where a check does not compile, its bodies are tried by
+halves. What a check begins with, and over which libraries it runs, scripts/trial_rooms.py says.
 
-What a check begins with. Where `rt check` has kept work of a crate in this checkout, ./try_planted begins with that, as `rt must-fail` does, so
-only what an edit changed is proved; else with nothing of the crate, over libraries as the gate leaves them, and each further check of the crate
-begins with what the one before it kept. With --all the first check of each crate begins with nothing, whatever `rt check` has kept; with --afresh
-each check does.
+What is remembered, in out/planted.csv: of each body that was refused the function and its goal that failed, and two digests of what the
+answer depends on, with the kit in both. Where one of them is as it was, the body is not tried again.
 
-What this cannot see is a line written by hand. So `--afresh`, after the gate, tries some bodies over libraries that the gate has just
-proved and with nothing kept of their own crate: a false line is found with some chance in each run, and for certain by `--all`.
+The digest `read` is made from texts: scripts/digests.py says from which. It goes by names, so it counts too much rather than too little.
+
+The digest `proof` is made from the modules in which the prover keeps what it made of the function as it stands: its code, contract, goals
+and proof, with sums of what they import, as the contracts of what it calls. They come out the same, byte for byte, unless something changes
+that the proof reads. A proof may read of a definition its name alone, where the wrong body needs what it says, so the definitions that the
+crate has or reads count too. Where `read` is old, the crate is proved as it stands, unless it is already, and only those bodies are tried
+whose `proof` is old too. A body has that digest only where it changes the inside of functions, prints no value by a place in a text, and
+names nothing of the repository but what the function names anyway.
+
+What this cannot see: a line of out/planted.csv that was written by hand; and a body that calls, by a name that its function has too, a
+method of another type, whose contract has changed. `--afresh`, after the gate, tries some bodies of three crates from nothing and finds such
+a one by chance; `./try_planted --all` finds it for certain.
 """
 import argparse
 import concurrent.futures
-import contextlib
 import csv
-import datetime
-import fcntl
-import functools
 import glob
-import hashlib
 import os
 import re
-import shutil
 import subprocess
 import sys
-import tempfile
 import time
 
 sys.dont_write_bytecode = True
-TOP = os.path.dirname(os.path.dirname(os.path.realpath(__file__)))
-sys.path.insert(0, os.path.join(TOP, "scripts"))
 import sources  # noqa: E402
+from digests import TOP, Digests, calls_in, lines_of_crates, source_files, sum_of, text_of  # noqa: E402
+from trial_rooms import KeptRoom, Libraries, Modules, Room, Unknown, alone, first_errors, gate_begins, gate_passed, has_kept  # noqa: E402
 
-TRIED = "planted/TRIED.csv"
-COLUMNS = ["crate", "body", "day", "kit", "function", "goal", "digest"]
-# Where `rt check` keeps its work in the folder of a crate.
-KEPT = "out/incremental"
-ANTT_PATH = re.compile(r"\bRattle\.(\w+)\.(specs|proofs)\.([\w.-]+)")
-# What a file of definitions or lemmas names of code: the types that it imports.
-ANTT_USE = re.compile(r"\bRattle\.[^{\s]*(?:\{[^}]*\})?")
+# What was refused.
+REMEMBERED = "out/planted.csv"
+COLUMNS = ["crate", "body", "function", "goal", "read", "proof"]
 # What a proof file says that names what the edit took away, or that cites such a proof.
 NAMES_ALONE = re.compile(r"has no field|is not in scope|has no `|was not admitted|is no name|: module `")
 REFUSED, MISSED, BAD, UNKNOWN = "refused", "not refused", "BAD", "not tried"
-# How many bodies, and of how many crates, a run tries from nothing.
-AFRESH_CRATES, AFRESH_BODIES = 2, 4
+# Of how many crates, and at most how many bodies of each, a run tries from nothing, and how many crates at a time.
+AFRESH_CRATES, AFRESH_BODIES, AFRESH_JOBS = 3, 8, 2
 # How often those of which a check names no goal are tried again together.
 ROUNDS = 3
 # The most bodies in must-fail/, and the most crates that have some.
 GATE_BODIES, GATE_CRATES = 12, 5
 
 
-def text_of(path):
-    with open(path, encoding="utf-8") as it:
-        return it.read()
-
-
 class BadEdit(Exception):
     """An edit that cannot be tried, and why."""
-
-
-class Unknown(Exception):
-    """Why nothing is known of the bodies of a check: it was killed, or a library is not proved."""
 
 
 class Body:
@@ -123,150 +108,43 @@ def bodies_of(crate=None):
     return sorted((Body(os.path.relpath(it, TOP)) for it in found), key=Body.key)
 
 
-# The repository.
+# What was refused.
 
 
-def lines_of_crates():
-    """The line of each crate in crates.txt, without its comment."""
-    lines = (re.sub(r"\s*#.*", "", it).strip() for it in text_of(os.path.join(TOP, "crates.txt")).split("\n"))
-    return {re.match(r"\w+", it)[0]: it for it in lines if it}
-
-
-def libraries_below(crate, lines):
-    """The libraries of the repository that a crate stands on, each after those below it."""
-    found = []
-    for word in lines[crate].partition(":")[2].split():
-        if word in lines:
-            found += [it for it in [*libraries_below(word, lines), word] if it not in found]
-    return found
-
-
-def files_of(crate, part, ending):
-    folder = os.path.join(TOP, "crates", crate)
-    found = glob.glob(f"{folder}/{part}/**/*{ending}", recursive=True)
-    return sorted(os.path.relpath(it, folder) for it in found)
-
-
-def source_files(crate):
-    """The texts of a crate's `src` by their path, without its tests."""
-    texts = {it: text_of(os.path.join(TOP, "crates", crate, it)) for it in files_of(crate, "src", ".rt")}
-    tests = [f"{os.path.dirname(path)}/{name}" for path, text in texts.items() for name in sources.TESTS.findall(text)]
-    kept = {it: text for it, text in texts.items() if not any(it == f"{test}.rt" or it.startswith(f"{test}/") for test in tests)}
-    return {it: sources.TESTS.sub("", text) for it, text in kept.items()}
-
-
-@functools.lru_cache(maxsize=None)
-def antt_file(path):
-    """The file of definitions or lemmas that a path names, as (crate, specs or proofs, names), or None: of a function's goals or of a type that
-    code declares there is none."""
-    crate, part, names = path
-    names = names.split(".")
-    for count in range(len(names), 0, -1):
-        file = os.path.join(TOP, "crates", crate, part, *names[:count]) + ".antt"
-        if os.path.isfile(file):
-            return file
-    return None
-
-
-def sum_of(*parts):
-    return hashlib.sha256(repr(parts).encode()).hexdigest()
-
-
-class Digests:
-    """The digest of each body, with what several have in common read once."""
+class Memory:
+    """The bodies that were refused, by crate and name, each with its function, its goal and its digests."""
 
     def __init__(self):
-        self.lines, self.seen = lines_of_crates(), {}
+        self.path, self.digests = os.path.join(TOP, REMEMBERED), Digests()
+        self.rows = self.read()
 
-    def of(self, body):
-        return sum_of(body.text(), self.of_crate(body.crate), self.handles())[:32] if body.crate in self.lines else ""
+    def read(self):
+        if not os.path.isfile(self.path):
+            return {}
+        with open(self.path, encoding="utf-8", newline="") as it:
+            rows = csv.DictReader(it)
+            return {(row["crate"], row["body"]): row for row in rows} if rows.fieldnames == COLUMNS else {}
 
-    def handles(self):
-        path = os.path.join(TOP, "HANDLES")
-        return text_of(path) if os.path.isfile(path) else ""
+    def has(self, body):
+        return body.key() in self.rows and self.rows[body.key()]["read"] == self.digests.of(body)
 
-    def once(self, key, make):
-        if key not in self.seen:
-            self.seen[key] = make()
-        return self.seen[key]
+    def has_proof(self, body, digest):
+        return digest != "" and body.key() in self.rows and self.rows[body.key()]["proof"] == digest
 
-    def of_crate(self, crate):
-        """The sum of what a check of the crate reads: its own files, and what it reads of the libraries below it."""
-        return self.once((crate, "read"), lambda: sum_of(self.own(crate), self.read(crate)))
+    def forget(self, keys):
+        self.put({}, keys)
 
-    def antt(self, crate):
-        found = files_of(crate, "specs", ".antt") + files_of(crate, "proofs", ".antt")
-        return [(it, sources.plain_antt(text_of(os.path.join(TOP, "crates", crate, it)))) for it in found]
-
-    def own(self, crate):
-        sources_of = [(it, sources.plain(text)) for it, text in source_files(crate).items()]
-        return self.lines[crate], sources_of, self.antt(crate)
-
-    def stated(self, crate):
-        """The items of a library that a crate above can read, by file."""
-        return self.once((crate, "stated"), lambda: [(it, item) for it, text in source_files(crate).items() for item in sources.stated(text)])
-
-    def read(self, crate):
-        """What a check of the crate reads of the libraries below it: items that are named by the crate or by what it reads, and files of
-        definitions and lemmas that one of these names by its path."""
-        below = libraries_below(crate, self.lines)
-        left = [(library, file, item) for library in below for file, item in self.stated(library)]
-        of_sources, of_antt, words = [it for _, it in self.own(crate)[1]], [it for _, it in self.antt(crate)], set()
-        files, items = {}, []
-        while of_sources or of_antt:
-            words.update(*(sources.WORD.findall(it) for text in of_antt for it in ANTT_USE.findall(text)), *map(sources.WORD.findall, of_sources))
-            paths = {it for text in of_sources + of_antt for it in ANTT_PATH.findall(text) if it[0] in below}
-            found = {it: sources.plain_antt(text_of(it)) for it in map(antt_file, paths) if it and it not in files}
-            named = [it for it in left if it[2].is_read(words)]
-            left = [it for it in left if not it[2].is_read(words)]
-            files.update(found)
-            items += [(library, file, item.text) for library, file, item in named]
-            of_sources, of_antt = [text for _, _, text in items[len(items) - len(named) :]], list(found.values())
-        return [self.lines[it] for it in below], sorted((os.path.relpath(it, TOP), text) for it, text in files.items()), sorted(items)
-
-
-def kit():
-    return subprocess.run(["rt", "version"], stdout=subprocess.PIPE, text=True, check=True).stdout.strip()
-
-
-# The lines of what was tried.
-
-
-def lines_tried():
-    """The lines of planted/TRIED.csv by crate and body: a merge may leave two of one body, of which the one that stands counts."""
-    path, found = os.path.join(TOP, TRIED), {}
-    if os.path.isfile(path):
-        with open(path, encoding="utf-8", newline="") as it:
-            for row in csv.DictReader(it):
-                found.setdefault((row["crate"], row["body"]), []).append(row)
-    return found
-
-
-def line_of(rows, digest):
-    """Of the lines of one body the one with its digest, or None."""
-    return next((row for row in rows or [] if row["digest"] == digest), None)
-
-
-@contextlib.contextmanager
-def alone(name):
-    """Held by one run at a time on this machine, for this checkout."""
-    os.makedirs(room_of_runs(), exist_ok=True)
-    with open(os.path.join(room_of_runs(), f"{name}.lock"), "w", encoding="utf-8") as it:
-        fcntl.flock(it, fcntl.LOCK_EX)
-        yield
-
-
-def write_lines(tried, gone, digests):
-    """Puts lines into planted/TRIED.csv, takes those of `gone` out, and those whose body is no longer there."""
-    with alone("lines"):
-        rows = {**lines_tried(), **{key: [row] for key, row in tried.items()}}
-        kept = [(it, rows[it.key()]) for it in bodies_of() if it.key() in rows and it.key() not in gone]
-        path = os.path.join(TOP, TRIED)
-        with open(f"{path}.new", "w", encoding="utf-8", newline="") as it:
-            writer = csv.DictWriter(it, COLUMNS, lineterminator="\n", extrasaction="ignore")
-            writer.writeheader()
-            writer.writerows(line_of(of, digests.of(body)) or of[-1] for body, of in kept)
-        os.replace(f"{path}.new", path)
+    def put(self, rows, gone=()):
+        """Adds these rows, takes those of `gone` out, and those whose body is no longer there."""
+        with alone("memory"):
+            found, there = {**self.read(), **rows}, {it.key() for it in bodies_of()}
+            self.rows = {key: row for key, row in sorted(found.items()) if key in there and (key in rows or key not in gone)}
+            os.makedirs(os.path.dirname(self.path), exist_ok=True)
+            with open(f"{self.path}.new", "w", encoding="utf-8", newline="") as it:
+                writer = csv.DictWriter(it, COLUMNS, lineterminator="\n")
+                writer.writeheader()
+                writer.writerows(self.rows.values())
+            os.replace(f"{self.path}.new", self.path)
 
 
 # What an edit changes.
@@ -320,6 +198,17 @@ class Trial:
         if not self.owners:
             raise BadEdit(f"{body.path} stands in no function: name the one that must be refused in a line '# caller: PATH'")
 
+    def names_its_own(self, declared):
+        """Whether the new texts name of what the repository declares only what the functions name that they stand in."""
+        names, new = set(), "\n".join(it for _, _, it in self.body.changes)
+        for path in {it for it, _, _ in self.body.changes}:
+            text = text_of(os.path.join(TOP, "crates", self.body.crate, path))
+            own = (it for it in sources.functions_in(text, sources.module_of(path)) if it.pattern in self.owners)
+            names.update(*(calls_in(text[it.start : it.end]) for it in own))
+        # (what is printed at a place of a text is by an impl of its type)
+        is_printed = any("{" in it[0] for it in sources.LITERAL.finditer(new))
+        return not is_printed and calls_in(new) & declared <= names
+
     def owns(self, name):
         """Whether a name that the prover printed is that of the function, or of a closure in it."""
         return any(re.match(rf"(?:\w+::)*?{it}(?:::|$)", re.sub(r"\bfn::", "", name)) for it in self.owners)
@@ -351,159 +240,6 @@ def go_together(trials):
         return True
     except BadEdit:
         return False
-
-
-# A check.
-
-
-def run(words, folder):
-    how = {"stdin": subprocess.DEVNULL, "stdout": subprocess.PIPE, "stderr": subprocess.STDOUT, "errors": "replace", "check": False}
-    return subprocess.run(words, cwd=folder, **how)
-
-
-def room_of_runs():
-    return os.path.join(tempfile.gettempdir(), f"planted-{os.getuid()}-{hashlib.sha256(TOP.encode()).hexdigest()[:12]}")
-
-
-def copy_crates(crates, to):
-    """Copies what a check reads of these crates to a folder, with HANDLES and their lines of crates.txt added to those that are there."""
-    os.makedirs(to, exist_ok=True)
-    if os.path.isfile(os.path.join(TOP, "HANDLES")):
-        shutil.copy(os.path.join(TOP, "HANDLES"), to)
-    lines = lines_of_crates()
-    for crate in crates:
-        for part in ("src", "specs", "proofs"):
-            if os.path.isdir(os.path.join(TOP, "crates", crate, part)):
-                shutil.copytree(os.path.join(TOP, "crates", crate, part), os.path.join(to, "crates", crate, part))
-    with open(os.path.join(to, "crates.txt"), "a", encoding="utf-8") as it:
-        it.writelines(f"{lines[crate]}\n" for crate in crates)
-
-
-def link_or_copy(one, other):
-    """Gives a built file a second name: rt removes such a file before it makes it anew, and never writes into it."""
-    try:
-        os.link(one, other)
-    except OSError:
-        shutil.copy2(one, other)
-
-
-class Libraries:
-    """A scratch copy in which `rt ci` builds what these crates stand on, once for a run: it takes what an earlier gate proved on this machine,
-    and what it has to prove, the next gate takes."""
-
-    def __init__(self, crates):
-        self.top, self.lines = os.path.join(room_of_runs(), "libraries"), lines_of_crates()
-        self.crates = [it for it in self.lines if any(it in libraries_below(crate, self.lines) for crate in crates)]
-        self.ran = None
-
-    def __enter__(self):
-        shutil.rmtree(self.top, ignore_errors=True)
-        copy_crates(self.crates, self.top)
-        if self.crates:
-            self.ran = run(["rt", "ci"], self.top)
-        return self
-
-    def __exit__(self, *_):
-        shutil.rmtree(self.top, ignore_errors=True)
-
-    def give(self, crate, to):
-        """Puts the libraries below a crate, as built, into a copy of them."""
-        for name in libraries_below(crate, self.lines):
-            built = os.path.join("crates", name, "out/rlib")
-            if not os.path.isdir(os.path.join(self.top, built, f"{name}.rlib")):
-                raise Unknown(f"{name} is not proved: {first_errors(self.ran.stdout)}")
-            shutil.copytree(os.path.join(self.top, built), os.path.join(to, built), copy_function=link_or_copy)
-
-
-class Room:
-    """A scratch copy of a crate and the libraries below it, in which checks of it run: over libraries as the gate leaves them, and with
-    nothing kept of the crate."""
-
-    def __init__(self, crate, libraries):
-        self.crate, self.libraries, self.lines = crate, libraries, lines_of_crates()
-        self.below = libraries_below(crate, self.lines)
-        self.top = os.path.join(room_of_runs(), crate)
-        self.folder, self.checks, self.said = os.path.join(self.top, "crates", crate), 0, ""
-
-    def __enter__(self):
-        shutil.rmtree(self.top, ignore_errors=True)
-        copy_crates(self.below, self.top)
-        self.libraries.give(self.crate, self.top)
-        copy_crates([self.crate], self.top)
-        return self
-
-    def __exit__(self, *_):
-        shutil.rmtree(self.top, ignore_errors=True)
-
-    def check(self, texts, modules):
-        """What a check says of the crate with these texts in place of its own, of the functions of these modules and what they call."""
-        for path, text in texts.items():
-            with open(os.path.join(self.folder, path), "w", encoding="utf-8") as it:
-                it.write(text)
-        only = [word for it in sorted(modules) for word in ("--only", it)] if "" not in modules else []
-        started, said = time.time(), run([*self.plain_words(), *only], self.folder).stdout
-        self.checks += 1
-        self.said = f"{self.top}.{self.checks}.said"
-        print(f"  {self.crate}: a check of {time.time() - started:.0f} s: {self.said}", flush=True)
-        with open(self.said, "w", encoding="utf-8") as it:
-            it.write(said)
-        for path in texts:
-            shutil.copyfile(os.path.join(TOP, "crates", self.crate, path), os.path.join(self.folder, path))
-        # (a message goes on in lines that begin with blanks)
-        return re.sub(r"\n  +", " ", said)
-
-    def plain_words(self):
-        """The prover's own command, over the libraries as the gate left them and with nothing kept of the crate."""
-        top = os.path.dirname(os.path.dirname(os.path.realpath(shutil.which("rt"))))
-        root = next(it for it in ("src/lib.rt", "src/main.rt") if os.path.isfile(os.path.join(self.folder, it)))
-        words = [f"{top}/bin/rattle", "check", "--crate-name", self.crate, root, "-L", f"dependency={top}/rlibs"]
-        for name in ["std", *self.lines[self.crate].partition(":")[2].split()]:
-            words += ["--extern", f"{name}={self.rlib(name) if name in self.lines else f'{top}/rlibs/{name}.rlib'}"]
-        for name in self.below:
-            words += ["-L", f"dependency={os.path.dirname(self.rlib(name))}"]
-        words += ["--antt-project", f"{top}/rattle/logic/antt-project.json", "--logic-built", f"{top}/logic_built"]
-        return [*words, "--links", f"{self.crate}=", "--jobs", "1"]
-
-    def rlib(self, name):
-        return os.path.join(self.top, "crates", name, "out/rlib", f"{name}.rlib")
-
-
-class OwnRoom(Room):
-    """A room in which each check of the crate begins with what the one before it kept."""
-
-    def plain_words(self):
-        kept = os.path.join(self.top, "kept")
-        os.makedirs(kept, exist_ok=True)
-        return [*super().plain_words(), "--incremental", kept]
-
-
-class KeptRoom(Room):
-    """A scratch copy of a crate in which checks of it begin with what `rt check` kept in this checkout, over the libraries that it built there."""
-
-    def __init__(self, crate):
-        super().__init__(crate, None)
-
-    def __enter__(self):
-        # It proves what changed since, and what it has proved stands beside the sources as they are.
-        ran = run(["rt", "check"], os.path.join(TOP, "crates", self.crate))
-        if ran.returncode:
-            raise Unknown(f"{self.crate} is not proved as it stands: {first_errors(ran.stdout)}")
-        shutil.rmtree(self.top, ignore_errors=True)
-        copy_crates([self.crate], self.top)
-        shutil.copytree(os.path.join(TOP, "crates", self.crate, KEPT), os.path.join(self.top, "kept"))
-        return self
-
-    def plain_words(self):
-        return [*super().plain_words(), "--incremental", os.path.join(self.top, "kept")]
-
-    def rlib(self, name):
-        return os.path.join(TOP, "crates", name, "out/rlib", f"{name}.rlib")
-
-
-def has_kept(crate):
-    """Whether `rt check` kept work of a crate in this checkout."""
-    folder = os.path.join(TOP, "crates", crate, KEPT)
-    return os.path.isdir(folder) and os.listdir(folder) != []
 
 
 # What a check said.
@@ -561,11 +297,6 @@ def compiles(said):
     return re.search(r"^(?:logic=|only=)", said, re.M) is not None
 
 
-def first_errors(said):
-    lines = [it for it in said.split("\n") if re.search(r"\berror\b|no verdict", it) and not it.startswith("so far: ")]
-    return " | ".join(it[:200] for it in lines[:3]) or said.strip()[-300:]
-
-
 def outcome(trial, said):
     """What a check says of one body: (kind, function, goal or why)."""
     goals = goals_of(said)
@@ -588,7 +319,7 @@ def try_together(room, trials, proofs=None, rounds=ROUNDS):
     cites a function that is refused."""
     proofs = {it.body.key(): (proofs or {}).get(it.body.key(), {}) for it in trials}
     texts = {**changed_texts([it.body for it in trials])[0], **{path: text for files in proofs.values() for path, text in files.items()}}
-    said = room.check(texts, set().union(*(it.modules for it in trials)))
+    said = room.check(texts, set().union(*(it.modules for it in trials)), trials[0].body.name if len(trials) == 1 else f"{len(trials)} bodies")
     if not compiles(said) and not re.search(r"^(?!so far: ).*\berror\[[\w-]+\]|^rattle: error", said, re.M):
         return {it.body.key(): (UNKNOWN, "", f"its check was killed, or came to no end: {room.said}") for it in trials}
     if not compiles(said):
@@ -611,101 +342,153 @@ def try_together(room, trials, proofs=None, rounds=ROUNDS):
     return found
 
 
-def try_crate(crate, bodies, room):
-    """Tries bodies of one crate in this room, and returns what came of each, by its key."""
-    trials, found = [], {}
-    for body in bodies:
-        try:
-            trials.append(Trial(body))
-        except BadEdit as why:
-            found[body.key()] = BAD, "", str(why)
-    try:
-        with alone(crate), room as opened:
-            for group in groups_of(trials):
-                found.update(try_together(opened, group))
-    except Unknown as why:
-        found.update({it.key(): (UNKNOWN, "", str(why)) for it in bodies if it.key() not in found})
-    return found
-
-
 # The commands.
 
 
-def note(crate, bodies, found, before, version, started):
-    """Writes the lines of what was refused, says what was not, and returns how many."""
-    today, rows, gone, after = datetime.date.today().isoformat(), {}, set(), Digests()
+def trials_of(bodies):
+    """The bodies that can be tried; of the others it says why not."""
+    found = []
     for body in bodies:
-        kind, function, goal = found[body.key()]
-        if before.of(body) != after.of(body):
-            kind, goal = UNKNOWN, "a file changed while it was tried"
-        if kind == REFUSED:
-            rows[body.key()] = dict(zip(COLUMNS, [body.crate, body.name, today, version, function, goal, after.of(body)]))
-        else:
-            gone |= {body.key()} if kind != UNKNOWN else set()
-            print(f"{kind}: {body.crate}/{body.name}{f' ({function})' if function else ''}: {goal}", flush=True)
-    write_lines(rows, gone, after)
-    print(f"{crate}: {len(rows)} of {len(bodies)} refused, {time.time() - started:.0f} s", flush=True)
-    return len(bodies) - len(rows)
-
-
-def wanted(asked, digests, version):
-    """The bodies that are to be tried, by crate."""
-    lines, today, found = lines_tried(), datetime.date.today().isoformat(), {}
-    for body in bodies_of():
-        row = line_of(lines.get(body.key()), digests.of(body))
-        is_of_today = row is not None and (row["day"], row["kit"]) == (today, version)
-        if (row is None or asked.all and not (asked.resume and is_of_today)) and (not asked.crates or body.crate in asked.crates):
-            found.setdefault(body.crate, []).append(body)
+        try:
+            found.append(Trial(body))
+        except BadEdit as why:
+            print(f"{BAD}: {why}", flush=True)
     return found
 
 
-def try_planted(words):
-    """Tries bodies and writes their lines. Status 0 where each that was tried is refused."""
-    parser = argparse.ArgumentParser(prog="./try_planted", usage="./try_planted [--all [--resume]] [--jobs N] [CRATE..]")
+def row_of(body, function, goal, *digests):
+    return dict(zip(COLUMNS, [*body.key(), function, goal, *digests]))
+
+
+def recognize(trials, memory, proofs):
+    """Remembers those bodies anew whose functions are proved as when they were refused, and returns the others."""
+    rows = {}
+    for body in (it.body for it in trials):
+        if memory.has_proof(body, proofs[body.key()]):
+            rows[body.key()] = {**memory.rows[body.key()], "read": memory.digests.of(body)}
+    memory.put(rows)
+    return [it for it in trials if it.body.key() not in rows]
+
+
+def note(trials, found, memory, proofs):
+    """Remembers what was refused, says what was not, and returns how many were."""
+    rows, gone, after = {}, set(), Digests()
+    for body in (it.body for it in trials):
+        kind, function, goal = found[body.key()]
+        if memory.digests.of(body) != after.of(body):
+            kind, goal = UNKNOWN, "a file changed while it was tried"
+        if kind == REFUSED:
+            rows[body.key()] = row_of(body, function, goal, after.of(body), proofs[body.key()])
+        else:
+            gone |= {body.key()} if kind != UNKNOWN else set()
+            print(f"{kind}: {body.crate}/{body.name}{f' ({function})' if function else ''}: {goal}", flush=True)
+    memory.put(rows, gone)
+    return len(rows)
+
+
+def try_crate(crate, bodies, room, memory):
+    """Tries bodies of one crate in this room, and says and remembers what came of them."""
+    started, trials, known, refused = time.time(), trials_of(bodies), 0, 0
+    try:
+        with alone(crate), room as opened:
+            opened.prove()
+            modules = Modules(opened.kept, crate)
+            proofs = {it.body.key(): modules.digest(it, memory.digests) for it in trials}
+            left = recognize(trials, memory, proofs)
+            known, done = len(trials) - len(left), 0
+            for group in groups_of(left):
+                refused += note(group, try_together(opened, group), memory, proofs)
+                done += len(group)
+                print(f"  {crate}: {done} of {len(left)} tried, {refused} refused", flush=True)
+    except Unknown as why:
+        print(f"{UNKNOWN}: {crate}: {why}", flush=True)
+    print(f"{crate}: {refused} refused and {known} with the same proof, of {len(bodies)}; {(time.time() - started) / 60:.1f} min", flush=True)
+
+
+def asked_for(words):
+    """What ./try_planted is asked for."""
+    parser = argparse.ArgumentParser(prog="./try_planted", usage="./try_planted [--all] [--jobs N] [CRATE..]")
     parser.add_argument("crates", nargs="*")
     parser.add_argument("--all", action="store_true")
-    parser.add_argument("--resume", action="store_true")
     parser.add_argument("--jobs", type=int, default=1)
-    asked, digests, version = parser.parse_args(words), Digests(), kit()
-    bodies = wanted(asked, digests, version)
-
-    kept = [] if asked.all else [it for it in bodies if has_kept(it)]
-
-    def one(crate):
-        started = time.time()
-        room = KeptRoom(crate) if crate in kept else OwnRoom(crate, libraries)
-        return note(crate, bodies[crate], try_crate(crate, bodies[crate], room), digests, version, started)
-
-    with alone("run"), Libraries([it for it in bodies if it not in kept]) as libraries, concurrent.futures.ThreadPoolExecutor(asked.jobs) as pool:
-        lost = sum(pool.map(one, [it for it in lines_of_crates() if it in bodies]))
-    print(f"{sum(map(len, bodies.values()))} tried, {lost} not refused")
-    return 1 if lost else 0
+    asked = parser.parse_args(words)
+    strange = [it for it in asked.crates if it not in lines_of_crates()]
+    if strange:
+        parser.error(f"crates.txt has no crate {strange[0]}")
+    return asked
 
 
-def picked(bodies, crates):
-    """The bodies to be tried from nothing: some of each crate named, or of those that the commit's hash picks."""
+def try_planted(words):
+    """Tries the bodies that are not remembered as refused. Status 0 where then every body of the repository is."""
+    asked = asked_for(words)
+    with alone("run"):
+        memory, wanted, bodies = Memory(), [it for it in bodies_of() if not asked.crates or it.crate in asked.crates], {}
+        if asked.all:
+            memory.forget({it.key() for it in wanted})
+        for body in wanted:
+            if not memory.has(body):
+                bodies.setdefault(body.crate, []).append(body)
+        print(f"planted: to try, as not remembered as refused: {sum(map(len, bodies.values()))} of {len(wanted)} wrong bodies, of {len(bodies)} crates", flush=True)
+        try_crates(bodies, [] if asked.all else [it for it in bodies if has_kept(it)], asked.jobs, memory)
+    return said_of_all()
+
+
+def try_crates(bodies, kept, jobs, memory):
+    """Tries the bodies of some crates, so many crates at a time; those of the crates `kept` over what `rt check` kept."""
+    one = lambda crate: try_crate(crate, bodies[crate], KeptRoom(crate) if crate in kept else Room(crate, libraries), memory)
+    with Libraries([it for it in bodies if it not in kept]) as libraries, concurrent.futures.ThreadPoolExecutor(jobs) as pool:
+        list(pool.map(one, [it for it in lines_of_crates() if it in bodies]))
+
+
+def said_of_all():
+    """Says how many bodies of the repository are remembered as refused. Status 0 where all are."""
+    memory, crates, every = Memory(), {}, bodies_of()
+    for body in every:
+        if not memory.has(body):
+            crates[body.crate] = crates.get(body.crate, 0) + 1
+    print(f"planted: {len(every) - sum(crates.values())} of {len(every)} wrong bodies are remembered as refused")
+    if crates:
+        print(f"planted: left: {', '.join(f'{number} of {crate}' for crate, number in crates.items())}")
+    return 1 if crates else 0
+
+
+def picked(crates):
+    """The bodies to be tried from nothing, by crate: those of one check, of each crate named, or of those that the commit's hash picks."""
+    bodies = bodies_of()
     ran = subprocess.run(["git", "rev-parse", "HEAD"], cwd=TOP, stdout=subprocess.PIPE, stderr=subprocess.DEVNULL, text=True, check=False)
     seed = ran.stdout.strip() or sum_of([it.text() for it in bodies])
     by_hash = lambda it: sum_of(seed, it)
     crates = crates or sorted({it.crate for it in bodies}, key=by_hash)[:AFRESH_CRATES]
-    return {crate: sorted((it for it in bodies if it.crate == crate), key=lambda it: by_hash(it.key()))[:AFRESH_BODIES] for crate in crates}
+    return {it: groups_of(trials_of(sorted(bodies_of(it), key=lambda body: by_hash(body.key()))))[0][:AFRESH_BODIES] for it in crates}
+
+
+def tried_from_nothing(crate, trials, libraries):
+    """What came of each of these bodies."""
+    try:
+        with alone(crate), Room(crate, libraries) as room:
+            return try_together(room, trials)
+    except Unknown as why:
+        return {it.body.key(): (UNKNOWN, "", str(why)) for it in trials}
 
 
 def try_afresh(crates):
-    """Tries some bodies from nothing. Status 0 where each is refused by the function that its line names."""
-    lines, digests, wrong, chosen = lines_tried(), Digests(), 0, picked(bodies_of(), crates)
-    with alone("run"), Libraries(chosen) as libraries:
-        came = {crate: try_crate(crate, bodies, Room(crate, libraries)) for crate, bodies in chosen.items()}
-    for crate, bodies in chosen.items():
-        found = came[crate]
-        for body in bodies:
-            kind, function, goal = found[body.key()]
-            row = line_of(lines.get(body.key()), digests.of(body)) or {"function": "none"}
-            if kind != REFUSED or function != row["function"]:
-                wrong += 1
-                print(f"mend: {crate}/{body.name}: {kind} ({function}: {goal}), and {TRIED} names {row['function']}", flush=True)
-        print(f"planted: of {crate} from nothing: {', '.join(it.name for it in bodies)}", flush=True)
+    """Tries some bodies from nothing. Status 0 where each is refused."""
+    chosen, wrong = picked(crates), 0
+    with alone("run"), Libraries(chosen) as libraries, concurrent.futures.ThreadPoolExecutor(AFRESH_JOBS) as pool:
+        came = pool.map(lambda it: tried_from_nothing(it, chosen[it], libraries), chosen)
+        for (crate, trials), found in zip(chosen.items(), came):
+            for name, (kind, function, goal) in ((it.body.name, found[it.body.key()]) for it in trials):
+                if kind != REFUSED:
+                    wrong += 1
+                    print(f"mend: {crate}/{name}: {kind}{f' ({function})' if function else ''}: {goal}", flush=True)
+            print(f"planted: of {crate} from nothing: {', '.join(it.body.name for it in trials)}", flush=True)
     return 1 if wrong else 0
+
+
+def has_function(crate, caller):
+    """Whether a crate has a function of the last name of a path."""
+    name = re.escape(caller.rpartition("::")[2])
+    return any(re.search(rf"\bfn {name}\b", sources.blanked(text)) for text in source_files(crate).values())
 
 
 def check_bodies(bodies):
@@ -721,6 +504,7 @@ def check_bodies(bodies):
             if body.crate not in lines:
                 raise BadEdit(f"{body.path}: crates.txt has no crate {body.crate}")
             Trial(body)
+            wrong += [f"{body.path}: its crate has no function {it}" for it in body.callers if not has_function(body.crate, it)]
         except BadEdit as why:
             wrong.append(str(why))
     gate = [it for it in bodies if it.path.startswith("crates/")]
@@ -729,28 +513,24 @@ def check_bodies(bodies):
     return wrong
 
 
-def check_lines():
-    """Says which bodies are to be mended, have no line or an old one, and which lines have no body. Status 0 where there is none of these."""
-    digests, lines, bodies = Digests(), lines_tried(), bodies_of()
-    kits = sorted({row["kit"] for rows in lines.values() for row in rows} - {kit()})
+def check_form():
+    """Says what is to be mended of the bodies. Status 0 where there is nothing."""
+    bodies = bodies_of()
     wrong = check_bodies(bodies)
-    for body in bodies:
-        rows = lines.pop(body.key(), [])
-        if body.crate in digests.lines and not line_of(rows, digests.of(body)):
-            wrong.append(f"{body.path} {'has an old line' if rows else 'has no line'} in {TRIED}: ./try_planted {body.crate}")
-    wrong += [f"{TRIED} has a line for {crate}/{name}, which is not there: ./try_planted takes it out" for crate, name in sorted(lines)]
     for it in wrong:
         print(f"mend: {it}")
-    for it in kits:
-        print(f"note: some lines of {TRIED} are of the kit {it}: ./try_planted --all tries all with this one")
     print(f"planted: {len(bodies)} wrong bodies, {len(wrong)} places to mend")
     return 1 if wrong else 0
 
 
 def check_planted(words):
-    if words[:1] == ["--afresh"]:
+    if words[:1] == ["--afresh"] and all(map(bodies_of, words[1:])):
         return try_afresh(words[1:])
-    return check_lines()
+    whole = {(): check_form, ("--gate-begins",): gate_begins, ("--gate-passed",): gate_passed}.get(tuple(words))
+    if whole:
+        return whole()
+    print("usage: scripts/check_planted [--afresh [CRATE..] | --gate-begins | --gate-passed], each crate one with wrong bodies", file=sys.stderr)
+    return 2
 
 
 if __name__ == "__main__":

@@ -314,8 +314,8 @@ def report_for_people(files):
         "1 no pad at the hole: none was flashed here, or its copper is drawn or of a shape that is not judged, or origin or format differ: see `ringcheck explain none`",
         f"smallest ring {length(RING - 1_000)} (rule {length(RING)})",
         f"smallest gap 0.2 (rule {length(GAP)})",
-        f"this board meets annular ring none, hole to hole 0.2; where a pad is, annular ring {length(RING - 1_000)}",
-        "2 of these are not there with --profile wide",
+        f"no annular ring is met: 3 findings are of holes with no pad that counts (without them: {length(RING - 1_000)}); hole to hole 0.2 is met",
+        "2 of these 6 findings disappear with --profile wide, which counts pads with rounded corners",
         "FINDINGS 6",
     ]
 

@@ -4,7 +4,7 @@ from typing import NamedTuple
 import pcbnew
 
 from . import marking, plotting
-from .report import CAUSES, Problem, find_program, millimetres, run_report
+from .report import CAUSES, Problem, find_program, has_plated_hole, millimetres, run_report, warnings_of
 
 # A fabricator's ring of 0.15 mm less the rounding of KiCad's drill files, and the gap of docs/GUIDE.md.
 DEFAULTS = {"ring": "0.149", "gap": "0.25", "layer": "", "origin": "page"}
@@ -36,6 +36,7 @@ class Row(NamedTuple):
 
 class Outcome(NamedTuple):
     summary: str
+    warnings: list
     rows: list
     folder: str
 
@@ -60,14 +61,14 @@ def layer_of(board, name):
     return layers[name] if name else next(iter(layers.values()))
 
 
-def name_of(owners, hole, place):
+def name_of(owners, files, hole, place):
     """A hole by its pad or via, else by its number in the drill file."""
-    return owners.at(place) or f"hole {hole.number} of file {hole.drill}"
+    return owners.at(place) or f"hole {hole.number} of {files[hole.drill - 1].name}"
 
 
 def row_of(finding, rules, files, owners, origin):
     places = [marking.board_place(it.middle(), origin) for it in finding.holes]
-    holes = " and ".join(name_of(owners, *it) for it in zip(finding.holes, places))
+    holes = " and ".join(name_of(owners, files, *it) for it in zip(finding.holes, places))
     middle = tuple(sum(it) // len(places) for it in zip(*places))
     layer = files[finding.layer - 1].layer if finding.layer else ""
     has = "none" if finding.has is None else millimetres(finding.has)
@@ -83,8 +84,8 @@ def summary_of(answer, findings):
     rules = f"ring {millimetres(answer['rules']['ring_pm'])} mm, gap {millimetres(answer['rules']['gap_pm'])} mm"
     if findings:
         return f"{len(findings)} finding{'s' if len(findings) > 1 else ''} ({rules})"
-    if not any(it["role"] == "plated" and it["round"] + it["slots"] > 0 for it in answer["files"]):
-        return f"PASS ({rules}), but the board has no plated hole, so no ring was checked"
+    if not has_plated_hole(answer):
+        return f"PASS ({rules}), but no plated hole was checked"
     return f"PASS ({rules})"
 
 
@@ -102,7 +103,8 @@ def check_board(board, settings):
     if findings:
         marking.mark(board, layer, settings.origin, findings, answer["rules"])
     owners, origin = marking.Owners(board), plotting.origin_of(board, settings.origin)
-    return Outcome(summary_of(answer, findings), [row_of(it, answer["rules"], files, owners, origin) for it in findings], folder)
+    rows = [row_of(it, answer["rules"], files, owners, origin) for it in findings]
+    return Outcome(summary_of(answer, findings), warnings_of(answer), rows, folder)
 
 
 def print_findings(board):
@@ -113,5 +115,7 @@ def print_findings(board):
         print(f"ringcheck: {problem}")
         return
     print(f"ringcheck: {outcome.summary}")
+    for words in outcome.warnings:
+        print(f"warning: {words}")
     for row in outcome.rows:
         print("\t".join(str(it) for it in row[:-1]))

@@ -9,11 +9,14 @@ STATUSES = {"pass": 0, "waived": 0, "findings": 1, "refused": 2, "device": 4}
 CAUSES = {
     "small": "pad too small",
     "off": "off centre",
-    "macro": "only a macro flash: choose circle, oval or rectangle",
+    "edge": "in a rounded pad or contour, too near its edge",
+    "macro": "only a macro flash whose shape is not judged: choose circle, oval, rectangle or rounded rectangle",
     "polygon": "only a polygon flash",
     "holed": "only a flash with a hole",
     "scaled": "only a scaled flash",
     "turned": "only a turned flash",
+    "clear": "only a clear flash",
+    "cleared": "only a cleared flash",
     "none": "no pad at the hole",
     "oblique": "oblique slot: not judged",
 }
@@ -123,7 +126,7 @@ def object_of(status, printed, complaint):
         raise Problem("ringcheck ran out of memory, so nothing was checked.")
     try:
         answer = json.loads(printed)
-        well = answer["format"] == "ringcheck" and answer["version"] == 2 and STATUSES[answer["result"]] == status
+        well = answer["format"] == "ringcheck" and answer["version"] == 3 and STATUSES[answer["result"]] == status
     except (ValueError, KeyError, TypeError):
         well = False
     if not well:
@@ -144,9 +147,21 @@ def findings_of(answer):
     return found
 
 
+def warnings_of(answer):
+    """A line for each drill file whose own comments contradict its role."""
+    files = [it for it in answer["files"] if it.get("contradicted")]
+    return [f"{it['name']}: its role is {it['role']}, and it says that holes are {'not ' if it['role'] == 'plated' else ''}plated" for it in files]
+
+
+def has_plated_hole(answer):
+    """Whether a hole is plated, so that its ring was checked."""
+    drills = [it for it in answer["files"] if it["role"] in ("plated", "mixed")]
+    return any(it["round"] + it["slots"] > it.get("unplated", 0) for it in drills)
+
+
 def run_report(program, folder, manifest, ring, gap):
-    """The object of a report and its findings. It ends with a Problem where the program refused, or did not run."""
-    words = [program, "report", f"--ring={ring}", f"--gap={gap}", "--format=json", "--", manifest]
+    """The object of a report in the profile wide and its findings. It ends with a Problem where the program refused, or did not run."""
+    words = [program, "report", "--profile=wide", f"--ring={ring}", f"--gap={gap}", "--format=json", "--", manifest]
     status, printed, complaint = run(words, folder)
     answer = object_of(status, printed, complaint)
     if answer["result"] == "refused":

@@ -95,7 +95,7 @@ class Listing(wx.Dialog):
         self.answer = wx.StaticText(self)
         self.Bind(wx.EVT_CLOSE, lambda _: self.Destroy())
         whole = wx.BoxSizer(wx.VERTICAL)
-        for words in (outcome.summary, f"Checked files: {outcome.folder}"):
+        for words in (outcome.summary, *(f"Warning: {it}" for it in outcome.warnings), f"Checked files: {outcome.folder}"):
             whole.Add(wx.StaticText(self, label=words), 0, wx.ALL, 6)
         whole.Add(self.list, 1, wx.EXPAND)
         whole.Add(self.answer, 0, wx.ALL, 6)

@@ -37,9 +37,9 @@ _ringcheck() {
   case $command in
     check) options='--ring --gap --profile --help' ;;
     draw) options='--ring --gap --profile --outline --help' ;;
-    report) options='--ring --gap --profile --max --waive --outline --format --help' ;;
+    report) options='--ring --gap --profile --max --waive --outline --format --exit-zero --help' ;;
     measure) options='--profile --format --help' ;;
-    manifest) options='--why --help' ;;
+    manifest) options='--why --profile --help' ;;
     show) options='--kind --profile --help' ;;
     rewrite) options='--kind --help' ;;
     explain)

@@ -5,6 +5,9 @@ folder that the answer rests on, the program too, its state: what the file syste
 kind, inode and size, and the times of its last edit and of its last change, in nanoseconds. Each edit and each renaming gives it a
 new time of change, and nothing sets that but the machine's clock. So what has the state that it had is as it was, unless it
 changed while it was read. What changed after the look began is therefore kept without a state, and the next look reads it again.
+
+Who has mapped a file into memory can store into it without a new time of change, until the file is written back. So each file is written
+back before it is read. A file system that lives in memory, as tmpfs, writes nothing back: there such an edit is not seen.
 """
 import marshal
 import os
@@ -12,7 +15,7 @@ import os
 TOP = os.path.dirname(os.path.dirname(os.path.dirname(os.path.realpath(__file__))))
 OUT = "crates/ringcheck_program/out"
 FILE = f"{OUT}/index"
-FORM = 1
+FORM = 2
 
 
 def state_of(found):
@@ -63,7 +66,7 @@ def is_as_it_was(kept, program, path):
     if kept["program"][0] != state_of(os.fstat(program)) or not has_same_toolchain(kept, path):
         return False
     try:
-        return [state_of(it) for it in map(os.lstat, kept["paths"])] == kept["states"]
+        return all(state_of(os.lstat(it)) == state for it, state in zip(kept["paths"], kept["states"]))
     except OSError:
         return False
 

@@ -4,6 +4,7 @@
 
 70: it is. 71: it is not, so build.py is to prove and build it. 5: no program can be, for a reason that is said on standard error.
 """
+import gc
 import os
 import sys
 
@@ -13,6 +14,8 @@ IS_PROVED, IS_TO_BE_BUILT, NOT_PROVED = 70, 71, 5
 def main():
     if sys.version_info < (3, 8):
         return 1
+    # Thousands of states are made and none is dropped: a look for what could be freed would take a third of the time.
+    gc.disable()
     # -I leaves even the script's own folder out.
     own = os.path.dirname(os.path.realpath(__file__))
     sys.path.insert(0, own)

@@ -1,15 +1,22 @@
 """In which order crates are proved, how far rt is, how long it will still take, and why it refuses a crate.
 
-How long is reckoned from scripts/crate_seconds.txt: of each crate the seconds of a processor that its proof takes from nothing, the
-same over the work that an earlier proof kept, and the memory in MB. The plan is stretched to the pace that this machine has had so far.
+How long is reckoned from what the last proofs on this machine took, which out/seconds beside the program has, and for a crate that it lacks
+from scripts/crate_seconds.txt: of each crate the seconds of a processor that its proof takes from nothing, the same over the work that an
+earlier proof kept, and the memory in MB. The plan is stretched to the pace that this machine has had so far.
 """
+import contextlib
+import os
 import re
 
 import index
 
 TABLE = f"{index.TOP}/scripts/crate_seconds.txt"
+# What proofs here took: a line `CRATE first SECONDS` or `CRATE again SECONDS` each.
+MEASURED = f"{index.OUT}/seconds"
 # What a crate is taken to need that is not in the table yet.
 USUAL = (120, 30, 2000)
+# MB of disk that a crate's library and kept work take on average, and that a proof over kept work takes until the old library goes.
+DISK, DISK_AGAIN = 500, 250
 # More jobs than this gain a crate nothing. Each takes about as much memory as the first.
 MOST_JOBS = 4
 # The part of its seconds that a crate takes with one job, with two, and so on.
@@ -27,6 +34,43 @@ def read_table():
     with open(TABLE, encoding="utf-8") as it:
         rows = [line.split() for line in it if line.strip() and not line.startswith("#")]
     return {name: tuple(map(int, figures)) for name, *figures in rows}
+
+
+def measured():
+    """By a crate and `first` or `again` the seconds of a processor that its last proof here took."""
+    found = {}
+    with contextlib.suppress(OSError, ValueError):
+        with open(MEASURED, encoding="utf-8") as it:
+            for line in it:
+                name, which, seconds = line.split()
+                found[name, which] = int(seconds)
+    return found
+
+
+def keep_seconds(name, is_again, seconds):
+    """Keeps how long a proof took. It is a figure to reckon with, so a launcher that cannot write it goes on."""
+    found = {**measured(), (name, "again" if is_again else "first"): max(round(seconds), 1)}
+    with contextlib.suppress(OSError):
+        with open(f"{MEASURED}.new", "w", encoding="utf-8") as it:
+            it.writelines(f"{crate} {which} {figure}\n" for (crate, which), figure in sorted(found.items()))
+        os.replace(f"{MEASURED}.new", MEASURED)
+
+
+def figures(crates):
+    """By its name what each crate is reckoned with: the seconds from nothing and over kept work, and the memory."""
+    table, here, found = read_table(), measured(), {}
+    for it in crates:
+        first, again, memory = table.get(it, USUAL)
+        first = here.get((it, "first"), first)
+        # Over kept work no crate takes longer than from nothing.
+        found[it] = first, min(here.get((it, "again"), again), first), memory
+    return found
+
+
+def disk_needed(crates, with_work, processors):
+    """The bytes of disk to have free before these crates are proved, of which those with kept work take less."""
+    new = sum(it not in with_work for it in crates)
+    return 1_000_000 * (DISK * new + DISK_AGAIN * min(len(crates) - new, processors))
 
 
 def all_below(crates):
@@ -106,6 +150,11 @@ class Progress:
         self.done.append(name)
         self.last = elapsed
 
+    def follow(self, steps, done):
+        """Goes on by another plan, of which these steps are done too."""
+        self.steps, self.done = steps, [*self.done, *done]
+        self.end = max(end for _, end in steps.values())
+
     def seconds_left(self, elapsed):
         done = sum(self.steps[it][0] for it in self.done)
         at, until = 0, self.end
@@ -137,6 +186,16 @@ def refusal(said):
 
 def is_proved(name, said):
     return (name, "proved") in VERDICT.findall(said)
+
+
+def was_not_saved(said):
+    """Whether rt has noted that it could not save what it proved, as on a full disk: it ends with status 0 all the same, and the library lacks that."""
+    return "could not save this run's results" in said
+
+
+def began_with_work(said):
+    """Whether rt began with work that a check in another folder kept."""
+    return "begins with what a check kept in" in said
 
 
 def was_killed(status):

@@ -15,13 +15,16 @@ import sys
 
 import index
 
-PROGRAM = f"{index.OUT}/ringcheck_program"
+NAME = "ringcheck_program"
+PROGRAM = f"{index.OUT}/{NAME}"
 STAMP = f"{index.OUT}/proved"
 PARTS = ("src", "specs", "proofs")
 # What rt would read in place of crates.txt, were it there.
 RIVALS = ("crates.txt", "BUILD.bazel", "MODULE.bazel", ".git")
 KIT_LINE = re.compile(r"rattle-kit-\S+ logic [0-9a-f]+")
 SECONDS_TO_ANSWER = 10
+# After which it is said what is waited for.
+SECONDS_OF_SILENCE = 1
 
 
 class Refused(Exception):
@@ -42,9 +45,14 @@ def environment(path):
     return {**kept, "PATH": ":".join(path)}
 
 
-def name_in(line):
-    """The crate that a line of crates.txt is about; `?`, which no crate is named, where there is none."""
-    return line.partition("#")[0].partition(":")[0].strip() or "?"
+def lines_of_crates():
+    """By the name of each crate its line of crates.txt, or its lines, which rt then refuses."""
+    found = {}
+    with open("crates.txt", encoding="utf-8") as it:
+        for line in it:
+            for name in line.partition("#")[0].partition(":")[0].split()[:1]:
+                found[name] = found.get(name, "") + line.rstrip("\n") + "\n"
+    return found
 
 
 def crates_needed():
@@ -52,7 +60,7 @@ def crates_needed():
     with open("crates.txt", encoding="utf-8") as it:
         rows = [line.partition("#")[0].partition(":") for line in it]
     listed = {name.split()[0]: re.split(r"[\s,]+", uses.strip()) for name, _, uses in rows if name.strip()}
-    needed, waiting = {}, ["ringcheck_program"]
+    needed, waiting = {}, [NAME]
     while waiting:
         name = waiting.pop()
         if name not in needed:
@@ -97,7 +105,19 @@ def states_of_sources(crates):
 
 def digest_of_file(path):
     with open(path, "rb") as it:
+        # It is written back first: of a file that is mapped into memory, what is stored afterwards gives it a new time of change then.
+        with contextlib.suppress(OSError):
+            os.fsync(it.fileno())
         return hashlib.sha256(it.read()).hexdigest()
+
+
+def said_in_time(asked, what):
+    """What a process says until it ends. TimeoutExpired where that takes too long."""
+    try:
+        return asked.communicate(timeout=SECONDS_OF_SILENCE)[0]
+    except subprocess.TimeoutExpired:
+        say(f"waiting for `{what}`, {SECONDS_TO_ANSWER} seconds at most")
+        return asked.communicate(timeout=SECONDS_TO_ANSWER - SECONDS_OF_SILENCE)[0]
 
 
 def answer_of(rt, path):
@@ -106,7 +126,7 @@ def answer_of(rt, path):
     try:
         with subprocess.Popen([rt, "version"], env=environment(path), **how) as asked:
             try:
-                said = asked.communicate(timeout=SECONDS_TO_ANSWER)[0]
+                said = said_in_time(asked, f"{rt} version")
                 return "" if asked.returncode else said.decode(errors="replace").strip()
             finally:
                 if asked.returncode is None:
@@ -177,16 +197,6 @@ class Look:
             whole.update(f"{it}\0{self.digests[it]}\n".encode(errors="surrogateescape"))
         self.sources = whole.hexdigest()
 
-    def version(self):
-        """The toolchain by which the program was last proved, or None."""
-        return self.before.get("version")
-
-    def changed(self):
-        """The crates with a source that is not as it was when the program was last proved."""
-        was = dict(zip(self.before.get("paths", ()), self.before.get("digests", ())))
-        paths = [it for it in {**was, **self.digests} if was.get(it) != self.digests.get(it)]
-        return {it for it in self.crates if "crates.txt" in paths or any(path.startswith(f"crates/{it}/") for path in paths)}
-
     def proves(self, program):
         """Whether the open program is proved from these sources. If so, that is kept for the next look."""
         stamp = stamped()
@@ -199,7 +209,7 @@ class Look:
         toolchain = Toolchain(self.path, self.before)
         if "toolchain" not in stamp or toolchain.version not in (None, stamp["toolchain"]):
             return False
-        self.keep((self.settled(state), digest), toolchain, stamp["toolchain"])
+        self.keep((self.settled(state), digest), toolchain)
         return True
 
     def settled(self, state):
@@ -211,14 +221,14 @@ class Look:
         paths = list(self.states)
         return {"paths": paths, "states": [self.settled(self.states[it]) for it in paths], "digests": [self.digests[it] for it in paths]}
 
-    def keep(self, program, toolchain, version):
+    def keep(self, program, toolchain):
         """Keeps what an answer rests on. A folder's state tells that nothing was added to it that is not a source yet."""
         seen = self.seen()
         for it in [".", STAMP, *(f"crates/{it}" for it in self.crates)]:
             seen["paths"].append(it)
             seen["states"].append(self.settled(index.state_at(it)))
             seen["digests"].append("")
-        seen["program"], seen["toolchain"], seen["version"] = program, (toolchain.rt, toolchain.version), version
+        seen["program"], seen["toolchain"] = program, (toolchain.rt, toolchain.version)
         seen["toolchains"] = None if toolchain.files is None else toolchain.all
         seen["toolchain_files"] = [(it, self.settled(state)) for it, state in toolchain.files or ()]
         index.save(seen)

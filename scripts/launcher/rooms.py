@@ -1,13 +1,16 @@
-"""Rooms: copies of the sources, in each of which rt proves one crate at a time.
+"""Rooms: copies of the sources, in each of which rt proves one crate.
 
 While rt works at a crate it lets no other rt into the folders of that crate and of those below it. So crates are proved side by
-side in rooms of their own, over the libraries that were built so far, and what rt leaves of a crate is put back where the crate is.
+side in rooms of their own. A room has the crate's sources as they stand, and of each library below it the rlib that lies there, with
+the sources from which that was built: rt asks for those, and the latest may be others that give the same rlib. What rt leaves of the
+crate is put back where the crate is.
 """
 import contextlib
 import os
 import shutil
 
 import index
+import libraries
 import proof
 
 FOLDER = f"{index.OUT}/rooms"
@@ -20,43 +23,99 @@ def link_or_copy(old, new):
         shutil.copy2(old, new)
 
 
+def move(old, new):
+    """Moves a file or a folder, if it is there, in the place of what is there."""
+    if os.path.lexists(old):
+        shutil.rmtree(new, ignore_errors=True)
+        os.makedirs(os.path.dirname(new), exist_ok=True)
+        os.rename(old, new)
+
+
 def remove_all():
-    """Takes the rooms away, and what a launcher that was killed left in them."""
+    """Takes the rooms away. What a launcher that was killed left in them is put back first: the rlib of before, and the work that was kept."""
+    with contextlib.suppress(OSError):
+        for name in os.listdir(FOLDER):
+            move(f"{FOLDER}/{name}/before", f"{FOLDER}/{name}/crates/{name}/out/rlib")
+            for part in ("rlib", "incremental"):
+                if not os.path.isdir(f"crates/{name}/out/{part}"):
+                    move(f"{FOLDER}/{name}/crates/{name}/out/{part}", f"crates/{name}/out/{part}")
     shutil.rmtree(FOLDER, ignore_errors=True)
 
 
 class Room:
-    """One room. What is copied or linked into it stays as it is while the rooms stand: nothing is proved twice in one build."""
+    """The room of one crate, in which rt works once."""
 
-    def __init__(self, number):
-        self.top = f"{FOLDER}/{number}"
-        os.makedirs(f"{self.top}/crates")
+    def __init__(self, name, shelf, below):
+        self.name, self.shelf, self.top = name, shelf, f"{FOLDER}/{name}"
+        self.folder, self.before = f"{self.top}/crates/{name}", f"{self.top}/before"
+        # A killed check is begun again in a new room.
+        shutil.rmtree(self.top, ignore_errors=True)
+        os.makedirs(self.folder)
         with contextlib.suppress(FileNotFoundError):
             shutil.copy2("HANDLES", self.top)
-
-    def enter(self, name, below):
-        """Makes the room ready for this crate, and returns the folder in which rt is to be called."""
-        for it in (name, *below):
-            for part in proof.PARTS:
-                if os.path.isdir(f"crates/{it}/{part}") and not os.path.isdir(f"{self.top}/crates/{it}/{part}"):
-                    shutil.copytree(f"crates/{it}/{part}", f"{self.top}/crates/{it}/{part}")
-        self.list_crates()
-        for it in below:
-            if not os.path.isdir(f"{self.top}/crates/{it}/out"):
-                shutil.copytree(f"crates/{it}/out/rlib", f"{self.top}/crates/{it}/out/rlib", copy_function=link_or_copy)
-        if os.path.isdir(f"crates/{name}/out"):
-            os.rename(f"crates/{name}/out", f"{self.top}/crates/{name}/out")
-        return f"{self.top}/crates/{name}"
-
-    def list_crates(self):
-        """Writes the lines of crates.txt on the crates that are here: rt wants a folder for each line."""
-        with open("crates.txt", encoding="utf-8") as it:
-            lines = [line for line in it if os.path.isdir(f"{self.top}/crates/{proof.name_in(line)}/src")]
+        for part in proof.PARTS:
+            if os.path.isdir(f"crates/{name}/{part}"):
+                shutil.copytree(f"crates/{name}/{part}", f"{self.folder}/{part}")
+        self.shown = {it: self.show(it) for it in below}
         with open(f"{self.top}/crates.txt", "w", encoding="utf-8") as it:
-            it.writelines(lines)
+            it.writelines([shelf.lines[name], *(shelf.records[other]["line"] for other in below)])
 
-    def leave(self, name):
-        """Puts back what rt left of this crate."""
-        if os.path.isdir(f"{self.top}/crates/{name}/out"):
-            shutil.rmtree(f"crates/{name}/out", ignore_errors=True)
-            os.rename(f"{self.top}/crates/{name}/out", f"crates/{name}/out")
+    def show(self, name):
+        """Has a library here as it lies there, and returns the state of its folder."""
+        for part in proof.PARTS:
+            if os.path.isdir(f"{libraries.FOLDER}/{name}/{part}"):
+                shutil.copytree(f"{libraries.FOLDER}/{name}/{part}", f"{self.top}/crates/{name}/{part}")
+        here = f"{self.top}/crates/{name}/out/rlib"
+        shutil.copytree(f"crates/{name}/out/rlib", here, copy_function=link_or_copy, ignore=lambda at, _: [libraries.STAMP] if at.endswith("/rlib") else [])
+        with open(f"{here}/{libraries.STAMP}", "w", encoding="utf-8") as it:
+            it.write(self.shelf.records[name][libraries.STAMP])
+        return index.state_at(here)
+
+    def is_faithful(self):
+        """Whether the crate's sources here are, byte for byte, those that were looked at."""
+        found = {}
+        for part in filter(os.path.isdir, (f"{self.folder}/{it}" for it in proof.PARTS)):
+            found[os.path.relpath(part, self.top)] = "folder"
+            for path, (_, digest) in libraries.files_of(part).items():
+                found[os.path.relpath(f"{part}/{path}", self.top)] = digest
+        return found == {it: digest for it, digest in self.shelf.look.digests.items() if it.startswith(f"crates/{self.name}/")}
+
+    def built_anew(self):
+        """The libraries below that rt did not take as they were shown to it, but proved and built from the sources shown: None should be."""
+        return [it for it, state in self.shown.items() if index.state_at(f"{self.top}/crates/{it}/out/rlib") != state]
+
+    def take_in(self):
+        """Takes in the work that was kept of the crate. Its rlib is set aside, to be put back should the proof fail; one that is not as it was left
+        is taken away; and one of which nothing is known is shown to rt, which knows by its stamp what it was built from."""
+        move(f"crates/{self.name}/out", f"{self.folder}/out")
+        if self.shelf.is_as_recorded(self.name):
+            move(f"{self.folder}/out/rlib", self.before)
+        elif self.shelf.records[self.name]:
+            shutil.rmtree(f"{self.folder}/out/rlib", ignore_errors=True)
+
+    def leave(self, is_proved):
+        """Puts back what rt left of the crate, and the rlib of before where it was not proved. Returns whether the rlib came out as it was."""
+        after, is_same = f"{self.folder}/out/rlib", False
+        if is_proved:
+            is_same = self.shelf.take_in(self.name, after, self.folder)
+        else:
+            shutil.rmtree(after, ignore_errors=True)
+            move(self.before, after)
+        move(f"{self.folder}/out", f"crates/{self.name}/out")
+        if is_proved:
+            self.shelf.save(self.name)
+        shutil.rmtree(self.top, ignore_errors=True)
+        return is_same
+
+
+class ProgramRoom(Room):
+    """The room of the program's crate. Its own out/ holds the rooms, so only the parts of it that rt is to have are moved."""
+
+    def take_in(self):
+        move(f"{index.OUT}/incremental", f"{self.folder}/out/incremental")
+
+    def leave(self, is_proved):
+        move(f"{self.folder}/out/incremental", f"{index.OUT}/incremental")
+        if is_proved:
+            move(f"{self.top}/{proof.PROGRAM}", proof.PROGRAM)
+        shutil.rmtree(self.top, ignore_errors=True)

@@ -1,6 +1,6 @@
 -- The report on a package: each finding of its check with its place, its cause and its figures. Lengths are whole picometres.
-use Rattle.std.specs.Prelude.{◌≡◌, ℕ, pos, ◌+◌, ◌-ℤ◌, Bool, true, false, not, List, [], length, get_or, map, count_by, Result, Ok, Err, ⊤}
-use Rattle.std.specs.List.{AllZip, enumerate_from, filter}
+use Rattle.std.specs.Prelude.{◌≡◌, ℕ, pos, ◌+◌, ◌-ℤ◌, Bool, true, false, not, List, [], length, get_or, map, count_by, Option, Some, None, Result, Ok, Err, ⊤, if◌then◌else◌}
+use Rattle.std.specs.List.{AllZip, enumerate_from, filter, filter_map}
 use Rattle.grid_units.specs.Holes.{GridRules}
 use Rattle.wide_pads.specs.declared.wide_pad.WidePad.{WidePad}
 use Rattle.further_copper.specs.declared.feature.FeatureRow.{FeatureRow}
@@ -15,6 +15,7 @@ use Rattle.package_check.specs.Package.{IsFirstRefused, IsReport, FileView}
 use Rattle.package_check.specs.Reports.{ReportView}
 use Rattle.package_check.specs.Soundness.{IsSound}
 use Rattle.package_check.specs.declared.FileSum.{FileSum}
+use Rattle.package_check.specs.declared.FileSum.TheVariants as sum
 use Rattle.package_check.specs.declared.PackageFault.{PackageFault}
 use Rattle.package_check.specs.declared.PackageFault.TheVariants as stop
 use Rattle.board_report.specs.Measures.{IsMeasure}
@@ -25,6 +26,7 @@ use Rattle.report.specs.declared.GapLack.{GapLack}
 use Rattle.report.specs.declared.PlacedHole.{PlacedHole}
 use Rattle.report.specs.declared.LayerHead.{LayerHead}
 use Rattle.report.specs.declared.RingLack.{RingLack}
+use Rattle.report.specs.declared.RoleConflict.{RoleConflict}
 use Rattle.report.specs.declared.BoardReport.{BoardReport}
 
 -- a finding of a gap, not of a ring
@@ -75,7 +77,14 @@ IsGapEntry board required (Gap first second) output = IsGapEntryOf board require
 abbrev pub head_of : List Drilled → ℕ × ℕ → LayerHead
 head_of holes (layer, file) = record { file = file; needed = count_by (needs_ring layer) holes }
 
--- the report on a board under rules: an entry for each finding of its check, in order, and the rules that the board meets
+-- the conflict of a file with its index, if it is a drill file whose own comments contradict its role
+abbrev pub conflict_in : ℕ × FileSum → Option RoleConflict
+conflict_in (file, sum.Layer pads other contours) = None
+conflict_in (file, sum.Drill plated span contradicted round slots) = if contradicted then Some (record { drill = file; plated = plated }) else None
+conflict_in (file, sum.Mixed span round slots unplated) = None
+
+-- the report on a board under rules: an entry for each finding of its check, in order, the drill files whose own comments
+-- contradict their role, in order, and the rules that the board meets
 pub record IsBoardReport (required : GridRules) (board : BoardView) (output : BoardReport) : Type 0 where
   pub rules : output.rules ≡ required
   pub layers : output.layers.items ≡ map (head_of board.holes) (enumerate_from 0 board.layer_indexes)
@@ -84,6 +93,7 @@ pub record IsBoardReport (required : GridRules) (board : BoardView) (output : Bo
   pub measure : Measure
   pub measured : IsMeasure required.profile board measure
   pub scales : output.scales.items ≡ measure.scales.items
+  pub conflicts : output.conflicts.items ≡ filter_map conflict_in (enumerate_from 0 board.files)
   pub meets : output.meets ≡ measure.meets
 
 -- the report on a package: that on the board of its files, with their rows

@@ -13,7 +13,7 @@ use Rattle.package_check.specs.Boards.{holes_before}
 -- a drill file whose holes are plated; the holes of a mixed file are not tried
 abbrev pub is_plated : FileSum → Bool
 is_plated (sum.Layer pads other contours) = false
-is_plated (sum.Drill plated span round slots) = plated
+is_plated (sum.Drill plated span contradicted round slots) = plated
 is_plated (sum.Mixed span round slots unplated) = false
 
 -- the holes of a file, in order

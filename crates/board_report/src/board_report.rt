@@ -8,6 +8,7 @@ ghost use Rattle.package_check.specs.Package.{file_views_in};
 ghost use Rattle.board_report.specs.Inner.EntriesSoFar.{AreBoardBests};
 ghost use Rattle.board_report.specs.BoardReport.{AnswersBoardReport, IsBoardReport};
 
+use crate::conflicts::role_conflicts;
 use crate::gaps::gap_lacks;
 use crate::heads::heads;
 use crate::rings::ring_lacks;
@@ -71,6 +72,7 @@ pub fn report_on(alloc: Global, board: &Board, rules: Rules) -> Result<BoardRepo
         rings: ring_lacks(alloc, board, &bests, &files, &findings, rules)?,
         gaps: gap_lacks(alloc, board, &files, &findings, rules)?,
         scales: measure.scales,
+        conflicts: role_conflicts(alloc, board)?,
         meets: measure.meets,
     })
 }

@@ -5,6 +5,7 @@
 #![tactic(auto)]
 
 mod board_report;
+mod conflicts;
 mod gaps;
 mod heads;
 mod hole_places;

@@ -1,6 +1,6 @@
 //! The entries of holes that lack their rings.
 
-ghost use Rattle.std.specs.Prelude.{◌≡◌, ◌<◌, ◌++◌, ◌∷◌, [], IfOk, IfSome, OnOk, length, not};
+ghost use Rattle.std.specs.Prelude.{◌≡◌, ◌<◌, ◌++◌, ◌∷◌, [], IfOk, IfSome, OnOk, Ok, length, not};
 ghost use Rattle.std.specs.List.{All, AllZip, filter};
 ghost use Rattle.ring_rules.specs.WithoutFindings.{NamesPlaces};
 ghost use Rattle.board_report.specs.Rows.{AreFilesWithHoles};
@@ -109,27 +109,32 @@ fn switch_layer(
 }
 
 /// The entry of a hole that lacks its ring, by the data of the layer.
-fn ring_lack(board: &Board, board_data: &BoardData, current: &CurrentLayer, hole: usize) -> RingLack
+fn ring_lack(
+    board: &Board,
+    board_data: &BoardData,
+    current: &CurrentLayer,
+    hole: usize,
+) -> Result<RingLack, AllocError>
     requires board_data { IsBoardData board.now board_data.now }
     requires current { IsCurrentLayer board.now current.now }
     requires hole { hole < length board.now.holes }
-    ensures { IsRingEntryAt board.now board_data.now.rules current.now.layer hole result }
+    ensures { IfOk result (IsRingEntryAt board.now board_data.now.rules current.now.layer hole) }
 {
     let rows = layer_rows(board, current.layer);
     let pads = board.pads_of(current.layer);
-    RingLack {
+    let causes = &current.causes;
+    Ok(RingLack {
         layer: current.layer,
         at: hole_at(board, board_data.files, hole),
-        cause: current
-            .causes
-            .cause(rows, pads, board.holes(), hole, board_data.rules),
-    }
+        cause: causes.cause(rows, pads, board.holes(), hole, board_data.rules)?,
+    })
 }
 
-fn add<T: Copy>(all: &mut Vec<T>, item: T) -> Result<(), AllocError>
-    ensures { OnOk result (all.new.items ≡ all.old.items ++ item ∷ []) }
+/// Appends an item, where there was memory for it.
+fn add<T: Copy>(all: &mut Vec<T>, item: Result<T, AllocError>) -> Result<(), AllocError>
+    ensures { OnOk result ((one : T) × (item ≡ Ok one) × (all.new.items ≡ all.old.items ++ one ∷ [])) }
 {
-    all.push(item)?;
+    all.push(item?)?;
     Ok(())
 }
 

@@ -3,7 +3,7 @@
 use board_report::*;
 use grid_units::{Profile, Rules};
 use package_check::{File, Role};
-use report::{RingCause, RingLack};
+use report::{RingCause, RingLack, RoleConflict};
 use std::test::Fail;
 
 /// A square of 0.65 mm, 1 nm off the origin.
@@ -225,5 +225,79 @@ fn findings_come_by_layer_and_hole(rt: HostRuntime) -> Result<(), Fail> {
         assert!(rt; is_small_at(lack, place), "of {}", place.0);
     }
     assert!(rt; (report.rings.len(), report.gaps.len()) == (9, 3));
+    Ok(())
+}
+
+/// A hole at the origin of which a comment says that it is plated.
+const SAID_PLATED: &[u8] = b"M48\nMETRIC\n;TYPE=PLATED\nT1C0.4\n%\nT1\nX0.0Y0.0\nM30\n";
+
+/// One of which a comment says that it is not.
+const SAID_UNPLATED: &[u8] = b"M48\nMETRIC\n;TYPE=NON_PLATED\nT1C0.4\n%\nT1\nX0.0Y0.0\nM30\n";
+
+/// A drill file, by its role and its text.
+type DrillRow = (Role, &'static [u8]);
+
+/// Two drill files that come after a copper file, the profile, and those whose comments contradict their role.
+const CONFLICTS: [(Profile, [DrillRow; 2], &[RoleConflict]); 5] = [
+    (
+        Profile::Strict,
+        [(Role::Plated, SAID_PLATED), (Role::Unplated, SAID_UNPLATED)],
+        &[],
+    ),
+    (
+        Profile::Strict,
+        [(Role::Plated, HIT), (Role::Unplated, HIT)],
+        &[],
+    ),
+    (
+        Profile::Strict,
+        [(Role::Plated, SAID_PLATED), (Role::Unplated, SAID_PLATED)],
+        &[RoleConflict {
+            drill: 2,
+            plated: false,
+        }],
+    ),
+    (
+        Profile::Wide,
+        [
+            (Role::Plated, SAID_UNPLATED),
+            (Role::Unplated, SAID_UNPLATED),
+        ],
+        &[RoleConflict {
+            drill: 1,
+            plated: true,
+        }],
+    ),
+    (
+        Profile::Strict,
+        [(Role::Unplated, SAID_PLATED), (Role::Plated, SAID_UNPLATED)],
+        &[
+            RoleConflict {
+                drill: 1,
+                plated: false,
+            },
+            RoleConflict {
+                drill: 2,
+                plated: true,
+            },
+        ],
+    ),
+];
+
+#[test]
+fn contradicted_roles_are_told(rt: HostRuntime) -> Result<(), Fail> {
+    for &(profile, drills, conflicts) in &CONFLICTS {
+        let [first, second] = drills;
+        let files = [
+            file(Role::Copper, DISC),
+            file(first.0, first.1),
+            file(second.0, second.1),
+        ];
+        let rules = Rules::new(125_000_000, 1).ok().ok_or("rules")?;
+        let report = report_bytes(rt.alloc(), &files, rules.in_profile(profile))
+            .ok()
+            .ok_or("refused")?;
+        assert!(rt; report.conflicts.as_slice() == conflicts);
+    }
     Ok(())
 }

@@ -101,7 +101,7 @@ const MIDDLE: &str =
     "</style>\n<rect width=\"100%\" height=\"100%\" fill=\"#fff\"/>\n<text class=\"title\" transform=\"translate(3 3) scale(1)\">no rules</text>\n<g class=\"layer\" data-file=\"1\" transform=\"translate(40.5 46.5)\">\n<text class=\"name\" transform=\"translate(-37.5 -40) scale(1)\">top</text>\n<text class=\"note\" transform=\"translate(-37.5 -38.3) scale(1)\">1 pad, 0 other</text>\n<rect class=\"board\" x=\"-37.5\" y=\"-37.5\" width=\"75\" height=\"75\"/>\n<path class=\"pad\" d=\"M-37.5 -37.5h75v75h-75z\"><title>rect 75x75</title></path>\n<path class=\"plated\" stroke-width=\"0.1\" d=\"M-5 0a5 5 0 1 0 10 0a5 5 0 1 0 -10 0z\"><title>plated hole, 10</title></path>\n</g>\n<path class=\"scale\" d=\"M3 87h10\"/>\n<text transform=\"translate(14 87.4) scale(1)\">10 mm</text>\n<g class=\"legend\" font-size=\"1.25\" transform=\"translate(4 90) scale(1)\">\n<circle class=\"pad\" r=\".6\"/>\n<text x=\"1.2\" y=\".4\">pad</text>\n";
 
 const END: &str =
-    "<path class=\"gap\" stroke-width=\".3\" d=\"M28.5 2.5h1\"/>\n<text x=\"30.2\" y=\"2.9\">gap lacking</text>\n</g>\n</svg>\n";
+    "<path class=\"gap\" stroke-width=\".3\" d=\"M32.5 2.5h1\"/>\n<text x=\"34.2\" y=\"2.9\">holes too close</text>\n</g>\n</svg>\n";
 
 #[test]
 fn a_page_has_a_title_a_panel_a_scale_and_a_legend(rt: HostRuntime) -> Result<(), Fail> {
@@ -143,8 +143,8 @@ const PAGES: [PageRow; 10] = [
         true,
         &[
             " viewBox=\"0 0 81 26\">",
-            ">ring 0.2 mm, gap 0.25 mm: 2 findings</text>",
-            "<g class=\"layer\" data-file=\"1\" transform=\"translate(3.5 9.5)\">\n<text class=\"name\" transform=\"translate(-0.5 -3) scale(1)\">a&lt;b&gt;&amp;\"c\"</text>\n<text class=\"note\" transform=\"translate(-0.5 -1.3) scale(1)\">2 pads, 0 other, 1 ring lacking</text>\n",
+            ">ring 0.2 mm, gap 0.25 mm, profile strict: 2 findings</text>",
+            "<g class=\"layer\" data-file=\"1\" transform=\"translate(3.5 9.5)\">\n<text class=\"name\" transform=\"translate(-0.5 -3) scale(1)\">a&lt;b&gt;&amp;\"c\"</text>\n<text class=\"note\" transform=\"translate(-0.5 -1.3) scale(1)\">2 pads, 0 other, 1 ring too small</text>\n",
             "<g class=\"layer\" data-file=\"3\" transform=\"translate(3.5 15.5)\">\n<text class=\"name\" transform=\"translate(-0.5 -3) scale(1)\">bottom</text>\n",
             "<g class=\"finding\" id=\"f1\"><title>#1 annular ring on a&lt;b&gt;&amp;\"c\" (rule 0.2): hole 0.8 at 0,0</title>\n<circle class=\"ring\"",
             "<g><title>#2 annular ring on bottom (rule 0.2): hole 0.8 at 0,0</title>\n<circle class=\"mark\"",
@@ -158,9 +158,9 @@ const PAGES: [PageRow; 10] = [
         SMALL,
         true,
         &[
-            ">ring 0.2 mm, gap 0.25 mm: 1 finding</text>",
-            ">1 pad, 0 other, 0 rings lacking</text>",
-            ">2 pads, 0 other, 1 ring lacking</text>",
+            ">ring 0.2 mm, gap 0.25 mm, profile strict: 1 finding</text>",
+            ">1 pad, 0 other, 0 rings too small</text>",
+            ">2 pads, 0 other, 1 ring too small</text>",
         ],
     ),
     // A gap stands in each panel, and has its id in the first. Round holes alike stand in one path.
@@ -180,7 +180,7 @@ const PAGES: [PageRow; 10] = [
         ("bottom", SQUARE),
         SMALL,
         true,
-        &[">ring 0.2 mm, gap 0.25 mm: PASS</text>"],
+        &[">ring 0.2 mm, gap 0.25 mm, profile strict: PASS</text>"],
     ),
     // A crowded panel has its box alone.
     (
@@ -383,6 +383,54 @@ fn pages_of_the_wide_profile_show_rounded_pads(rt: HostRuntime) -> Result<(), Fa
     for &(copper, words) in &WIDE_PADS {
         let page = page_of_copper(rt, Profile::Wide, copper, Keep::Flashes)?;
         assert!(rt; page.contains(words), "{words}");
+    }
+    Ok(())
+}
+
+/// What copper files draw in lines 0.65 mm wide; a line that stands in their page in the wide profile, and one that does not.
+const CLEARED: [(&[u8], &str, &str); 6] = [
+    // A flash in clear polarity takes away what is drawn before it, and nothing after it.
+    (
+        b"%FSLAX46Y46*%\n%MOMM*%\nG01*\n%ADD10C,0.65*%\nD10*\nX0Y0D02*\nX5000000D01*\n%LPC*%\nX1000000Y0D03*\n%LPD*%\nX6000000Y0D02*\nX9000000D01*\nM02*\n",
+        "d=\"M6 0L9 0\"",
+        "d=\"M0 0L5 0\"",
+    ),
+    // What is drawn in clear polarity is no copper: a line, and a contour.
+    (
+        b"%FSLAX46Y46*%\n%MOMM*%\nG01*\n%ADD10C,0.65*%\nD10*\n%LPC*%\nX0Y0D02*\nX5000000D01*\n%LPD*%\nX6000000Y0D02*\nX9000000D01*\nM02*\n",
+        "d=\"M6 0L9 0\"",
+        "d=\"M0 0L5 0\"",
+    ),
+    (
+        b"%FSLAX46Y46*%\n%MOMM*%\nG01*\n%LPC*%\nG36*\nX0Y0D02*\nX5000000D01*\nY5000000D01*\nX0Y0D01*\nG37*\nM02*\n",
+        "",
+        "<svg class=\"drawn\"",
+    ),
+    // In a block of two copies the clear flash of the second one comes after the line of the first one.
+    (
+        b"%FSLAX46Y46*%\n%MOMM*%\nG01*\n%ADD10C,0.65*%\nD10*\n%SRX2Y1I20.0J0*%\n%LPC*%\nX1000000Y0D03*\n%LPD*%\nX6000000Y0D02*\nX9000000D01*\n%SR*%\nM02*\n",
+        "",
+        "<svg class=\"drawn\"",
+    ),
+    // In a block of one copy it does not.
+    (
+        b"%FSLAX46Y46*%\n%MOMM*%\nG01*\n%ADD10C,0.65*%\nD10*\n%SRX1Y1I0J0*%\nX0Y0D02*\nX5000000D01*\n%LPC*%\nX1000000Y0D03*\n%LPD*%\nX6000000Y0D02*\nX9000000D01*\n%SR*%\nM02*\n",
+        "d=\"M6 0L9 0\"",
+        "d=\"M0 0L5 0\"",
+    ),
+    // A move in clear polarity takes nothing away.
+    (
+        b"%FSLAX46Y46*%\n%MOMM*%\nG01*\n%ADD10C,0.65*%\nD10*\nX0Y0D02*\nX5000000D01*\n%LPC*%\nX6000000Y0D02*\nM02*\n",
+        "d=\"M0 0L5 0\"",
+        "d=\"M5 0L6 0\"",
+    ),
+];
+
+#[test]
+fn pages_of_the_wide_profile_show_no_cleared_copper(rt: HostRuntime) -> Result<(), Fail> {
+    for &(copper, shown, hidden) in &CLEARED {
+        let page = page_of_copper(rt, Profile::Wide, copper, Keep::All)?;
+        assert!(rt; page.contains(shown) && !page.contains(hidden), "{hidden}");
     }
     Ok(())
 }

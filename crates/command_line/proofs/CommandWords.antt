@@ -1,10 +1,10 @@
--- What the program makes of the words of each command but `manifest`: they are taken, and give the rows of their values.
+-- What the program makes of the words of each command without flags: they are taken, and give the rows of their values.
 use Rattle.std.proofs.Common.{◌≡◌, true, refl, [], ◌∷◌, Option, Some, None, codes, option_map}
 use Rattle.clap.proofs.OnLiterals.{clap_on_literals}
 use Rattle.clap.proofs.WalkLemmas.{both}
 use Rattle.clap.specs.Words.{Text, fault_of, is_simple, is_simple_and_free}
 use Rattle.clap.specs.declared.error.kind.ErrorKind.TheVariants.{DisplayVersion}
-use Rattle.command_line.specs.ProgramArgs.{are_plain_rules, check_words, draw_words, explain_words, is_plain_if_some, is_plain_word, measure_words, report_words, rewrite_words, ringcheck_app, show_words}
+use Rattle.command_line.specs.ProgramArgs.{are_plain_rules, check_words, draw_words, explain_words, is_plain_if_some, is_plain_word, measure_words, rewrite_words, ringcheck_app, show_words}
 use Rattle.command_line.proofs.GivenOptions.{Options, rows_of}
 use Rattle.command_line.proofs.NamedCommand.{IsCommand, answer, command_answer}
 
@@ -30,19 +30,7 @@ pub check_answer : (r g : Text) (f : Option Text) (m : Text) → is_plain_word r
 unfolding clap_on_literals
 check_answer r g f m p q t s =
     command_answer (codes "check") ((codes "ring", Some r) ∷ (codes "gap", Some g) ∷ (codes "profile", f) ∷ []) (codes "manifest") m
-    (record { named = (λ rest. refl, λ rest. refl); options = (refl, (refl, (refl, tt))); end = refl }) (p, (q, (t, tt))) s
-
--- ---- `report`
-
-abbrev pub report_options : Text → Text → Option Text → Option Text → Option Text → Option Text → Option Text → Text → Options
-report_options r g f n v l o m = (codes "ring", Some r) ∷ (codes "gap", Some g) ∷ (codes "profile", f) ∷ (codes "max", n) ∷ (codes "waive", v) ∷ (codes "outline", l) ∷ (codes "format", o) ∷ (codes "manifest", Some m) ∷ []
-
-pub report_answer : (r g : Text) (f n v l o : Option Text) (m : Text) → is_plain_word r ≡ true → is_plain_word g ≡ true → is_plain_if_some f ≡ true → is_plain_if_some n ≡ true → is_plain_if_some v ≡ true
-    → is_plain_if_some l ≡ true → is_plain_if_some o ≡ true → is_plain_word m ≡ true → answer (report_words r g f n v l o m) ≡ (true, Some (codes "report", rows_of (report_options r g f n v l o m)))
-unfolding clap_on_literals
-report_answer r g f n v l o m p q y t w x u s =
-    command_answer (codes "report") ((codes "ring", Some r) ∷ (codes "gap", Some g) ∷ (codes "profile", f) ∷ (codes "max", n) ∷ (codes "waive", v) ∷ (codes "outline", l) ∷ (codes "format", o) ∷ []) (codes "manifest") m
-    (record { named = (λ rest. refl, λ rest. refl); options = (refl, (refl, (refl, (refl, (refl, (refl, (refl, tt))))))); end = refl }) (p, (q, (y, (t, (w, (x, (u, tt))))))) s
+    (record { named = (λ rest. refl, λ rest. refl); options = (refl, (refl, (refl, tt))); end = refl; defaults = refl }) (p, (q, (t, tt))) s
 
 -- ---- `measure`
 
@@ -54,7 +42,7 @@ pub measure_answer : (p o : Option Text) (m : Text) → is_plain_if_some p ≡ t
 unfolding clap_on_literals
 measure_answer p o m q t s =
     command_answer (codes "measure") ((codes "profile", p) ∷ (codes "format", o) ∷ []) (codes "manifest") m
-    (record { named = (λ rest. refl, λ rest. refl); options = (refl, (refl, tt)); end = refl }) (q, (t, tt)) s
+    (record { named = (λ rest. refl, λ rest. refl); options = (refl, (refl, tt)); end = refl; defaults = refl }) (q, (t, tt)) s
 
 -- ---- `draw`
 
@@ -66,7 +54,7 @@ draw_options o f l m = (codes "ring", option_map (λ rules. rules.0) o) ∷ (cod
 
 is_draw : (o : Option (Text × Text)) (f l : Option Text) (m : Text) → IsCommand (codes "draw") (given o f l) (codes "manifest") m
 unfolding clap_on_literals
-is_draw o f l m = record { named = (λ rest. refl, λ rest. refl); options = (refl, (refl, (refl, (refl, tt)))); end = refl }
+is_draw o f l m = record { named = (λ rest. refl, λ rest. refl); options = (refl, (refl, (refl, (refl, tt)))); end = refl; defaults = refl }
 
 pub draw_answer : (o : Option (Text × Text)) (f l : Option Text) (m : Text) → are_plain_rules o ≡ true → is_plain_if_some f ≡ true → is_plain_if_some l ≡ true → is_plain_word m ≡ true
     → answer (draw_words o f l m) ≡ (true, Some (codes "draw", rows_of (draw_options o f l m)))
@@ -85,7 +73,7 @@ pub show_answer : (k : Text) (p : Option Text) (f : Text) → is_plain_word k �
 unfolding clap_on_literals
 show_answer k p f q t s =
     command_answer (codes "show") ((codes "kind", Some k) ∷ (codes "profile", p) ∷ []) (codes "file") f
-    (record { named = (λ rest. refl, λ rest. refl); options = (refl, (refl, tt)); end = refl }) (q, (t, tt)) s
+    (record { named = (λ rest. refl, λ rest. refl); options = (refl, (refl, tt)); end = refl; defaults = refl }) (q, (t, tt)) s
 
 abbrev pub rewrite_options : Text → Text → Options
 rewrite_options k f = (codes "kind", Some k) ∷ (codes "file", Some f) ∷ []
@@ -93,7 +81,7 @@ rewrite_options k f = (codes "kind", Some k) ∷ (codes "file", Some f) ∷ []
 pub rewrite_answer : (k f : Text) → is_plain_word k ≡ true → is_plain_word f ≡ true → answer (rewrite_words k f) ≡ (true, Some (codes "rewrite", rows_of (rewrite_options k f)))
 unfolding clap_on_literals
 rewrite_answer k f p q =
-    command_answer (codes "rewrite") ((codes "kind", Some k) ∷ []) (codes "file") f (record { named = (λ rest. refl, λ rest. refl); options = (refl, tt); end = refl }) (p, tt) q
+    command_answer (codes "rewrite") ((codes "kind", Some k) ∷ []) (codes "file") f (record { named = (λ rest. refl, λ rest. refl); options = (refl, tt); end = refl; defaults = refl }) (p, tt) q
 
 -- ---- `explain`
 
@@ -103,4 +91,4 @@ word_options o = (codes "word", o) ∷ []
 pub explain_answer : (o : Option Text) → is_plain_if_some o ≡ true → answer (explain_words o) ≡ (true, Some (codes "explain", rows_of (word_options o)))
 unfolding clap_on_literals
 explain_answer None p = refl
-explain_answer (Some w) p = command_answer (codes "explain") [] (codes "word") w (record { named = (λ rest. refl, λ rest. refl); options = tt; end = refl }) tt p
+explain_answer (Some w) p = command_answer (codes "explain") [] (codes "word") w (record { named = (λ rest. refl, λ rest. refl); options = tt; end = refl; defaults = refl }) tt p

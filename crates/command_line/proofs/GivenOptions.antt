@@ -1,5 +1,5 @@
 -- Options in a row, each with its value where it is given: their words, and the rows that they give.
-use Rattle.std.proofs.Common.{◌≡◌, ◌∙◌, ◌||◌, ◌++◌, ap, refl, sym, true, false, cond, Bool, List, [], ◌∷◌, Option, Some, None, option_map, append-nil, append_assoc}
+use Rattle.std.proofs.Common.{◌≡◌, ◌∙◌, ◌||◌, ◌++◌, ap, refl, sym, true, false, cond, Bool, List, [], ◌∷◌, Option, Some, None, codes, option_map, append-nil, append_assoc}
 use Rattle.std.specs.Prelude.{is_some, option_and_then, slice_get}
 use Rattle.std.specs.List.{find, list_any}
 use Rattle.std.specs.Option.{option_map_or, unwrap_or}
@@ -36,6 +36,10 @@ given_all id values = record { id = id; values = values; count = None; source = 
 abbrev pub row_of_value : Text → Text → Row
 row_of_value id value = given_all id (value ∷ [])
 
+-- the row of a flag that is left out, which has its default value
+abbrev pub unswitched : Text → Row
+unswitched id = record { id = id; values = codes "false" ∷ []; count = None; source = Some source.DefaultValue; reading = reading_of parser.Bool }
+
 abbrev pub row_of_optional : Text → Option Text → List Row
 row_of_optional id None = []
 row_of_optional id (Some value) = row_of_value id value ∷ []
@@ -69,7 +73,7 @@ some_first value None = refl
 some_first value (Some other) = refl
 
 -- the row of an id is that of its value
-find_given : (id : Text) (os : Options) → find (λ r. bytes_eq r.id id) (rows_of os) ≡ option_map (row_of_value id) (required_arg id os)
+pub find_given : (id : Text) (os : Options) → find (λ r. bytes_eq r.id id) (rows_of os) ≡ option_map (row_of_value id) (required_arg id os)
 find_given id [] = refl
 find_given id ((i, None) ∷ os) = find_given id os ∙ ap (option_map (row_of_value id)) (none_first (bytes_eq i id) (required_arg id os))
 find_given id ((i, Some value) ∷ os) = go (bytes_eq i id) (λ e. (bytes_eq-Decides i id).0 e) (find_given id os)
@@ -105,7 +109,7 @@ has_none id os none = any_found (λ (r : Row). bytes_eq r.id id) (rows_of os) �
 
 -- ---- a row more
 
-at_no_row : (id : Text) (change : Row → List Row) (missing rows : List Row) → has_row id rows ≡ false → at_row id change missing rows ≡ rows ++ missing
+pub at_no_row : (id : Text) (change : Row → List Row) (missing rows : List Row) → has_row id rows ≡ false → at_row id change missing rows ≡ rows ++ missing
 at_no_row id change missing [] none = refl
 at_no_row id change missing (r ∷ rows) none =
     let k = or_parts (bytes_eq r.id id) (has_row id rows) none in

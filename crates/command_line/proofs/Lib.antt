@@ -4,4 +4,5 @@ pub mod OptionWords
 pub mod NamedCommand
 pub mod CommandWords
 pub mod ManifestWords
+pub mod ReportLine
 pub mod Requests

@@ -9,7 +9,7 @@ use Rattle.clap.specs.Walk.{Walk, answers_to, idle, nothing_held, walked}
 use Rattle.clap.specs.Words.{App, Row, Text, subcommand_of, takes}
 use Rattle.command_line.specs.ProgramArgs.{is_plain_word, ringcheck_app}
 use Rattle.command_line.proofs.GivenOptions.{ArePlain, Options, rows_of, words_of}
-use Rattle.command_line.proofs.OptionWords.{HasEnd, HasOptions, end_passes, options_read, reading, turns}
+use Rattle.command_line.proofs.OptionWords.{HasEnd, HasNoDefaults, HasOptions, end_passes, options_read, reading, turns}
 
 abbrev pub program : App
 program = built ringcheck_app
@@ -55,9 +55,10 @@ pub record IsCommand (name : Text) (os : Options) (id value : Text) : Type 0 whe
   pub named : IsNamed name
   pub options : HasOptions (command_of name) [] os
   pub end : HasEnd (command_of name) os id value
+  pub defaults : HasNoDefaults (command_of name)
 
 -- the words of such a command are taken, and give just the rows of the values
 pub command_answer : (name : Text) (os : Options) (id value : Text) → IsCommand name os id value → ArePlain os → is_plain_word value ≡ true
     → answer (name ∷ words_of os (value ∷ [])) ≡ (true, Some (name, rows_of (os ++ (id, Some value) ∷ [])))
 command_answer name os id value is plain p =
-    is_answer name is.named (words_of os (value ∷ [])) (rows_of (os ++ (id, Some value) ∷ [])) (options_read (command_of name) os id value is.options is.end plain p)
+    is_answer name is.named (words_of os (value ∷ [])) (rows_of (os ++ (id, Some value) ∷ [])) (options_read (command_of name) os id value is.options is.end is.defaults plain p)

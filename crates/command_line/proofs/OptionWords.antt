@@ -1,6 +1,6 @@
 -- What a command makes of options in a row and then a plain word, for any command: the words pass, and give just the rows of the values.
-use Rattle.std.proofs.Common.{◌≡◌, ◌∙◌, ◌==◌, ◌&&◌, ◌||◌, ◌++◌, ℕ, true, false, refl, ap, not, List, [], ◌∷◌, Option, Some, None, Bool, option_map, append-nil, append_assoc}
-use Rattle.std.specs.List.{list_all, list_any, fold}
+use Rattle.std.proofs.Common.{◌≡◌, ◌∙◌, ◌==◌, ◌&&◌, ◌||◌, ◌++◌, ℕ, true, false, refl, ap, not, cond, List, [], ◌∷◌, Option, Some, None, Bool, option_map, append-nil, append_assoc}
+use Rattle.std.specs.List.{list_all, list_any, filter, fold}
 use Rattle.std.specs.Option.{option_map_or, unwrap_or}
 use Rattle.std.specs.Str.{bytes_eq}
 use Rattle.std.proofs.lemmas.Bool.{cond_both, false≢true, not-true}
@@ -34,8 +34,8 @@ HasOptions s before ((id, o) ∷ os) =
     (option_facts s id before ≡ (Some a, Some a, Some (id, None), None)) × HasOptions s (before ++ (id, o) ∷ []) os
 
 -- the argument at the first place by its place and by its id, the value of its id before it, three settings,
--- and whether no argument has a rule on another, none has a default value, and each that is required is given
-abbrev pub end_facts : Shape → Options → Text → Text → Option Rule × Option Rule × Option Text × Bool × Bool × Bool × Bool × Bool × Bool
+-- and whether no argument has a rule on another, and each that is required is given
+abbrev pub end_facts : Shape → Options → Text → Text → Option Rule × Option Rule × Option Text × Bool × Bool × Bool × Bool × Bool
 end_facts s os id value = (
   arg_by_index s.rules 1,
   arg_by_id s.rules id,
@@ -44,7 +44,6 @@ end_facts s os id value = (
   s.subcommand_required,
   s.subcommand_negates_reqs,
   list_all (λ a. a.is_free) s.rules,
-  list_all (λ a. is_empty a.defaults) s.rules,
   list_all (λ a. not a.required || option_map_or (λ r. explicit_source r.source) (option_map (row_of_value a.id) (required_arg a.id (os ++ (id, Some value) ∷ []))) false) s.rules,
 )
 
@@ -52,7 +51,11 @@ end_facts s os id value = (
 abbrev pub HasEnd : Shape → Options → Text → Text → Type 0
 HasEnd s os id value =
     let a = one_value s None (Some 1) id in
-    end_facts s os id value ≡ (Some a, Some a, None, false, false, false, true, true, true)
+    end_facts s os id value ≡ (Some a, Some a, None, false, false, false, true, true)
+
+-- no argument of the command has a default value
+abbrev pub HasNoDefaults : Shape → Type 0
+HasNoDefaults s = list_all (λ (a : Rule). is_empty a.defaults) s.rules ≡ true
 
 -- ---- the walk
 
@@ -174,6 +177,22 @@ module _ (s : Shape) where
       let ends : finished s.rules end.held ≡ all = ap (λ (rows : List Row). fold with_default rows s.rules) holds.comes_to ∙ is in
       (λ i. (end_passes s (run i) false, finished s.rules (run i).0.held)) ∙ (λ i. (holds.passes i && (defaults i && is_valid s (ends i) false), ends i)) ∙ (λ i. (valid i, all))
 
+-- only arguments with default values get some
+pub only_defaults : (rules : List Rule) (rows : List Row) → fold with_default rows rules ≡ fold with_default rows (filter (λ (a : Rule). not (is_empty a.defaults)) rules)
+only_defaults [] rows = refl
+only_defaults (a ∷ rules) rows = go (is_empty a.defaults) (is_nil a.defaults) (only_defaults rules)
+  where
+    kept : cond (has_row a.id rows) rows rows ≡ rows
+    kept = cond_both (has_row a.id rows) rows rows (λ (rs : List Row). rs ≡ rows) (λ _. refl) (λ _. refl)
+
+    others : List Rule
+    others = filter (λ (a : Rule). not (is_empty a.defaults)) rules
+
+    go : (b : Bool) → (b ≡ true → a.defaults ≡ []) → ((rs : List Row) → fold with_default rs rules ≡ fold with_default rs others)
+        → fold with_default (with_default rows a) rules ≡ fold with_default rows (cond (not b) (a ∷ others) others)
+    go true none rest = rw (none refl, kept) (rest rows)
+    go false none rest = rest (with_default rows a)
+
 -- where no default value is given there is none to add
 no_defaults : (rules : List Rule) (rows : List Row) → list_all (λ (a : Rule). is_empty a.defaults) rules ≡ true → (fold with_default rows rules ≡ rows) × (list_all default_passes rules ≡ true)
 no_defaults [] rows e = (refl, refl)
@@ -183,18 +202,30 @@ no_defaults (a ∷ rules) rows e =
     let kept = cond_both (has_row a.id rows) rows rows (λ (rs : List Row). rs ≡ rows) (λ _. refl) (λ _. refl) in
     (rw (is_nil a.defaults k.0, kept) rest.0, rw (k.0, rest.1) refl)
 
--- options in a row, each with its value or left out, and then the argument at the first place
-pub options_read : (s : Shape) (os : Options) (id value : Text) → HasOptions s [] os → HasEnd s os id value → ArePlain os → is_plain_word value ≡ true
+-- options in a row, each with its value or left out, and then the argument at the first place, all after words with the options `before`;
+-- `all` are the rows with the default values too
+pub read_after : (s : Shape) (words : List Text) (h : Held) (before os : Options) (id value : Text) (all : List Row)
+    → turns s [] (walk_from nothing_held) words ≡ turns s [] (walk_at h idle 1) (words_of os (value ∷ [])) → Holds s (rows_of before) h → HasOptions s before os
+    → HasEnd s (before ++ os) id value → ArePlain os → is_plain_word value ≡ true → fold with_default (rows_of ((before ++ os) ++ (id, Some value) ∷ [])) s.rules ≡ all
+    → list_all default_passes s.rules ≡ true → ((i : Text) → is_given i all ≡ is_given i (rows_of ((before ++ os) ++ (id, Some value) ∷ []))) → reading s words ≡ (true, all)
+read_after s words h before os id value all start holds has ends plain p is defaults given =
+    let given_options = before ++ os in
+    let rows = rows_of (given_options ++ (id, Some value) ∷ []) in
+    let end = walk_at (pending (rows_of given_options) id (value ∷ [])) idle 2 in
+    let run = start ∙ runs s before os h holds has plain (value ∷ []) end
+    (λ g holds. walk_word s _ _ _ _ (to_place s id (rows_of given_options) g value (λ i. (ends i).0) holds p) ∙ walk_nothing s end) in
+    let held = holds_value s None (Some 1) id (rows_of given_options) value (λ i. (ends i).1) (has_none id given_options (λ i. (ends i).2)) in
+    let valid : is_valid s all false ≡ true =
+    (λ i. (not (ends i).3 || (false || list_any (λ (r : Row). explicit_source r.source) all))
+    && ((not (ends i).4 || false) && ((ends i).6 && (((ends i).5 && false) || list_all (λ (a : Rule). not a.required || is_given a.id all) s.rules))))
+    ∙ (λ i. list_all (λ (a : Rule). not a.required || given a.id i) s.rules)
+    ∙ (λ i. list_all (λ (a : Rule). not a.required || given_is a.id (given_options ++ (id, Some value) ∷ []) i) s.rules) ∙ (λ i. (ends i).7) in
+    reads s words end rows all run (rw (rows_of-append given_options ((id, Some value) ∷ [])) held) is defaults valid
+
+-- the same of words that begin with the options, for a command without default values
+pub options_read : (s : Shape) (os : Options) (id value : Text) → HasOptions s [] os → HasEnd s os id value → HasNoDefaults s → ArePlain os → is_plain_word value ≡ true
     → reading s (words_of os (value ∷ [])) ≡ (true, rows_of (os ++ (id, Some value) ∷ []))
-options_read s os id value has ends plain p =
+options_read s os id value has ends without_defaults plain p =
     let rows = rows_of (os ++ (id, Some value) ∷ []) in
-    let end = walk_at (pending (rows_of os) id (value ∷ [])) idle 2 in
-    let run = runs s [] os nothing_held (record { comes_to = refl; none_skipped = refl; passes = refl }) has plain (value ∷ []) end
-    (λ g holds. walk_word s _ _ _ _ (to_place s id (rows_of os) g value (λ i. (ends i).0) holds p) ∙ walk_nothing s end) in
-    let held = holds_value s None (Some 1) id (rows_of os) value (λ i. (ends i).1) (has_none id os (λ i. (ends i).2)) in
-    let none = no_defaults s.rules rows (λ i. (ends i).7) in
-    let valid : is_valid s rows false ≡ true =
-    (λ i. (not (ends i).3 || (false || list_any (λ (r : Row). explicit_source r.source) rows))
-    && ((not (ends i).4 || false) && ((ends i).6 && (((ends i).5 && false) || list_all (λ (a : Rule). not a.required || is_given a.id rows) s.rules))))
-    ∙ (λ i. list_all (λ (a : Rule). not a.required || given_is a.id (os ++ (id, Some value) ∷ []) i) s.rules) ∙ (λ i. (ends i).8) in
-    reads s (words_of os (value ∷ [])) end rows rows run (rw (rows_of-append os ((id, Some value) ∷ [])) held) none.0 none.1 valid
+    let none = no_defaults s.rules rows without_defaults in
+    read_after s (words_of os (value ∷ [])) nothing_held [] os id value rows refl (record { comes_to = refl; none_skipped = refl; passes = refl }) has ends plain p none.0 none.1 (λ i. refl)

@@ -1,15 +1,16 @@
 -- The request of a line, from the command that the program finds and the rows of its values.
-use Rattle.std.proofs.Common.{◌≡◌, ◌∙◌, sym, refl, List, Option, Some, Bool, true, false, codes}
+use Rattle.std.proofs.Common.{◌≡◌, ◌∙◌, sym, refl, List, Option, Some, None, Bool, true, false, codes}
 use Rattle.std.specs.Str.{bytes_eq}
 use Rattle.std.proofs.lemmas.Bool.{false≢true}
 use Rattle.std.proofs.lemmas.Slice.Eq.{bytes_eq-Decides}
 use Rattle.clap.specs.Words.{Text}
 use Rattle.command_line.specs.declared.Request.{Request}
 use Rattle.command_line.specs.declared.Request.TheVariants.{Check, Measure, Report, Draw, Show, Rewrite, Manifest, Explain}
-use Rattle.command_line.specs.ProgramArgs.{IsRequestOf, IsCheck, IsDraw, IsExplain, IsManifest, IsMeasure, IsReport, IsRewrite, IsShow}
-use Rattle.command_line.proofs.CommandWords.{check_options, draw_options, measure_options, report_options, rewrite_options, show_options, word_options}
+use Rattle.command_line.specs.ProgramArgs.{IsFlagValue, IsRequestOf, IsCheck, IsDraw, IsExplain, IsManifest, IsMeasure, IsReport, IsRewrite, IsShow}
+use Rattle.command_line.proofs.CommandWords.{check_options, draw_options, measure_options, rewrite_options, show_options, word_options}
 use Rattle.command_line.proofs.GivenOptions.{first_is, rows_of}
 use Rattle.command_line.proofs.ManifestWords.{rows_of_manifest}
+use Rattle.command_line.proofs.ReportLine.{flag_is, report_options, rows_of_report, text_of, value_is}
 
 some_is : {A : Type 0} (x y : A) → Some x ≡ Some y → x ≡ y
 some_is x y e = cc
@@ -34,19 +35,26 @@ is_measure p o m (Measure profile format manifest) a =
     (sym a.1 ∙ first_is (codes "profile") all, sym a.2 ∙ first_is (codes "format") all, some_is manifest.now m (sym a.3 ∙ first_is (codes "manifest") all))
 is_measure p o m request a = absurd (differ (codes "measure") a.0 refl)
 
-pub is_report : (r g : Text) (f n v l o : Option Text) (m : Text) (request : Request) → IsRequestOf (Some (codes "report", rows_of (report_options r g f n v l o m))) request → IsReport r g f n v l o m request
-is_report r g f n v l o m (Report options manifest) a =
+-- the flag is on where its words are given, and else off
+is_on : (z on : Bool) (text : Option Text) → text ≡ Some (text_of z) → IsFlagValue text on → on ≡ z
+is_on true on text e is = is.yes e
+is_on false on text e is = is.no e
+
+pub is_report : (z : Bool) (r g : Text) (f n v l o : Option Text) (m : Text) (request : Request) → IsRequestOf (Some (codes "report", rows_of_report z (report_options r g f n v l o m))) request
+    → IsReport z r g f n v l o m request
+is_report z r g f n v l o m (Report options manifest) a =
     let all = report_options r g f n v l o m in (
-      some_is options.ring.now r (sym a.1 ∙ first_is (codes "ring") all),
-      some_is options.gap.now g (sym a.2 ∙ first_is (codes "gap") all),
-      sym a.3 ∙ first_is (codes "profile") all,
-      sym a.4 ∙ first_is (codes "max") all,
-      sym a.5 ∙ first_is (codes "waive") all,
-      sym a.6 ∙ first_is (codes "outline") all,
-      sym a.7 ∙ first_is (codes "format") all,
-      some_is manifest.now m (sym a.8 ∙ first_is (codes "manifest") all),
+      is_on z options.exit_zero _ (flag_is z all refl) a.8,
+      some_is options.ring.now r (sym a.1 ∙ value_is z (codes "ring") all refl),
+      some_is options.gap.now g (sym a.2 ∙ value_is z (codes "gap") all refl),
+      sym a.3 ∙ value_is z (codes "profile") all refl,
+      sym a.4 ∙ value_is z (codes "max") all refl,
+      sym a.5 ∙ value_is z (codes "waive") all refl,
+      sym a.6 ∙ value_is z (codes "outline") all refl,
+      sym a.7 ∙ value_is z (codes "format") all refl,
+      some_is manifest.now m (sym a.9 ∙ value_is z (codes "manifest") all refl),
     )
-is_report r g f n v l o m request a = absurd (differ (codes "report") a.0 refl)
+is_report z r g f n v l o m request a = absurd (differ (codes "report") a.0 refl)
 
 pub is_draw : (o : Option (Text × Text)) (f l : Option Text) (m : Text) (request : Request) → IsRequestOf (Some (codes "draw", rows_of (draw_options o f l m))) request → IsDraw o f l m request
 is_draw o f l m (Draw options manifest) a =
@@ -71,10 +79,12 @@ is_rewrite k f (Rewrite kind file) a =
     (some_is kind.now k (sym a.1 ∙ first_is (codes "kind") all), some_is file.now f (sym a.2 ∙ first_is (codes "file") all))
 is_rewrite k f request a = absurd (differ (codes "rewrite") a.0 refl)
 
-pub is_manifest : (why : Bool) (fs : List Text) (request : Request) → IsRequestOf (Some (codes "manifest", rows_of_manifest why fs)) request → IsManifest why fs request
-is_manifest true fs (Manifest why files) a = (a.1.yes refl, some_is _ fs (sym a.2))
-is_manifest false fs (Manifest why files) a = (a.1.no refl, some_is _ fs (sym a.2))
-is_manifest why fs request a = absurd (differ (codes "manifest") a.0 refl)
+pub is_manifest : (why : Bool) (p : Option Text) (fs : List Text) (request : Request) → IsRequestOf (Some (codes "manifest", rows_of_manifest why p fs)) request → IsManifest why p fs request
+is_manifest true None fs (Manifest why profile files) a = (a.1.yes refl, sym a.2, some_is _ fs (sym a.3))
+is_manifest true (Some p) fs (Manifest why profile files) a = (a.1.yes refl, sym a.2, some_is _ fs (sym a.3))
+is_manifest false None fs (Manifest why profile files) a = (a.1.no refl, sym a.2, some_is _ fs (sym a.3))
+is_manifest false (Some p) fs (Manifest why profile files) a = (a.1.no refl, sym a.2, some_is _ fs (sym a.3))
+is_manifest why p fs request a = absurd (differ (codes "manifest") a.0 refl)
 
 pub is_explain : (o : Option Text) (request : Request) → IsRequestOf (Some (codes "explain", rows_of (word_options o))) request → IsExplain o request
 is_explain o (Explain word) a = sym a.1 ∙ first_is (codes "word") (word_options o)

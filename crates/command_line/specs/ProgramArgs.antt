@@ -1,5 +1,5 @@
 -- The program's command line, as a command of the crate `clap` (docs/FORMATS.md, The program).
-use Rattle.std.specs.Prelude.{◌≡◌, ◌≢◌, ◌==◌, ◌&&◌, Bool, true, false, not, List, [], ◌∷◌, ◌++◌, length, map, codes, Some, None, Option, option_map, Result, Ok, Err, if◌then◌else◌}
+use Rattle.std.specs.Prelude.{◌≡◌, ◌≢◌, ◌==◌, ◌&&◌, Bool, true, false, not, List, [], ◌∷◌, ◌++◌, length, map, codes, Some, None, Option, option_map, Result, Ok, Err}
 use Rattle.std.specs.List.{list_all}
 use Rattle.clap.specs.Lexer.{usize_max}
 use Rattle.clap.specs.Words.{App, Row, Rule, Text, all_of, fault_of, first_of, new_app, new_rule, one_of, subcommand_of, with_rule, with_subcommand}
@@ -48,11 +48,11 @@ check_app =
 abbrev pub measure_app : App
 measure_app = with_rule (with_rule (with_rule (new_app (codes "measure")) (optional_option (codes "profile"))) (optional_option (codes "format"))) (positional (codes "manifest"))
 
--- `report --ring MM --gap MM [--profile strict|wide] [--max N] [--waive FILE] [--outline FILE] [--format text|html|json|waivers] MANIFEST`
+-- `report --ring MM --gap MM [--profile strict|wide] [--max N] [--waive FILE] [--outline FILE] [--format text|html|json|waivers] [--exit-zero] MANIFEST`
 abbrev pub report_app : App
 report_app =
-    with_rule (with_rule (with_rule (with_rule (with_rule (with_rule (with_rule (with_rule (new_app (codes "report")) (option (codes "ring"))) (option (codes "gap"))) (optional_option (codes "profile"))) (optional_option (codes "max")))
-    (optional_option (codes "waive"))) (optional_option (codes "outline"))) (optional_option (codes "format"))) (positional (codes "manifest"))
+    with_rule (with_rule (with_rule (with_rule (with_rule (with_rule (with_rule (with_rule (with_rule (new_app (codes "report")) (option (codes "ring"))) (option (codes "gap"))) (optional_option (codes "profile"))) (optional_option (codes "max")))
+    (optional_option (codes "waive"))) (optional_option (codes "outline"))) (optional_option (codes "format"))) (flag (codes "exit-zero"))) (positional (codes "manifest"))
 
 -- `draw [--ring MM --gap MM] [--profile strict|wide] [--outline FILE] MANIFEST`
 abbrev pub draw_app : App
@@ -68,9 +68,9 @@ show_app = with_rule (with_rule (with_rule (new_app (codes "show")) (option (cod
 abbrev pub rewrite_app : App
 rewrite_app = with_rule (with_rule (new_app (codes "rewrite")) (option (codes "kind"))) (positional (codes "file"))
 
--- `manifest [--why] FILE..`
+-- `manifest [--why] [--profile strict|wide] FILE..`
 abbrev pub manifest_app : App
-manifest_app = with_rule (with_rule (new_app (codes "manifest")) (flag (codes "why"))) (one_or_more (codes "file"))
+manifest_app = with_rule (with_rule (with_rule (new_app (codes "manifest")) (flag (codes "why"))) (optional_option (codes "profile"))) (one_or_more (codes "file"))
 
 -- `explain [WORD]`
 abbrev pub explain_app : App
@@ -108,7 +108,7 @@ IsRequestOf (Some (name, rows)) (Report options manifest) =
     (name ≡ codes "report") × (first_of (codes "ring") rows ≡ Some options.ring.now) × (first_of (codes "gap") rows ≡ Some options.gap.now)
     × (first_of (codes "profile") rows ≡ option_map (λ p. p.now) options.profile) × (first_of (codes "max") rows ≡ option_map (λ n. n.now) options.limit)
     × (first_of (codes "waive") rows ≡ option_map (λ w. w.now) options.waive) × (first_of (codes "outline") rows ≡ option_map (λ o. o.now) options.outline)
-    × (first_of (codes "format") rows ≡ option_map (λ f. f.now) options.format)
+    × (first_of (codes "format") rows ≡ option_map (λ f. f.now) options.format) × IsFlagValue (one_of (codes "exit-zero") rows) options.exit_zero
     × (first_of (codes "manifest") rows ≡ Some manifest.now)
 IsRequestOf (Some (name, rows)) (Draw options manifest) =
     (name ≡ codes "draw") × (first_of (codes "ring") rows ≡ option_map (λ r. r.now) options.ring) × (first_of (codes "gap") rows ≡ option_map (λ g. g.now) options.gap)
@@ -118,8 +118,9 @@ IsRequestOf (Some (name, rows)) (Show kind profile file) =
     × (first_of (codes "file") rows ≡ Some file.now)
 IsRequestOf (Some (name, rows)) (Rewrite kind file) =
     (name ≡ codes "rewrite") × (first_of (codes "kind") rows ≡ Some kind.now) × (first_of (codes "file") rows ≡ Some file.now)
-IsRequestOf (Some (name, rows)) (Manifest why files) =
-    (name ≡ codes "manifest") × IsFlagValue (one_of (codes "why") rows) why × (all_of (codes "file") rows ≡ Some (map (λ file. file.now) files.items))
+IsRequestOf (Some (name, rows)) (Manifest why profile files) =
+    (name ≡ codes "manifest") × IsFlagValue (one_of (codes "why") rows) why × (first_of (codes "profile") rows ≡ option_map (λ p. p.now) profile)
+    × (all_of (codes "file") rows ≡ Some (map (λ file. file.now) files.items))
 IsRequestOf (Some (name, rows)) (Explain word) = (name ≡ codes "explain") × (first_of (codes "word") rows ≡ option_map (λ w. w.now) word)
 
 -- the answer to the words of a line, running out of memory aside: a request just where `clap` finds no fault in them,
@@ -147,6 +148,11 @@ is_plain_if_some (Some word) = is_plain_word word
 abbrev pub option_words : Text → Option Text → List Text
 option_words name None = []
 option_words name (Some value) = name ∷ value ∷ []
+
+-- an option without a value where it is given, and else no words
+abbrev pub flag_words : Text → Bool → List Text
+flag_words name true = name ∷ []
+flag_words name false = []
 
 -- the words `check --ring R --gap G [--profile P] M`
 abbrev pub check_words : Text → Text → Option Text → Text → List Text
@@ -189,14 +195,15 @@ IsRewrite k f _ = ⊥
 abbrev pub are_plain_words : List Text → Bool
 are_plain_words words = not (length words == 0) && list_all is_plain_word words
 
--- the words `manifest FILE..` or, for the table of why, `manifest --why FILE..`
-abbrev pub manifest_words : Bool → List Text → List Text
-manifest_words why files = codes "manifest" ∷ (if why then codes "--why" ∷ files else files)
+-- the words `manifest [--profile P] FILE..` or, for the table of why, `manifest --why [--profile P] FILE..`
+abbrev pub manifest_words : Bool → Option Text → List Text → List Text
+manifest_words true profile files = codes "manifest" ∷ codes "--why" ∷ (option_words (codes "--profile") profile ++ files)
+manifest_words false profile files = codes "manifest" ∷ (option_words (codes "--profile") profile ++ files)
 
--- the request is for a manifest of these files, or for the table of why
-abbrev pub IsManifest : Bool → List Text → Request → Type 0
-IsManifest w fs (Manifest why files) = (why ≡ w) × (map (λ file. file.now) files.items ≡ fs)
-IsManifest w fs _ = ⊥
+-- the request is for a manifest of these files, or for the table of why, with just this word for a profile or none
+abbrev pub IsManifest : Bool → Option Text → List Text → Request → Type 0
+IsManifest w p fs (Manifest why profile files) = (why ≡ w) × (option_map (λ o. o.now) profile ≡ p) × (map (λ file. file.now) files.items ≡ fs)
+IsManifest w p fs _ = ⊥
 
 -- the words `measure [--profile P] [--format F] M`
 abbrev pub measure_words : Option Text → Option Text → Text → List Text
@@ -207,19 +214,20 @@ abbrev pub IsMeasure : Option Text → Option Text → Text → Request → Type
 IsMeasure p o m (Measure profile format manifest) = (option_map (λ w. w.now) profile ≡ p) × (option_map (λ f. f.now) format ≡ o) × (manifest.now ≡ m)
 IsMeasure p o m _ = ⊥
 
--- the words `report --ring R --gap G [--profile P] [--max N] [--waive V] [--outline O] [--format F] M`
-abbrev pub report_words : Text → Text → Option Text → Option Text → Option Text → Option Text → Option Text → Text → List Text
-report_words ring gap profile limit waive outline format manifest =
-    codes "report" ∷ codes "--ring" ∷ ring ∷ codes "--gap" ∷ gap
+-- the words `report [--exit-zero] --ring R --gap G [--profile P] [--max N] [--waive V] [--outline O] [--format F] M`
+abbrev pub report_words : Bool → Text → Text → Option Text → Option Text → Option Text → Option Text → Option Text → Text → List Text
+report_words exit_zero ring gap profile limit waive outline format manifest =
+    codes "report" ∷ (flag_words (codes "--exit-zero") exit_zero ++ codes "--ring" ∷ ring ∷ codes "--gap" ∷ gap
     ∷ (option_words (codes "--profile") profile
-    ++ (option_words (codes "--max") limit ++ (option_words (codes "--waive") waive ++ (option_words (codes "--outline") outline ++ (option_words (codes "--format") format ++ manifest ∷ [])))))
+    ++ (option_words (codes "--max") limit ++ (option_words (codes "--waive") waive ++ (option_words (codes "--outline") outline ++ (option_words (codes "--format") format ++ manifest ∷ []))))))
 
--- the request is a report with just this ring, gap and manifest, and just these of a profile, a limit of findings, a file of waivers, a file of an outline and a format
-abbrev pub IsReport : Text → Text → Option Text → Option Text → Option Text → Option Text → Option Text → Text → Request → Type 0
-IsReport r g p n v l o m (Report options manifest) =
-    (options.ring.now ≡ r) × (options.gap.now ≡ g) × (option_map (λ w. w.now) options.profile ≡ p) × (option_map (λ t. t.now) options.limit ≡ n)
+-- the request is a report with just this ring, gap and manifest, with the flag for the status 0 or without it, and just these of a profile,
+-- a limit of findings, a file of waivers, a file of an outline and a format
+abbrev pub IsReport : Bool → Text → Text → Option Text → Option Text → Option Text → Option Text → Option Text → Text → Request → Type 0
+IsReport z r g p n v l o m (Report options manifest) =
+    (options.exit_zero ≡ z) × (options.ring.now ≡ r) × (options.gap.now ≡ g) × (option_map (λ w. w.now) options.profile ≡ p) × (option_map (λ t. t.now) options.limit ≡ n)
     × (option_map (λ w. w.now) options.waive ≡ v) × (option_map (λ f. f.now) options.outline ≡ l) × (option_map (λ f. f.now) options.format ≡ o) × (manifest.now ≡ m)
-IsReport r g p n v l o m _ = ⊥
+IsReport z r g p n v l o m _ = ⊥
 
 -- the words `draw [--profile P] [--outline O] M` or `draw --ring R --gap G [--profile P] [--outline O] M`
 abbrev pub draw_words : Option (Text × Text) → Option Text → Option Text → Text → List Text

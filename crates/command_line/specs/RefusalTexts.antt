@@ -13,7 +13,7 @@ use Rattle.command_line.specs.ProgramArgs.{ringcheck_app}
 
 -- where waivers belong, which is said to a check that is given some
 abbrev pub waivers_in_check : Text
-waivers_in_check = codes "\nWaivers belong to report, which prints why each finding is accepted:\n  ringcheck report --ring MM --gap MM --waive FILE MANIFEST\n"
+waivers_in_check = codes "\nOnly report takes waivers; it prints why each finding is accepted:\n  ringcheck report --ring MM --gap MM --waive FILE MANIFEST\n"
 
 -- whether a word is the option for a file of waivers, alone or with its value: `--waive`, `--waive=accepted.csv`
 abbrev pub is_waive_option : Text → Bool

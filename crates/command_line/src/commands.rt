@@ -14,72 +14,84 @@ pub const VERSION: &str = "0.1.0";
 /// The line that `--version` prints.
 pub const VERSION_LINE: &str = "ringcheck 0.1.0\n";
 
-const STATUSES: &str = "Status: 0 no finding, all of them waived, or done; 1 findings; 2 a file is
-refused; 3 wrong words; 4 a file cannot be read, or memory ran out.
-Begin:  ringcheck manifest gerbers/* > board.csv
-        ringcheck check --ring 0.125 --gap 0.25 board.csv";
+/// The program and its version, as reports name them.
+pub const PROGRAM: &str = "ringcheck 0.1.0";
 
-const RING: &str = "Copper to stand round a plated hole, in mm: 0.125";
+const STATUSES: &str =
+    "Exit status: 0 no findings, all of them waived, or done; 1 findings; 2 a file
+is refused; 3 usage error; 4 a file cannot be read, or out of memory.
+To start:  ringcheck manifest gerbers/* > board.csv
+           ringcheck check --ring 0.125 --gap 0.25 board.csv";
 
-const GAP: &str = "Gap that any two holes must keep, in mm: 0.25";
+const RING: &str = "Minimum annular ring in mm, e.g. 0.125";
 
-const OUTLINE: &str = "Gerber file of the board's edge, drawn as a thin line";
+const GAP: &str = "Minimum distance between hole edges, in mm, e.g. 0.25";
 
-const PAGE_OUTLINE: &str = "Gerber file of the board's edge, for --format html";
+const OUTLINE: &str = "Gerber file of the board outline, drawn as a thin line";
 
-const FORMAT: &str = "Lines for people, or one object of JSON;
-text where it is not there";
+const PAGE_OUTLINE: &str = "Gerber file of the board outline, for --format html";
 
-const REPORT_FORMAT: &str = "text, for people; html, a page for a browser;
-json, one object; or waivers, a file to write
-reasons into; text if not there";
+const FORMAT: &str = "text for people, or json, one JSON object
+(default: text)";
 
-const PROFILE: &str = "strict, the default: only discs, rectangles and
+const REPORT_FORMAT: &str = "text (default), for people; html, a page for browsers;
+json, one object; waivers, a file to write reasons in";
+
+const EXIT_ZERO: &str = "Exit with status 0 even if there are findings";
+
+const PROFILE: &str = "strict (default): only discs, rectangles and
 obrounds are pads; wide: rounded pads of macros and
-contours too, and more files are read";
+contours are too, and more files are read";
 
 // After `Usage: ` it stands on two lines.
 const CHECK_USAGE: &str = "ringcheck check --ring <MM> --gap <MM> [--profile <strict|wide>]
                        <MANIFEST>";
 
-const CHECK: &str = "A manifest is a CSV file with the first record role,name,file and one for each
-file; a role is copper, plated or unplated, and mixed in the wide profile. With
-role,name,file,first,last a drill file may name the first and the last layer
-that it goes through. File names are taken from the working directory.
+const CHECK: &str = "A manifest is a CSV file. Its first line is role,name,file, and each other line
+names a file; the role is copper, plated or unplated, or, in the wide profile,
+mixed. With role,name,file,first,last a drill file can name the first and the
+last layer that its holes go through. File names are relative to the working
+directory.
 Example:  ringcheck check --ring 0.125 --gap 0.25 board.csv";
 
 // After `Usage: ` it stands on two lines.
 const MEASURE_USAGE: &str = "ringcheck measure [--profile <strict|wide>] [--format <text|json>]
                          <MANIFEST>";
 
-const MEASURE: &str = "It is the greatest rule under which check finds nothing; held is the greatest
-ring where holes without a pad are left out. Lengths are in mm, or any, or
-none. A line ring tells the least ring of the holes of one diameter.
+const MEASURE: &str =
+    "Under this ring and gap, or smaller ones, check finds nothing; held is the ring
+if holes without a pad are left out. Lengths are in mm; any means no limit, and
+none that a hole has no pad. Each line ring shows the smallest ring of the
+holes of one diameter.
 Example:  ringcheck measure board.csv";
 
-const REPORT_PROFILE: &str = "strict, the default, or wide: see check --help";
+const REPORT_PROFILE: &str = "strict (default) or wide: see ringcheck check --help";
 
 // After `Usage: ` it stands on three lines, the others below the options of the first.
 const REPORT_USAGE: &str = "ringcheck report --ring <MM> --gap <MM> [--max <N>] [--waive <FILE>]
                         [--outline <FILE>] [--format <text|html|json|waivers>]
-                        [--profile <strict|wide>] <MANIFEST>";
+                        [--profile <strict|wide>] [--exit-zero] <MANIFEST>";
 
-const REPORT: &str = "The findings are those of check, in its order, with its status where none is
-waived. Below stand the causes, and the rules that the package meets.
+const REPORT: &str = "Shows the findings of check, in the same order and with the same exit status
+unless all are waived, then their causes and the rules that the package meets.
 Example:  ringcheck report --ring 0.125 --gap 0.25 board.csv";
 
 // After `Usage: ` it stands on two lines.
 const DRAW_USAGE: &str = "ringcheck draw [--ring <MM> --gap <MM>] [--profile <strict|wide>]
                       [--outline <FILE>] <MANIFEST>";
 
-const DRAW: &str = "Each copper layer has a panel, seen from above, with its pads and its holes.
-With a ring and a gap the findings are drawn too: give both, or neither.
+const DRAW: &str = "Each copper layer gets a panel, seen from above, with its pads and holes. With
+a ring and a gap the findings are drawn too: give both, or neither.
 Example:  ringcheck draw --ring 0.125 --gap 0.25 board.csv > board.svg";
 
-const MANIFEST: &str = "What a file is, is taken from its text, its file function and its name: read
-the manifest before you use it. A file that may be copper or holes, and of
-which nothing says which, has the role ?, which a check refuses.
+const MANIFEST: &str = "The role of each file is worked out from its text, its file function and its
+name: read the manifest before you use it. A file that may belong to it, but
+whose role cannot be determined, gets the role ?, which check refuses.
 Example:  ringcheck manifest gerbers/* > board.csv";
+
+const MANIFEST_PROFILE: &str = "strict (default); wide, for check --profile wide: a
+drill file that says of each hole whether it is plated
+gets the role mixed";
 
 const EXPLAIN: &str = "Example:  ringcheck explain Routed";
 
@@ -104,7 +116,7 @@ fn program<'a>(alloc: Global) -> Command<'a>
     new_command(
         alloc,
         "ringcheck",
-        "Check copper rings and drill gaps of a board's Gerber and drill files, exactly",
+        "Check a board's annular rings and hole spacing, from its Gerber and drill files",
         "ringcheck <COMMAND>",
         STATUSES,
     )
@@ -154,7 +166,7 @@ fn check<'a>(alloc: Global) -> Result<Command<'a>, AllocError>
     new_command(
         alloc,
         "check",
-        "Check a package against a ring and a gap",
+        "Check a package against a minimum ring and gap",
         CHECK_USAGE,
         CHECK,
     )
@@ -165,7 +177,7 @@ fn check<'a>(alloc: Global) -> Result<Command<'a>, AllocError>
         alloc,
         "manifest",
         "MANIFEST",
-        "Manifest of the package, a CSV file",
+        "Manifest of the package: a CSV file",
     ))
 }
 
@@ -176,7 +188,7 @@ fn measure<'a>(alloc: Global) -> Result<Command<'a>, AllocError>
     new_command(
         alloc,
         "measure",
-        "Tell the greatest ring and gap that a package meets",
+        "Measure the largest ring and gap that a package meets",
         MEASURE_USAGE,
         MEASURE,
     )
@@ -186,18 +198,18 @@ fn measure<'a>(alloc: Global) -> Result<Command<'a>, AllocError>
         alloc,
         "manifest",
         "MANIFEST",
-        "Manifest of the package, a CSV file as for check",
+        "Manifest of the package: a CSV file, as for check",
     ))
 }
 
-/// `report --ring MM --gap MM [--profile strict|wide] [--max N] [--waive FILE] [--outline FILE] [--format text|html|json|waivers] MANIFEST`
+/// `report --ring MM --gap MM [--profile strict|wide] [--max N] [--waive FILE] [--outline FILE] [--format text|html|json|waivers] [--exit-zero] MANIFEST`
 fn report<'a>(alloc: Global) -> Result<Command<'a>, AllocError>
     ensures { IfOk result (λ c. app_of c ≡ report_app) }
 {
     let under_rules = new_command(
         alloc,
         "report",
-        "Tell of each finding by how much, and why",
+        "Explain each finding: how far below the rule, and why",
         REPORT_USAGE,
         REPORT,
     )
@@ -207,30 +219,26 @@ fn report<'a>(alloc: Global) -> Result<Command<'a>, AllocError>
     with_report_args(alloc, under_rules)
 }
 
-/// Adds `[--max N] [--waive FILE] [--outline FILE] [--format text|html|json|waivers] MANIFEST` to a command.
+/// Adds `[--max N] [--waive FILE] [--outline FILE] [--format text|html|json|waivers] [--exit-zero] MANIFEST` to a command.
 fn with_report_args<'a>(alloc: Global, command: Command<'a>) -> Result<Command<'a>, AllocError>
     ensures { IfOk result (λ c. app_of c ≡ report_args_of (app_of command.entry)) }
 {
     command
-        .arg(optional_option_arg(
-            alloc,
-            "max",
-            "N",
-            "Most findings to show; all if it is not given",
-        ))?
+        .arg(optional_option_arg(alloc, "max", "N", "Show at most N findings (default: all)"))?
         .arg(optional_option_arg(
             alloc,
             "waive",
             "FILE",
-            "File of waivers: findings that are accepted",
+            "File of waivers: the findings that are accepted",
         ))?
         .arg(optional_option_arg(alloc, "outline", "FILE", PAGE_OUTLINE))?
         .arg(optional_option_arg(alloc, "format", "NAME", REPORT_FORMAT))?
+        .arg(flag_arg(alloc, "exit-zero", EXIT_ZERO))?
         .arg(required_arg(
             alloc,
             "manifest",
             "MANIFEST",
-            "Manifest of the package, a CSV file as for check",
+            "Manifest of the package: a CSV file, as for check",
         ))
 }
 
@@ -253,22 +261,23 @@ fn draw<'a>(alloc: Global) -> Result<Command<'a>, AllocError>
         alloc,
         "manifest",
         "MANIFEST",
-        "Manifest of the package, a CSV file as for check",
+        "Manifest of the package: a CSV file, as for check",
     ))
 }
 
-/// `manifest [--why] FILE..`
+/// `manifest [--why] [--profile strict|wide] FILE..`
 fn manifest<'a>(alloc: Global) -> Result<Command<'a>, AllocError>
     ensures { IfOk result (λ c. app_of c ≡ manifest_app) }
 {
     new_command(
         alloc,
         "manifest",
-        "Make a manifest of some files",
-        "ringcheck manifest [--why] <FILE>...",
+        "Propose a manifest for some files",
+        "ringcheck manifest [--why] [--profile <strict|wide>] <FILE>...",
         MANIFEST,
     )
-    .arg(flag_arg(alloc, "why", "Tell of each file what it is, and why"))?
+    .arg(flag_arg(alloc, "why", "Show what each file is taken for, and why"))?
+    .arg(optional_option_arg(alloc, "profile", "NAME", MANIFEST_PROFILE))?
     .arg(repeated_arg(alloc, "file", "FILE", "Files to look at"))
 }
 
@@ -279,7 +288,7 @@ fn explain<'a>(alloc: Global) -> Result<Command<'a>, AllocError>
     new_command(
         alloc,
         "explain",
-        "Tell what a reason or a cause means, and what to set",
+        "Explain a reason or a cause, and what to change",
         "ringcheck explain [WORD]",
         EXPLAIN,
     )
@@ -287,7 +296,7 @@ fn explain<'a>(alloc: Global) -> Result<Command<'a>, AllocError>
         alloc,
         "word",
         "WORD",
-        "Name of a reason or a cause; without it all are listed",
+        "Name of a reason or a cause (default: list them all)",
     ))
 }
 
@@ -298,7 +307,7 @@ fn show<'a>(alloc: Global) -> Result<Command<'a>, AllocError>
     new_command(
         alloc,
         "show",
-        "Print the table of a layer's flashes or of a drill file's holes",
+        "Print a table of a layer's flashes or a drill file's holes",
         "ringcheck show --kind <layer|drill> [--profile <strict|wide>] <FILE>",
         SHOW,
     )
@@ -390,7 +399,7 @@ fn kind_arg<'a>(alloc: Global) -> Arg<'a>
         alloc,
         "kind",
         "layer|drill",
-        "A Gerber layer, or an Excellon drill file",
+        "A Gerber layer or an Excellon drill file",
     )
 }
 

@@ -2,10 +2,10 @@
 //!
 //! ```text
 //! ringcheck check --ring MM --gap MM [--profile strict|wide] MANIFEST
-//! ringcheck report --ring MM --gap MM [--profile strict|wide] [--max N] [--waive FILE] [--outline FILE] [--format text|html|json|waivers] MANIFEST
+//! ringcheck report --ring MM --gap MM [--profile strict|wide] [--max N] [--waive FILE] [--outline FILE] [--format text|html|json|waivers] [--exit-zero] MANIFEST
 //! ringcheck measure [--profile strict|wide] [--format text|json] MANIFEST
 //! ringcheck draw [--ring MM --gap MM] [--profile strict|wide] [--outline FILE] MANIFEST
-//! ringcheck manifest [--why] FILE..
+//! ringcheck manifest [--why] [--profile strict|wide] FILE..
 //! ringcheck explain [WORD]
 //! ringcheck show --kind layer|drill [--profile strict|wide] FILE
 //! ringcheck rewrite --kind layer|drill FILE
@@ -24,7 +24,7 @@ mod commands;
 
 use clap::error::ErrorKind;
 use clap::{ArgMatches, Error};
-pub use commands::{VERSION, VERSION_LINE};
+pub use commands::{PROGRAM, VERSION, VERSION_LINE};
 use std::alloc::{AllocError, Global};
 
 /// The words of the options of a report, as they stand.
@@ -44,6 +44,8 @@ pub struct ReportWords<'a> {
     pub outline: Option<&'a str>,
     /// The word for a format, where one is given.
     pub format: Option<&'a str>,
+    /// Whether the exit status is to be 0 wherever a verdict is printed, findings or not.
+    pub exit_zero: bool,
 }
 
 /// The words of the options of a picture, as they stand.
@@ -99,9 +101,11 @@ pub enum Request<'a> {
         kind: &'a str,
         file: &'a str,
     },
-    /// Print a manifest of files, or the table of what each of them is, and why.
+    /// Print a manifest of files, or the table of what each of them is, and why. `profile` is the word for the profile that the manifest is
+    /// for, where one is given.
     Manifest {
         why: bool,
+        profile: Option<&'a str>,
         files: Vec<&'a str>,
     },
     /// Print the page of a word, or the list of the words that have one.
@@ -138,17 +142,18 @@ pub fn parse<'a>(alloc: Global, words: &'a [&'a str]) -> Result<Request<'a>, Ref
         → is_plain_word g ≡ true → is_plain_if_some profile ≡ true → is_plain_word m ≡ true → ParsesAs (IsCheck r g profile m) result }
     ensures measure { (profile format : Option Text) (m : Text) → map (λ w. w.now) words.entry.now ≡ measure_words profile format m → is_plain_if_some profile ≡ true
         → is_plain_if_some format ≡ true → is_plain_word m ≡ true → ParsesAs (IsMeasure profile format m) result }
-    ensures report { (r g : Text) (profile limit waive outline format : Option Text) (m : Text) → map (λ w. w.now) words.entry.now ≡ report_words r g profile limit waive outline format m
+    ensures report { (exit_zero : Bool) (r g : Text) (profile limit waive outline format : Option Text) (m : Text)
+        → map (λ w. w.now) words.entry.now ≡ report_words exit_zero r g profile limit waive outline format m
         → is_plain_word r ≡ true → is_plain_word g ≡ true → is_plain_if_some profile ≡ true → is_plain_if_some limit ≡ true → is_plain_if_some waive ≡ true → is_plain_if_some outline ≡ true
-        → is_plain_if_some format ≡ true → is_plain_word m ≡ true → ParsesAs (IsReport r g profile limit waive outline format m) result }
+        → is_plain_if_some format ≡ true → is_plain_word m ≡ true → ParsesAs (IsReport exit_zero r g profile limit waive outline format m) result }
     ensures draw { (rules : Option (Text × Text)) (profile outline : Option Text) (m : Text) → map (λ w. w.now) words.entry.now ≡ draw_words rules profile outline m
         → are_plain_rules rules ≡ true → is_plain_if_some profile ≡ true → is_plain_if_some outline ≡ true → is_plain_word m ≡ true → ParsesAs (IsDraw rules profile outline m) result }
     ensures show { (k : Text) (profile : Option Text) (f : Text) → map (λ w. w.now) words.entry.now ≡ show_words k profile f → is_plain_word k ≡ true
         → is_plain_if_some profile ≡ true → is_plain_word f ≡ true → ParsesAs (IsShow k profile f) result }
     ensures rewrite { (k f : Text) → map (λ w. w.now) words.entry.now ≡ rewrite_words k f → is_plain_word k ≡ true
         → is_plain_word f ≡ true → ParsesAs (IsRewrite k f) result }
-    ensures manifest { (why : Bool) (fs : List Text) → map (λ w. w.now) words.entry.now ≡ manifest_words why fs → are_plain_words fs ≡ true
-        → ParsesAs (IsManifest why fs) result }
+    ensures manifest { (why : Bool) (profile : Option Text) (fs : List Text) → map (λ w. w.now) words.entry.now ≡ manifest_words why profile fs → is_plain_if_some profile ≡ true
+        → are_plain_words fs ≡ true → ParsesAs (IsManifest why profile fs) result }
     ensures list { map (λ w. w.now) words.entry.now ≡ explain_words None → ParsesAs (IsExplain None) result }
     ensures explain { (w : Text) → map (λ w. w.now) words.entry.now ≡ explain_words (Some w) → is_plain_word w ≡ true
         → ParsesAs (IsExplain (Some w)) result }
@@ -230,6 +235,7 @@ fn report_request<'a>(values: &ArgMatches<'a>) -> Option<Request<'a>>
         waive: value(values, "waive"),
         outline: value(values, "outline"),
         format: value(values, "format"),
+        exit_zero: is_flag_set(values, "exit-zero"),
     };
     let manifest = value(values, "manifest")?;
     Some(Request::Report { options, manifest })
@@ -275,8 +281,10 @@ fn manifest_request<'a>(alloc: Global, values: &ArgMatches<'a>) -> Option<Reques
     let Ok(files) = Vec::from_slice(alloc, row_of_value) else {
         return None;
     };
+    let (why, profile) = (is_flag_set(values, "why"), value(values, "profile"));
     Some(Request::Manifest {
-        why: is_flag_set(values, "why"),
+        why,
+        profile,
         files,
     })
 }
@@ -305,7 +313,7 @@ fn value<'a>(values: &ArgMatches<'a>, id: &str) -> Option<&'a str>
 
 /// What is said below the text of `clap` to a check that is given waivers.
 const WAIVERS_IN_CHECK: &str = "
-Waivers belong to report, which prints why each finding is accepted:
+Only report takes waivers; it prints why each finding is accepted:
   ringcheck report --ring MM --gap MM --waive FILE MANIFEST
 ";
 

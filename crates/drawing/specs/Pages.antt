@@ -2,6 +2,8 @@
 use Rattle.std.specs.Prelude.{ℕ, pos, ◌+◌, ◌*◌, ◌/◌, ◌==◌, List, ◌++◌, codes, decimal, Option, None, Some, if◌then◌else◌}
 use Rattle.std.specs.List.{flat_map}
 use Rattle.grid_units.specs.Holes.{GridRules}
+use Rattle.grid_units.specs.declared.profile.Profile.{Profile}
+use Rattle.grid_units.specs.declared.profile.Profile.TheVariants.{Strict, Wide}
 use Rattle.printing.specs.Lengths.{short_millimetres}
 use Rattle.picture.specs.Panels.{panel_text}
 use Rattle.drawing.specs.declared.layout.Layout.{Layout}
@@ -20,7 +22,7 @@ labelled_count words number = words ++ decimal number
 
 -- the style sheet, by which elements look as their classes say, and the white ground of the page
 unfoldable pub style_words : List ℕ
-style_words = codes "<style>text{fill:#222;font-size:1.25px}.title{font-size:2px;font-weight:bold}.name{font-size:1.5px;font-weight:bold}.board{fill:#fbfaf6;stroke:#999;stroke-width:.08em}.pad{fill:#d8a35d}.line{fill:none;stroke:#d8a35d;stroke-linecap:round}.other{fill:none;stroke:#6a6a6a}.plated,.unplated{fill:#fff;stroke:#333}.unplated{stroke-dasharray:.24em}.rim{fill:none;stroke:#333;stroke-linecap:round}.slot{fill:none;stroke:#fff;stroke-linecap:round}circle.ring{fill:#d4001a;fill-opacity:.35;stroke:#d4001a}path.ring{fill:none;stroke:#d4001a;stroke-opacity:.35;stroke-linecap:round}.mark{fill:none;stroke:#d4001a}.gap{fill:none;stroke:#7a00c8;stroke-linecap:round}.number{fill:#d4001a;font-weight:bold;stroke:#fff;stroke-width:.24em;paint-order:stroke}.scale{fill:none;stroke:#222;stroke-width:.16em}</style>\n<rect width=\"100%\" height=\"100%\" fill=\"#fff\"/>\n"
+style_words = codes "<style>text{fill:#222;font-size:1.25px}.title{font-size:1.75px;font-weight:bold}.name{font-size:1.5px;font-weight:bold}.board{fill:#fbfaf6;stroke:#999;stroke-width:.08em}.pad{fill:#d8a35d}.line{fill:none;stroke:#d8a35d;stroke-linecap:round}.other{fill:none;stroke:#6a6a6a}.plated,.unplated{fill:#fff;stroke:#333}.unplated{stroke-dasharray:.24em}.rim{fill:none;stroke:#333;stroke-linecap:round}.slot{fill:none;stroke:#fff;stroke-linecap:round}circle.ring{fill:#d4001a;fill-opacity:.35;stroke:#d4001a}path.ring{fill:none;stroke:#d4001a;stroke-opacity:.35;stroke-linecap:round}.mark{fill:none;stroke:#d4001a}.gap{fill:none;stroke:#7a00c8;stroke-linecap:round}.number{fill:#d4001a;font-weight:bold;stroke:#fff;stroke-width:.24em;paint-order:stroke}.scale{fill:none;stroke:#222;stroke-width:.16em}</style>\n<rect width=\"100%\" height=\"100%\" fill=\"#fff\"/>\n"
 
 -- the size of the letters, and the page in pixels: ` font-size="2.906666666" width="727" height="1200`
 unfoldable pub sizes_words : ℕ → ℕ → ℕ → List ℕ
@@ -42,14 +44,19 @@ page_start l =
 abbrev pub found_words : ℕ → List ℕ
 found_words count = if count == 0 then codes "PASS" else if count == 1 then codes "1 finding" else decimal count ++ codes " findings"
 
--- the rules: `ring 0.15 mm, gap 0.25 mm: `
-unfoldable pub rules_words : ℕ → ℕ → List ℕ
-rules_words ring gap = labelled (codes "ring ") ring ++ (labelled (codes " mm, gap ") gap ++ codes " mm: ")
+-- the profile of the findings, after the rules: ` mm, profile strict: `
+abbrev pub profile_words : Profile → List ℕ
+profile_words Strict = codes " mm, profile strict: "
+profile_words Wide = codes " mm, profile wide: "
 
--- the words of the title: `ring 0.15 mm, gap 0.25 mm: 6 findings`, or `no rules`
+-- the rules and the profile: `ring 0.15 mm, gap 0.25 mm, profile strict: `
+unfoldable pub rules_words : ℕ → ℕ → Profile → List ℕ
+rules_words ring gap profile = labelled (codes "ring ") ring ++ (labelled (codes " mm, gap ") gap ++ profile_words profile)
+
+-- the words of the title: `ring 0.15 mm, gap 0.25 mm, profile strict: 6 findings`, or `no rules`
 abbrev pub title_words : Option GridRules → ℕ → List ℕ
 title_words None count = codes "no rules"
-title_words (Some rules) count = rules_words rules.ring rules.gap ++ found_words count
+title_words (Some rules) count = rules_words rules.ring rules.gap rules.profile ++ found_words count
 
 -- the start of a text after its first words: its place, and the unit that scales its letters: `6.9 6.9) scale(2.3)">`
 unfoldable pub text_start : List ℕ → ℕ → ℕ → ℕ → List ℕ
@@ -82,7 +89,7 @@ scale l =
 
 -- the samples of the legend and their words, in units; then the end of the page
 unfoldable pub legend_words : List ℕ
-legend_words = codes "<circle class=\"pad\" r=\".6\"/>\n<text x=\"1.2\" y=\".4\">pad</text>\n<path class=\"other\" stroke-width=\".2\" d=\"M-.5 2.5h1M0 2v1\"/>\n<text x=\"1.2\" y=\"2.9\">flash that is no pad</text>\n<circle class=\"plated\" cx=\"16\" r=\".5\" stroke-width=\".1\"/>\n<text x=\"17.2\" y=\".4\">plated hole</text>\n<circle class=\"unplated\" cx=\"16\" cy=\"2.5\" r=\".5\" stroke-width=\".1\"/>\n<text x=\"17.2\" y=\"2.9\">unplated hole</text>\n<circle class=\"ring\" cx=\"29\" r=\".6\" stroke-width=\".1\"/>\n<text x=\"30.2\" y=\".4\">ring lacking</text>\n<path class=\"gap\" stroke-width=\".3\" d=\"M28.5 2.5h1\"/>\n<text x=\"30.2\" y=\"2.9\">gap lacking</text>\n</g>\n</svg>\n"
+legend_words = codes "<circle class=\"pad\" r=\".6\"/>\n<text x=\"1.2\" y=\".4\">pad</text>\n<path class=\"other\" stroke-width=\".2\" d=\"M-.5 2.5h1M0 2v1\"/>\n<text x=\"1.2\" y=\"2.9\">flash not counted as a pad</text>\n<circle class=\"plated\" cx=\"20\" r=\".5\" stroke-width=\".1\"/>\n<text x=\"21.2\" y=\".4\">plated hole</text>\n<circle class=\"unplated\" cx=\"20\" cy=\"2.5\" r=\".5\" stroke-width=\".1\"/>\n<text x=\"21.2\" y=\"2.9\">unplated hole</text>\n<circle class=\"ring\" cx=\"33\" r=\".6\" stroke-width=\".1\"/>\n<text x=\"34.2\" y=\".4\">ring too small</text>\n<path class=\"gap\" stroke-width=\".3\" d=\"M32.5 2.5h1\"/>\n<text x=\"34.2\" y=\"2.9\">holes too close</text>\n</g>\n</svg>\n"
 
 -- where the legend stands, and its unit: `<g class="legend" font-size="1.25" transform="translate(9.3 220.9) scale(2.3)">`
 unfoldable pub legend_start : ℕ → ℕ → ℕ → List ℕ

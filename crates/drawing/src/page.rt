@@ -39,7 +39,8 @@ fn write_title_words<W: fmt::Write>(
 {
     match rules {
         Some(rules) => {
-            write_rules(f, rules.ring().unsigned_abs(), rules.gap().unsigned_abs())?;
+            let (ring, gap) = (rules.ring().unsigned_abs(), rules.gap().unsigned_abs());
+            write_rules(f, ring, gap, rules.profile())?;
             write_found(f, count)
         }
         None => f.write_str("no rules"),

@@ -2,8 +2,9 @@
 
 ghost use Rattle.std.specs.Prelude.{◌≡◌, ◌<◌, ◌^◌, Some, pos};
 ghost use Rattle.std.specs.Fmt.{DisplaysOnOk};
-ghost use Rattle.drawing.specs.Pages.{bar_at, found_words, legend_start, legend_words, length_at, rules_words, sizes_words, style_words, text_start, view_words};
+ghost use Rattle.drawing.specs.Pages.{bar_at, found_words, legend_start, legend_words, length_at, profile_words, rules_words, sizes_words, style_words, text_start, view_words};
 
+use grid_units::Profile;
 use printing::ShortMillimetres;
 use std::fmt;
 use std::fmt::Formatter;
@@ -21,7 +22,7 @@ fn millimetres(length: u64) -> ShortMillimetres
 pub(crate) fn style() -> &'static str
     ensures { result.now ≡ style_words }
 {
-    "<style>text{fill:#222;font-size:1.25px}.title{font-size:2px;font-weight:bold}.name{font-size:1.5px;font-weight:bold}.board{fill:#fbfaf6;stroke:#999;stroke-width:.08em}.pad{fill:#d8a35d}.line{fill:none;stroke:#d8a35d;stroke-linecap:round}.other{fill:none;stroke:#6a6a6a}.plated,.unplated{fill:#fff;stroke:#333}.unplated{stroke-dasharray:.24em}.rim{fill:none;stroke:#333;stroke-linecap:round}.slot{fill:none;stroke:#fff;stroke-linecap:round}circle.ring{fill:#d4001a;fill-opacity:.35;stroke:#d4001a}path.ring{fill:none;stroke:#d4001a;stroke-opacity:.35;stroke-linecap:round}.mark{fill:none;stroke:#d4001a}.gap{fill:none;stroke:#7a00c8;stroke-linecap:round}.number{fill:#d4001a;font-weight:bold;stroke:#fff;stroke-width:.24em;paint-order:stroke}.scale{fill:none;stroke:#222;stroke-width:.16em}</style>\n<rect width=\"100%\" height=\"100%\" fill=\"#fff\"/>\n"
+    "<style>text{fill:#222;font-size:1.25px}.title{font-size:1.75px;font-weight:bold}.name{font-size:1.5px;font-weight:bold}.board{fill:#fbfaf6;stroke:#999;stroke-width:.08em}.pad{fill:#d8a35d}.line{fill:none;stroke:#d8a35d;stroke-linecap:round}.other{fill:none;stroke:#6a6a6a}.plated,.unplated{fill:#fff;stroke:#333}.unplated{stroke-dasharray:.24em}.rim{fill:none;stroke:#333;stroke-linecap:round}.slot{fill:none;stroke:#fff;stroke-linecap:round}circle.ring{fill:#d4001a;fill-opacity:.35;stroke:#d4001a}path.ring{fill:none;stroke:#d4001a;stroke-opacity:.35;stroke-linecap:round}.mark{fill:none;stroke:#d4001a}.gap{fill:none;stroke:#7a00c8;stroke-linecap:round}.number{fill:#d4001a;font-weight:bold;stroke:#fff;stroke-width:.24em;paint-order:stroke}.scale{fill:none;stroke:#222;stroke-width:.16em}</style>\n<rect width=\"100%\" height=\"100%\" fill=\"#fff\"/>\n"
 }
 
 /// Writes the size of the letters, and the size of the page in pixels.
@@ -70,15 +71,30 @@ pub(crate) fn write_found<W: fmt::Write>(f: &mut Formatter<W>, count: usize) -> 
     }
 }
 
-/// Writes the rules: `ring 0.15 mm, gap 0.25 mm: `.
+/// The profile of the findings, after the rules.
+fn profile_words(profile: Profile) -> &'static str
+    ensures { result.now ≡ profile_words profile }
+{
+    match profile {
+        Profile::Strict => " mm, profile strict: ",
+        Profile::Wide => " mm, profile wide: ",
+    }
+}
+
+/// Writes the rules and the profile: `ring 0.15 mm, gap 0.25 mm, profile strict: `.
 #[tactic(auto, unfolding(crate::specs::Pages::rules_words))]
-pub(crate) fn write_rules<W: fmt::Write>(f: &mut Formatter<W>, ring: u64, gap: u64) -> fmt::Result
+pub(crate) fn write_rules<W: fmt::Write>(
+    f: &mut Formatter<W>,
+    ring: u64,
+    gap: u64,
+    profile: Profile,
+) -> fmt::Result
     requires ring { ring < 2 ^ 63 }
     requires gap { gap < 2 ^ 63 }
-    ensures { DisplaysOnOk W.write_str_gives f.old result (Some (rules_words ring gap)) f.new }
+    ensures { DisplaysOnOk W.write_str_gives f.old result (Some (rules_words ring gap profile)) f.new }
 {
     let (ring, gap) = (millimetres(ring), millimetres(gap));
-    write!(f, "ring {ring} mm, gap {gap} mm: ")
+    write!(f, "ring {ring} mm, gap {gap}{}", profile_words(profile))
 }
 
 /// Writes the start of a text: its first words, its place, and the unit that scales its letters.
@@ -158,5 +174,5 @@ pub(crate) fn write_legend_start<W: fmt::Write>(
 pub(crate) fn legend() -> &'static str
     ensures { result.now ≡ legend_words }
 {
-    "<circle class=\"pad\" r=\".6\"/>\n<text x=\"1.2\" y=\".4\">pad</text>\n<path class=\"other\" stroke-width=\".2\" d=\"M-.5 2.5h1M0 2v1\"/>\n<text x=\"1.2\" y=\"2.9\">flash that is no pad</text>\n<circle class=\"plated\" cx=\"16\" r=\".5\" stroke-width=\".1\"/>\n<text x=\"17.2\" y=\".4\">plated hole</text>\n<circle class=\"unplated\" cx=\"16\" cy=\"2.5\" r=\".5\" stroke-width=\".1\"/>\n<text x=\"17.2\" y=\"2.9\">unplated hole</text>\n<circle class=\"ring\" cx=\"29\" r=\".6\" stroke-width=\".1\"/>\n<text x=\"30.2\" y=\".4\">ring lacking</text>\n<path class=\"gap\" stroke-width=\".3\" d=\"M28.5 2.5h1\"/>\n<text x=\"30.2\" y=\"2.9\">gap lacking</text>\n</g>\n</svg>\n"
+    "<circle class=\"pad\" r=\".6\"/>\n<text x=\"1.2\" y=\".4\">pad</text>\n<path class=\"other\" stroke-width=\".2\" d=\"M-.5 2.5h1M0 2v1\"/>\n<text x=\"1.2\" y=\"2.9\">flash not counted as a pad</text>\n<circle class=\"plated\" cx=\"20\" r=\".5\" stroke-width=\".1\"/>\n<text x=\"21.2\" y=\".4\">plated hole</text>\n<circle class=\"unplated\" cx=\"20\" cy=\"2.5\" r=\".5\" stroke-width=\".1\"/>\n<text x=\"21.2\" y=\"2.9\">unplated hole</text>\n<circle class=\"ring\" cx=\"33\" r=\".6\" stroke-width=\".1\"/>\n<text x=\"34.2\" y=\".4\">ring too small</text>\n<path class=\"gap\" stroke-width=\".3\" d=\"M32.5 2.5h1\"/>\n<text x=\"34.2\" y=\"2.9\">holes too close</text>\n</g>\n</svg>\n"
 }

@@ -1,5 +1,6 @@
--- What a comment of a header says of the tools that are defined after it (docs/FORMATS.md, Mixed drill files).
-use Rattle.std.specs.Prelude.{ℕ, Bool, ◌||◌, ◌==◌, List, length, take, drop, codes, if◌then◌else◌, Option, Some, None}
+-- What a comment says of holes: of those of the tools that are defined after it, or of all holes of the file (docs/FORMATS.md, Mixed drill files;
+-- Unplated drill files).
+use Rattle.std.specs.Prelude.{ℕ, Bool, true, false, ◌||◌, ◌==◌, List, length, take, drop, codes, if◌then◌else◌, Option, Some, None}
 use Rattle.std.specs.List.{after_first, before_first, prefix_len}
 use Rattle.std.specs.Str.{bytes_eq}
 use Rattle.grid_units.specs.Ascii as ascii
@@ -40,3 +41,27 @@ said_plating text =
     if bytes_eq text (codes "TYPE=PLATED") then Some Plated
     else if bytes_eq text (codes "TYPE=NON_PLATED") then Some Unplated
     else attribute_plating (without_spaces text)
+
+-- what a file function says of all holes of its file: `#@! TF.FileFunction,Plated,1,2,PTH` that they are plated. Other attributes say nothing of it
+abbrev pub file_plating : List ℕ → Option Plating
+file_plating text =
+    if bytes_eq (before_first is_comma text) (codes "#@! TF.FileFunction") then Some (function_plating (before_first is_comma (after_first is_comma text)))
+    else None
+
+-- it is said that holes are plated
+abbrev pub is_plated_said : Option Plating → Bool
+is_plated_said (Some Plated) = true
+is_plated_said _ = false
+
+-- it is said that holes are not plated
+abbrev pub is_unplated_said : Option Plating → Bool
+is_unplated_said (Some Unplated) = true
+is_unplated_said _ = false
+
+-- the text of a comment says that holes are plated: those of the tools after it, as `TYPE=PLATED` does, or those of the whole file
+unfoldable pub says_plated : List ℕ → Bool
+says_plated text = is_plated_said (said_plating text) || is_plated_said (file_plating (without_spaces text))
+
+-- the text of a comment says that holes are not plated: those of the tools after it, as `TYPE=NON_PLATED` does, or those of the whole file
+unfoldable pub says_unplated : List ℕ → Bool
+says_unplated text = is_unplated_said (said_plating text) || is_unplated_said (file_plating (without_spaces text))

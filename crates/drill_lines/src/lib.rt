@@ -18,4 +18,4 @@ pub use header::file_format;
 pub use laws::line_grammar;
 pub use line::read_line;
 pub use line_reader::LineReader;
-pub use plating::{Plating, said_plating};
+pub use plating::{Plating, said_plating, says_plated, says_unplated};

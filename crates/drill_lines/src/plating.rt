@@ -1,9 +1,9 @@
-//! The comments that say whether the holes of a tool are plated.
+//! The comments that say whether holes are plated: those of a tool, or those of the whole file.
 
 ghost use Rattle.std.specs.Prelude.{◌≡◌, drop};
 ghost use Rattle.std.specs.List.{after_first, before_first, prefix_len};
 ghost use Rattle.drill_lines.specs.Plating as says;
-ghost use Rattle.drill_lines.specs.Plating.{is_comma, is_space, said_plating};
+ghost use Rattle.drill_lines.specs.Plating.{is_comma, is_space, said_plating, says_plated, says_unplated};
 
 use crate::line::begins;
 use grid_units::numbers::{len_before, repeat_len};
@@ -91,4 +91,48 @@ pub fn said_plating(text: &[u8]) -> Option<Plating>
     } else {
         attribute_plating(without_spaces(text))
     }
+}
+
+/// What a file function in a comment says of all holes of the file, `None` where the comment is none.
+fn file_plating(text: &[u8]) -> Option<Plating>
+    ensures { result ≡ says.file_plating text.now }
+{
+    let (name, word) = (before_comma(text), before_comma(after_comma(text)));
+    if name == b"#@! TF.FileFunction".as_slice() {
+        Some(function_plating(word))
+    } else {
+        None
+    }
+}
+
+/// Whether it is said that holes are plated.
+fn is_plated_said(said: Option<Plating>) -> bool
+    ensures { result ≡ says.is_plated_said said }
+{
+    matches!(said, Some(Plating::Plated))
+}
+
+/// Whether it is said that holes are not plated.
+fn is_unplated_said(said: Option<Plating>) -> bool
+    ensures { result ≡ says.is_unplated_said said }
+{
+    matches!(said, Some(Plating::Unplated))
+}
+
+/// Whether the text of a comment says that holes are plated: those of the tools after it, as [`said_plating`] says, or those of the
+/// whole file, as `#@! TF.FileFunction,Plated,1,2,PTH` does.
+#[tactic(auto, unfolding(crate::specs::Plating::says_plated))]
+pub fn says_plated(text: &[u8]) -> bool
+    ensures { result ≡ says_plated text.now }
+{
+    is_plated_said(said_plating(text)) || is_plated_said(file_plating(without_spaces(text)))
+}
+
+/// Whether the text of a comment says that holes are not plated: those of the tools after it, as [`said_plating`] says, or those of
+/// the whole file, as `#@! TF.FileFunction,NonPlated,1,2,NPTH` does.
+#[tactic(auto, unfolding(crate::specs::Plating::says_unplated))]
+pub fn says_unplated(text: &[u8]) -> bool
+    ensures { result ≡ says_unplated text.now }
+{
+    is_unplated_said(said_plating(text)) || is_unplated_said(file_plating(without_spaces(text)))
 }

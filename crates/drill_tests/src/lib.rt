@@ -2,6 +2,8 @@
 #![tactic(auto)]
 
 #[cfg(test)]
+mod contradicted_roles;
+#[cfg(test)]
 mod drill_pieces;
 #[cfg(test)]
 mod drill_profiles;
@@ -11,3 +13,5 @@ mod drill_text_calls;
 mod drill_writing;
 #[cfg(test)]
 mod mixed_files;
+#[cfg(test)]
+mod unplated_files;

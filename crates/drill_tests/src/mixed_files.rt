@@ -1,10 +1,10 @@
-use drill_text::{Drill, DrillReader, Keep};
+use drill_text::{Drill, DrillReader, Keep, PlatingKind};
 use grid_units::{Fail, Fault, Profile, Reason};
 use std::alloc::Global;
 
 /// Reads a mixed file in pieces of this many bytes.
 fn read(alloc: Global, profile: Profile, text: &[u8], size: usize) -> Result<Drill, Fail> {
-    let mut reader = DrillReader::mixed(alloc, Keep::Holes, profile);
+    let mut reader = DrillReader::of_kind(alloc, Keep::Holes, profile, PlatingKind::Mixed);
     for piece in text.chunks(size.max(1)) {
         reader.feed(piece)?;
     }

@@ -2,7 +2,7 @@
 use Rattle.std.proofs.Common.{◌≡◌, ℕ, suc, Bool, true, false, cond, ◌&&◌, ◌||◌, List, [], ◌∷◌, ◌++◌, length, Option, None, Some, is_some, unwrap_or, refl, sym, ap, ◌∙◌}
 use Rattle.std.specs.List.{cons_option, filter, filter_map, flat_map, list_any, AllZip}
 use Rattle.std.specs.Option.{option_and_then, option_map}
-use Rattle.grid_units.specs.Lists.{IsLegal, last_set, violation_at, with_prefixes_from}
+use Rattle.grid_units.specs.Lists.{last_set, violation_at, with_prefixes_from}
 use Rattle.grid_units.specs.declared.fault.Reason.{Reason}
 use Rattle.grid_units.specs.declared.fault.Reason.TheVariants.{NoPlating}
 use Rattle.drill_lines.specs.declared.command.DrillCommand.{DrillCommand}

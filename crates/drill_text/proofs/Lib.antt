@@ -1,3 +1,4 @@
+pub mod KindLemmas
 pub mod SpelledLemmas
 pub mod Lookbacks
 pub mod PlatingLemmas
@@ -27,5 +28,4 @@ pub mod GrammarLemmas
 pub mod GrammarExamples
 pub mod WideGrammarLemmas
 pub mod WideReadings
-pub mod MixedLemmas
 pub mod CalledLemmas

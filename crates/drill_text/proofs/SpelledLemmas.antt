@@ -1,5 +1,5 @@
 -- A line that is read and judged.
-use Rattle.std.proofs.Common.{◌≡◌, ℕ, ◌<◌, Bool, List, [], ◌∷◌, ◌++◌, length, map, None, Some, Result, Ok, Err, sym, ap, subst, ◌∙◌, refl, arith}
+use Rattle.std.proofs.Common.{◌≡◌, ℕ, ◌<◌, List, [], ◌∷◌, ◌++◌, length, map, None, Some, Result, Ok, Err, sym, ap, subst, ◌∙◌, refl, arith}
 use Rattle.std.proofs.lemmas.List.{map-append}
 use Rattle.grid_units.specs.declared.fault.Reason.{Reason}
 use Rattle.grid_units.specs.declared.fault.Fault.{Fault}
@@ -12,6 +12,7 @@ use Rattle.drill_lines.specs.declared.line_reader.LineReader.{LineReader}
 use Rattle.drill_lines.specs.Lines.{trimmed}
 use Rattle.drill_lines.specs.LineReading.{HasReadLines}
 use Rattle.drill_text.specs.declared.judge.Judge.{Judge}
+use Rattle.drill_text.specs.declared.platings.PlatingKind.{PlatingKind}
 use Rattle.drill_text.specs.declared.state.DrillState.{DrillState}
 use Rattle.drill_text.specs.declared.kept.Keep.{Keep}
 use Rattle.drill_text.specs.declared.kept.KeptCommands.{KeptCommands}
@@ -22,11 +23,11 @@ use Rattle.drill_text.specs.Profiles.{Kind, spelled_in, with_rest}
 use Rattle.drill_text.specs.Inner.StateSteps.{IsStateAfter}
 use Rattle.drill_text.specs.Keeping.{ResultsIn, ResultsInLine}
 
-pub checked_kept : (mixed : Bool) (before : List DrillCommand) (place byte : ℕ) (c : DrillCommand) → rule_in mixed before c ≡ None → with_place place byte (checked_by (rule_in mixed) before (Some c)) ≡ Ok (before ++ c ∷ [])
-checked_kept mixed before place byte c legal = ap (λ o. with_place place byte (add_unless o before c)) legal
+pub checked_kept : (plating : PlatingKind) (before : List DrillCommand) (place byte : ℕ) (c : DrillCommand) → rule_in plating before c ≡ None → with_place place byte (checked_by (rule_in plating) before (Some c)) ≡ Ok (before ++ c ∷ [])
+checked_kept plating before place byte c legal = ap (λ o. with_place place byte (add_unless o before c)) legal
 
-pub checked_broken : (mixed : Bool) (before : List DrillCommand) (place byte : ℕ) (c : DrillCommand) (r : Reason) → rule_in mixed before c ≡ Some r → with_place place byte (checked_by (rule_in mixed) before (Some c)) ≡ Err (fault place byte r)
-checked_broken mixed before place byte c r broken = ap (λ o. with_place place byte (add_unless o before c)) broken
+pub checked_broken : (plating : PlatingKind) (before : List DrillCommand) (place byte : ℕ) (c : DrillCommand) (r : Reason) → rule_in plating before c ≡ Some r → with_place place byte (checked_by (rule_in plating) before (Some c)) ≡ Err (fault place byte r)
+checked_broken plating before place byte c r broken = ap (λ o. with_place place byte (add_unless o before c)) broken
 
 -- the settings of a judge are those after its commands
 pub settings_are : (state : DrillState) (before : List DrillCommand) → IsStateAfter state before → state.settings ≡ settings_after before
@@ -42,7 +43,7 @@ lines_more reader p s earlier line h = subst (λ (e : List (List ℕ)). HasReadL
 
 -- the judged command of a line that was read
 pub line_results : {X : Type 0} (result : Result X Fail) (reader : LineReader) (judge : Judge) (kept : KeptCommands) (p : Kind) (keep : Keep) (earlier : List (List ℕ)) (line : List ℕ) (judged read : Result (List DrillCommand) Fault)
-    → read ≡ judged → ((after : List DrillCommand) → HasReadLines reader p.profile (settings_after after) (map trimmed (earlier ++ line ∷ []))) → ResultsIn result judge kept p.mixed keep judged → ResultsInLine result reader judge kept p keep earlier line read
+    → read ≡ judged → ((after : List DrillCommand) → HasReadLines reader p.profile (settings_after after) (map trimmed (earlier ++ line ∷ []))) → ResultsIn result judge kept p.plating keep judged → ResultsInLine result reader judge kept p keep earlier line read
 line_results (Ok x) reader judge kept p keep earlier line judged read same lines h = (h.0, same ∙ h.1, record { lines = lines h.0; has_read = h.2 })
 line_results (Err e) reader judge kept p keep earlier line judged read same lines h = subst (λ r. IfFault (λ f. r ≡ Err f) e) (sym same) h
 
@@ -53,6 +54,6 @@ rest_is_line p lines (b ∷ bs) commands some = refl
 
 -- what a last line leaves
 pub rest_results : {X : Type 0} (result : Result X Fail) (reader : LineReader) (judge : Judge) (kept : KeptCommands) (p : Kind) (keep : Keep) (earlier : List (List ℕ)) (line : List ℕ) (read rest : Result (List DrillCommand) Fault)
-    → rest ≡ read → ResultsInLine result reader judge kept p keep earlier line read → ResultsIn result judge kept p.mixed keep rest
+    → rest ≡ read → ResultsInLine result reader judge kept p keep earlier line read → ResultsIn result judge kept p.plating keep rest
 rest_results (Ok x) reader judge kept p keep earlier line read rest same h = (h.0, same ∙ h.1, h.2.has_read)
 rest_results (Err e) reader judge kept p keep earlier line read rest same h = subst (λ r. IfFault (λ f. r ≡ Err f) e) (sym same) h

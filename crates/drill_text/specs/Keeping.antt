@@ -1,5 +1,5 @@
 -- What a reader has met and keeps of the commands of a text.
-use Rattle.std.specs.Prelude.{◌≡◌, ℕ, Bool, List, [], ◌∷◌, ◌++◌, map, Result, Ok, Err}
+use Rattle.std.specs.Prelude.{◌≡◌, ℕ, List, [], ◌∷◌, ◌++◌, map, Result, Ok, Err}
 use Rattle.std.specs.List.{list_any}
 use Rattle.grid_units.specs.Results.{IfFault}
 use Rattle.grid_units.specs.declared.fault.Fault.{Fault}
@@ -9,6 +9,7 @@ use Rattle.drill_lines.specs.declared.line_reader.LineReader.{LineReader}
 use Rattle.drill_lines.specs.Lines.{trimmed}
 use Rattle.drill_lines.specs.LineReading.{HasReadLines}
 use Rattle.drill_text.specs.declared.judge.Judge.{Judge}
+use Rattle.drill_text.specs.declared.platings.PlatingKind.{PlatingKind}
 use Rattle.drill_text.specs.Lookback.{settings_after}
 use Rattle.drill_text.specs.declared.kept.Keep.{Keep}
 use Rattle.drill_text.specs.declared.kept.KeptCommands.{KeptCommands}
@@ -25,20 +26,20 @@ pub record KeepsCommands (kept : KeptCommands) (keep : Keep) (taken : List Drill
   pub text : text_or_fault kept.text.items ≡ text_or_fault (kept_text keep taken)
   pub finished : kept.is_finished ≡ list_any is_finish taken
 
--- the judge has met just these commands of a file that is mixed or not, and what was asked for is kept of them
-pub record HasRead (judge : Judge) (kept : KeptCommands) (mixed : Bool) (keep : Keep) (commands : List DrillCommand) : Type 0 where
-  pub is_judge : IsJudgeAfter judge mixed commands
+-- the judge has met just these commands of a file whose platings are known so, and what was asked for is kept of them
+pub record HasRead (judge : Judge) (kept : KeptCommands) (plating : PlatingKind) (keep : Keep) (commands : List DrillCommand) : Type 0 where
+  pub is_judge : IsJudgeAfter judge plating commands
   pub keeps : KeepsCommands kept keep commands
 
 -- The command was judged: the judge has now met the commands after it; or this is its fault, or memory ran out.
-abbrev pub ResultsIn : {X : Type 0} → Result X Fail → Judge → KeptCommands → Bool → Keep → Result (List DrillCommand) Fault → Type 0
-ResultsIn (Ok x) judge kept mixed keep read = (commands : List DrillCommand) × (read ≡ Ok commands) × HasRead judge kept mixed keep commands
-ResultsIn (Err e) judge kept mixed keep read = IfFault (λ f. read ≡ Err f) e
+abbrev pub ResultsIn : {X : Type 0} → Result X Fail → Judge → KeptCommands → PlatingKind → Keep → Result (List DrillCommand) Fault → Type 0
+ResultsIn (Ok x) judge kept plating keep read = (commands : List DrillCommand) × (read ≡ Ok commands) × HasRead judge kept plating keep commands
+ResultsIn (Err e) judge kept plating keep read = IfFault (λ f. read ≡ Err f) e
 
 -- these lines of a file of this kind were read, the judge has met just these commands, and what was asked for is kept of them
 pub record HasReadIn (reader : LineReader) (judge : Judge) (kept : KeptCommands) (kind : Kind) (keep : Keep) (earlier : List (List ℕ)) (commands : List DrillCommand) : Type 0 where
   pub lines : HasReadLines reader kind.profile (settings_after commands) (map trimmed earlier)
-  pub has_read : HasRead judge kept kind.mixed keep commands
+  pub has_read : HasRead judge kept kind.plating keep commands
 
 -- The line was read and judged: the judge has now met the commands after it; or this is its fault, or memory ran out.
 abbrev pub ResultsInLine : {X : Type 0} → Result X Fail → LineReader → Judge → KeptCommands → Kind → Keep → List (List ℕ) → List ℕ → Result (List DrillCommand) Fault → Type 0

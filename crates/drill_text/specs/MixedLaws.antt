@@ -1,16 +1,21 @@
--- Laws of mixed drill files: they are read as other files are but for the rule of their platings, and each hole of them is called plated or
--- unplated.
-use Rattle.std.specs.Prelude.{◌≡◌, ◌↔◌, ℕ, Bool, List, length, Ok}
+-- Laws of the kinds of drill files: mixed files and unplated ones are read as other files are but for the rule that they have beside the others.
+-- Each hole of a mixed file is called plated or unplated, and no comment of an unplated one says that holes are plated.
+use Rattle.std.specs.Prelude.{◌≡◌, ◌↔◌, ℕ, Bool, false, List, length, Ok}
+use Rattle.std.specs.List.{list_any}
 use Rattle.grid_units.specs.Lists.{IsLegal}
-use Rattle.grid_units.specs.declared.profile.Profile.{Profile}
 use Rattle.drill_lines.specs.declared.command.DrillCommand.{DrillCommand}
 use Rattle.drill_text.specs.Holes.{holes_of}
-use Rattle.drill_text.specs.Plating.{AreCalled, plated_of, plating_rule}
-use Rattle.drill_text.specs.Profiles.{ReadsBy, ReadsIn, mixed_in}
+use Rattle.drill_text.specs.Plating.{AreCalled, calls_plated, contradiction_rule, own_rule, plated_of, plating_rule}
+use Rattle.drill_text.specs.Profiles.{Kind, ReadsBy, ReadsIn}
 
--- a text is read as a mixed file of commands just where another file is read as these in the profile, and none of them breaks NoPlating
-abbrev pub MixedReadsTheSame : Type 0
-MixedReadsTheSame = (profile : Profile) (text : List ℕ) (commands : List DrillCommand) → (ReadsBy (mixed_in profile) text (Ok commands)) ↔ (ReadsIn profile text (Ok commands) × IsLegal plating_rule commands)
+-- a text is read as a file of some kind of commands just where it is read as these in the profile by its role alone, and none of them breaks the rule
+-- that the kind has beside the others
+abbrev pub KindsReadTheSame : Type 0
+KindsReadTheSame = (kind : Kind) (text : List ℕ) (commands : List DrillCommand) → (ReadsBy kind text (Ok commands)) ↔ (ReadsIn kind.profile text (Ok commands) × IsLegal (own_rule kind.plating) commands)
+
+-- commands break no rule of unplated files just where no comment says that holes are plated
+abbrev pub UncontradictedIsLegal : Type 0
+UncontradictedIsLegal = (commands : List DrillCommand) → (IsLegal contradiction_rule commands) ↔ (list_any calls_plated commands ≡ false)
 
 -- where no command breaks NoPlating, each hole is called what is listed of it
 abbrev pub ListedIsCalled : Type 0

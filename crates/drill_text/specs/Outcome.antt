@@ -1,5 +1,6 @@
 -- What a drill file holds: commands or their canonical text, holes and tools.
 use Rattle.std.specs.Prelude.{ℕ, ℤ, Bool, List, [], Result}
+use Rattle.std.specs.List.{list_any}
 use Rattle.grid_units.specs.Holes.{GridHole}
 use Rattle.grid_units.specs.declared.fault.Fault.{Fault}
 use Rattle.drill_lines.specs.declared.command.DrillCommand.{DrillCommand}
@@ -7,16 +8,18 @@ use Rattle.drill_text.specs.declared.kept.Keep.{Keep}
 use Rattle.drill_text.specs.declared.kept.Keep.TheVariants as keep
 use Rattle.drill_text.specs.Lookback.{tools_of}
 use Rattle.drill_text.specs.Holes.{holes_of}
-use Rattle.drill_text.specs.Plating.{plated_of}
+use Rattle.drill_text.specs.Plating.{calls_plated, calls_unplated, plated_of}
 use Rattle.drill_text.specs.Writing.{canonical_lines, text_or_fault}
 
--- the commands of a drill file, their canonical text, the holes that they drill, of each whether the file calls it plated, and the tools with
--- their diameters in order of definition
+-- the commands of a drill file, their canonical text, the holes that they drill, of each whether the file calls it plated, whether a comment says that
+-- holes are plated and whether one says that holes are not, and the tools with their diameters in order of definition
 pub record DrillFile : Type 0 where
   pub commands : List DrillCommand
   pub text : Result (List ℕ) Fault
   pub holes : List GridHole
   pub plated : List Bool
+  pub calls_plated : Bool
+  pub calls_unplated : Bool
   pub tools : List (ℕ × ℤ)
 
 -- the commands, if they are kept
@@ -36,6 +39,8 @@ file_of keep commands = record {
   text = text_or_fault (kept_text keep commands);
   holes = holes_of commands;
   plated = plated_of commands;
+  calls_plated = list_any calls_plated commands;
+  calls_unplated = list_any calls_unplated commands;
   tools = tools_of commands;
 }
 

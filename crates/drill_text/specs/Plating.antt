@@ -1,16 +1,18 @@
--- Which holes of a mixed drill file are plated, by its own words: a hole is what its tool is, and a tool is what the comments before its
--- definition say (docs/FORMATS.md, Mixed drill files).
-use Rattle.std.specs.Prelude.{◌≡◌, ℕ, Bool, true, false, ◌==◌, ◌&&◌, ◌||◌, List, [], ◌∷◌, Option, None, Some, is_some, unwrap_or, if◌then◌else◌}
+-- Which holes of a drill file are plated, by its own words: a hole is what its tool is, and a tool is what the comments before its definition
+-- say; and the rules that hold a file to these words (docs/FORMATS.md, Mixed drill files; Unplated drill files).
+use Rattle.std.specs.Prelude.{◌≡◌, ℕ, Bool, true, false, ◌==◌, ◌&&◌, ◌||◌, not, List, [], ◌∷◌, Option, None, Some, is_some, unwrap_or, if◌then◌else◌}
 use Rattle.std.specs.Option.{option_and_then, option_or}
 use Rattle.std.specs.List.{filter, flat_map, list_any, AllZip}
 use Rattle.grid_units.specs.Lists.{last_set, with_prefixes}
 use Rattle.grid_units.specs.declared.fault.Reason.{Reason}
-use Rattle.grid_units.specs.declared.fault.Reason.TheVariants.{NoPlating}
+use Rattle.grid_units.specs.declared.fault.Reason.TheVariants.{NoPlating, PlatingConflict}
 use Rattle.drill_lines.specs.declared.command.DrillCommand.{DrillCommand}
 use Rattle.drill_lines.specs.declared.command.DrillCommand.TheVariants as command
 use Rattle.drill_lines.specs.declared.plating.Plating.{Plating}
 use Rattle.drill_lines.specs.declared.plating.Plating.TheVariants as plating
-use Rattle.drill_lines.specs.Plating.{said_plating}
+use Rattle.drill_lines.specs.Plating.{said_plating, says_plated, says_unplated}
+use Rattle.drill_text.specs.declared.platings.PlatingKind.{PlatingKind}
+use Rattle.drill_text.specs.declared.platings.PlatingKind.TheVariants as kind
 use Rattle.drill_text.specs.Lookback.{ends_header, tool_set}
 use Rattle.drill_text.specs.Rules.{broken_rule, drills}
 
@@ -79,10 +81,45 @@ lacks_plating before c = (drills c && is_unsaid (plating_after before)) || (is_s
 abbrev pub plating_rule : List DrillCommand → DrillCommand → Option Reason
 plating_rule before c = if lacks_plating before c then Some NoPlating else None
 
--- the first rule that a command of a mixed file breaks after the commands before it: NoPlating is the last of them
-abbrev pub mixed_rule : List DrillCommand → DrillCommand → Option Reason
-mixed_rule before c = option_or (broken_rule before c) (plating_rule before c)
+-- ---- the rule of unplated files
 
--- the first rule that a command breaks, in a mixed file or in another
-abbrev pub rule_in : Bool → List DrillCommand → DrillCommand → Option Reason
-rule_in mixed = if mixed then mixed_rule else broken_rule
+-- a comment says that holes are plated
+abbrev pub calls_plated : DrillCommand → Bool
+calls_plated (command.Comment text) = says_plated text
+calls_plated _ = false
+
+-- a comment says that holes are not plated
+abbrev pub calls_unplated : DrillCommand → Bool
+calls_unplated (command.Comment text) = says_unplated text
+calls_unplated _ = false
+
+-- a role that calls the holes plated is contradicted where it is said that holes are not plated and never that they are; one that calls them unplated where
+-- it is said that holes are plated
+abbrev pub says_otherwise : Bool → Bool → Bool → Bool
+says_otherwise plated says_plated says_unplated = if plated then says_unplated && not says_plated else says_plated
+
+-- the comments contradict a role that calls the holes plated, or unplated (docs/FORMATS.md, Contradicted roles)
+abbrev pub contradicts : Bool → List DrillCommand → Bool
+contradicts plated commands = says_otherwise plated (list_any calls_plated commands) (list_any calls_unplated commands)
+
+-- the rule that unplated files have beside the others, whatever stands before the command
+abbrev pub contradiction_rule : List DrillCommand → DrillCommand → Option Reason
+contradiction_rule before c = if calls_plated c then Some PlatingConflict else None
+
+-- ---- the rules of each kind of file
+
+-- the rule that files of a kind have beside the others; those whose role is believed have none
+abbrev pub own_rule : PlatingKind → List DrillCommand → DrillCommand → Option Reason
+own_rule kind.Stated before c = None
+own_rule kind.Unplated before c = contradiction_rule before c
+own_rule kind.Mixed before c = plating_rule before c
+
+-- the first rule that a command breaks after the commands before it, where a rule stands after those of every file
+abbrev pub rule_with : (List DrillCommand → DrillCommand → Option Reason) → List DrillCommand → DrillCommand → Option Reason
+rule_with own before c = option_or (broken_rule before c) (own before c)
+
+-- the first rule that a command breaks in a file of a kind: the own rule of the kind is the last
+abbrev pub rule_in : PlatingKind → List DrillCommand → DrillCommand → Option Reason
+rule_in kind.Stated = broken_rule
+rule_in kind.Unplated = rule_with contradiction_rule
+rule_in kind.Mixed = rule_with plating_rule

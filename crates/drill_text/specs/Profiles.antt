@@ -1,6 +1,7 @@
 -- The commands of a drill text in a profile, or its first fault. Each line is read by those before it, so that four of them can
--- spell one slot; a mixed file has a rule more (docs/FORMATS.md, Drill lines; The first fault; The wide profile; Mixed drill files).
-use Rattle.std.specs.Prelude.{◌≡◌, ℕ, suc, Bool, true, false, nat_lt, List, [], ◌∷◌, ◌++◌, length, take, map, if◌then◌else◌, Result, Ok, Err}
+-- spell one slot; mixed files and unplated ones have a rule more (docs/FORMATS.md, Drill lines; The first fault; The wide profile; Mixed drill
+-- files; Unplated drill files).
+use Rattle.std.specs.Prelude.{◌≡◌, ℕ, suc, nat_lt, List, [], ◌∷◌, ◌++◌, length, take, map, if◌then◌else◌, Result, Ok, Err}
 use Rattle.grid_units.specs.declared.fault.Reason.{Reason}
 use Rattle.grid_units.specs.declared.fault.Reason.TheVariants.{TooLong}
 use Rattle.grid_units.specs.declared.fault.Fault.{Fault}
@@ -9,31 +10,37 @@ use Rattle.drill_lines.specs.declared.command.DrillCommand.{DrillCommand}
 use Rattle.grid_units.specs.declared.profile.Profile.{Profile}
 use Rattle.drill_lines.specs.Lines.{trimmed}
 use Rattle.drill_lines.specs.Routes.{meaning_in}
+use Rattle.drill_text.specs.declared.platings.PlatingKind.{PlatingKind}
+use Rattle.drill_text.specs.declared.platings.PlatingKind.TheVariants as plating
 use Rattle.drill_text.specs.Lines.{bytes_of, Splits}
 use Rattle.drill_text.specs.Lookback.{settings_after}
 use Rattle.drill_text.specs.Plating.{rule_in}
 use Rattle.drill_text.specs.Reading.{checked_by, ended}
 use Rattle.grid_units.specs.Limits.{text_limit, line_limit}
 
--- the kind of a drill file: in which profile it is read, and whether its own words say which holes are plated
+-- the kind of a drill file: in which profile it is read, and by what it is known which of its holes are plated
 pub record Kind : Type 0 where
   pub profile : Profile
-  pub mixed : Bool
+  pub plating : PlatingKind
 
--- a file whose role says of all its holes whether they are plated
+-- a file whose role says of all its holes whether they are plated, and is believed
 abbrev pub plain : Profile → Kind
-plain profile = record { profile = profile; mixed = false }
+plain profile = record { profile = profile; plating = plating.Stated }
+
+-- a file whose role says that no hole is plated, and whose own words are held to that
+abbrev pub unplated_in : Profile → Kind
+unplated_in profile = record { profile = profile; plating = plating.Unplated }
 
 -- a mixed file
 abbrev pub mixed_in : Profile → Kind
-mixed_in profile = record { profile = profile; mixed = true }
+mixed_in profile = record { profile = profile; plating = plating.Mixed }
 
 -- one more line after these, which spell these commands: TooLong above 1,048,576 bytes; else it is read by what stands before it, and
 -- its command is judged
 unfoldable pub step_in : Kind → List (List ℕ) → List DrillCommand → List ℕ → Result (List DrillCommand) Reason
 step_in kind earlier before line =
     if nat_lt line_limit (length line) then Err TooLong
-    else (meaning_in kind.profile (map trimmed earlier) (settings_after before) (trimmed line) >>= checked_by (rule_in kind.mixed) before)
+    else (meaning_in kind.profile (map trimmed earlier) (settings_after before) (trimmed line) >>= checked_by (rule_in kind.plating) before)
 
 -- one more line after these; a refusal is its fault, at the number of the line, from 1, and at the offset of its first byte
 abbrev pub spelled_in : Kind → List (List ℕ) → List ℕ → List DrillCommand → Result (List DrillCommand) Fault

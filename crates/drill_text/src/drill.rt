@@ -1,11 +1,13 @@
 //! A drill file that was read.
 
-ghost use Rattle.std.specs.Prelude.{◌≡◌, Bool, List};
+ghost use Rattle.std.specs.Prelude.{◌≡◌, List};
 ghost use Rattle.grid_units.specs.Results.{AnswersAlways};
 ghost use Rattle.drill_lines.specs.declared.command.DrillCommand.{DrillCommand as TheCommand};
 ghost use Rattle.drill_text.specs.declared.kept.Keep.{Keep};
+ghost use Rattle.drill_text.specs.declared.platings.PlatingKind.{PlatingKind as TheKind};
 ghost use Rattle.drill_text.specs.Keeping.{HasRead};
 ghost use Rattle.drill_text.specs.Outcome.{file_of};
+ghost use Rattle.drill_text.specs.Plating.{says_otherwise};
 ghost use Rattle.drill_text.specs.Writing.{vec_bytes};
 
 use crate::judge::Judge;
@@ -24,6 +26,8 @@ pub struct Drill {
     text: Vec<u8>,
     holes: Vec<Hole>,
     plated: Vec<bool>,
+    calls_plated: bool,
+    calls_unplated: bool,
     tools: IndexMap<u16, Dec>,
 }
 
@@ -33,21 +37,24 @@ impl Model for Drill {
 
     ghost Value = { DrillFile };
 
-    ghost view = { λ d. record { commands = d.commands.items; text = text_or_fault d.text.items; holes = d.holes.items; plated = d.plated.items; tools = d.tools.entries } };
+    ghost view = { λ d. record { commands = d.commands.items; text = text_or_fault d.text.items; holes = d.holes.items; plated = d.plated.items; calls_plated = d.calls_plated; calls_unplated = d.calls_unplated; tools = d.tools.entries } };
 }
 
 impl Drill {
     /// The drill file of the commands that a judge has met, with what was kept of them.
     pub(crate) fn new(judge: Judge, kept: KeptCommands) -> Drill
-        ensures { (mixed : Bool) (keep : Keep) (commands : List TheCommand) → HasRead judge kept mixed keep commands → result ≡ file_of keep commands }
+        ensures { (plating : TheKind) (keep : Keep) (commands : List TheCommand) → HasRead judge kept plating keep commands → result ≡ file_of keep commands }
     {
         let (commands, text) = kept.into_parts();
-        let (holes, plated, tools) = judge.into_parts();
+        let (holes, tools, platings) = judge.into_parts();
+        let (plated, calls_plated, calls_unplated) = platings.into_parts();
         Drill {
             commands,
             text,
             holes,
             plated,
+            calls_plated,
+            calls_unplated,
             tools,
         }
     }
@@ -72,6 +79,18 @@ impl Drill {
         ensures { result.now ≡ self.now.plated }
     {
         &self.plated
+    }
+
+    /// Whether the comments of the file contradict a role that calls its holes plated, or unplated: such a file of the role `unplated` says
+    /// that holes are plated, one of the role `plated` says that holes are not plated and never that they are.
+    pub fn contradicts(&self, plated: bool) -> bool
+        ensures { result ≡ says_otherwise plated self.now.calls_plated self.now.calls_unplated }
+    {
+        if plated {
+            self.calls_unplated && !self.calls_plated
+        } else {
+            self.calls_plated
+        }
     }
 
     /// The holes alone, moved out of the file.

@@ -2,7 +2,7 @@
 
 ghost use Rattle.std.specs.Prelude.{◌≡◌, true};
 
-use crate::platings::Platings;
+use crate::platings::{PlatingKind, Platings};
 use crate::state::DrillState;
 use drill_lines::{DrillCommand, Settings};
 use grid_units::{Dec, Hole, ItemFail};
@@ -17,18 +17,19 @@ pub(crate) struct Judge {
 }
 
 impl Judge {
-    ghost use Rattle.std.specs.Prelude.{Bool, List, []};
+    ghost use Rattle.std.specs.Prelude.{List, []};
     ghost use Rattle.drill_lines.specs.declared.command.DrillCommand.{DrillCommand as TheCommand};
     ghost use Rattle.drill_lines.specs.declared.command.Part.TheVariants as part;
+    ghost use Rattle.drill_text.specs.declared.platings.PlatingKind.{PlatingKind as TheKind};
     ghost use Rattle.drill_text.specs.Inner.JudgeSteps.{IsJudgeAfter, JudgesOrRefuses};
 
-    /// A judge that has met no command, of a file that is mixed or not.
-    pub(crate) fn new(alloc: Global, mixed: bool) -> Judge
-        ensures { IsJudgeAfter result mixed [] }
+    /// A judge that has met no command, of a file whose platings are known so.
+    pub(crate) fn new(alloc: Global, kind: PlatingKind) -> Judge
+        ensures { IsJudgeAfter result kind [] }
     {
         Judge {
             state: DrillState::new(alloc),
-            platings: Platings::new(alloc, mixed),
+            platings: Platings::new(alloc, kind),
         }
     }
 
@@ -48,18 +49,18 @@ impl Judge {
 
     /// Checks one more command, and takes it in if it breaks no rule.
     pub(crate) fn step(&mut self, command: &DrillCommand) -> Result<(), ItemFail>
-        ensures { (mixed : Bool) (before : List TheCommand) → IsJudgeAfter self.old mixed before → JudgesOrRefuses mixed before command.now self.new result }
+        ensures { (kind : TheKind) (before : List TheCommand) → IsJudgeAfter self.old kind before → JudgesOrRefuses kind before command.now self.new result }
     {
         self.state.step(command)?;
         self.platings.step(command)
     }
 
-    /// The holes, of each whether it is plated, and the tools of the commands that were taken in.
-    pub(crate) fn into_parts(self) -> (Vec<Hole>, Vec<bool>, IndexMap<u16, Dec>)
-        ensures { result ≡ (self.state.holes, self.platings.holes, self.state.tools) }
+    /// The holes and the tools of the commands that were taken in, and what these say of platings.
+    pub(crate) fn into_parts(self) -> (Vec<Hole>, IndexMap<u16, Dec>, Platings)
+        ensures { result ≡ (self.state.holes, self.state.tools, self.platings) }
     {
         let Judge { state, platings } = self;
         let (holes, tools) = state.into_parts();
-        (holes, platings.into_holes(), tools)
+        (holes, tools, platings)
     }
 }

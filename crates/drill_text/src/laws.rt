@@ -11,7 +11,7 @@ ghost use Rattle.drill_text.specs.Texts.{SpellsText, IsDrillText};
 ghost use Rattle.drill_text.specs.Writing.{drill_sayable};
 ghost use Rattle.grid_units.specs.declared.profile.Profile.{Profile};
 ghost use Rattle.grid_units.specs.declared.profile.Profile.TheVariants.{Strict, Wide};
-ghost use Rattle.drill_text.specs.MixedLaws.{CalledIsListed, ListedIsCalled, MixedReadsTheSame, OneForEach};
+ghost use Rattle.drill_text.specs.MixedLaws.{CalledIsListed, KindsReadTheSame, ListedIsCalled, OneForEach, UncontradictedIsLegal};
 ghost use Rattle.drill_text.specs.Profiles.{Kind, ReadsBy, ReadsIn, ShowsBy, ShowsIn};
 ghost use Rattle.drill_text.specs.WideGrammar.{ReadIsWritten, WideHolesAreDrilled, WrittenIsRead};
 ghost use Rattle.drill_text.specs.Laws.{ListedHolesAreDrilled, DrilledHolesAreListed, DrillsAtMostOneList, SpelledIsWritten, IsTextOfAtMostOne};
@@ -97,19 +97,25 @@ pub fn wide_holes()
     ensures { WideHolesAreDrilled }
 {}
 
-/// Of each kind of file, in each profile and mixed or not, a text shows one thing and has one reading, and a fault that it shows is the
-/// fault of each text that begins with it.
+/// Of each kind of file, in each profile, a text shows one thing and has one reading, and a fault that it shows is the fault of each
+/// text that begins with it. It is read as commands just where it is read as these by its role alone, and none of them breaks the rule
+/// that the kind has beside the others.
 pub fn readings_of_kinds()
     ensures shown { (kind : Kind) (text : List ℕ) (a b : Result (List DrillCommand) Fault) → ShowsBy kind text a → ShowsBy kind text b → a ≡ b }
     ensures read { (kind : Kind) (text : List ℕ) (a b : Result (List DrillCommand) Fault) → ReadsBy kind text a → ReadsBy kind text b → a ≡ b }
     ensures some { (kind : Kind) (text : List ℕ) → (answer : Result (List DrillCommand) Fault) × ReadsBy kind text answer }
     ensures stays { (kind : Kind) (text more : List ℕ) (f : Fault) → ShowsBy kind text (Err f) → ReadsBy kind (text ++ more) (Err f) }
+    ensures same { KindsReadTheSame }
 {}
 
-/// A mixed file is read as commands just where another file is read as these in the profile, and each of its holes is called plated or
-/// unplated by the comment before its tool. That is listed of each hole, in their order.
+/// The commands of a file break no rule of unplated files just where none of its comments says that holes are plated.
+pub fn unplated_files()
+    ensures { UncontradictedIsLegal }
+{}
+
+/// Where the commands of a file break no rule of mixed files, each of its holes is called plated or unplated by the comment before its
+/// tool. That is listed of each hole, in their order.
 pub fn mixed_files()
-    ensures same { MixedReadsTheSame }
     ensures called { ListedIsCalled }
     ensures listed { CalledIsListed }
     ensures one_each { OneForEach }

@@ -17,7 +17,8 @@ pub use kept::Keep;
 pub use laws::{
     drill_texts, drilled_holes, equal_commands, faults_stay, first_faults, mixed_files,
     readings_in_profiles, readings_of_kinds, sayable_texts, strict_profile, text_grammar,
-    unique_reading, wide_grammar, wide_reads_more,
+    unique_reading, unplated_files, wide_grammar, wide_reads_more,
 };
+pub use platings::PlatingKind;
 pub use reader::{DrillReader, read_drill};
 pub use writer::{drill_sayable, write_drill};

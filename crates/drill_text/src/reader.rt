@@ -1,6 +1,6 @@
 //! A reader of a drill file that comes in pieces.
 
-ghost use Rattle.std.specs.Prelude.{◌≡◌, ◌≢◌, ◌≤◌, ◌<◌, ◌+◌, Bool, true, ℕ, suc, List, All, length, vec_len, take, slice_index, Some, None, Ok, Err, OnOk, IfOk, IfErr, IfSome};
+ghost use Rattle.std.specs.Prelude.{◌≡◌, ◌≢◌, ◌≤◌, ◌<◌, ◌+◌, true, ℕ, suc, List, All, length, vec_len, take, slice_index, Some, None, Ok, Err, OnOk, IfOk, IfErr, IfSome};
 ghost use Rattle.drill_lines.specs.declared.command.DrillCommand.{DrillCommand as TheCommand};
 ghost use Rattle.grid_units.specs.declared.fault.Fault.{Fault};
 ghost use Rattle.grid_units.specs.declared.fault.Fail.TheVariants.{Refused};
@@ -10,6 +10,7 @@ ghost use Rattle.drill_text.specs.Reading.{checked_by, Reads, place_after_count}
 ghost use Rattle.drill_text.specs.Plating.{rule_in};
 ghost use Rattle.drill_text.specs.Profiles.{Kind, spelled_in, with_rest, ReadsAsBy, ReadsAsIn};
 ghost use Rattle.drill_text.specs.declared.kept.Keep.{Keep as TheKeep};
+ghost use Rattle.drill_text.specs.declared.platings.PlatingKind.{PlatingKind as TheKind};
 ghost use Rattle.drill_text.specs.declared.kept.Keep.TheVariants as keep;
 ghost use Rattle.drill_text.specs.Keeping.{HasRead, HasReadIn, ResultsIn, ResultsInLine};
 ghost use Rattle.drill_text.specs.Lines.{bytes_of};
@@ -22,6 +23,7 @@ use crate::drill::Drill;
 use crate::fast_path::leading_hit;
 use crate::judge::Judge;
 use crate::kept::{Keep, KeptCommands};
+use crate::platings::PlatingKind;
 use drill_lines::{Coordinates, DrillCommand, LineReader};
 use grid_units::{Fail, Fault, ItemFail, LINE_LIMIT, Profile, Reason};
 use memchr::memchr;
@@ -75,7 +77,7 @@ fn keep(
     judge: &mut Judge,
     kept: &mut KeptCommands,
 ) -> Result<(), Fail>
-    ensures { (mixed : Bool) (keep : TheKeep) (before : List TheCommand) → HasRead judge.old kept.old mixed keep before → ResultsIn result judge.new kept.new mixed keep (with_place place byte (checked_by (rule_in mixed) before (Some command))) }
+    ensures { (plating : TheKind) (keep : TheKeep) (before : List TheCommand) → HasRead judge.old kept.old plating keep before → ResultsIn result judge.new kept.new plating keep (with_place place byte (checked_by (rule_in plating) before (Some command))) }
 {
     match judge.step(&command) {
         Ok(()) => {
@@ -114,13 +116,13 @@ impl Progress {
     ghost use Rattle.drill_text.specs.Inner.FastPath.{HasLeadingHit};
     ghost use Rattle.drill_text.specs.Holding.{Advances, Refuses, RefusesText, Holds};
 
-    /// A reader that has read nothing, of a file that is mixed or not.
-    fn new(alloc: Global, keep: Keep, profile: Profile, mixed: bool) -> Progress
-        ensures { Holds result (record { profile = profile; mixed = mixed }) keep [] }
+    /// A reader that has read nothing, of a file whose platings are known so.
+    fn new(alloc: Global, keep: Keep, profile: Profile, plating: PlatingKind) -> Progress
+        ensures { Holds result (record { profile = profile; plating = plating }) keep [] }
     {
         Progress {
             reader: LineReader::new(alloc, profile),
-            judge: Judge::new(alloc, mixed),
+            judge: Judge::new(alloc, plating),
             kept: KeptCommands::new(alloc, keep),
             line: Vec::new(alloc),
             start: 0,
@@ -293,7 +295,7 @@ impl Progress {
 
     /// Reads the rest of the text, which no LF has ended, as a line, if it has a byte.
     fn end(&mut self) -> Result<(), Fail>
-        ensures results_in { (kind : Kind) (keep : TheKeep) (text : List ℕ) (h : Holds self.old kind keep text) → ResultsIn result self.new.judge self.new.kept kind.mixed keep (with_rest kind h.lines self.old.line.items h.commands) }
+        ensures results_in { (kind : Kind) (keep : TheKeep) (text : List ℕ) (h : Holds self.old kind keep text) → ResultsIn result self.new.judge self.new.kept kind.plating keep (with_rest kind h.lines self.old.line.items h.commands) }
         ensures same { OnOk result ((self.new.lines ≡ self.old.lines) × (self.new.line.items ≡ self.old.line.items) × (self.new.offset ≡ self.old.offset)) }
     {
         if self.line.is_empty() {
@@ -333,7 +335,7 @@ impl DrillReader {
     ghost use Rattle.std.specs.Prelude.{List, Some, Ok, Err, [], ◌++◌};
     ghost use Rattle.drill_text.specs.Reading.{Shows};
     ghost use Rattle.grid_units.specs.Results.{IfFault};
-    ghost use Rattle.drill_text.specs.Profiles.{ShowsBy, ShowsIn, mixed_in};
+    ghost use Rattle.drill_text.specs.Profiles.{ShowsBy, ShowsIn};
     ghost use Rattle.drill_text.specs.Holding.{StandsAfter, StandsBy, StandsIn, failure};
 
     /// A reader that has read nothing, and keeps the commands.
@@ -354,19 +356,16 @@ impl DrillReader {
     pub fn in_profile(alloc: Global, keep: Keep, profile: Profile) -> DrillReader
         ensures { StandsIn result profile keep [] }
     {
-        DrillReader {
-            progress: Progress::new(alloc, keep, profile, false),
-            failed: None,
-        }
+        DrillReader::of_kind(alloc, keep, profile, PlatingKind::Stated)
     }
 
-    /// A reader that has read nothing, and keeps what it is asked for. It reads a mixed file in this profile: one that says itself which
-    /// of its holes are plated, and is refused where it does not.
-    pub fn mixed(alloc: Global, keep: Keep, profile: Profile) -> DrillReader
-        ensures { StandsBy result (mixed_in profile) keep [] }
+    /// A reader that has read nothing, and keeps what it is asked for. It reads in this profile a file whose platings are known so: the
+    /// other readers pass over what a file itself says of them.
+    pub fn of_kind(alloc: Global, keep: Keep, profile: Profile, plating: PlatingKind) -> DrillReader
+        ensures { StandsBy result (record { profile = profile; plating = plating }) keep [] }
     {
         DrillReader {
-            progress: Progress::new(alloc, keep, profile, true),
+            progress: Progress::new(alloc, keep, profile, plating),
             failed: None,
         }
     }

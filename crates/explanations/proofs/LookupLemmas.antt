@@ -61,6 +61,7 @@ reason_is_listed reasons.NoDrill = (43, omega arith, refl)
 reason_is_listed reasons.NotCopper = (44, omega arith, refl)
 reason_is_listed reasons.BadSpan = (45, omega arith, refl)
 reason_is_listed reasons.NoPlating = (46, omega arith, refl)
+reason_is_listed reasons.PlatingConflict = (47, omega arith, refl)
 
 -- each topic is listed
 pub topic_is_listed : (topic : Topic) → Contains all_topics topic

@@ -42,9 +42,9 @@ HasHeading word page = take (length word + 2) page ≡ word ++ codes ": "
 abbrev pub FitsScreen : List ℕ → Type 0
 FitsScreen page = (length (lines page) ≤ 12) × AllByRecursion (λ line. length line ≤ 78) (lines page)
 
--- all 47 reasons, in the order of their numbers
+-- all 48 reasons, in the order of their numbers
 abbrev pub all_reasons : List Reason
-all_reasons = reasons.TooLong ∷ reasons.AfterEnd ∷ reasons.Truncated ∷ reasons.SeveralInOne ∷ reasons.ClearPolarity ∷ reasons.BlockAperture ∷ reasons.NegativeImage ∷ reasons.TrailingZeros ∷ reasons.Incremental ∷ reasons.OldParameter ∷ reasons.OldFormat ∷ reasons.Routed ∷ reasons.Repeat ∷ reasons.BadWord ∷ reasons.BadLine ∷ reasons.BadNumber ∷ reasons.NoZeros ∷ reasons.TooManyDigits ∷ reasons.TooFine ∷ reasons.TooFar ∷ reasons.BareCoordinate ∷ reasons.InRegion ∷ reasons.NotInRegion ∷ reasons.NoFormat ∷ reasons.NoUnit ∷ reasons.UnitConflict ∷ reasons.FormatConflict ∷ reasons.Redefined ∷ reasons.UnknownMacro ∷ reasons.UnknownAperture ∷ reasons.UnknownTool ∷ reasons.NoAperture ∷ reasons.NoTool ∷ reasons.BadSize ∷ reasons.BadRepeat ∷ reasons.TooManyPads ∷ reasons.TooManyHoles ∷ reasons.BadRule ∷ reasons.BadManifest ∷ reasons.BadRole ∷ reasons.EmptyName ∷ reasons.RepeatedName ∷ reasons.NoCopper ∷ reasons.NoDrill ∷ reasons.NotCopper ∷ reasons.BadSpan ∷ reasons.NoPlating ∷ []
+all_reasons = reasons.TooLong ∷ reasons.AfterEnd ∷ reasons.Truncated ∷ reasons.SeveralInOne ∷ reasons.ClearPolarity ∷ reasons.BlockAperture ∷ reasons.NegativeImage ∷ reasons.TrailingZeros ∷ reasons.Incremental ∷ reasons.OldParameter ∷ reasons.OldFormat ∷ reasons.Routed ∷ reasons.Repeat ∷ reasons.BadWord ∷ reasons.BadLine ∷ reasons.BadNumber ∷ reasons.NoZeros ∷ reasons.TooManyDigits ∷ reasons.TooFine ∷ reasons.TooFar ∷ reasons.BareCoordinate ∷ reasons.InRegion ∷ reasons.NotInRegion ∷ reasons.NoFormat ∷ reasons.NoUnit ∷ reasons.UnitConflict ∷ reasons.FormatConflict ∷ reasons.Redefined ∷ reasons.UnknownMacro ∷ reasons.UnknownAperture ∷ reasons.UnknownTool ∷ reasons.NoAperture ∷ reasons.NoTool ∷ reasons.BadSize ∷ reasons.BadRepeat ∷ reasons.TooManyPads ∷ reasons.TooManyHoles ∷ reasons.BadRule ∷ reasons.BadManifest ∷ reasons.BadRole ∷ reasons.EmptyName ∷ reasons.RepeatedName ∷ reasons.NoCopper ∷ reasons.NoDrill ∷ reasons.NotCopper ∷ reasons.BadSpan ∷ reasons.NoPlating ∷ reasons.PlatingConflict ∷ []
 
 -- all 18 topics, in the order of the list: the findings, their causes, the wide profile
 abbrev pub all_topics : List Topic

@@ -7,7 +7,7 @@ ghost use Rattle.explanations.specs.KnownWords as words;
 ghost use Rattle.explanations.specs.KnownWords.{is_near};
 
 /// The words that have a page, in the order of their list.
-const LISTED: [&str; 65] = [
+const LISTED: [&str; 66] = [
     "TooLong",
     "AfterEnd",
     "Truncated",
@@ -55,6 +55,7 @@ const LISTED: [&str; 65] = [
     "NotCopper",
     "BadSpan",
     "NoPlating",
+    "PlatingConflict",
     "RING",
     "GAP",
     "OBLIQUE",

@@ -12,17 +12,17 @@ pub(crate) enum Topic {
     GapLine,
     /// A line `OBLIQUE` of the report.
     ObliqueLine,
-    /// The copper round a hole is narrower than the rule asks.
+    /// The copper around a hole is narrower than the rule.
     Ring,
     /// The pad is too small for the hole and its ring.
     Small,
     /// The hole is off the centre of its pad.
     Off,
-    /// The hole is too near the edge of a rounded pad or a contour.
+    /// The hole is too close to the edge of a rounded pad or a contour.
     Edge,
     /// No pad reaches the centre of the hole.
     NoPad,
-    /// Only a flash by an aperture macro stands at the hole.
+    /// The only flash at the hole is one by an aperture macro.
     Macro,
     /// A flash by a regular polygon.
     Polygon,
@@ -36,7 +36,7 @@ pub(crate) enum Topic {
     Clear,
     /// A flash that clear polarity may take away.
     Cleared,
-    /// A plated slot along neither axis.
+    /// A plated slot that is parallel to neither axis.
     Oblique,
     /// A negative plane whose file does not mark it as one.
     Plane,

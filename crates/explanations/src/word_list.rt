@@ -9,76 +9,77 @@ ghost use Rattle.explanations.specs.Words.{EachWordIsListed, ListsWords, topic_w
 use crate::topic::Topic;
 use grid_units::Reason;
 
-/// The words, one to a line, each with what it means in short: `ring: the copper round a hole is narrower than the rule`.
+/// The words, one to a line, each with what it means in short: `ring: the copper around a hole is narrower than the rule`.
 const WORDS: &str = "\
 TooLong: an item, a line or a file has too many bytes
 AfterEnd: something follows the end of the file
-Truncated: the text ends before M02 (layer) or M30 (drill file)
-SeveralInOne: several commands stand in one pair of %
-ClearPolarity: %LPC*% takes copper away
-BlockAperture: %AB begins an aperture of other flashes and draws
-NegativeImage: the layer is drawn as a negative
-TrailingZeros: the coordinates leave trailing zeros out
-Incremental: the coordinates are steps from the point before
+Truncated: the file ends before M02 (layer) or M30 (drill file)
+SeveralInOne: one pair of % holds several commands
+ClearPolarity: %LPC*% removes copper
+BlockAperture: %AB starts an aperture made up of other flashes and draws
+NegativeImage: the layer is a negative
+TrailingZeros: the coordinates omit trailing zeros
+Incremental: the coordinates are steps from the previous point
 OldParameter: a parameter or a word that Gerber no longer has
-OldFormat: no M48 stands first, or an older format is named
-Routed: a line begins a routed path
-Repeat: holes are repeated by a code or a pattern
-BadWord: a word or a parameter of Gerber that the check does not know
-BadLine: a line of a drill file that the check does not know
-BadNumber: a field is no number of its kind
-NoZeros: zeros are left out, and the header does not say which
-TooManyDigits: a coordinate has more digits than the format of the file
-TooFine: a number has a ninth decimal, or a later one, that is not 0
+OldFormat: the drill file does not begin with M48, or names an older format
+Routed: a line starts a routed path
+Repeat: holes are repeated with a code or a pattern
+BadWord: the check does not know this Gerber word or parameter
+BadLine: the check does not know this line of the drill file
+BadNumber: a field is not a number of the right kind
+NoZeros: zeros are omitted, and the header does not say which
+TooManyDigits: a coordinate has more digits than the file's format allows
+TooFine: a number has a ninth or later decimal that is not 0
 TooFar: a length is above 10 m
-BareCoordinate: a coordinate stands without its D code
-InRegion: a command stands between G36 and G37 where it may not
-NotInRegion: G37 ends a region where none was begun
+BareCoordinate: a coordinate has no D code
+InRegion: a command is not allowed between G36 and G37
+NotInRegion: G37 ends a region that was not started
 NoFormat: the layer does not give the format of its coordinates
 NoUnit: the file does not give its unit
 UnitConflict: two lines of one file disagree on the unit
 FormatConflict: two lines of one file disagree on decimals or on zeros
 Redefined: an aperture, a macro or a tool is defined twice
-UnknownMacro: an aperture is made by a macro that is not defined
+UnknownMacro: an aperture uses a macro that is not defined
 UnknownAperture: an aperture is selected that is not defined
-UnknownTool: a tool is picked that is not defined
-NoAperture: a flash or a draw stands where no aperture is selected
-NoTool: a hole stands where no tool is picked
-BadSize: a size or a diameter is out of its range
-BadRepeat: a step and repeat block has a count or a step out of its range
+UnknownTool: a tool is selected that is not defined
+NoAperture: a flash or a draw comes before an aperture is selected
+NoTool: a hole is drilled while no tool is selected
+BadSize: a size or a diameter is out of range
+BadRepeat: a step and repeat block has a count or a step out of range
 TooManyPads: the layer has more than 4,194,304 flashes
 TooManyHoles: the drill file has more than 1,048,576 holes
-BadRule: the ring is below 0, or the gap is not above 0
+BadRule: the ring is negative, or the gap is not above 0
 BadManifest: a record of a manifest or of waivers is malformed, or a name is
-BadRole: a role, a kind, a format, a profile or a word to explain is none
-EmptyName: a record of a manifest has an empty name, or a waiver no reason
+BadRole: an unknown role, kind, format or profile, or a word without a page
+EmptyName: a record of a manifest has an empty name, or a waiver has no reason
 RepeatedName: a record of the manifest has the name of an earlier one
 NoCopper: the manifest names no copper layer
 NoDrill: the manifest names no drill file
-NotCopper: the file says that it is no copper layer
-BadSpan: the span of a record is none, or stands where none may
+NotCopper: the file says that it is not a copper layer
+BadSpan: the layer span of a record is invalid, or is not allowed there
 NoPlating: a mixed drill file does not say whether a hole is plated
-RING: a finding: no pad holds the hole or the slot with its ring
-GAP: a finding: two holes are nearer to each other than the gap
-OBLIQUE: a finding: a plated slot runs along neither axis
-ring: the copper round a hole is narrower than the rule
+PlatingConflict: an unplated drill file says that holes are plated
+RING: a finding: no pad contains the hole or the slot with its ring
+GAP: a finding: two holes are closer to each other than the gap
+OBLIQUE: a finding: a plated slot is parallel to neither axis
+ring: the copper around a hole is narrower than the rule
 small: the pad is too small for the hole and its ring
 off: the hole is off the centre of its pad
 edge: the hole is too near the edge of a rounded pad or contour (wide profile)
-none: no pad reaches the centre of the hole, and no flash stands in the hole
-macro: only a flash by an aperture macro stands here
-polygon: a flash by a regular polygon is not judged
-holed: a flash by an aperture with a hole is not judged
-scaled: a flash that is scaled is not judged
-turned: a flash that is turned by no multiple of 90 degrees is not judged
-clear: only a flash in clear polarity stands here (wide profile)
-cleared: only a flash that clear polarity may take away (wide profile)
+none: no pad reaches the centre of the hole, and no flash lies in the hole
+macro: the only flash here is one by an aperture macro
+polygon: a flash of a regular polygon is not judged
+holed: a flash of an aperture with a hole in it is not judged
+scaled: a scaled flash is not judged
+turned: a flash turned by an angle that is not a multiple of 90 degrees
+clear: the only flash here is in clear polarity (wide profile)
+cleared: the only flash here may be removed by clear polarity (wide profile)
 oblique: the ends of a plated slot differ in both directions
-plane: a negative plane without a mark counts as copper
-wide: the profile that counts further pads and reads further texts
+plane: a negative plane that is not marked as one counts as copper
+wide: the profile that counts more shapes as pads and reads more files
 ";
 
-const REASONS: [Reason; 47] = [
+const REASONS: [Reason; 48] = [
     Reason::TooLong,
     Reason::AfterEnd,
     Reason::Truncated,
@@ -126,6 +127,7 @@ const REASONS: [Reason; 47] = [
     Reason::NotCopper,
     Reason::BadSpan,
     Reason::NoPlating,
+    Reason::PlatingConflict,
 ];
 
 const TOPICS: [Topic; 18] = [

@@ -19,13 +19,14 @@ use Rattle.layer_image.specs.declared.drawn.Drawn.{Drawn}
 use Rattle.layer_image.specs.declared.flash.Flash.{Flash}
 use Rattle.layer_image.specs.Flashes.{added_flashes}
 use Rattle.layer_image.specs.Lookback.{block_set, no_repeat, state_after}
-use Rattle.layer_image.specs.Drawn.{DrawState, draw_state_after, draw_unit, drawn_by, drawn_of}
+use Rattle.layer_image.specs.Drawn.{DrawState, draw_state_after, draw_unit, drawn_by}
 use Rattle.layer_image.specs.Inner.Pencils.{after_command, draw_state}
 use Rattle.layer_image.proofs.DigitLemmas.{test_no, test_yes}
-use Rattle.layer_image.proofs.DrawnLemmas.{draw_state_after-more, drawn_of-more}
+use Rattle.layer_image.proofs.DrawnLemmas.{draw_state_after-more}
 use Rattle.further_copper.specs.declared.part.Part.{Part}
 use Rattle.further_copper.specs.Blocks.{block_after, copy_count, is_repeated}
-use Rattle.further_copper.specs.Clearing.{clears_all, is_drawing}
+use Rattle.further_copper.specs.Clearing.{clears_all, is_drawing, uncleared}
+use Rattle.further_copper.specs.DrawnCopper.{dark_part, drawn_at, uncleared_drawn}
 use Rattle.further_copper.specs.Placing.{no_mirroring, shapes_at}
 use Rattle.further_copper.specs.Contours.{contour_of, in_last_region, part_by, region_parts, starts_region}
 use Rattle.further_copper.specs.declared.copper.Copper.{Copper}
@@ -36,7 +37,7 @@ use Rattle.further_copper.specs.Features.{added_features, contour_feature, featu
 use Rattle.further_copper.specs.Holding.{HasMet, HasMetSince}
 use Rattle.further_copper.specs.Inner.States.{IsLike, MakeSameContour, after, capped, copper_state, parts_after, with_parts}
 use Rattle.further_copper.proofs.ClearingLemmas.{after_last-more, clearing_after-more}
-use Rattle.further_copper.proofs.StandingLemmas.{features_of-more, few-more, standing-more}
+use Rattle.further_copper.proofs.StandingLemmas.{features_of-more, few-more, standing-more, uncleared-more}
 
 -- what a position adds to the last region
 abbrev part_at : List Command × Command → Option Part
@@ -132,9 +133,9 @@ clears_like s t c h = ap (λ (u : CopperState). clears_in u c) h.rest
 
 -- ---- one command more
 
--- what a command draws was added, where that is asked for
+-- what a command draws was added, where that is asked for, or all that was drawn was taken away
 pub record IsDrawn (old : Copper) (c : Command) (drawn : Copper) : Type 0 where
-  pub parts : drawn.drawing.parts.items ≡ old.drawing.parts.items ++ (if old.drawing.asked then cons_option (drawn_by (draw_state old.pencil) c) [] else [])
+  pub parts : drawn.drawing.parts.items ≡ (if clears_in (copper_state old) c then [] else old.drawing.parts.items ++ (if old.drawing.asked then cons_option (dark_part (copper_state old) c) [] else []))
   pub asked : drawn.drawing.asked ≡ old.drawing.asked
   pub state : copper_state drawn ≡ copper_state old
   pub features : drawn.features.items ≡ old.features.items
@@ -161,14 +162,24 @@ pub record IsAdvanced (old : Copper) (c : Command) (new : Copper) : Type 0 where
   pub cleared : new.cleared ≡ old.cleared
   pub drawing : new.drawing ≡ old.drawing
 
--- what is drawn with one more command
-drawn-more : (draws asked : Bool) (commands : List Command) (c : Command) (s : DrawState) (parts : List Drawn) → asked ≡ draws → s ≡ draw_state_after commands → parts ≡ (if draws then drawn_of commands else [])
-    → parts ++ (if asked then cons_option (drawn_by s c) [] else []) ≡ (if draws then drawn_of (commands ++ c ∷ []) else [])
-drawn-more draws asked commands c s parts same state are = (λ i. are i ++ (if same i then cons_option (drawn_by (state i) c) [] else [])) ∙ by draws
+-- what is drawn and not taken away, with one more command
+uncleared_drawn-more : (before : List Command) (c : Command) → uncleared_drawn (before ++ c ∷ []) ≡ (if clears_all (before, c) then [] else uncleared_drawn before ++ cons_option (drawn_at (before, c)) [])
+uncleared_drawn-more before c = ap (filter_map drawn_at) (uncleared-more before c) ∙ by (clears_all (before, c))
   where
-    by : (b : Bool) → (if b then drawn_of commands else []) ++ (if b then cons_option (drawn_by (draw_state_after commands) c) [] else []) ≡ (if b then drawn_of (commands ++ c ∷ []) else [])
-    by true = sym (drawn_of-more commands c)
-    by false = refl
+    by : (b : Bool) → filter_map drawn_at (if b then [] else uncleared before ++ (before, c) ∷ []) ≡ (if b then [] else filter_map drawn_at (uncleared before) ++ cons_option (drawn_at (before, c)) [])
+    by true = refl
+    by false = filter_map-append drawn_at (uncleared before) ((before, c) ∷ [])
+
+-- and where it is asked for
+drawn-more : (draws asked clears : Bool) (commands : List Command) (c : Command) (part : Option Drawn) (parts : List Drawn) → asked ≡ draws → clears ≡ clears_all (commands, c) → part ≡ drawn_at (commands, c) → parts ≡ (if draws then uncleared_drawn commands else [])
+    → (if clears then [] else parts ++ (if asked then cons_option part [] else [])) ≡ (if draws then uncleared_drawn (commands ++ c ∷ []) else [])
+drawn-more draws asked clears commands c part parts same clears_is part_is are =
+    (λ i. if clears_is i then [] else are i ++ (if same i then cons_option (part_is i) [] else [])) ∙ by draws (clears_all (commands, c)) refl
+  where
+    by : (b t : Bool) → clears_all (commands, c) ≡ t → (if t then [] else (if b then uncleared_drawn commands else []) ++ (if b then cons_option (drawn_at (commands, c)) [] else [])) ≡ (if b then uncleared_drawn (commands ++ c ∷ []) else [])
+    by true t e = ap (λ (u : Bool). if u then [] else uncleared_drawn commands ++ cons_option (drawn_at (commands, c)) []) (sym e) ∙ sym (uncleared_drawn-more commands c)
+    by false true e = refl
+    by false false e = refl
 
 -- these commands and one more were met
 pub met_more : (draws : Bool) (given : List Feature) (old drawn added marked new : Copper) (own : List Flash) (commands : List Command) (c : Command)
@@ -196,7 +207,8 @@ met_more draws given old drawn added marked new own commands c met own_is is_dra
       few = subst (λ (l : List Feature). unwrap_or new.cleared 0 ≤ length l) (sym now_held) (subst (λ (k : Option ℕ). unwrap_or k 0 ≤ length (held ++ more)) (sym now_cleared) (few-more (clears_all (commands, c)) old.cleared held more met.few));
       asked = ap (λ (d : Drawing). d.asked) (advanced.drawing ∙ is_marked.drawing ∙ is_added.drawing) ∙ is_drawn.asked ∙ met.asked;
       drawn = ap (λ (d : Drawing). d.parts.items) (advanced.drawing ∙ is_marked.drawing ∙ is_added.drawing) ∙ is_drawn.parts
-          ∙ drawn-more draws old.drawing.asked commands c (draw_state old.pencil) old.drawing.parts.items met.asked (ap (λ (s : CopperState). s.draw) met.state.rest) met.drawn;
+          ∙ drawn-more draws old.drawing.asked (clears_in (copper_state old) c) commands c (dark_part (copper_state old) c) old.drawing.parts.items met.asked (clears_like (copper_state old) (capped then_state) c met.state)
+          (ap (λ (s : CopperState). dark_part s c) met.state.rest) met.drawn;
     }
 
 -- ---- an operation that draws nothing and takes nothing away
@@ -255,11 +267,12 @@ pub operation_more : (draws : Bool) (given : List Feature) (old added new : Copp
     → HasMetSince draws given new (commands ++ command.Operate a x y i j ∷ [])
 operation_more draws given old added new own commands a x y i j idle dark fresh met own_is flashed moved =
     let c = command.Operate a x y i j in
+    let takes_nothing : clears_in (copper_state old) c ≡ false = (λ k. (is_drawing a && dark k) || (is_repeated old.block && fresh k)) ∙ no_clearing (is_drawing a) (is_repeated old.block) in
     let now_dark : added.clearing.clear ≡ false = ap (λ (s : CopperState). s.clearing.clear) flashed.state ∙ dark in
     let now_fresh : added.clearing.in_block ≡ false = ap (λ (s : CopperState). s.clearing.in_block) flashed.state ∙ fresh in
     let regions : added.regions ≡ min (ended_regions commands) (suc max_regions) = ap (λ (s : CopperState). s.regions) flashed.state ∙ ap (λ (s : CopperState). s.regions) met.state.rest in
     met_more draws given old old added added new own commands c met own_is (record {
-      parts = sym (append-nil old.drawing.parts.items) ∙ ap (λ (b : Bool). old.drawing.parts.items ++ (if b then cons_option (drawn_by (draw_state old.pencil) c) [] else [])) (sym idle);
+      parts = sym (append-nil old.drawing.parts.items) ∙ (λ k. if sym takes_nothing k then [] else old.drawing.parts.items ++ (if sym idle k then cons_option (dark_part (copper_state old) c) [] else []));
       asked = refl;
       state = refl;
       features = refl;
@@ -323,7 +336,8 @@ pub record IsMarkedByCopies (old marked : Copper) : Type 0 where
   pub cleared : marked.cleared ≡ (if is_repeated old.block && old.clearing.in_block then Some (length old.features.items) else old.cleared)
   pub features : marked.features.items ≡ old.features.items
   pub state : copper_state marked ≡ copper_state old
-  pub drawing : marked.drawing ≡ old.drawing
+  pub parts : marked.drawing.parts.items ≡ (if is_repeated old.block && old.clearing.in_block then [] else old.drawing.parts.items)
+  pub asked : marked.drawing.asked ≡ old.drawing.asked
 
 -- nothing is drawn
 abbrev no_part : Option Drawn
@@ -336,6 +350,11 @@ nothing_drawn asked parts o h = sym (append-nil parts) ∙ ap (λ (l : List Draw
     by true = refl
     by false = refl
 
+-- nor in dark polarity
+no_dark : (clear : Bool) (o : Option Drawn) → o ≡ None → (if clear then no_part else o) ≡ None
+no_dark true o h = refl
+no_dark false o h = h
+
 -- these commands and a comment or an attribute were met
 pub text_more : (draws : Bool) (given : List Feature) (old marked : Copper) (commands : List Command) (kind : TextKind) (text : List ℕ) → HasMetSince draws given old commands → IsMarkedByCopies old marked → HasMetSince draws given marked (commands ++ text_command kind text ∷ [])
 text_more draws given old marked commands kind text met is_marked =
@@ -343,9 +362,21 @@ text_more draws given old marked commands kind text met is_marked =
     let idle = text_idle kind text in
     let s = copper_state old in
     let regions : marked.regions ≡ min (ended_regions commands) (suc max_regions) = ap (λ (t : CopperState). t.regions) (is_marked.state) ∙ ap (λ (t : CopperState). t.regions) met.state.rest in
-    met_more draws given old old old marked marked [] commands c met (idle.flashes commands) (record {
-      parts = nothing_drawn old.drawing.asked old.drawing.parts.items (drawn_by (draw_state old.pencil) c) (idle.draws (draw_state old.pencil));
-      asked = refl;
+    let drawn : Copper = record {
+      alloc = old.alloc;
+      pencil = old.pencil;
+      mirroring = old.mirroring;
+      block = old.block;
+      parts = old.parts;
+      regions = old.regions;
+      clearing = old.clearing;
+      features = old.features;
+      cleared = old.cleared;
+      drawing = marked.drawing;
+    } in
+    met_more draws given old drawn drawn marked marked [] commands c met (idle.flashes commands) (record {
+      parts = is_marked.parts ∙ (λ k. if sym (idle.clears s) k then [] else nothing_drawn old.drawing.asked old.drawing.parts.items (dark_part s c) (no_dark s.clearing.clear (drawn_by s.draw c) (idle.draws s.draw)) k);
+      asked = is_marked.asked;
       state = refl;
       features = refl;
       cleared = refl;
@@ -358,7 +389,7 @@ text_more draws given old marked commands kind text met is_marked =
       cleared = is_marked.cleared ∙ ap (λ (b : Bool). if b then Some (length old.features.items) else old.cleared) (sym (idle.clears s));
       features = is_marked.features;
       state = is_marked.state;
-      drawing = is_marked.drawing;
+      drawing = refl;
     }) (record {
       state = idle.stays (copper_state marked) (regions_stay marked.regions (ended_regions commands) regions);
       features = refl;
@@ -376,6 +407,6 @@ none_met draws copper state features cleared asked parts = record {
   drawn = parts ∙ by draws;
 }
   where
-    by : (b : Bool) → [] ≡ (if b then drawn_of [] else [])
+    by : (b : Bool) → [] ≡ (if b then uncleared_drawn [] else [])
     by true = refl
     by false = refl

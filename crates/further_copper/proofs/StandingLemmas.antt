@@ -97,7 +97,7 @@ few-more false k held more few = omega (arith, few, length-append held more)
 -- ---- one more command
 
 -- the positions that count, with one more command
-uncleared-more : (before : List Command) (c : Command) → uncleared (before ++ c ∷ []) ≡ (if clears_all (before, c) then [] else uncleared before ++ (before, c) ∷ [])
+pub uncleared-more : (before : List Command) (c : Command) → uncleared (before ++ c ∷ []) ≡ (if clears_all (before, c) then [] else uncleared before ++ (before, c) ∷ [])
 uncleared-more before c = ap (after_last clears_all) (with_prefixes-append before (c ∷ [])) ∙ after_last-more clears_all (with_prefixes before) (before, c)
 
 -- the flashes and contours with one more command: what is left of all, where it takes all away

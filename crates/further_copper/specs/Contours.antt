@@ -6,17 +6,16 @@ use Rattle.std.specs.List.{filter_map, list_all, list_any, prefix_len}
 use Rattle.grid_units.specs.Points.{GridPoint}
 use Rattle.grid_units.specs.Lists.{with_prefixes}
 use Rattle.pad_shapes.specs.Rounded.{GridRounded}
-use Rattle.macro_shapes.specs.Primitives.{is_same, polygon_round}
+use Rattle.macro_shapes.specs.Primitives.{polygon_round}
 use Rattle.gerber_commands.specs.declared.command.Action.{Action}
 use Rattle.gerber_commands.specs.declared.command.Action.TheVariants as action
 use Rattle.gerber_commands.specs.declared.command.Interpolation.{Interpolation}
 use Rattle.gerber_commands.specs.declared.command.Interpolation.TheVariants as interpolation
-use Rattle.gerber_commands.specs.declared.command.QuadrantMode.{QuadrantMode}
-use Rattle.gerber_commands.specs.declared.command.QuadrantMode.TheVariants as quadrant
 use Rattle.gerber_commands.specs.declared.command.Command.{Command}
 use Rattle.gerber_commands.specs.declared.command.Command.TheVariants as command
 use Rattle.layer_image.specs.Drawn.{DrawState, draw_state_after, current_point, operation_point}
 use Rattle.further_copper.specs.AfterLast.{after_last}
+use Rattle.further_copper.specs.Arcs.{centre_seen, is_arc}
 use Rattle.further_copper.specs.declared.part.Way.{Way}
 use Rattle.further_copper.specs.declared.part.Way.TheVariants as way
 use Rattle.further_copper.specs.declared.part.Part.{Part}
@@ -29,17 +28,15 @@ abbrev pub straight_side : GridPoint → GridPoint → Option ℤ → Option ℤ
 straight_side from to None None = part.Side from to way.Straight
 straight_side from to _ _ = part.Other
 
--- an arc in the mode of several quadrants that ends at another point than it begins; another full circle or arc counts as no side
--- (Gerber format, G75 and G74)
-abbrev pub arc_side : GridPoint → GridPoint → Option QuadrantMode → Way → Part
-arc_side from to (Some quadrant.Multi) bent = if is_same from to then part.Other else part.Side from to bent
-arc_side from to _ bent = part.Other
+-- a side is an arc where both of its ends lie equally far from its centre (Gerber format, G75 and G74)
+abbrev pub arc_side : DrawState → GridPoint → GridPoint → Option ℤ → Option ℤ → Way → Part
+arc_side s from to i j bent = if is_arc s.quadrant from to (centre_seen s i j) then part.Side from to bent else part.Other
 
 -- the side from one point to another in a state, with these offsets of a centre (Gerber format, Plot state G01, G02, G03)
 abbrev pub side_by : DrawState → Interpolation → GridPoint → GridPoint → Option ℤ → Option ℤ → Part
 side_by s interpolation.Linear from to i j = straight_side from to i j
-side_by s interpolation.Clockwise from to i j = arc_side from to s.quadrant way.Clockwise
-side_by s interpolation.Counterclockwise from to i j = arc_side from to s.quadrant way.Counterclockwise
+side_by s interpolation.Clockwise from to i j = arc_side s from to i j way.Clockwise
+side_by s interpolation.Counterclockwise from to i j = arc_side s from to i j way.Counterclockwise
 
 -- the side between two points, where both are at most 10 m from zero along each axis
 abbrev pub side_between : DrawState → Option GridPoint → Option GridPoint → Option ℤ → Option ℤ → Part

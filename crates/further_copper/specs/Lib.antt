@@ -1,8 +1,10 @@
 pub mod AfterLast
+pub mod Arcs
 pub mod Blocks
 pub mod Clearing
 pub mod Placing
 pub mod Contours
+pub mod DrawnCopper
 pub mod FurtherPads
 pub mod Features
 pub mod Holding

@@ -10,9 +10,8 @@ ghost use Rattle.gerber_text.specs.FastPath.{text_command};
 ghost use Rattle.gerber_text.specs.declared.text_items.TextKind.{TextKind as TheKind};
 ghost use Rattle.layer_image.specs.Flashes.{added_flashes};
 ghost use Rattle.layer_image.specs.Lookback.{block_set, state_after};
-ghost use Rattle.layer_image.specs.Drawn.{drawn_by, drawn_of};
-ghost use Rattle.layer_image.specs.Inner.Pencils.{draw_state};
 ghost use Rattle.further_copper.specs.Blocks.{copy_count, is_repeated};
+ghost use Rattle.further_copper.specs.DrawnCopper.{dark_part, uncleared_drawn};
 ghost use Rattle.further_copper.specs.FurtherPads.{CopperState, clears_in, contour_by, contours_in, ended_copies, flash_shape, has_room, macro_shape, macro_why, max_regions, mirroring_set, region_contour, why_of_shape};
 ghost use Rattle.further_copper.specs.Features.{added_features, contour_feature, dark_kind, features_of, flash_feature, taken_away, why_in};
 ghost use Rattle.further_copper.specs.declared.feature.Feature.{Feature as TheFeature};
@@ -40,7 +39,7 @@ const ONE: i64 = 100_000_000;
 const MAX_REGIONS: u64 = 4_194_304;
 
 /// The flashes and contours of the commands so far that were not taken out, whatever clear polarity takes away of them, and what these commands
-/// draw, where that is asked for. It keeps the shapes and macros that the commands define, and the operations of the last region, and no command.
+/// draw that it has not taken away, where that is asked for. It keeps the shapes and macros that the commands define, and the operations of the last region, and no command.
 #[derive(Drop)]
 pub struct Copper {
     alloc: Global,
@@ -176,27 +175,37 @@ impl Copper {
         self.clear_by_copies();
     }
 
-    /// Adds what a command draws, where that is asked for.
+    /// Adds what a command draws in dark polarity, where that is asked for. Takes away all that was drawn where the command does.
     fn draw(&mut self, command: &Command) -> Result<(), AllocError>
-        ensures parts { OnOk result (self.new.drawing.parts.items ≡ self.old.drawing.parts.items ++ (if self.old.drawing.asked then cons_option (drawn_by (draw_state self.old.pencil) command.now) [] else [])) }
+        ensures parts { OnOk result (self.new.drawing.parts.items ≡ (if clears_in (copper_state self.old) command.now then [] else self.old.drawing.parts.items ++ (if self.old.drawing.asked then cons_option (dark_part (copper_state self.old) command.now) [] else []))) }
         ensures asked { self.new.drawing.asked ≡ self.old.drawing.asked }
         ensures features { self.new.features.items ≡ self.old.features.items }
         ensures state { copper_state self.new ≡ copper_state self.old }
         ensures cleared { self.new.cleared ≡ self.old.cleared }
     {
+        let takes_away = self.clears(command);
+        if takes_away {
+            self.drawing.clear();
+            return Ok(());
+        }
+        if self.clearing.clear {
+            return Ok(());
+        }
         self.drawing.take(&self.pencil, command)
     }
 
-    /// Takes away all flashes and contours where another copy of the open block does.
+    /// Takes away all flashes and contours, and all that was drawn, where another copy of the open block does.
     fn clear_by_copies(&mut self)
         ensures cleared { self.new.cleared ≡ (if is_repeated self.old.block && self.old.clearing.in_block then Some (length self.old.features.items) else self.old.cleared) }
         ensures features { self.new.features.items ≡ self.old.features.items }
         ensures state { copper_state self.new ≡ copper_state self.old }
-        ensures drawing { self.new.drawing ≡ self.old.drawing }
+        ensures parts { self.new.drawing.parts.items ≡ (if is_repeated self.old.block && self.old.clearing.in_block then [] else self.old.drawing.parts.items) }
+        ensures asked { self.new.drawing.asked ≡ self.old.drawing.asked }
     {
         if self.is_repeated() && self.clearing.in_block {
             let count = self.features.len();
             self.cleared = Some(count);
+            self.drawing.clear();
         }
     }
 
@@ -410,15 +419,15 @@ impl Copper {
         }
     }
 
-    /// The flashes and contours, in the order of the text, of which clear polarity has taken away what it takes, and what is drawn, which is
-    /// put into `drawn` where it was asked for.
+    /// The flashes and contours, in the order of the text, of which clear polarity has taken away what it takes, and what is drawn that it has not
+    /// taken away, which is put into `drawn` where it was asked for.
     ///
     /// # Errors
     ///
     /// An `AllocError` where there is no memory for them.
     pub fn finish(self, drawn: &mut Vec<Drawn>) -> Result<Vec<Feature>, AllocError>
         ensures features { (draws : Bool) (commands : List TheCommand) → HasMet draws self commands → IfOk result (λ all. all.items ≡ features_of commands) }
-        ensures drawn { (commands : List TheCommand) → HasMet true self commands → drawn.new.items ≡ drawn_of commands }
+        ensures drawn { (commands : List TheCommand) → HasMet true self commands → drawn.new.items ≡ uncleared_drawn commands }
     {
         *drawn = self.drawing.parts;
         let count = self.cleared.unwrap_or(0).min(self.features.len());

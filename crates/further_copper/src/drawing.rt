@@ -1,4 +1,4 @@
-//! What the commands so far draw, where that is asked for.
+//! What the commands so far draw that clear polarity has not taken away, where that is asked for.
 
 ghost use Rattle.std.specs.Prelude.{◌≡◌, ◌++◌, [], OnOk, if◌then◌else◌};
 ghost use Rattle.std.specs.List.{cons_option};
@@ -9,7 +9,7 @@ use gerber_text::Command;
 use layer_image::{Drawn, Pencil};
 use std::alloc::{AllocError, Global};
 
-/// What the commands so far draw, in order, where that is asked for.
+/// What the commands so far draw that clear polarity has not taken away, in order, where that is asked for.
 #[derive(Drop)]
 pub(crate) struct Drawing {
     pub(crate) asked: bool,
@@ -26,6 +26,14 @@ impl Drawing {
             asked,
             parts: Vec::new(alloc),
         }
+    }
+
+    /// Takes away all that was drawn.
+    pub(crate) fn clear(&mut self)
+        ensures parts { self.new.parts.items ≡ [] }
+        ensures asked { self.new.asked ≡ self.old.asked }
+    {
+        self.parts.clear();
     }
 
     /// Adds what one more command draws in the state that it meets.

@@ -2,6 +2,7 @@
 //! shape, and convex contours of regions.
 #![tactic(auto)]
 
+mod arc;
 mod clearing;
 mod contour;
 mod copies;

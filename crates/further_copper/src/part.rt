@@ -4,12 +4,14 @@ ghost use Rattle.std.specs.Prelude.{◌≡◌, ◌++◌, [], OnOk};
 ghost use Rattle.std.specs.List.{cons_option};
 ghost use Rattle.gerber_commands.specs.declared.command.Command.TheVariants as command;
 ghost use Rattle.layer_image.specs.Drawn.{current_point};
+ghost use Rattle.further_copper.specs.Arcs.{centre_seen};
 ghost use Rattle.further_copper.specs.Contours.{arc_side, end_of, is_clockwise, is_counterclockwise, is_move, part_by, part_of, side_between, side_by, start_of, starts_region, straight_side};
 ghost use Rattle.layer_image.specs.Inner.Pencils.{draw_state};
 ghost use Rattle.further_copper.specs.Inner.States.{MakeSameContour, command_of, parts_after};
 
+use crate::arc::is_arc;
 use crate::forget::{forget, is_over};
-use gerber_text::{Action, Command, Interpolation, LeadingOperation, QuadrantMode};
+use gerber_text::{Action, Command, Interpolation, LeadingOperation};
 use grid_units::Point;
 use layer_image::Pencil;
 use std::alloc::{AllocError, Global};
@@ -102,19 +104,28 @@ fn straight_side(from: Point, to: Point, i: Option<i64>, j: Option<i64>) -> Part
     }
 }
 
-/// An arc in this mode of quadrants.
-fn arc_side(from: Point, to: Point, quadrant: Option<QuadrantMode>, way: Way) -> Part
-    ensures { result ≡ arc_side from to quadrant way }
+/// The centre of an arc as its start sees it, where the offsets are near.
+fn centre_seen(pencil: &Pencil, i: Option<i64>, j: Option<i64>) -> Option<Point>
+    ensures { result ≡ centre_seen (draw_state pencil.now) i j }
 {
-    match quadrant {
-        Some(QuadrantMode::Multi) => {
-            if from.x() == to.x() && from.y() == to.y() {
-                Part::Other
-            } else {
-                Part::Side { from, to, way }
-            }
-        }
-        Some(QuadrantMode::Single) | None => Part::Other,
+    pencil.operation_point(Some(i.unwrap_or(0)), Some(j.unwrap_or(0)))
+}
+
+/// A side along an arc.
+fn arc_side(
+    pencil: &Pencil,
+    from: Point,
+    to: Point,
+    i: Option<i64>,
+    j: Option<i64>,
+    way: Way,
+) -> Part
+    ensures { result ≡ arc_side (draw_state pencil.now) from to i j way }
+{
+    if is_arc(pencil.quadrant(), from, to, centre_seen(pencil, i, j)) {
+        Part::Side { from, to, way }
+    } else {
+        Part::Other
     }
 }
 
@@ -124,9 +135,9 @@ fn side_by(pencil: &Pencil, from: Point, to: Point, i: Option<i64>, j: Option<i6
 {
     match pencil.mode() {
         Interpolation::Linear => straight_side(from, to, i, j),
-        Interpolation::Clockwise => arc_side(from, to, pencil.quadrant(), Way::Clockwise),
+        Interpolation::Clockwise => arc_side(pencil, from, to, i, j, Way::Clockwise),
         Interpolation::Counterclockwise => {
-            arc_side(from, to, pencil.quadrant(), Way::Counterclockwise)
+            arc_side(pencil, from, to, i, j, Way::Counterclockwise)
         }
     }
 }

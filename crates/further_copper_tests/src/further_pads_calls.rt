@@ -84,7 +84,7 @@ const FLASHES: [(&[u8], &[Pad]); 16] = [
 ];
 
 /// The commands of a layer, and the further pads in the order of the text.
-const LAYERS: [(&[u8], &[Pad]); 26] = [
+const LAYERS: [(&[u8], &[Pad]); 36] = [
     // A square of 2 mm, from its lower left corner.
     (
         b"G36*\nX-1000000Y-1000000D02*\nX1000000D01*\nY1000000D01*\nX-1000000D01*\nY-1000000D01*\nG37*\n",
@@ -198,6 +198,58 @@ const LAYERS: [(&[u8], &[Pad]); 26] = [
     ),
     (
         b"G74*\nG36*\nX1000000Y0D02*\nG03*\nX0Y1000000I-1000000J0D01*\nX-1000000Y0I0J-1000000D01*\nX0Y-1000000I1000000J0D01*\nX1000000Y0I0J1000000D01*\nG37*\n",
+        &[],
+    ),
+    // The radii at both ends of an arc differ by 2 um, and by a nanometre more.
+    (
+        b"G75*\nG36*\nX1000000Y0D02*\nG03*\nX0Y1002000I-1000000J0D01*\nG01*\nX-1000000Y0D01*\nX0Y-1000000D01*\nX1000000Y0D01*\nG37*\n",
+        &[(0, &[(0, 1_002), (-1_000, 0), (0, -1_000), (1_000, 0)])],
+    ),
+    (
+        b"G75*\nG36*\nX1000000Y0D02*\nG03*\nX0Y1002001I-1000000J0D01*\nG01*\nX-1000000Y0D01*\nX0Y-1000000D01*\nX1000000Y0D01*\nG37*\n",
+        &[],
+    ),
+    (
+        b"G75*\nG36*\nX1000000Y0D02*\nG03*\nX0Y998000I-1000000J0D01*\nG01*\nX-1000000Y0D01*\nX0Y-1000000D01*\nX1000000Y0D01*\nG37*\n",
+        &[(0, &[(0, 998), (-1_000, 0), (0, -1_000), (1_000, 0)])],
+    ),
+    (
+        b"G75*\nG36*\nX1000000Y0D02*\nG03*\nX0Y997999I-1000000J0D01*\nG01*\nX-1000000Y0D01*\nX0Y-1000000D01*\nX1000000Y0D01*\nG37*\n",
+        &[],
+    ),
+    (
+        b"G75*\nG36*\nX1000000Y0D02*\nG02*\nX0Y-1002001I-1000000J0D01*\nG01*\nX-1000000Y0D01*\nX0Y1000000D01*\nX1000000Y0D01*\nG37*\n",
+        &[],
+    ),
+    // A centre 1 mm from the start of an arc, and more than 4 mm from its end.
+    (
+        b"G75*\nG36*\nX-2000000Y-2000000D02*\nG01*\nX2000000D01*\nG03*\nX2000000Y2000000I1000000J0D01*\nG01*\nX-2000000D01*\nY-2000000D01*\nG37*\n",
+        &[],
+    ),
+    // The offsets of a centre exchanged, and left out.
+    (
+        b"G75*\nG36*\nX1000000Y0D02*\nG03*\nX0Y1000000I0J-1000000D01*\nG01*\nX-1000000Y0D01*\nX0Y-1000000D01*\nX1000000Y0D01*\nG37*\n",
+        &[],
+    ),
+    (
+        b"G75*\nG36*\nX1000000Y0D02*\nG03*\nX0Y1000000D01*\nG01*\nX-1000000Y0D01*\nX0Y-1000000D01*\nX1000000Y0D01*\nG37*\n",
+        &[],
+    ),
+    // A radius of less than 1 m, and one above it.
+    (
+        b"G75*\nG36*\nX1000000Y-1000000D02*\nG03*\nX1000000Y1000000I-999000000J1000000D01*\nG01*\nX-1000000D01*\nY-1000000D01*\nX1000000D01*\nG37*\n",
+        &[(
+            0,
+            &[
+                (1_000, 1_000),
+                (-1_000, 1_000),
+                (-1_000, -1_000),
+                (1_000, -1_000),
+            ],
+        )],
+    ),
+    (
+        b"G75*\nG36*\nX1000000Y-1000000D02*\nG03*\nX1000000Y1000000I-1000000000J1000000D01*\nG01*\nX-1000000D01*\nY-1000000D01*\nX1000000D01*\nG37*\n",
         &[],
     ),
     // A full circle, alone and amid a square.

@@ -1,7 +1,7 @@
 -- The names and the numbers of the reasons (docs/FORMATS.md, the table of reasons).
 use Rattle.std.specs.Prelude.{ℕ, List, codes}
 use Rattle.grid_units.specs.declared.fault.Reason.{Reason}
-use Rattle.grid_units.specs.declared.fault.Reason.TheVariants.{TooLong, AfterEnd, Truncated, SeveralInOne, ClearPolarity, BlockAperture, NegativeImage, TrailingZeros, Incremental, OldParameter, OldFormat, Routed, Repeat, BadWord, BadLine, BadNumber, NoZeros, TooManyDigits, TooFine, TooFar, BareCoordinate, InRegion, NotInRegion, NoFormat, NoUnit, UnitConflict, FormatConflict, Redefined, UnknownMacro, UnknownAperture, UnknownTool, NoAperture, NoTool, BadSize, BadRepeat, TooManyPads, TooManyHoles, BadRule, BadManifest, BadRole, EmptyName, RepeatedName, NoCopper, NoDrill, NotCopper, BadSpan, NoPlating}
+use Rattle.grid_units.specs.declared.fault.Reason.TheVariants.{TooLong, AfterEnd, Truncated, SeveralInOne, ClearPolarity, BlockAperture, NegativeImage, TrailingZeros, Incremental, OldParameter, OldFormat, Routed, Repeat, BadWord, BadLine, BadNumber, NoZeros, TooManyDigits, TooFine, TooFar, BareCoordinate, InRegion, NotInRegion, NoFormat, NoUnit, UnitConflict, FormatConflict, Redefined, UnknownMacro, UnknownAperture, UnknownTool, NoAperture, NoTool, BadSize, BadRepeat, TooManyPads, TooManyHoles, BadRule, BadManifest, BadRole, EmptyName, RepeatedName, NoCopper, NoDrill, NotCopper, BadSpan, NoPlating, PlatingConflict}
 
 -- the name of a reason as it is printed, `TooLong` in `refused place=0 byte=0 reason=TooLong`
 unfoldable pub reason_name : Reason → List ℕ
@@ -52,8 +52,9 @@ reason_name NoDrill = codes "NoDrill"
 reason_name NotCopper = codes "NotCopper"
 reason_name BadSpan = codes "BadSpan"
 reason_name NoPlating = codes "NoPlating"
+reason_name PlatingConflict = codes "PlatingConflict"
 
--- the number of a reason, from 1 to 47
+-- the number of a reason, from 1 to 48
 abbrev pub reason_number : Reason → ℕ
 reason_number TooLong = 1
 reason_number AfterEnd = 2
@@ -102,3 +103,4 @@ reason_number NoDrill = 44
 reason_number NotCopper = 45
 reason_number BadSpan = 46
 reason_number NoPlating = 47
+reason_number PlatingConflict = 48

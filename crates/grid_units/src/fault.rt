@@ -106,10 +106,12 @@ pub enum Reason {
     /// A hole of a mixed drill file whose tool is neither plated nor unplated by the comments of the header, or such a comment in
     /// the body.
     NoPlating = 47,
+    /// An unplated drill file that says of itself, or of a tool, that the holes are plated.
+    PlatingConflict = 48,
 }
 
 /// The names of the reasons, in the order of their numbers.
-const NAMES: [&str; 47] = [
+const NAMES: [&str; 48] = [
     "TooLong",
     "AfterEnd",
     "Truncated",
@@ -157,12 +159,13 @@ const NAMES: [&str; 47] = [
     "NotCopper",
     "BadSpan",
     "NoPlating",
+    "PlatingConflict",
 ];
 
 impl Reason {
     ghost use Rattle.grid_units.specs.Reasons.{reason_name, reason_number};
 
-    /// The number of the reason, from 1 to 47.
+    /// The number of the reason, from 1 to 48.
     pub fn number(self) -> u8
         ensures { result ≡ reason_number self }
     {

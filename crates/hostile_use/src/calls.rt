@@ -8,7 +8,7 @@ use gerber_text::{Command, Kept, Placed, read_kept, read_words, write_commands, 
 use grid_units::{Fail, Profile};
 use manifest::read_manifest;
 use ringcheck_files::{ReadFail, read_all};
-use single_files::{Kind, rewrite_bytes, show_drill, show_layer};
+use single_files::{Kind, rewrite_bytes, show_drill_in, show_layer_in};
 use std::alloc::{AllocError, Global};
 
 /// A call on one text.
@@ -78,8 +78,8 @@ pub(crate) fn ask(call: Call, alloc: Global, text: &[u8]) -> Answer {
         Call::WriteCommands => Answer::of_bytes(commands_written(alloc, text)),
         Call::WritePlaced => Answer::of_bytes(placed_written(alloc, text)),
         Call::WriteDrill => Answer::of_bytes(drill_written(alloc, text)),
-        Call::Show(profile, Kind::Layer) => Answer::of_bytes(show_layer(alloc, profile, text)),
-        Call::Show(profile, Kind::Drill) => Answer::of_bytes(show_drill(alloc, profile, text)),
+        Call::Show(profile, Kind::Layer) => Answer::of_bytes(show_layer_in(alloc, profile, text)),
+        Call::Show(profile, Kind::Drill) => Answer::of_bytes(show_drill_in(alloc, profile, text)),
         Call::Rewrite(kind) => Answer::of_bytes(rewrite_bytes(alloc, kind, text)),
         Call::Manifest => Answer::of_manifest(read_manifest(alloc, text)),
         Call::ReadAll => all_read(alloc, text),

@@ -7,7 +7,7 @@ use command_line::{Refusal, Request, parse};
 use drill_lines::write_line;
 use drill_text::{DrillCommand, read_drill};
 use gerber_text::{ItemCommands, is_ended, read_item, write_item};
-use grid_units::{Fail, ItemFail, Reason, Text};
+use grid_units::{Fail, ItemFail, Profile, Reason, Text};
 use manifest::Name;
 use proposals::{FileContent, InputFile, Proposal, propose, write_proposal, write_reasons};
 use std::alloc::{AllocError, Global};
@@ -123,7 +123,7 @@ fn of_folder(alloc: Global, files: &[Held]) -> Result<Vec<InputFile<'static>>, A
 
 fn answered(call: FolderCall, alloc: Global, files: &[Held]) -> Result<Answer, AllocError> {
     let folder = of_folder(alloc, files)?;
-    of_call(call, alloc, &propose(alloc, &folder)?)
+    of_call(call, alloc, &propose(alloc, Profile::Strict, &folder)?)
 }
 
 fn of_call(call: FolderCall, alloc: Global, proposals: &[Proposal]) -> Result<Answer, AllocError> {

@@ -198,7 +198,7 @@ fn a_table_and_a_canonical_text_are_asked_for(rt: HostRuntime) {
     }
 }
 
-const REFUSED: [&str; 57] = [
+const REFUSED: [&str; 66] = [
     "check --ring -1 --gap 0.2 m.csv",
     // other words
     "",
@@ -233,7 +233,10 @@ const REFUSED: [&str; 57] = [
     "measure --profile m.csv",
     "measure --profile wide --profile wide m.csv",
     "draw --profile wide --profile wide m.csv",
-    "manifest --profile wide top.gbr",
+    "manifest top.gbr --profile",
+    "manifest --profile wide",
+    "manifest --profile wide --profile wide top.gbr",
+    "manifest --profile --why top.gbr",
     "show --kind layer top.gbr --profile",
     "show --kind layer --profile top.gbr",
     "show --kind layer --profile wide --profile wide top.gbr",
@@ -261,6 +264,13 @@ const REFUSED: [&str; 57] = [
     "report --format=text --ring=0.125 --gap=0.2 --format=json m.csv",
     "check --format=json --ring=0.125 --gap=0.2 m.csv",
     "draw --format json m.csv",
+    // the status 0 for findings is asked for once, without a value, and of a report alone
+    "report --exit-zero --exit-zero --ring=0.125 --gap=0.2 m.csv",
+    "report --exit-zero=true --ring=0.125 --gap=0.2 m.csv",
+    "report --exit-zero m.csv",
+    "check --exit-zero --ring=0.125 --gap=0.2 m.csv",
+    "measure --exit-zero m.csv",
+    "draw --exit-zero m.csv",
 ];
 
 #[test]
@@ -289,7 +299,7 @@ const VALUES: [&str; 7] = [
     "--ring <MM>",
     "--gap <MM>",
     "[--profile <strict|wide>]",
-    "--profile <NAME>  strict, the default: ",
+    "--profile <NAME>  strict (default): ",
     "<MANIFEST>",
     "in mm",
     "role,name,file",
@@ -307,7 +317,7 @@ const HELP: [(&str, Parts); 10] = [
         &[
             "ringcheck show --kind <layer|drill> [--profile <strict|wide>] <FILE>\n",
             "--kind <layer|drill>  ",
-            "--profile <NAME>      strict, the default: ",
+            "--profile <NAME>      strict (default): ",
         ],
     ),
     ("rewrite -h", &["--kind <layer|drill>", "<FILE>"]),
@@ -316,8 +326,8 @@ const HELP: [(&str, Parts); 10] = [
         &[
             "ringcheck measure [--profile <strict|wide>] [--format <text|json>]\n",
             " <MANIFEST>",
-            "--profile <NAME>      strict, the default: ",
-            "--format <text|json>  Lines for people, or one object of JSON;\n",
+            "--profile <NAME>      strict (default): ",
+            "--format <text|json>  text for people, or json, one JSON object\n",
             "Example:  ringcheck measure ",
         ],
     ),
@@ -326,18 +336,22 @@ const HELP: [(&str, Parts); 10] = [
         &[
             "ringcheck report --ring <MM> --gap <MM> [--max <N>] [--waive <FILE>]\n",
             " [--outline <FILE>] [--format <text|html|json|waivers>]\n",
-            "Tell of each finding by how much, and why",
-            "--max <N>         Most findings to show; all if it is not given\n",
-            "--waive <FILE>    File of waivers: findings that are accepted\n",
-            "--outline <FILE>  Gerber file of the board's edge, for --format html\n",
-            "--format <NAME>   text, for people; html, a page for a browser;\n",
+            " [--profile <strict|wide>] [--exit-zero] <MANIFEST>\n",
+            "Explain each finding: how far below the rule, and why",
+            "--ring <MM>       Minimum annular ring in mm, e.g. 0.125\n",
+            "--gap <MM>        Minimum distance between hole edges, in mm, e.g. 0.25\n",
+            "--max <N>         Show at most N findings (default: all)\n",
+            "--waive <FILE>    File of waivers: the findings that are accepted\n",
+            "--outline <FILE>  Gerber file of the board outline, for --format html\n",
+            "--format <NAME>   text (default), for people; html, a page for browsers;\n",
+            "--exit-zero       Exit with status 0 even if there are findings\n",
         ],
     ),
     (
         "draw --help",
         &[
             "ringcheck draw [--ring <MM> --gap <MM>] [--profile <strict|wide>]",
-            "--outline <FILE>  Gerber file of the board's edge, drawn as a thin line\n",
+            "--outline <FILE>  Gerber file of the board outline, drawn as a thin line\n",
             "Draw a package as an SVG picture",
         ],
     ),
@@ -369,22 +383,47 @@ fn help_fits_a_screen(rt: HostRuntime) {
     }
 }
 
-const MANIFESTS: [(&str, &str); 4] = [
+const MANIFESTS: [(&str, &str); 10] = [
     (
         "manifest top.gbr pth.drl",
-        "Manifest { why: false, files: [\"top.gbr\", \"pth.drl\"] }",
+        "Manifest { why: false, profile: None, files: [\"top.gbr\", \"pth.drl\"] }",
     ),
     (
         "manifest --why top.gbr pth.drl",
-        "Manifest { why: true, files: [\"top.gbr\", \"pth.drl\"] }",
+        "Manifest { why: true, profile: None, files: [\"top.gbr\", \"pth.drl\"] }",
     ),
     (
         "manifest top.gbr --why pth.drl",
-        "Manifest { why: true, files: [\"top.gbr\", \"pth.drl\"] }",
+        "Manifest { why: true, profile: None, files: [\"top.gbr\", \"pth.drl\"] }",
     ),
     (
         "manifest top.gbr pth.drl --why",
-        "Manifest { why: true, files: [\"top.gbr\", \"pth.drl\"] }",
+        "Manifest { why: true, profile: None, files: [\"top.gbr\", \"pth.drl\"] }",
+    ),
+    // with a profile, which may be any word
+    (
+        "manifest --profile wide top.gbr pth.drl",
+        "Manifest { why: false, profile: Some(\"wide\"), files: [\"top.gbr\", \"pth.drl\"] }",
+    ),
+    (
+        "manifest --why --profile wide top.gbr",
+        "Manifest { why: true, profile: Some(\"wide\"), files: [\"top.gbr\"] }",
+    ),
+    (
+        "manifest --profile strict --why top.gbr",
+        "Manifest { why: true, profile: Some(\"strict\"), files: [\"top.gbr\"] }",
+    ),
+    (
+        "manifest top.gbr --profile=wide pth.drl",
+        "Manifest { why: false, profile: Some(\"wide\"), files: [\"top.gbr\", \"pth.drl\"] }",
+    ),
+    (
+        "manifest --profile loose top.gbr",
+        "Manifest { why: false, profile: Some(\"loose\"), files: [\"top.gbr\"] }",
+    ),
+    (
+        "manifest --profile= top.gbr",
+        "Manifest { why: false, profile: Some(\"\"), files: [\"top.gbr\"] }",
     ),
 ];
 
@@ -450,62 +489,75 @@ fn a_measure_is_asked_for(rt: HostRuntime) {
     }
 }
 
-const REPORTS: [(&str, &str); 13] = [
+const REPORTS: [(&str, &str); 16] = [
     (
         "report --ring 0.125 --gap 0.2 m.csv",
-        "Report { options: ReportWords { ring: \"0.125\", gap: \"0.2\", profile: None, limit: None, waive: None, outline: None, format: None }, manifest: \"m.csv\" }",
+        "Report { options: ReportWords { ring: \"0.125\", gap: \"0.2\", profile: None, limit: None, waive: None, outline: None, format: None, exit_zero: false }, manifest: \"m.csv\" }",
     ),
     (
         "report --ring 0.125 --gap 0.2 --max 2 m.csv",
-        "Report { options: ReportWords { ring: \"0.125\", gap: \"0.2\", profile: None, limit: Some(\"2\"), waive: None, outline: None, format: None }, manifest: \"m.csv\" }",
+        "Report { options: ReportWords { ring: \"0.125\", gap: \"0.2\", profile: None, limit: Some(\"2\"), waive: None, outline: None, format: None, exit_zero: false }, manifest: \"m.csv\" }",
     ),
     (
         "report --max 2 m.csv --gap 0.2 --ring 0.125",
-        "Report { options: ReportWords { ring: \"0.125\", gap: \"0.2\", profile: None, limit: Some(\"2\"), waive: None, outline: None, format: None }, manifest: \"m.csv\" }",
+        "Report { options: ReportWords { ring: \"0.125\", gap: \"0.2\", profile: None, limit: Some(\"2\"), waive: None, outline: None, format: None, exit_zero: false }, manifest: \"m.csv\" }",
     ),
     // in a format
     (
         "report --ring 0.125 --gap 0.2 --format json m.csv",
-        "Report { options: ReportWords { ring: \"0.125\", gap: \"0.2\", profile: None, limit: None, waive: None, outline: None, format: Some(\"json\") }, manifest: \"m.csv\" }",
+        "Report { options: ReportWords { ring: \"0.125\", gap: \"0.2\", profile: None, limit: None, waive: None, outline: None, format: Some(\"json\"), exit_zero: false }, manifest: \"m.csv\" }",
     ),
     (
         "report --ring 0.125 --gap 0.2 --max 2 --format json m.csv",
-        "Report { options: ReportWords { ring: \"0.125\", gap: \"0.2\", profile: None, limit: Some(\"2\"), waive: None, outline: None, format: Some(\"json\") }, manifest: \"m.csv\" }",
+        "Report { options: ReportWords { ring: \"0.125\", gap: \"0.2\", profile: None, limit: Some(\"2\"), waive: None, outline: None, format: Some(\"json\"), exit_zero: false }, manifest: \"m.csv\" }",
     ),
     (
         "report --format=json m.csv --gap 0.2 --max=2 --ring 0.125",
-        "Report { options: ReportWords { ring: \"0.125\", gap: \"0.2\", profile: None, limit: Some(\"2\"), waive: None, outline: None, format: Some(\"json\") }, manifest: \"m.csv\" }",
+        "Report { options: ReportWords { ring: \"0.125\", gap: \"0.2\", profile: None, limit: Some(\"2\"), waive: None, outline: None, format: Some(\"json\"), exit_zero: false }, manifest: \"m.csv\" }",
     ),
     (
         "report m.csv --gap 0.2 --ring 0.125 --format text",
-        "Report { options: ReportWords { ring: \"0.125\", gap: \"0.2\", profile: None, limit: None, waive: None, outline: None, format: Some(\"text\") }, manifest: \"m.csv\" }",
+        "Report { options: ReportWords { ring: \"0.125\", gap: \"0.2\", profile: None, limit: None, waive: None, outline: None, format: Some(\"text\"), exit_zero: false }, manifest: \"m.csv\" }",
     ),
     // with waivers
     (
         "report --ring 0.125 --gap 0.2 --waive w.csv m.csv",
-        "Report { options: ReportWords { ring: \"0.125\", gap: \"0.2\", profile: None, limit: None, waive: Some(\"w.csv\"), outline: None, format: None }, manifest: \"m.csv\" }",
+        "Report { options: ReportWords { ring: \"0.125\", gap: \"0.2\", profile: None, limit: None, waive: Some(\"w.csv\"), outline: None, format: None, exit_zero: false }, manifest: \"m.csv\" }",
     ),
     (
         "report --ring 0.125 --gap 0.2 --max 2 --waive w.csv --format json m.csv",
-        "Report { options: ReportWords { ring: \"0.125\", gap: \"0.2\", profile: None, limit: Some(\"2\"), waive: Some(\"w.csv\"), outline: None, format: Some(\"json\") }, manifest: \"m.csv\" }",
+        "Report { options: ReportWords { ring: \"0.125\", gap: \"0.2\", profile: None, limit: Some(\"2\"), waive: Some(\"w.csv\"), outline: None, format: Some(\"json\"), exit_zero: false }, manifest: \"m.csv\" }",
     ),
     (
         "report m.csv --format=waivers --waive=w.csv --gap 0.2 --ring 0.125",
-        "Report { options: ReportWords { ring: \"0.125\", gap: \"0.2\", profile: None, limit: None, waive: Some(\"w.csv\"), outline: None, format: Some(\"waivers\") }, manifest: \"m.csv\" }",
+        "Report { options: ReportWords { ring: \"0.125\", gap: \"0.2\", profile: None, limit: None, waive: Some(\"w.csv\"), outline: None, format: Some(\"waivers\"), exit_zero: false }, manifest: \"m.csv\" }",
     ),
     // with an outline
     (
         "report --outline edge.gbr --format html --ring 0.125 --gap 0.2 m.csv",
-        "Report { options: ReportWords { ring: \"0.125\", gap: \"0.2\", profile: None, limit: None, waive: None, outline: Some(\"edge.gbr\"), format: Some(\"html\") }, manifest: \"m.csv\" }",
+        "Report { options: ReportWords { ring: \"0.125\", gap: \"0.2\", profile: None, limit: None, waive: None, outline: Some(\"edge.gbr\"), format: Some(\"html\"), exit_zero: false }, manifest: \"m.csv\" }",
     ),
     // in a profile
     (
         "report --profile wide --ring 0.125 --gap 0.2 m.csv",
-        "Report { options: ReportWords { ring: \"0.125\", gap: \"0.2\", profile: Some(\"wide\"), limit: None, waive: None, outline: None, format: None }, manifest: \"m.csv\" }",
+        "Report { options: ReportWords { ring: \"0.125\", gap: \"0.2\", profile: Some(\"wide\"), limit: None, waive: None, outline: None, format: None, exit_zero: false }, manifest: \"m.csv\" }",
     ),
     (
         "report m.csv --gap=0.2 --ring=0.125 --max=2 --profile=strict",
-        "Report { options: ReportWords { ring: \"0.125\", gap: \"0.2\", profile: Some(\"strict\"), limit: Some(\"2\"), waive: None, outline: None, format: None }, manifest: \"m.csv\" }",
+        "Report { options: ReportWords { ring: \"0.125\", gap: \"0.2\", profile: Some(\"strict\"), limit: Some(\"2\"), waive: None, outline: None, format: None, exit_zero: false }, manifest: \"m.csv\" }",
+    ),
+    // with the status 0 for findings too
+    (
+        "report --exit-zero --ring 0.125 --gap 0.2 m.csv",
+        "Report { options: ReportWords { ring: \"0.125\", gap: \"0.2\", profile: None, limit: None, waive: None, outline: None, format: None, exit_zero: true }, manifest: \"m.csv\" }",
+    ),
+    (
+        "report m.csv --max=2 --exit-zero --gap 0.2 --profile wide --ring 0.125",
+        "Report { options: ReportWords { ring: \"0.125\", gap: \"0.2\", profile: Some(\"wide\"), limit: Some(\"2\"), waive: None, outline: None, format: None, exit_zero: true }, manifest: \"m.csv\" }",
+    ),
+    (
+        "report --ring 0.125 --gap 0.2 --format json m.csv --exit-zero",
+        "Report { options: ReportWords { ring: \"0.125\", gap: \"0.2\", profile: None, limit: None, waive: None, outline: None, format: Some(\"json\"), exit_zero: true }, manifest: \"m.csv\" }",
     ),
 ];
 

@@ -26,11 +26,11 @@ fn texts_have_their_kinds(rt: HostRuntime) {
 }
 
 /// Whether the file function of a text has these fields.
-fn has_valid_fields(text: &[u8], fields: (&[u8], &[u8], &[u8])) -> bool {
+fn has_valid_fields(text: &[u8], fields: (&[u8], &[u8], &[u8], &[u8])) -> bool {
     match function_of(text) {
         Some(function) => {
             let found = fields_of(function);
-            (found.first, found.second, found.third) == fields
+            (found.first, found.second, found.third, found.fourth) == fields
         }
         None => false,
     }
@@ -39,7 +39,13 @@ fn has_valid_fields(text: &[u8], fields: (&[u8], &[u8], &[u8])) -> bool {
 #[test]
 fn the_last_file_function_counts(rt: HostRuntime) {
     let text = b"G04 #@! TF.FileFunction,Legend,Top*\n%TF.FileFunction,Copper,L2,Bot*%\nM02*\n";
-    assert!(rt; has_valid_fields(text, (b"Copper", b"L2", b"Bot")));
+    assert!(rt; has_valid_fields(text, (b"Copper", b"L2", b"Bot", b"")));
+}
+
+#[test]
+fn a_file_function_has_four_fields_that_count(rt: HostRuntime) {
+    let text = b"; #@! TF.FileFunction,Plated,1,2,Blind,Drill\nM30\n";
+    assert!(rt; has_valid_fields(text, (b"Plated", b"1", b"2", b"Blind")));
 }
 
 /// Digits, and the number of the layer.
@@ -90,6 +96,30 @@ fn has_lower_copper_words(alloc: Global, name: &[u8]) -> bool {
     match lower_base_name(alloc, name) {
         Ok(lower) => has_copper_words(alloc, lower.as_slice()),
         Err(_) => false,
+    }
+}
+
+/// Whether a name is this text once it is cut before its capitals, in small letters.
+fn is_cut_to(alloc: Global, name: &str, text: &str) -> bool {
+    match lower_base_name(alloc, name.as_bytes()) {
+        Ok(lower) => lower.as_slice() == text.as_bytes(),
+        Err(_) => false,
+    }
+}
+
+/// A name, and what it is once it is cut.
+const CUT_NAMES: [(&str, &str); 5] = [
+    ("out/SolderMaskTop.gbr", "solder mask top.gbr"),
+    ("board-F_Cu.gbr", "board-f_cu.gbr"),
+    ("PCBTop.GTL", "pcbtop.gtl"),
+    ("L1Top", "l1top"),
+    ("copperBottom", "copper bottom"),
+];
+
+#[test]
+fn names_are_cut_before_capitals(rt: HostRuntime) {
+    for &(name, text) in &CUT_NAMES {
+        assert!(rt; is_cut_to(rt.alloc(), name, text), "{name}");
     }
 }
 

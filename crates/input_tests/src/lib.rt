@@ -9,3 +9,5 @@ mod file_kinds_calls;
 mod manifest_calls;
 #[cfg(test)]
 mod proposals_calls;
+#[cfg(test)]
+mod proposed_roles_calls;

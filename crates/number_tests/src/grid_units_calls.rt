@@ -331,6 +331,7 @@ fn reasons_have_their_numbers(rt: HostRuntime) {
         (Reason::NotCopper, 45),
         (Reason::BadSpan, 46),
         (Reason::NoPlating, 47),
+        (Reason::PlatingConflict, 48),
     ] {
         assert!(rt; reason.number() == number, "of {number}");
     }
@@ -344,6 +345,7 @@ fn reasons_have_their_names(rt: HostRuntime) {
         (Reason::NotCopper, "NotCopper"),
         (Reason::BadSpan, "BadSpan"),
         (Reason::NoPlating, "NoPlating"),
+        (Reason::PlatingConflict, "PlatingConflict"),
     ] {
         assert!(rt; reason.name() == name, "of {name}");
     }

@@ -46,7 +46,7 @@ counted test (x ∷ xs) =
 pub all_listed : (one : Content) → hole_count (sum_of one) ≡ length (drilled_in one)
 all_listed (content.Layer image) = refl
 all_listed (content.Mixed span holes) = counted (λ (one : Drilled). is_round one.hole) holes
-all_listed (content.Drill plated span holes) = counted is_round holes ∙ sym (length-map holes (λ hole. let one : Drilled = record { hole = hole; plated = plated; span = span } in one))
+all_listed (content.Drill plated span drill) = counted is_round drill.holes ∙ sym (length-map drill.holes (λ hole. let one : Drilled = record { hole = hole; plated = plated; span = span } in one))
 
 -- the files have as many holes as are listed for all of them
 pub all_counted : (contents : List Content) → sum_by hole_count (map sum_of contents) ≡ length (flat_map drilled_in contents)
@@ -69,7 +69,7 @@ placed_from file plated span n (h ∷ hs) = ap (λ (t : List Numbered). record {
 
 placed : (file : ℕ) (one : Content) → numbered_in file (drilled_in one) ≡ holes_of (file, one)
 placed file (content.Layer image) = refl
-placed file (content.Drill plated span holes) = placed_from file plated span 1 holes
+placed file (content.Drill plated span drill) = placed_from file plated span 1 drill.holes
 placed file (content.Mixed span holes) = refl
 
 -- the holes of a board with their places are those of its files

@@ -53,7 +53,7 @@ same_slots before after same = same_holes after before (λ i. ap holes_in_slot (
 
 no_holes_counted : (s : FileSum) → is_drill_sum s ≡ false → hole_count s ≡ 0
 no_holes_counted (sum.Layer pads other contours) is = refl
-no_holes_counted (sum.Drill plated span round slots) is = absurd (false≢true (sym is))
+no_holes_counted (sum.Drill plated span contradicted round slots) is = absurd (false≢true (sym is))
 no_holes_counted (sum.Mixed span round slots unplated) is = absurd (false≢true (sym is))
 
 no_holes : (o : Option Judged) → is_drill_in o ≡ false → holes_in_slot o ≡ 0

@@ -4,9 +4,8 @@ use Rattle.grid_units.specs.Spans.{LayerSpan}
 use Rattle.grid_units.specs.Holes.{GridRules}
 use Rattle.grid_units.specs.declared.fault.Fault.{Fault}
 use Rattle.drill_text.specs.Faults.{HasAnswer, IsFirstFault}
-use Rattle.drill_text.specs.Holes.{holes_of}
 use Rattle.drill_text.specs.Reading as drills
-use Rattle.drill_text.specs.Profiles.{Kind, ReadsBy, ReadsIn, mixed_in}
+use Rattle.drill_text.specs.Profiles.{Kind, ReadsBy, mixed_in}
 use Rattle.drill_lines.specs.declared.command.DrillCommand.{DrillCommand}
 use Rattle.gerber_text.specs.Writing.{without_places}
 use Rattle.grid_units.specs.declared.profile.Profile.{Profile}
@@ -20,13 +19,12 @@ use Rattle.package_check.specs.declared.contents.Content.TheVariants as content
 use Rattle.package_check.specs.AlikePackages.{ReadingExists, AnswerExists}
 use Rattle.package_check.specs.LayerViews.{LayerView}
 use Rattle.package_check.specs.Package.{FileView, Setting, Reads, ReadsBytes, ReadsUnlessBadSpan, ReadsCopper, ReadsHoles, ReadsMixedHoles, HasContent, HaveContents, IsFirstRefused, IsAnswer, is_bad_span, bad_span, not_copper, report_on}
-use Rattle.package_check.specs.FileTexts.{ReadsLayer, layer_view, mixed_holes, wide_view}
+use Rattle.package_check.specs.FileTexts.{ReadsLayer, drill_kind, drill_view, layer_view, mixed_holes, wide_view}
 use Rattle.package_check.specs.Reports.{ReportView}
 use Rattle.package_check.proofs.ContentIsReading.{content_read}
 
 module _ (each_layer : layers.EachTextAnswersIn) (each_drill : (text : List ℕ) → HasAnswer text)
     (first : (text : List ℕ) (f : Fault) → drills.Reads text (Err f) ↔ IsFirstFault text f)
-    (each_drill_in : (profile : Profile) (text : List ℕ) → (answer : Result (List DrillCommand) Fault) × ReadsIn profile text answer)
     (each_kind : (kind : Kind) (text : List ℕ) → (answer : Result (List DrillCommand) Fault) × ReadsBy kind text answer) where
   -- a layer is copper, or is refused as NotCopper
   of_image : (profile : Profile) (bytes : List ℕ) (image : LayerView) → ReadsLayer profile bytes (Ok image) → (copper : Bool) → image.is_copper ≡ copper → (answer : Result Content Fault) × ReadsCopper profile bytes answer
@@ -44,16 +42,16 @@ module _ (each_layer : layers.EachTextAnswersIn) (each_drill : (text : List ℕ)
   some_copper profile bytes = let read = each_layer profile bytes in of_layer profile bytes read.0 read.1
 
   of_drill : (plated : Bool) (span : Option LayerSpan) (bytes : List ℕ) → HasAnswer bytes → (answer : Result Content Fault) × ReadsHoles Strict plated span bytes answer
-  of_drill plated span bytes (inl h) = (Ok (content.Drill plated span (holes_of h.0)), ((h.0, h.1, refl), refl, refl))
+  of_drill plated span bytes (inl h) = (Ok (content.Drill plated span (drill_view plated h.0)), ((h.0, h.1, refl), refl, refl))
   of_drill plated span bytes (inr h) = (Err h.0, (first bytes h.0).1 h.1)
 
-  of_wide_drill : (plated : Bool) (span : Option LayerSpan) (bytes : List ℕ) (answer : Result (List DrillCommand) Fault) → ReadsIn Wide bytes answer → (answer : Result Content Fault) × ReadsHoles Wide plated span bytes answer
-  of_wide_drill plated span bytes (Ok commands) h = (Ok (content.Drill plated span (holes_of commands)), ((commands, h, refl), refl, refl))
+  of_wide_drill : (plated : Bool) (span : Option LayerSpan) (bytes : List ℕ) (answer : Result (List DrillCommand) Fault) → ReadsBy (drill_kind Wide plated) bytes answer → (answer : Result Content Fault) × ReadsHoles Wide plated span bytes answer
+  of_wide_drill plated span bytes (Ok commands) h = (Ok (content.Drill plated span (drill_view plated commands)), ((commands, h, refl), refl, refl))
   of_wide_drill plated span bytes (Err f) h = (Err f, h)
 
   some_holes : (profile : Profile) (plated : Bool) (span : Option LayerSpan) (bytes : List ℕ) → (answer : Result Content Fault) × ReadsHoles profile plated span bytes answer
   some_holes Strict plated span bytes = of_drill plated span bytes (each_drill bytes)
-  some_holes Wide plated span bytes = let read = each_drill_in Wide bytes in of_wide_drill plated span bytes read.0 read.1
+  some_holes Wide plated span bytes = let read = each_kind (drill_kind Wide plated) bytes in of_wide_drill plated span bytes read.0 read.1
 
   of_mixed : (profile : Profile) (span : Option LayerSpan) (bytes : List ℕ) (answer : Result (List DrillCommand) Fault) → ReadsBy (mixed_in profile) bytes answer → (answer : Result Content Fault) × ReadsMixedHoles profile span bytes answer
   of_mixed profile span bytes (Ok commands) h = (Ok (content.Mixed span (mixed_holes span commands)), ((commands, h, refl), refl))

@@ -3,11 +3,11 @@ use Rattle.std.proofs.Common.{◌≡◌, ℕ, Bool, true, false, not, cond, List
 use Rattle.std.specs.Prelude.{Option}
 use Rattle.std.specs.List.{flat_map}
 use Rattle.std.proofs.lemmas.List.Concat.{flat_map-cons}
-use Rattle.grid_units.specs.Holes.{GridHole}
 use Rattle.grid_units.specs.Spans.{LayerSpan}
 use Rattle.ring_rules.specs.declared.finding.Drilled.{Drilled}
 use Rattle.manifest.specs.declared.Role.{Role}
 use Rattle.manifest.specs.declared.Role.TheVariants as role
+use Rattle.package_check.specs.DrillViews.{DrillView}
 use Rattle.package_check.specs.Checking.{drill_files}
 use Rattle.package_check.specs.LayerViews.{LayerView}
 use Rattle.package_check.specs.Package.{Setting, BytesHaveContent, FileView, HasContent, HaveContents, is_copper}
@@ -22,12 +22,12 @@ layer_role role.Plated name span bytes n image h = absurd h
 layer_role role.Unplated name span bytes n image h = absurd h
 layer_role role.Mixed name span bytes n image h = absurd h
 
-drill_role : (q : Role) (name : List ℕ) (span : Option LayerSpan) (bytes : List ℕ) (n : Setting) (plated : Bool) (through : Option LayerSpan) (holes : List GridHole)
-    → BytesHaveContent (record { role = q; name = name; span = span; bytes = bytes; setting = n }) (content.Drill plated through holes) → is_copper q ≡ false
-drill_role role.Copper name span bytes n plated through holes h = absurd h
-drill_role role.Plated name span bytes n plated through holes h = refl
-drill_role role.Unplated name span bytes n plated through holes h = refl
-drill_role role.Mixed name span bytes n plated through holes h = absurd h
+drill_role : (q : Role) (name : List ℕ) (span : Option LayerSpan) (bytes : List ℕ) (n : Setting) (plated : Bool) (through : Option LayerSpan) (drill : DrillView)
+    → BytesHaveContent (record { role = q; name = name; span = span; bytes = bytes; setting = n }) (content.Drill plated through drill) → is_copper q ≡ false
+drill_role role.Copper name span bytes n plated through drill h = absurd h
+drill_role role.Plated name span bytes n plated through drill h = refl
+drill_role role.Unplated name span bytes n plated through drill h = refl
+drill_role role.Mixed name span bytes n plated through drill h = absurd h
 
 mixed_role : (q : Role) (name : List ℕ) (span : Option LayerSpan) (bytes : List ℕ) (n : Setting) (through : Option LayerSpan) (holes : List Drilled)
     → BytesHaveContent (record { role = q; name = name; span = span; bytes = bytes; setting = n }) (content.Mixed through holes) → is_copper q ≡ false
@@ -41,8 +41,8 @@ pub layer_is_copper : (s : FileView) (image : LayerView) → HasContent s (conte
 layer_is_copper s image h = layer_role s.role s.name s.span s.bytes s.setting image h.1
 
 -- and one that is read as a drill file is not
-pub drill_is_no_copper : (s : FileView) (plated : Bool) (through : Option LayerSpan) (holes : List GridHole) → HasContent s (content.Drill plated through holes) → is_copper s.role ≡ false
-drill_is_no_copper s plated through holes h = drill_role s.role s.name s.span s.bytes s.setting plated through holes h.1
+pub drill_is_no_copper : (s : FileView) (plated : Bool) (through : Option LayerSpan) (drill : DrillView) → HasContent s (content.Drill plated through drill) → is_copper s.role ≡ false
+drill_is_no_copper s plated through drill h = drill_role s.role s.name s.span s.bytes s.setting plated through drill h.1
 
 -- nor is a mixed one
 pub mixed_is_no_copper : (s : FileView) (through : Option LayerSpan) (holes : List Drilled) → HasContent s (content.Mixed through holes) → is_copper s.role ≡ false
@@ -82,12 +82,12 @@ drills_among (s ∷ ss) (content.Layer image ∷ cs) h =
     let rest = drills_among ss cs h.1 in
     let copper = layer_is_copper s image h.0 in
     (rest.0, subst (λ (b : Bool). HaveContents (cond (not b) (s ∷ drill_files ss) (drill_files ss)) rest.0) (sym copper) rest.1, flat_map-cons drilled_in (content.Layer image) cs ∙ rest.2)
-drills_among (s ∷ ss) (content.Drill plated span holes ∷ cs) h =
+drills_among (s ∷ ss) (content.Drill plated span drill ∷ cs) h =
     let rest = drills_among ss cs h.1 in
-    let one = content.Drill plated span holes in
-    let drill = drill_is_no_copper s plated span holes h.0 in (
+    let one = content.Drill plated span drill in
+    let no_copper = drill_is_no_copper s plated span drill h.0 in (
       one ∷ rest.0,
-      subst (λ (b : Bool). HaveContents (cond (not b) (s ∷ drill_files ss) (drill_files ss)) (one ∷ rest.0)) (sym drill) (h.0, rest.1),
+      subst (λ (b : Bool). HaveContents (cond (not b) (s ∷ drill_files ss) (drill_files ss)) (one ∷ rest.0)) (sym no_copper) (h.0, rest.1),
       flat_map-cons drilled_in one cs ∙ (ap (λ (ds : List Drilled). drilled_in one ++ ds) rest.2 ∙ sym (flat_map-cons drilled_in one rest.0)),
     )
 drills_among (s ∷ ss) (content.Mixed span holes ∷ cs) h =

@@ -17,9 +17,9 @@ indexed_from n [] = refl
 indexed_from n (content.Layer image ∷ cs) =
     ap length (flat_map-cons index_of (n, content.Layer image) (enumerate_from (n + 1) cs))
     ∙ (ap suc (indexed_from (n + 1) cs) ∙ sym (ap length (flat_map-cons pads_of (content.Layer image) cs)))
-indexed_from n (content.Drill plated span holes ∷ cs) =
-    ap length (flat_map-cons index_of (n, content.Drill plated span holes) (enumerate_from (n + 1) cs))
-    ∙ (indexed_from (n + 1) cs ∙ sym (ap length (flat_map-cons pads_of (content.Drill plated span holes) cs)))
+indexed_from n (content.Drill plated span drill ∷ cs) =
+    ap length (flat_map-cons index_of (n, content.Drill plated span drill) (enumerate_from (n + 1) cs))
+    ∙ (indexed_from (n + 1) cs ∙ sym (ap length (flat_map-cons pads_of (content.Drill plated span drill) cs)))
 indexed_from n (content.Mixed span holes ∷ cs) =
     ap length (flat_map-cons index_of (n, content.Mixed span holes) (enumerate_from (n + 1) cs))
     ∙ (indexed_from (n + 1) cs ∙ sym (ap length (flat_map-cons pads_of (content.Mixed span holes) cs)))

@@ -3,7 +3,7 @@ use Rattle.std.proofs.Common.{◌≡◌, ◌<◌, ◌∷◌, ℕ, zero, suc, Lis
 use Rattle.std.proofs.lemmas.Bool.{false≢true}
 use Rattle.grid_units.specs.declared.fault.Fault.{Fault}
 use Rattle.gerber_text.specs.Writing.{without_places}
-use Rattle.layer_image.specs.Drawn.{drawn_of}
+use Rattle.further_copper.specs.DrawnCopper.{drawn_in}
 use Rattle.layer_image.specs.KeptFlashes.{keeps_commands, keeps_flashes}
 use Rattle.layer_image.specs.Layers.{LayerImage, ReadingIsUniqueIn}
 use Rattle.layer_image.specs.declared.drawn.Drawn.{Drawn}
@@ -28,7 +28,7 @@ ok_same e = cc
 -- what a text draws is what each layer draws that it reads as
 pub drawn_read : ReadingIsUniqueIn → (source : FileView) (drawn : List Drawn) → Draws source.setting.profile source.bytes drawn → AreDrawnOf source drawn
 drawn_read one source drawn read = λ copper image reads.
-    read.2 ∙ ap (λ (i : LayerImage). drawn_of (without_places i.commands)) (ok_same (one source.setting.profile source.bytes (Ok read.0) (Ok image) read.1 reads))
+    read.2 ∙ ap (λ (i : LayerImage). drawn_in source.setting.profile (without_places i.commands)) (ok_same (one source.setting.profile source.bytes (Ok read.0) (Ok image) read.1 reads))
 
 -- no file
 pub no_lists : {X : Type 0} (IsOf : FileView → List X → Type 0) → AreFileLists IsOf [] []

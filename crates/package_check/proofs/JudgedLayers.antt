@@ -44,13 +44,13 @@ sums_counted (Some one ∷ os) =
 -- the number of the layer after a file with this content, if its own would be n
 abbrev number_after : ℕ → Content → ℕ
 number_after n (content.Layer image) = n + 1
-number_after n (content.Drill plated span holes) = n
+number_after n (content.Drill plated span drill) = n
 number_after n (content.Mixed span holes) = n
 
 -- the index of a copper file by its counts is that by its content
 one_index : (n : ℕ) (c : Content) → index_in (n, sum_of c) ≡ index_of (n, c)
 one_index n (content.Layer image) = refl
-one_index n (content.Drill plated span holes) = refl
+one_index n (content.Drill plated span drill) = refl
 one_index n (content.Mixed span holes) = refl
 
 indexes_from : (n : ℕ) (contents : List Content) → flat_map index_in (enumerate_from n (map sum_of contents)) ≡ flat_map index_of (enumerate_from n contents)

@@ -28,3 +28,4 @@ pub mod TakeSteps
 pub mod WrittenPackages
 mod WiderFindings
 mod WiderContents
+pub mod Uncontradicted

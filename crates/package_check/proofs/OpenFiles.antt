@@ -7,14 +7,15 @@ use Rattle.grid_units.specs.Spans.{LayerSpan}
 use Rattle.grid_units.specs.declared.fault.Fault.{Fault}
 use Rattle.grid_units.specs.declared.fault.Fail.{Fail}
 use Rattle.grid_units.specs.declared.fault.Fail.TheVariants as fails
+use Rattle.drill_lines.specs.declared.command.DrillCommand.{DrillCommand}
 use Rattle.drill_text.specs.Outcome.{DrillFile, file_of}
-use Rattle.drill_text.specs.Profiles.{Kind, ReadsAsBy, ReadsAsIn, ReadsBy, ReadsIn, ShowsBy, ShowsIn, mixed_in}
+use Rattle.drill_text.specs.Plating.{says_otherwise}
+use Rattle.drill_text.specs.Profiles.{Kind, ReadsAsBy, ReadsBy, ShowsBy, mixed_in}
 use Rattle.drill_text.proofs.ProfileLemmas.{reads_strictly}
 use Rattle.drill_text.proofs.SpellsTextLemmas.{reads_drill_text}
 use Rattle.grid_units.specs.declared.profile.Profile.{Profile}
 use Rattle.grid_units.specs.declared.profile.Profile.TheVariants.{Strict, Wide}
 use Rattle.drill_text.specs.declared.kept.Keep.TheVariants as drill_keep
-use Rattle.grid_units.specs.Holes.{GridHole}
 use Rattle.layer_image.specs.Holding.{ShowsLayerFaultIn}
 use Rattle.layer_image.specs.Layers as layers
 use Rattle.layer_image.specs.Layers.{LayerImage, ReadsKeptIn}
@@ -23,7 +24,8 @@ use Rattle.wide_layers.specs.WideLayers.{ReadsWideLayer, WideImage}
 use Rattle.manifest.specs.declared.Role.{Role}
 use Rattle.manifest.specs.declared.Role.TheVariants as role
 use Rattle.ring_rules.specs.declared.finding.Drilled.{Drilled}
-use Rattle.package_check.specs.FileTexts.{ReadsDrill, ReadsLayer, ReadsMixed, marked}
+use Rattle.package_check.specs.DrillViews.{DrillView}
+use Rattle.package_check.specs.FileTexts.{ReadsDrill, ReadsLayer, ReadsMixed, drill_kind, drill_view, marked}
 use Rattle.package_check.specs.LayerViews.{LayerView}
 use Rattle.package_check.specs.Holding.{TakesFile, is_wanted, setting_of}
 use Rattle.package_check.specs.OpenFiles.{HasFailed, HasOpened, HasReadText, drill_role}
@@ -82,7 +84,7 @@ span_failed of span setting text e bad is =
     subst (λ (x : Fail). HasFailed of span setting x text) (sym is) (λ more. refused_span (is_bad_span of span setting.layers) (unnamed_file of span setting (text ++ more)) bad_span bad refl)
 
 -- the fault of a drill text is that of its file
-drill_refused : (profile : Profile) (plated : Bool) (span : Option LayerSpan) (text : List ℕ) (f : Fault) → ReadsIn profile text (Err f) → ReadsHoles profile plated span text (Err f)
+drill_refused : (profile : Profile) (plated : Bool) (span : Option LayerSpan) (text : List ℕ) (f : Fault) → ReadsBy (drill_kind profile plated) text (Err f) → ReadsHoles profile plated span text (Err f)
 drill_refused Strict plated span text f h = reads_strictly text (Err f) h
 drill_refused Wide plated span text f h = h
 
@@ -93,10 +95,10 @@ layer_failed law of span setting text fails.Memory is good h = tt
 layer_failed law of span setting text (fails.Refused f) is good h = λ more. read_as_copper of span setting (text ++ more) (Err (fails.Refused f)) is good (inl (law setting.profile text more f h))
 
 -- and that of a drill text
-pub drill_failed : ((profile : Profile) (text more : List ℕ) (f : Fault) → ShowsIn profile text (Err f) → ReadsIn profile (text ++ more) (Err f)) → (of : Role) (plated : Bool) (span : Option LayerSpan) (setting : Setting) (text : List ℕ) (e : Fail)
-    → of ≡ drill_role plated → is_bad_span of span setting.layers ≡ false → IfFault (λ f. ShowsIn setting.profile text (Err f)) e → HasFailed of span setting e text
+pub drill_failed : ((kind : Kind) (text more : List ℕ) (f : Fault) → ShowsBy kind text (Err f) → ReadsBy kind (text ++ more) (Err f)) → (of : Role) (plated : Bool) (span : Option LayerSpan) (setting : Setting) (text : List ℕ) (e : Fail)
+    → of ≡ drill_role plated → is_bad_span of span setting.layers ≡ false → IfFault (λ f. ShowsBy (drill_kind setting.profile plated) text (Err f)) e → HasFailed of span setting e text
 drill_failed law of plated span setting text fails.Memory is good h = tt
-drill_failed law of plated span setting text (fails.Refused f) is good h = λ more. read_as_drill of plated span setting (text ++ more) (Err (fails.Refused f)) is good (drill_refused setting.profile plated span (text ++ more) f (law setting.profile text more f h))
+drill_failed law of plated span setting text (fails.Refused f) is good h = λ more. read_as_drill of plated span setting (text ++ more) (Err (fails.Refused f)) is good (drill_refused setting.profile plated span (text ++ more) f (law (drill_kind setting.profile plated) text more f h))
 
 -- and that of a mixed one
 pub mixed_failed : ((kind : Kind) (text more : List ℕ) (f : Fault) → ShowsBy kind text (Err f) → ReadsBy kind (text ++ more) (Err f)) → (of : Role) (span : Option LayerSpan) (setting : Setting) (text : List ℕ) (e : Fail)
@@ -137,8 +139,8 @@ layer_errs law of span setting text (Ok u) is good h = tt
 layer_errs law of span setting text (Err e) is good h = layer_failed law of span setting text e is good h
 
 -- and of a drill file
-pub drill_errs : ((profile : Profile) (text more : List ℕ) (f : Fault) → ShowsIn profile text (Err f) → ReadsIn profile (text ++ more) (Err f)) → (of : Role) (plated : Bool) (span : Option LayerSpan) (setting : Setting) (text : List ℕ) (r : Result (Unit {0}) Fail)
-    → of ≡ drill_role plated → is_bad_span of span setting.layers ≡ false → IfErr r (IfFault (λ f. ShowsIn setting.profile text (Err f))) → IfErr r (λ fail. HasFailed of span setting fail text)
+pub drill_errs : ((kind : Kind) (text more : List ℕ) (f : Fault) → ShowsBy kind text (Err f) → ReadsBy kind (text ++ more) (Err f)) → (of : Role) (plated : Bool) (span : Option LayerSpan) (setting : Setting) (text : List ℕ) (r : Result (Unit {0}) Fail)
+    → of ≡ drill_role plated → is_bad_span of span setting.layers ≡ false → IfErr r (IfFault (λ f. ShowsBy (drill_kind setting.profile plated) text (Err f))) → IfErr r (λ fail. HasFailed of span setting fail text)
 drill_errs law of plated span setting text (Ok u) is good h = tt
 drill_errs law of plated span setting text (Err e) is good h = drill_failed law of plated span setting text e is good h
 
@@ -158,17 +160,22 @@ pub wide_fault : (text : List ℕ) (e : Fail) → Answers {T = WideImage} (λ la
 wide_fault text fails.Memory h = tt
 wide_fault text (fails.Refused f) h = h
 
-pub drill_fault : (profile : Profile) (text : List ℕ) (e : Fail) → Answers {T = DrillFile} (λ drill. drill) (ReadsAsIn profile (file_of drill_keep.Holes) text) (Err e) → Answers {T = List GridHole} (λ x. x) (ReadsDrill profile text) (Err e)
-drill_fault profile text fails.Memory h = tt
-drill_fault Strict text (fails.Refused f) h = reads_strictly text (Err f) h
-drill_fault Wide text (fails.Refused f) h = h
+pub drill_fault : (profile : Profile) (plated : Bool) (text : List ℕ) (e : Fail) → Answers {T = DrillFile} (λ drill. drill) (ReadsAsBy (drill_kind profile plated) (file_of drill_keep.Holes) text) (Err e) → Answers {T = DrillView} (λ x. x) (ReadsDrill profile plated text) (Err e)
+drill_fault profile plated text fails.Memory h = tt
+drill_fault Strict plated text (fails.Refused f) h = reads_strictly text (Err f) h
+drill_fault Wide plated text (fails.Refused f) h = h
 
--- the holes of a text are those of what is kept of it
-pub drill_read : (profile : Profile) (text : List ℕ) (d : DrillFile) → ReadsAsIn profile (file_of drill_keep.Holes) text (Ok d) → ReadsDrill profile text (Ok d.holes)
-drill_read Strict text d h = (h.0, reads_drill_text text h.0 (reads_strictly text (Ok h.0) h.1), ap (λ (d : DrillFile). d.holes) h.2)
-drill_read Wide text d h = (h.0, h.1, ap (λ (d : DrillFile). d.holes) h.2)
+-- the view of a drill file is that of its commands
+viewed : (plated : Bool) (d : DrillFile) (commands : List DrillCommand) → d ≡ file_of drill_keep.Holes commands
+    → (let v : DrillView = record { holes = d.holes; contradicted = says_otherwise plated d.calls_plated d.calls_unplated } in v) ≡ drill_view plated commands
+viewed plated d commands e = ap (λ (d : DrillFile). let v : DrillView = record { holes = d.holes; contradicted = says_otherwise plated d.calls_plated d.calls_unplated } in v) e
 
-pub holes_fault : (profile : Profile) (plated : Bool) (span : Option LayerSpan) (text : List ℕ) (e : Fail) → Answers {T = List GridHole} (λ x. x) (ReadsDrill profile text) (Err e) → Answers {T = Content} (λ x. x) (ReadsHoles profile plated span text) (Err e)
+-- the view of a text is that of what is kept of it
+pub drill_read : (profile : Profile) (plated : Bool) (text : List ℕ) (d : DrillFile) → ReadsAsBy (drill_kind profile plated) (file_of drill_keep.Holes) text (Ok d) → ReadsDrill profile plated text (Ok (record { holes = d.holes; contradicted = says_otherwise plated d.calls_plated d.calls_unplated }))
+drill_read Strict plated text d h = (h.0, reads_drill_text text h.0 (reads_strictly text (Ok h.0) h.1), viewed plated d h.0 h.2)
+drill_read Wide plated text d h = (h.0, h.1, viewed plated d h.0 h.2)
+
+pub holes_fault : (profile : Profile) (plated : Bool) (span : Option LayerSpan) (text : List ℕ) (e : Fail) → Answers {T = DrillView} (λ x. x) (ReadsDrill profile plated text) (Err e) → Answers {T = Content} (λ x. x) (ReadsHoles profile plated span text) (Err e)
 holes_fault profile plated span text fails.Memory h = tt
 holes_fault profile plated span text (fails.Refused f) h = h
 

@@ -39,7 +39,7 @@ unnumbered_mixed file n (h ∷ hs) = ap (λ (t : List Drilled). h ∷ t) (unnumb
 
 one_file : (file : ℕ) (one : Content) → map (λ (h : Numbered). h.drilled) (holes_of (file, one)) ≡ drilled_in one
 one_file file (content.Layer image) = refl
-one_file file (content.Drill plated span holes) = unnumbered file plated span 1 holes
+one_file file (content.Drill plated span drill) = unnumbered file plated span 1 drill.holes
 one_file file (content.Mixed span holes) = unnumbered_mixed file 1 holes
 
 drilled_from : (n : ℕ) (contents : List Content) → map (λ (h : Numbered). h.drilled) (flat_map holes_of (enumerate_from n contents)) ≡ flat_map drilled_in contents

@@ -1,12 +1,10 @@
 -- A file has one content or one fault.
 use Rattle.std.proofs.Common.{◌≡◌, ◌↔◌, ℕ, Bool, true, false, List, Result, Ok, Err, sym, ap, ◌∙◌, inl, inr}
-use Rattle.grid_units.specs.Holes.{GridHole}
 use Rattle.grid_units.specs.declared.fault.Fault.{Fault}
 use Rattle.drill_lines.specs.declared.command.DrillCommand.{DrillCommand}
-use Rattle.drill_text.specs.Holes.{holes_of}
 use Rattle.drill_text.specs.Reading as drills
 use Rattle.drill_text.specs.Texts.{IsDrillText}
-use Rattle.drill_text.specs.Profiles.{Kind, ReadsBy, ReadsIn, mixed_in}
+use Rattle.drill_text.specs.Profiles.{Kind, ReadsBy, mixed_in}
 use Rattle.ring_rules.specs.declared.finding.Drilled.{Drilled}
 use Rattle.grid_units.specs.declared.profile.Profile.{Profile}
 use Rattle.grid_units.specs.declared.profile.Profile.TheVariants.{Strict, Wide}
@@ -16,10 +14,11 @@ use Rattle.std.specs.Prelude.{Option}
 use Rattle.grid_units.specs.Spans.{LayerSpan}
 use Rattle.manifest.specs.declared.Role.{Role}
 use Rattle.manifest.specs.declared.Role.TheVariants as role
+use Rattle.package_check.specs.DrillViews.{DrillView}
 use Rattle.package_check.specs.declared.contents.Content.{Content}
 use Rattle.package_check.specs.declared.contents.Content.TheVariants as content
 use Rattle.package_check.specs.LayerViews.{LayerView}
-use Rattle.package_check.specs.FileTexts.{ReadsLayer, ReadsDrill, layer_view, mixed_holes, wide_view}
+use Rattle.package_check.specs.FileTexts.{ReadsLayer, ReadsDrill, drill_kind, drill_view, layer_view, mixed_holes, wide_view}
 use Rattle.package_check.specs.Package.{Setting, ReadsBytes, ReadsUnlessBadSpan, ReadsCopper, ReadsHoles, ReadsMixedHoles, is_bad_span}
 use Rattle.package_check.specs.AlikePackages.{ReadingIsUnique}
 
@@ -44,7 +43,6 @@ true_or_false false e k = cc
 
 module _ (layer_once : layers.ReadingIsUniqueIn) (wide_once : wide.ReadingIsUnique)
     (drill_once : (text : List ℕ) (a b : Result (List DrillCommand) Fault) → drills.Reads text a → drills.Reads text b → a ≡ b)
-    (drill_once_in : (profile : Profile) (text : List ℕ) (a b : Result (List DrillCommand) Fault) → ReadsIn profile text a → ReadsIn profile text b → a ≡ b)
     (texts : (text : List ℕ) (commands : List DrillCommand) → (drills.Reads text (Ok commands)) ↔ (IsDrillText text commands))
     (kinds_once : (kind : Kind) (text : List ℕ) (a b : Result (List DrillCommand) Fault) → ReadsBy kind text a → ReadsBy kind text b → a ≡ b) where
   one_image : (profile : Profile) (bytes : List ℕ) (a b : LayerView) → ReadsLayer profile bytes (Ok a) → ReadsLayer profile bytes (Ok b) → a ≡ b
@@ -78,31 +76,31 @@ module _ (layer_once : layers.ReadingIsUniqueIn) (wide_once : wide.ReadingIsUniq
     one_copper bytes (Err f) (Ok (content.Drill p v d)) h k = absurd k
     one_copper bytes (Err f) (Err g) h k = ap refused (one_copper_fault bytes f g h k)
 
-  one_drill : (profile : Profile) (bytes : List ℕ) (a b : List GridHole) → ReadsDrill profile bytes (Ok a) → ReadsDrill profile bytes (Ok b) → a ≡ b
-  one_drill Strict bytes a b h k = h.2 ∙ (ap holes_of (ok_same (drill_once bytes (Ok h.0) (Ok k.0) ((texts bytes h.0).1 h.1) ((texts bytes k.0).1 k.1))) ∙ sym k.2)
-  one_drill Wide bytes a b h k = h.2 ∙ (ap holes_of (ok_same (drill_once_in Wide bytes (Ok h.0) (Ok k.0) h.1 k.1)) ∙ sym k.2)
+  one_drill : (profile : Profile) (plated : Bool) (bytes : List ℕ) (a b : DrillView) → ReadsDrill profile plated bytes (Ok a) → ReadsDrill profile plated bytes (Ok b) → a ≡ b
+  one_drill Strict plated bytes a b h k = h.2 ∙ (ap (drill_view plated) (ok_same (drill_once bytes (Ok h.0) (Ok k.0) ((texts bytes h.0).1 h.1) ((texts bytes k.0).1 k.1))) ∙ sym k.2)
+  one_drill Wide plated bytes a b h k = h.2 ∙ (ap (drill_view plated) (ok_same (kinds_once (drill_kind Wide plated) bytes (Ok h.0) (Ok k.0) h.1 k.1)) ∙ sym k.2)
 
-  no_drill : (profile : Profile) (bytes : List ℕ) (a : List GridHole) (f : Fault) → ReadsDrill profile bytes (Ok a) → ReadsDrill profile bytes (Err f) → ⊥
-  no_drill Strict bytes a f h k = not_both (drill_once bytes (Ok h.0) (Err f) ((texts bytes h.0).1 h.1) k)
-  no_drill Wide bytes a f h k = not_both (drill_once_in Wide bytes (Ok h.0) (Err f) h.1 k)
+  no_drill : (profile : Profile) (plated : Bool) (bytes : List ℕ) (a : DrillView) (f : Fault) → ReadsDrill profile plated bytes (Ok a) → ReadsDrill profile plated bytes (Err f) → ⊥
+  no_drill Strict plated bytes a f h k = not_both (drill_once bytes (Ok h.0) (Err f) ((texts bytes h.0).1 h.1) k)
+  no_drill Wide plated bytes a f h k = not_both (kinds_once (drill_kind Wide plated) bytes (Ok h.0) (Err f) h.1 k)
 
-  one_drill_fault : (profile : Profile) (bytes : List ℕ) (f g : Fault) → ReadsDrill profile bytes (Err f) → ReadsDrill profile bytes (Err g) → f ≡ g
-  one_drill_fault Strict bytes f g h k = err_same (drill_once bytes (Err f) (Err g) h k)
-  one_drill_fault Wide bytes f g h k = err_same (drill_once_in Wide bytes (Err f) (Err g) h k)
+  one_drill_fault : (profile : Profile) (plated : Bool) (bytes : List ℕ) (f g : Fault) → ReadsDrill profile plated bytes (Err f) → ReadsDrill profile plated bytes (Err g) → f ≡ g
+  one_drill_fault Strict plated bytes f g h k = err_same (drill_once bytes (Err f) (Err g) h k)
+  one_drill_fault Wide plated bytes f g h k = err_same (kinds_once (drill_kind Wide plated) bytes (Err f) (Err g) h k)
 
   one_holes : (profile : Profile) (plated : Bool) (span : Option LayerSpan) (bytes : List ℕ) (a b : Result Content Fault) → ReadsHoles profile plated span bytes a → ReadsHoles profile plated span bytes b → a ≡ b
   one_holes profile plated span bytes (Ok (content.Drill p v d)) (Ok (content.Drill q w e)) h k =
       ap (λ (t : Bool). answered (content.Drill t v d)) (h.1 ∙ sym k.1)
-      ∙ (ap (λ (s : Option LayerSpan). answered (content.Drill q s d)) (h.2 ∙ sym k.2) ∙ ap (λ (l : List GridHole). answered (content.Drill q w l)) (one_drill profile bytes d e h.0 k.0))
+      ∙ (ap (λ (s : Option LayerSpan). answered (content.Drill q s d)) (h.2 ∙ sym k.2) ∙ ap (λ (l : DrillView). answered (content.Drill q w l)) (one_drill profile plated bytes d e h.0 k.0))
   one_holes profile plated span bytes (Ok (content.Layer a)) b h k = absurd h
   one_holes profile plated span bytes (Ok (content.Drill p v d)) (Ok (content.Layer b)) h k = absurd k
   one_holes profile plated span bytes (Ok (content.Mixed v d)) b h k = absurd h
   one_holes profile plated span bytes (Ok (content.Drill p v d)) (Ok (content.Mixed w e)) h k = absurd k
   one_holes profile plated span bytes (Err f) (Ok (content.Mixed w e)) h k = absurd k
-  one_holes profile plated span bytes (Ok (content.Drill p v d)) (Err g) h k = absurd (no_drill profile bytes d g h.0 k)
-  one_holes profile plated span bytes (Err f) (Ok (content.Drill q w e)) h k = absurd (no_drill profile bytes e f k.0 h)
+  one_holes profile plated span bytes (Ok (content.Drill p v d)) (Err g) h k = absurd (no_drill profile plated bytes d g h.0 k)
+  one_holes profile plated span bytes (Err f) (Ok (content.Drill q w e)) h k = absurd (no_drill profile plated bytes e f k.0 h)
   one_holes profile plated span bytes (Err f) (Ok (content.Layer b)) h k = absurd k
-  one_holes profile plated span bytes (Err f) (Err g) h k = ap refused (one_drill_fault profile bytes f g h k)
+  one_holes profile plated span bytes (Err f) (Err g) h k = ap refused (one_drill_fault profile plated bytes f g h k)
 
   one_mixed : (profile : Profile) (span : Option LayerSpan) (bytes : List ℕ) (a b : Result Content Fault) → ReadsMixedHoles profile span bytes a → ReadsMixedHoles profile span bytes b → a ≡ b
   one_mixed profile span bytes (Ok (content.Mixed v d)) (Ok (content.Mixed w e)) h k =

@@ -1,14 +1,14 @@
 -- What files say in the strict profile, they say in the wide one, with further pads.
 use Rattle.std.proofs.Common.{◌≡◌, ◌⊎◌, inl, inr, ◌↔◌, ◌<◌, ◌+◌, ◌++◌, ℕ, zero, suc, Bool, true, false, List, [], ◌∷◌, Option, None, Some, Ok, length, map, get_or, arith, refl, ap, ap₂, sym, subst, ◌∙◌}
 use Rattle.std.specs.Prelude.{⊤}
-use Rattle.std.specs.List.{Contains, cons_option, enumerate_from, filter, flat_map}
+use Rattle.std.specs.List.{AllByRecursion, Contains, cons_option, enumerate_from, filter, flat_map, list_any}
 use Rattle.std.proofs.lemmas.List.Concat.{flat_map-cons}
 use Rattle.std.proofs.lemmas.List.Elements.{Contains-append_cases, Contains-append_left}
-use Rattle.grid_units.specs.Holes.{GridHole}
 use Rattle.grid_units.specs.Spans.{LayerSpan}
 use Rattle.grid_units.specs.declared.profile.Profile.TheVariants.{Strict, Wide}
 use Rattle.drill_lines.specs.declared.command.DrillCommand.{DrillCommand}
-use Rattle.drill_text.specs.Profiles.{ReadsBy, ReadsIn, mixed_in}
+use Rattle.drill_text.specs.Plating.{calls_plated}
+use Rattle.drill_text.specs.Profiles.{ReadsBy, ReadsIn, mixed_in, unplated_in}
 use Rattle.drill_text.specs.Reading as drills
 use Rattle.drill_text.specs.Texts.{IsDrillText}
 use Rattle.wide_layers.specs.WideLayers.{StrictLayers, plain_pad, plain_pads}
@@ -26,10 +26,11 @@ use Rattle.ring_rules.specs.Findings.{gap_findings, ring_findings}
 use Rattle.ring_rules.specs.WithoutFindings.{FindsNoObliqueInWide, WideFindsNoMore as RingsFindNoMore}
 use Rattle.ring_rules.specs.declared.finding.Finding.{Finding}
 use Rattle.ring_rules.specs.declared.finding.Finding.TheVariants.{Ring, Oblique}
+use Rattle.package_check.specs.DrillViews.{DrillView}
 use Rattle.package_check.specs.FileTexts.{HasLayerView, ReadsDrill, is_copper_function, wide_view}
 use Rattle.package_check.specs.LayerViews.{LayerView, plain}
 use Rattle.package_check.specs.Package.{FileView, BytesHaveContent, HaveContents, drilled, holes_of, index_of, layers, numbered_holes, pads_of, report_on}
-use Rattle.package_check.specs.WiderProfile.{FindsNoMore, WideFindsNoMore, is_gap, read_in}
+use Rattle.package_check.specs.WiderProfile.{FindsNoMore, IsUncontradicted, WideFindsNoMore, is_gap, read_in}
 use Rattle.package_check.specs.declared.Numbered.{Numbered}
 use Rattle.package_check.specs.declared.contents.Content.{Content}
 use Rattle.package_check.specs.declared.contents.Content.TheVariants as content
@@ -82,7 +83,8 @@ AreWider (c ∷ cs) (d ∷ ds) = IsWider c d × AreWider cs ds
 
 module _ (layers_too : StrictLayers) (texts : (text : List ℕ) (commands : List DrillCommand) → (drills.Reads text (Ok commands)) ↔ (IsDrillText text commands))
     (drills_too : (text : List ℕ) (commands : List DrillCommand) → drills.Reads text (Ok commands) → ReadsIn Wide text (Ok commands))
-    (mixed_too : (text : List ℕ) (commands : List DrillCommand) → ReadsBy (mixed_in Strict) text (Ok commands) → ReadsBy (mixed_in Wide) text (Ok commands)) where
+    (mixed_too : (text : List ℕ) (commands : List DrillCommand) → ReadsBy (mixed_in Strict) text (Ok commands) → ReadsBy (mixed_in Wide) text (Ok commands))
+    (unplated_too : (text : List ℕ) (commands : List DrillCommand) → drills.Reads text (Ok commands) → list_any calls_plated commands ≡ false → ReadsBy (unplated_in Wide) text (Ok commands)) where
   -- a layer has its pads in the wide profile too
   wider_layer : (bytes : List ℕ) (a : LayerView) → HasLayerView Strict bytes a → (b : LayerView) × HasLayerView Wide bytes b × (b.is_copper ≡ a.is_copper) × ((w : WidePad) → Contains a.pads w → Contains b.pads w)
   wider_layer bytes a h =
@@ -94,31 +96,36 @@ module _ (layers_too : StrictLayers) (texts : (text : List ℕ) (commands : List
         λ w among. plain_among wide.0.features w (subst (λ (ps : List WidePad). Contains ps w) same among),
       )
 
-  wider_drill : (bytes : List ℕ) (holes : List GridHole) → ReadsDrill Strict bytes (Ok holes) → ReadsDrill Wide bytes (Ok holes)
-  wider_drill bytes holes h = (h.0, drills_too bytes h.0 ((texts bytes h.0).1 h.1), h.2)
+  wider_drill : (bytes : List ℕ) (drill : DrillView) → ReadsDrill Strict true bytes (Ok drill) → ReadsDrill Wide true bytes (Ok drill)
+  wider_drill bytes drill h = (h.0, drills_too bytes h.0 ((texts bytes h.0).1 h.1), h.2)
 
-  wider_file : (q : Role) (name : List ℕ) (span : Option LayerSpan) (bytes : List ℕ) (n : ℕ) (c : Content) → BytesHaveContent (record { role = q; name = name; span = span; bytes = bytes; setting = record { layers = n; profile = Strict } }) c
+  -- and a file that its role calls unplated, where it does not contradict that
+  wider_unplated : (bytes : List ℕ) (drill : DrillView) → ((commands : List DrillCommand) → IsDrillText bytes commands → list_any calls_plated commands ≡ false) → ReadsDrill Strict false bytes (Ok drill) → ReadsDrill Wide false bytes (Ok drill)
+  wider_unplated bytes drill silent h = (h.0, unplated_too bytes h.0 ((texts bytes h.0).1 h.1) (silent h.0 h.1), h.2)
+
+  wider_file : (q : Role) (name : List ℕ) (span : Option LayerSpan) (bytes : List ℕ) (n : ℕ) (c : Content) → (q ≡ role.Unplated → (commands : List DrillCommand) → IsDrillText bytes commands → list_any calls_plated commands ≡ false)
+      → BytesHaveContent (record { role = q; name = name; span = span; bytes = bytes; setting = record { layers = n; profile = Strict } }) c
       → (d : Content) × BytesHaveContent (record { role = q; name = name; span = span; bytes = bytes; setting = record { layers = n; profile = Wide } }) d × IsWider c d
-  wider_file role.Copper name span bytes n (content.Layer a) h = let more = wider_layer bytes a h.0 in (content.Layer more.0, (more.1, more.2 ∙ h.1), more.3)
-  wider_file role.Copper name span bytes n (content.Drill p v d) h = absurd h
-  wider_file role.Copper name span bytes n (content.Mixed v d) h = absurd h
-  wider_file role.Plated name span bytes n (content.Mixed v d) h = absurd h
-  wider_file role.Unplated name span bytes n (content.Mixed v d) h = absurd h
-  wider_file role.Mixed name span bytes n (content.Layer a) h = absurd h
-  wider_file role.Mixed name span bytes n (content.Drill p v d) h = absurd h
-  wider_file role.Mixed name span bytes n (content.Mixed v d) h = (content.Mixed v d, ((h.0.0, mixed_too bytes h.0.0 h.0.1, h.0.2), h.1), refl)
-  wider_file role.Plated name span bytes n (content.Layer a) h = absurd h
-  wider_file role.Plated name span bytes n (content.Drill p v d) h = (content.Drill p v d, (wider_drill bytes d h.0, h.1, h.2), refl)
-  wider_file role.Unplated name span bytes n (content.Layer a) h = absurd h
-  wider_file role.Unplated name span bytes n (content.Drill p v d) h = (content.Drill p v d, (wider_drill bytes d h.0, h.1, h.2), refl)
+  wider_file role.Copper name span bytes n (content.Layer a) silent h = let more = wider_layer bytes a h.0 in (content.Layer more.0, (more.1, more.2 ∙ h.1), more.3)
+  wider_file role.Copper name span bytes n (content.Drill p v d) silent h = absurd h
+  wider_file role.Copper name span bytes n (content.Mixed v d) silent h = absurd h
+  wider_file role.Plated name span bytes n (content.Mixed v d) silent h = absurd h
+  wider_file role.Unplated name span bytes n (content.Mixed v d) silent h = absurd h
+  wider_file role.Mixed name span bytes n (content.Layer a) silent h = absurd h
+  wider_file role.Mixed name span bytes n (content.Drill p v d) silent h = absurd h
+  wider_file role.Mixed name span bytes n (content.Mixed v d) silent h = (content.Mixed v d, ((h.0.0, mixed_too bytes h.0.0 h.0.1, h.0.2), h.1), refl)
+  wider_file role.Plated name span bytes n (content.Layer a) silent h = absurd h
+  wider_file role.Plated name span bytes n (content.Drill p v d) silent h = (content.Drill p v d, (wider_drill bytes d h.0, h.1, h.2), refl)
+  wider_file role.Unplated name span bytes n (content.Layer a) silent h = absurd h
+  wider_file role.Unplated name span bytes n (content.Drill p v d) silent h = (content.Drill p v d, (wider_unplated bytes d (silent refl) h.0, h.1, h.2), refl)
 
-  wider_files : (sources : List FileView) (cs : List Content) → HaveContents (map (read_in Strict) sources) cs → (ds : List Content) × HaveContents (map (read_in Wide) sources) ds × AreWider cs ds
-  wider_files [] [] h = ([], tt, tt)
-  wider_files [] (c ∷ cs) h = absurd h
-  wider_files (s ∷ ss) [] h = absurd h
-  wider_files (s ∷ ss) (c ∷ cs) h =
-      let one = wider_file s.role s.name s.span s.bytes s.setting.layers c h.0.1 in
-      let rest = wider_files ss cs h.1 in
+  wider_files : (sources : List FileView) (cs : List Content) → HaveContents (map (read_in Strict) sources) cs → AllByRecursion IsUncontradicted sources → (ds : List Content) × HaveContents (map (read_in Wide) sources) ds × AreWider cs ds
+  wider_files [] [] h silent = ([], tt, tt)
+  wider_files [] (c ∷ cs) h silent = absurd h
+  wider_files (s ∷ ss) [] h silent = absurd h
+  wider_files (s ∷ ss) (c ∷ cs) h silent =
+      let one = wider_file s.role s.name s.span s.bytes s.setting.layers c silent.0 h.0.1 in
+      let rest = wider_files ss cs h.1 silent.1 in
       (one.0 ∷ rest.0, ((h.0.0, one.1), rest.1), (one.2, rest.2))
 
 -- ---- what wider contents have
@@ -231,8 +238,9 @@ module _ (rings_no_more : RingsFindNoMore {S = WidePad} {W = WidePad} wide_pad_c
 
 pub wide_finds_no_more : StrictLayers → ((text : List ℕ) (commands : List DrillCommand) → (drills.Reads text (Ok commands)) ↔ (IsDrillText text commands))
     → ((text : List ℕ) (commands : List DrillCommand) → drills.Reads text (Ok commands) → ReadsIn Wide text (Ok commands))
-    → ((text : List ℕ) (commands : List DrillCommand) → ReadsBy (mixed_in Strict) text (Ok commands) → ReadsBy (mixed_in Wide) text (Ok commands)) → RingsFindNoMore {S = WidePad} {W = WidePad} wide_pad_covers wide_pad_covers → FindsNoObliqueInWide wide_pad_covers → WideFindsNoMore
-wide_finds_no_more layers_too texts drills_too mixed_too rings_no_more no_oblique sources ring gap strict h =
-    let more = wider_files layers_too texts drills_too mixed_too sources h.contents h.read in
+    → ((text : List ℕ) (commands : List DrillCommand) → ReadsBy (mixed_in Strict) text (Ok commands) → ReadsBy (mixed_in Wide) text (Ok commands))
+    → ((text : List ℕ) (commands : List DrillCommand) → drills.Reads text (Ok commands) → list_any calls_plated commands ≡ false → ReadsBy (unplated_in Wide) text (Ok commands)) → RingsFindNoMore {S = WidePad} {W = WidePad} wide_pad_covers wide_pad_covers → FindsNoObliqueInWide wide_pad_covers → WideFindsNoMore
+wide_finds_no_more layers_too texts drills_too mixed_too unplated_too rings_no_more no_oblique sources ring gap strict h silent =
+    let more = wider_files layers_too texts drills_too mixed_too unplated_too sources h.contents h.read silent in
     let wide = report_on (record { ring = ring; gap = gap; profile = Wide }) more.0 in
     (wide, record { contents = more.0; read = more.1; is = refl }, subst (FindsNoMore wide) (sym h.is) (finds_no_more rings_no_more no_oblique ring gap h.contents more.0 more.2))

@@ -23,17 +23,18 @@ use Rattle.drill_text.specs.Laws.{ListedHolesAreDrilled, SpelledIsWritten}
 use Rattle.drill_text.specs.Drilling.{AreHoles}
 use Rattle.drill_text.specs.WideGrammar.{ReadIsWritten, WideHolesAreDrilled}
 use Rattle.drill_text.specs.Holes.{holes_of}
-use Rattle.drill_text.specs.MixedLaws.{ListedIsCalled, MixedReadsTheSame}
+use Rattle.drill_text.specs.MixedLaws.{KindsReadTheSame, ListedIsCalled}
 use Rattle.drill_text.specs.Plating.{plated_of}
-use Rattle.drill_text.specs.Profiles.{ReadsIn}
+use Rattle.drill_text.specs.Profiles.{ReadsIn, mixed_in}
 use Rattle.drill_text.specs.Reading.{Reads}
 use Rattle.drill_text.specs.Texts.{IsDrillText as IsLegalText}
 use Rattle.grid_units.specs.declared.fault.Fault.{Fault}
 use Rattle.drill_lines.specs.declared.command.DrillCommand.{DrillCommand}
 use Rattle.manifest.specs.declared.Role.{Role}
 use Rattle.manifest.specs.declared.Role.TheVariants as role
+use Rattle.package_check.specs.DrillViews.{DrillView}
 use Rattle.package_check.specs.LayerViews.{LayerView}
-use Rattle.package_check.specs.FileTexts.{HasLayerView, ReadsDrill, is_copper_function, wide_view}
+use Rattle.package_check.specs.FileTexts.{HasLayerView, ReadsDrill, drill_kind, is_copper_function, wide_view}
 use Rattle.package_check.specs.declared.contents.Content.{Content}
 use Rattle.package_check.specs.declared.contents.Content.TheVariants as content
 use Rattle.package_check.specs.Package.{FileView, Setting, HasContent, HasDrillContent, HasMixedContent, HaveContents, is_bad_span, is_copper, layers, pads_of}
@@ -67,26 +68,26 @@ no_span (Some s) n e = absurd cc
 abbrev holes_by_file : List Content → List (List Drilled)
 holes_by_file [] = []
 holes_by_file (content.Layer image ∷ cs) = holes_by_file cs
-holes_by_file (content.Drill plated span holes ∷ cs) = drilled_in (content.Drill plated span holes) ∷ holes_by_file cs
+holes_by_file (content.Drill plated span drill ∷ cs) = drilled_in (content.Drill plated span drill) ∷ holes_by_file cs
 holes_by_file (content.Mixed span holes ∷ cs) = holes ∷ holes_by_file cs
 
 holes_joined : (cs : List Content) → flat_map (λ (one : List Drilled). one) (holes_by_file cs) ≡ flat_map drilled_in cs
 holes_joined [] = refl
 holes_joined (content.Layer image ∷ cs) = holes_joined cs ∙ sym (flat_map-cons drilled_in (content.Layer image) cs)
-holes_joined (content.Drill plated span holes ∷ cs) =
-    let first = drilled_in (content.Drill plated span holes) in
+holes_joined (content.Drill plated span drill ∷ cs) =
+    let first = drilled_in (content.Drill plated span drill) in
     flat_map-cons (λ (one : List Drilled). one) first (holes_by_file cs)
-    ∙ (ap (λ (ds : List Drilled). first ++ ds) (holes_joined cs) ∙ sym (flat_map-cons drilled_in (content.Drill plated span holes) cs))
+    ∙ (ap (λ (ds : List Drilled). first ++ ds) (holes_joined cs) ∙ sym (flat_map-cons drilled_in (content.Drill plated span drill) cs))
 holes_joined (content.Mixed span holes ∷ cs) =
     flat_map-cons (λ (one : List Drilled). one) holes (holes_by_file cs)
     ∙ (ap (λ (ds : List Drilled). holes ++ ds) (holes_joined cs) ∙ sym (flat_map-cons drilled_in (content.Mixed span holes) cs))
 
 -- the hole of an element of a file's holes is among its holes
-pub hole_among : (plated : Bool) (span : Option LayerSpan) (holes : List GridHole) (d : Drilled) → Contains (drilled_in (content.Drill plated span holes)) d
+pub hole_among : (plated : Bool) (span : Option LayerSpan) (holes : List GridHole) (d : Drilled) → Contains (map (λ (hole : GridHole). let one : Drilled = record { hole = hole; plated = plated; span = span } in one) holes) d
     → Contains holes d.hole × (d.plated ≡ plated) × (d.span ≡ span)
 hole_among plated span holes d h = by holes h.0 h.1 h.2
   where
-    by : (hs : List GridHole) (k : ℕ) → k < length (drilled_in (content.Drill plated span hs)) → get_or (drilled_in (content.Drill plated span hs)) k d ≡ d
+    by : (hs : List GridHole) (k : ℕ) → k < length (map (λ (hole : GridHole). let one : Drilled = record { hole = hole; plated = plated; span = span } in one) hs) → get_or (map (λ (hole : GridHole). let one : Drilled = record { hole = hole; plated = plated; span = span } in one) hs) k d ≡ d
         → Contains hs d.hole × (d.plated ≡ plated) × (d.span ≡ span)
     by [] k lt e = absurd (omega arith)
     by (h ∷ hs) zero lt e = ((0, omega arith, ap (λ (x : Drilled). x.hole) e), sym (ap (λ (x : Drilled). x.plated) e), sym (ap (λ (x : Drilled). x.span) e))
@@ -118,7 +119,7 @@ is_through (c ∷ cs) layer d h plated within =
 
 module _ (texts : SpelledTextsAreWrittenIn) (layer_pads : LayerPads) (lines : SpelledIsWritten) (listed : ListedHolesAreDrilled) (wide_lines : ReadIsWritten) (wide_listed : WideHolesAreDrilled)
     (drill_texts : (text : List ℕ) (commands : List DrillCommand) → (Reads text (Ok commands)) ↔ (IsLegalText text commands))
-    (strictly : (text : List ℕ) (answer : Result (List DrillCommand) Fault) → (ReadsIn Strict text answer) ↔ (Reads text answer)) (same : MixedReadsTheSame) (called : ListedIsCalled) where
+    (strictly : (text : List ℕ) (answer : Result (List DrillCommand) Fault) → (ReadsIn Strict text answer) ↔ (Reads text answer)) (same : KindsReadTheSame) (called : ListedIsCalled) where
   made_by : (profile : Profile) (bytes : List ℕ) (image : LayerView) → HasLayerView profile bytes image
       → (commands : List Command) × IsTextIn profile bytes commands × MakePads profile commands image.pads × (is_copper_function (last_set function_set commands) ≡ image.is_copper)
   made_by Strict bytes image h =
@@ -138,24 +139,24 @@ module _ (texts : SpelledTextsAreWrittenIn) (layer_pads : LayerPads) (lines : Sp
       let made = made_by s.setting.profile s.bytes image h in
       record { commands = made.0; written = made.1; made = made.2; copper = made.3 ∙ copper; spanless = none }
 
-  drilled_by : (profile : Profile) (bytes : List ℕ) (holes : List GridHole) → ReadsDrill profile bytes (Ok holes) → (commands : List DrillCommand) × IsDrillText profile bytes commands × AreHoles commands holes
-  drilled_by Strict bytes holes h = (h.0, ((lines bytes h.0).0 h.1.spells).1, subst (λ (hs : List GridHole). AreHoles h.0 hs) (sym h.2) (listed bytes h.0 h.1))
-  drilled_by Wide bytes holes h =
-      let written = wide_lines bytes h.0 h.1 in
-      (h.0, written.1, subst (λ (hs : List GridHole). AreHoles h.0 hs) (sym h.2) (wide_listed bytes h.0 written.1 written.2))
+  drilled_by : (profile : Profile) (plated : Bool) (bytes : List ℕ) (drill : DrillView) → ReadsDrill profile plated bytes (Ok drill) → (commands : List DrillCommand) × IsDrillText profile bytes commands × AreHoles commands drill.holes
+  drilled_by Strict plated bytes drill h = (h.0, ((lines bytes h.0).0 h.1.spells).1, subst (λ (d : DrillView). AreHoles h.0 d.holes) (sym h.2) (listed bytes h.0 h.1))
+  drilled_by Wide plated bytes drill h =
+      let written = wide_lines bytes h.0 ((same (drill_kind Wide plated) bytes h.0).0 h.1).0 in
+      (h.0, written.1, subst (λ (d : DrillView). AreHoles h.0 d.holes) (sym h.2) (wide_listed bytes h.0 written.1 written.2))
 
-  says_holes : (s : FileView) (plated has : Bool) (through : Option LayerSpan) (holes : List GridHole) → HasDrillContent s.setting.profile plated s.span s.bytes (content.Drill has through holes)
-      → ((commands : List DrillCommand) (drilled : List Drilled) → drilled ≡ map (λ (hole : GridHole). let d : Drilled = record { hole = hole; plated = plated; span = s.span } in d) holes → AreDrilledBy s.role s.span commands holes drilled)
-      → IsRun s.setting.layers s.span → SaysHoles s (drilled_in (content.Drill has through holes))
-  says_holes s plated has through holes h named run =
-      let drilled = drilled_by s.setting.profile s.bytes holes h.0 in
+  says_holes : (s : FileView) (plated has : Bool) (through : Option LayerSpan) (drill : DrillView) → HasDrillContent s.setting.profile plated s.span s.bytes (content.Drill has through drill)
+      → ((commands : List DrillCommand) (drilled : List Drilled) → drilled ≡ map (λ (hole : GridHole). let d : Drilled = record { hole = hole; plated = plated; span = s.span } in d) drill.holes → AreDrilledBy s.role s.span commands drill.holes drilled)
+      → IsRun s.setting.layers s.span → SaysHoles s (drilled_in (content.Drill has through drill))
+  says_holes s plated has through drill h named run =
+      let drilled = drilled_by s.setting.profile plated s.bytes drill h.0 in
       record {
         commands = drilled.0;
         written = drilled.1;
-        holes = holes;
+        holes = drill.holes;
         made = drilled.2;
         run = run;
-        is = named drilled.0 (drilled_in (content.Drill has through holes)) (λ i. map (λ (hole : GridHole). let d : Drilled = record { hole = hole; plated = h.1 i; span = h.2 i } in d) holes);
+        is = named drilled.0 (drilled_in (content.Drill has through drill)) (λ i. map (λ (hole : GridHole). let d : Drilled = record { hole = hole; plated = h.1 i; span = h.2 i } in d) drill.holes);
       }
 
   -- the commands of a mixed file are those of its text, and drill its holes
@@ -167,7 +168,7 @@ module _ (texts : SpelledTextsAreWrittenIn) (layer_pads : LayerPads) (lines : Sp
       → SaysHoles (record { role = role.Mixed; name = name; span = span; bytes = bytes; setting = n }) holes
   says_mixed name span bytes n through holes h run =
       let commands = h.0.0 in
-      let read = (same n.profile bytes commands).0 h.0.1 in
+      let read = (same (mixed_in n.profile) bytes commands).0 h.0.1 in
       let said = mixed_by n.profile bytes commands read.0 in
       record {
         commands = commands;
@@ -184,34 +185,34 @@ module _ (texts : SpelledTextsAreWrittenIn) (layer_pads : LayerPads) (lines : Sp
       → AllZip SaysPads (filter (λ s. is_copper s.role) (record { role = q; name = name; span = span; bytes = bytes; setting = n } ∷ ss)) (pads_of c ++ rest)
   one_more_layer role.Copper name span bytes n (content.Layer image) ss rest h all =
       (says_pads (record { role = role.Copper; name = name; span = span; bytes = bytes; setting = n }) image h.1.0 h.1.1 (no_span span n.layers h.0), all)
-  one_more_layer role.Copper name span bytes n (content.Drill plated through holes) ss rest h all = absurd h.1
+  one_more_layer role.Copper name span bytes n (content.Drill plated through drill) ss rest h all = absurd h.1
   one_more_layer role.Copper name span bytes n (content.Mixed through holes) ss rest h all = absurd h.1
   one_more_layer role.Plated name span bytes n (content.Layer image) ss rest h all = absurd h.1
-  one_more_layer role.Plated name span bytes n (content.Drill plated through holes) ss rest h all = all
+  one_more_layer role.Plated name span bytes n (content.Drill plated through drill) ss rest h all = all
   one_more_layer role.Plated name span bytes n (content.Mixed through holes) ss rest h all = absurd h.1
   one_more_layer role.Unplated name span bytes n (content.Layer image) ss rest h all = absurd h.1
-  one_more_layer role.Unplated name span bytes n (content.Drill plated through holes) ss rest h all = all
+  one_more_layer role.Unplated name span bytes n (content.Drill plated through drill) ss rest h all = all
   one_more_layer role.Unplated name span bytes n (content.Mixed through holes) ss rest h all = absurd h.1
   one_more_layer role.Mixed name span bytes n (content.Layer image) ss rest h all = absurd h.1
-  one_more_layer role.Mixed name span bytes n (content.Drill plated through holes) ss rest h all = absurd h.1
+  one_more_layer role.Mixed name span bytes n (content.Drill plated through drill) ss rest h all = absurd h.1
   one_more_layer role.Mixed name span bytes n (content.Mixed through holes) ss rest h all = all
 
   one_more_drill : (q : Role) (name : List ℕ) (span : Option LayerSpan) (bytes : List ℕ) (n : Setting) (c : Content) (ss : List FileView) (cs : List Content)
       → HasContent (record { role = q; name = name; span = span; bytes = bytes; setting = n }) c → AllZip SaysHoles (filter (λ s. not (is_copper s.role)) ss) (holes_by_file cs)
       → AllZip SaysHoles (filter (λ s. not (is_copper s.role)) (record { role = q; name = name; span = span; bytes = bytes; setting = n } ∷ ss)) (holes_by_file (c ∷ cs))
   one_more_drill role.Copper name span bytes n (content.Layer image) ss cs h all = all
-  one_more_drill role.Copper name span bytes n (content.Drill plated through holes) ss cs h all = absurd h.1
+  one_more_drill role.Copper name span bytes n (content.Drill plated through drill) ss cs h all = absurd h.1
   one_more_drill role.Copper name span bytes n (content.Mixed through holes) ss cs h all = absurd h.1
   one_more_drill role.Plated name span bytes n (content.Layer image) ss cs h all = absurd h.1
-  one_more_drill role.Plated name span bytes n (content.Drill plated through holes) ss cs h all =
-      (says_holes (record { role = role.Plated; name = name; span = span; bytes = bytes; setting = n }) true plated through holes h.1 (λ commands drilled is. is) (good_run role.Plated span n.layers h.0), all)
+  one_more_drill role.Plated name span bytes n (content.Drill plated through drill) ss cs h all =
+      (says_holes (record { role = role.Plated; name = name; span = span; bytes = bytes; setting = n }) true plated through drill h.1 (λ commands drilled is. is) (good_run role.Plated span n.layers h.0), all)
   one_more_drill role.Plated name span bytes n (content.Mixed through holes) ss cs h all = absurd h.1
   one_more_drill role.Unplated name span bytes n (content.Layer image) ss cs h all = absurd h.1
-  one_more_drill role.Unplated name span bytes n (content.Drill plated through holes) ss cs h all =
-      (says_holes (record { role = role.Unplated; name = name; span = span; bytes = bytes; setting = n }) false plated through holes h.1 (λ commands drilled is. is) (good_run role.Unplated span n.layers h.0), all)
+  one_more_drill role.Unplated name span bytes n (content.Drill plated through drill) ss cs h all =
+      (says_holes (record { role = role.Unplated; name = name; span = span; bytes = bytes; setting = n }) false plated through drill h.1 (λ commands drilled is. is) (good_run role.Unplated span n.layers h.0), all)
   one_more_drill role.Unplated name span bytes n (content.Mixed through holes) ss cs h all = absurd h.1
   one_more_drill role.Mixed name span bytes n (content.Layer image) ss cs h all = absurd h.1
-  one_more_drill role.Mixed name span bytes n (content.Drill plated through holes) ss cs h all = absurd h.1
+  one_more_drill role.Mixed name span bytes n (content.Drill plated through drill) ss cs h all = absurd h.1
   one_more_drill role.Mixed name span bytes n (content.Mixed through holes) ss cs h all = (says_mixed name span bytes n through holes h.1 (good_run role.Mixed span n.layers h.0), all)
 
   -- ---- all files

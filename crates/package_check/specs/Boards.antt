@@ -3,9 +3,9 @@ use Rattle.std.specs.Prelude.{ℕ, ◌+◌, ◌<◌, ◌≡◌, ◌++◌, List, 
 use Rattle.std.specs.List.{flat_map, enumerate_from, sum_by}
 use Rattle.grid_units.specs.Holes.{GridRules}
 use Rattle.gerber_text.specs.Writing.{without_places}
-use Rattle.layer_image.specs.Drawn.{drawn_of}
 use Rattle.layer_image.specs.Layers.{LayerImage, ReadsLayerIn}
 use Rattle.layer_image.specs.declared.drawn.Drawn.{Drawn}
+use Rattle.further_copper.specs.DrawnCopper.{drawn_in}
 use Rattle.further_copper.specs.declared.feature.FeatureRow.{FeatureRow}
 use Rattle.wide_pads.specs.WidePads.{wide_pad_covers}
 use Rattle.wide_pads.specs.declared.wide_pad.WidePad.{WidePad}
@@ -82,7 +82,7 @@ ReturnsFlashedBoard sources (Err (stop.File index fault)) = IsFirstRefused sourc
 
 -- a copper file draws what the commands of the layer draw that its text reads as; of a drill file nothing is said (docs/FORMATS.md, Pictures)
 abbrev pub AreDrawnOf : FileView → List Drawn → Type 0
-AreDrawnOf source drawn = is_copper source.role ≡ true → (image : LayerImage) → ReadsLayerIn source.setting.profile source.bytes (Ok image) → drawn ≡ drawn_of (without_places image.commands)
+AreDrawnOf source drawn = is_copper source.role ≡ true → (image : LayerImage) → ReadsLayerIn source.setting.profile source.bytes (Ok image) → drawn ≡ drawn_in source.setting.profile (without_places image.commands)
 
 -- the board of a package whose files are all read, with the rows of each file and what it draws
 pub record IsDrawnBoard (sources : List FileView) (board : BoardView) : Type 0 where
@@ -98,7 +98,7 @@ ReturnsDrawnBoard sources (Err (stop.File index fault)) = IsFirstRefused sources
 -- how many holes a file drills, slots among them; a copper file drills none
 abbrev pub hole_count : FileSum → ℕ
 hole_count (sum.Layer pads other contours) = 0
-hole_count (sum.Drill plated span round slots) = round + slots
+hole_count (sum.Drill plated span contradicted round slots) = round + slots
 hole_count (sum.Mixed span round slots unplated) = round + slots
 
 -- the number of holes in the files before one, by its index

@@ -1,5 +1,5 @@
 -- What the bytes of a file say.
-use Rattle.std.specs.Prelude.{◌≡◌, ℕ, Bool, true, List, [], ◌∷◌, codes, length, map, Option, Some, None, Result, Ok, Err}
+use Rattle.std.specs.Prelude.{◌≡◌, ℕ, Bool, true, false, List, [], ◌∷◌, codes, length, map, Option, Some, None, Result, Ok, Err}
 use Rattle.std.specs.Str.{bytes_eq}
 use Rattle.grid_units.specs.Holes.{GridHole}
 use Rattle.grid_units.specs.Spans.{LayerSpan}
@@ -10,17 +10,20 @@ use Rattle.gerber_commands.specs.Negative.{first_field}
 use Rattle.gerber_text.specs.Writing.{without_places}
 use Rattle.drill_text.specs.Holes.{holes_of}
 use Rattle.drill_lines.specs.declared.command.DrillCommand.{DrillCommand}
-use Rattle.drill_text.specs.Plating.{plated_of}
-use Rattle.drill_text.specs.Profiles.{ReadsAsBy, ReadsAsIn, mixed_in}
+use Rattle.drill_text.specs.Plating.{contradicts, plated_of}
+use Rattle.drill_text.specs.Profiles.{Kind, ReadsAsBy, mixed_in}
 use Rattle.drill_text.specs.Texts.{ReadsAs}
-use Rattle.layer_image.specs.Drawn.{drawn_of}
+use Rattle.drill_text.specs.declared.platings.PlatingKind.{PlatingKind}
+use Rattle.drill_text.specs.declared.platings.PlatingKind.TheVariants as plating
 use Rattle.layer_image.specs.Layers as layers
 use Rattle.layer_image.specs.Layers.{LayerImage}
 use Rattle.layer_image.specs.declared.drawn.Drawn.{Drawn}
+use Rattle.further_copper.specs.DrawnCopper.{drawn_in}
 use Rattle.further_copper.specs.declared.feature.FeatureRow.{FeatureRow}
 use Rattle.wide_layers.specs.WideLayers.{ReadsWideLayer, WideImage, contour_count, flashed_count, other_count}
 use Rattle.further_copper.specs.Features.{pads_of, rows_of, strict_row}
 use Rattle.ring_rules.specs.declared.finding.Drilled.{Drilled}
+use Rattle.package_check.specs.DrillViews.{DrillView}
 use Rattle.package_check.specs.LayerViews.{LayerView, plain}
 
 -- the first field of a file function is `Copper`, as in `Copper,L1,Top`; a layer without one is taken for copper (docs/FORMATS.md, File function)
@@ -65,12 +68,27 @@ HasRows Wide bytes rows = (layer : WideImage) × ReadsWideLayer bytes (Ok layer)
 
 -- in the profile the bytes are the text of a layer, and this is what its commands draw (docs/FORMATS.md, Pictures)
 abbrev pub Draws : Profile → List ℕ → List Drawn → Type 0
-Draws profile bytes drawn = (layer : LayerImage) × layers.IsLayerIn profile bytes layer × (drawn ≡ drawn_of (without_places layer.commands))
+Draws profile bytes drawn = (layer : LayerImage) × layers.IsLayerIn profile bytes layer × (drawn ≡ drawn_in profile (without_places layer.commands))
 
--- in the profile the bytes are a drill text that drills these holes, or they have this fault
-abbrev pub ReadsDrill : Profile → List ℕ → Result (List GridHole) Fault → Type 0
-ReadsDrill Strict bytes answer = ReadsAs holes_of bytes answer
-ReadsDrill Wide bytes answer = ReadsAsIn Wide holes_of bytes answer
+-- by what it is known which holes of a file are plated whose role says of all of them whether they are: in the strict profile by the role alone; in the
+-- wide one the words of a file that its role calls unplated are held to that (docs/FORMATS.md, Unplated drill files)
+abbrev pub plating_in : Profile → Bool → PlatingKind
+plating_in Strict plated = plating.Stated
+plating_in Wide true = plating.Stated
+plating_in Wide false = plating.Unplated
+
+-- the kind of a drill file that its role calls plated or unplated
+abbrev pub drill_kind : Profile → Bool → Kind
+drill_kind profile plated = record { profile = profile; plating = plating_in profile plated }
+
+-- what the check keeps of a drill text whose role calls its holes plated or unplated
+abbrev pub drill_view : Bool → List DrillCommand → DrillView
+drill_view plated commands = record { holes = holes_of commands; contradicted = contradicts plated commands }
+
+-- in the profile the bytes are a drill text whose role calls its holes plated or unplated, and this is what the check keeps of it; or they have this fault
+abbrev pub ReadsDrill : Profile → Bool → List ℕ → Result DrillView Fault → Type 0
+ReadsDrill Strict plated bytes answer = ReadsAs (drill_view plated) bytes answer
+ReadsDrill Wide plated bytes answer = ReadsAsBy (drill_kind Wide plated) (drill_view plated) bytes answer
 
 -- holes with this span, each plated or not as the other list says, as long as both lists go on
 abbrev pub marked : Option LayerSpan → List GridHole → List Bool → List Drilled

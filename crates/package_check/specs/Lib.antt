@@ -1,5 +1,6 @@
 pub mod AlikePackages
 pub mod Boards
+pub mod DrillViews
 pub mod LayerViews
 pub mod Package
 pub mod FileTexts

@@ -3,7 +3,7 @@ use Rattle.std.specs.Prelude.{◌≡◌, ◌++◌, ℕ, Bool, true, false, List,
 use Rattle.grid_units.specs.Spans.{LayerSpan}
 use Rattle.grid_units.specs.declared.fault.Fail.{Fail}
 use Rattle.grid_units.specs.declared.fault.Fail.TheVariants as fails
-use Rattle.drill_text.specs.Holding.{StandsBy, StandsIn}
+use Rattle.drill_text.specs.Holding.{StandsBy}
 use Rattle.drill_text.specs.Profiles.{mixed_in}
 use Rattle.drill_text.specs.declared.kept.Keep.TheVariants as drill_keep
 use Rattle.grid_units.specs.declared.profile.Profile.{Profile}
@@ -15,6 +15,7 @@ use Rattle.wide_layers.specs.Holding.{WideStandsAfter}
 use Rattle.manifest.specs.declared.Role.{Role}
 use Rattle.manifest.specs.declared.Role.TheVariants as role
 use Rattle.package_check.specs.CheckViews.{CheckView, holes_of}
+use Rattle.package_check.specs.FileTexts.{drill_kind}
 use Rattle.package_check.specs.HoleViews.{HolesView}
 use Rattle.package_check.specs.Holding.{is_wanted, setting_of}
 use Rattle.package_check.specs.Judging.{HasTriedFeaturesOf, HasTriedPadsOf}
@@ -50,7 +51,7 @@ CopperStandsIn (copper_reader.Wide reader) profile keep text = (profile ≡ Wide
 -- it; or the file has failed. A file that is passed over has read no text.
 abbrev pub HasReadText : Keep → Role → Option LayerSpan → Setting → Reading → List ℕ → Type 0
 HasReadText keep of span setting (reading.Layer reader) text = (of ≡ role.Copper) × (is_bad_span of span setting.layers ≡ false) × CopperStandsIn reader setting.profile keep text
-HasReadText keep of span setting (reading.Drill plated reader) text = (of ≡ drill_role plated) × (is_bad_span of span setting.layers ≡ false) × StandsIn reader setting.profile drill_keep.Holes text
+HasReadText keep of span setting (reading.Drill plated reader) text = (of ≡ drill_role plated) × (is_bad_span of span setting.layers ≡ false) × StandsBy reader (drill_kind setting.profile plated) drill_keep.Holes text
 HasReadText keep of span setting (reading.Mixed reader) text = (of ≡ role.Mixed) × (is_bad_span of span setting.layers ≡ false) × StandsBy reader (mixed_in setting.profile) drill_keep.Holes text
 HasReadText keep of span setting (reading.Failed fail) text = HasFailed of span setting fail text
 HasReadText keep of span setting reading.Skipped text = ⊥

@@ -84,19 +84,19 @@ not_copper = record { place = 0; byte = 0; reason = reason.NotCopper }
 -- the bytes of a copper file are the text of a copper layer with this content
 abbrev pub HasCopperContent : Profile → List ℕ → Content → Type 0
 HasCopperContent profile bytes (content.Layer image) = HasLayerView profile bytes image × (image.is_copper ≡ true)
-HasCopperContent profile bytes (content.Drill plated span holes) = ⊥
+HasCopperContent profile bytes (content.Drill plated span drill) = ⊥
 HasCopperContent profile bytes (content.Mixed span holes) = ⊥
 
--- the bytes of a drill file drill just these holes, and the content has its plating and its span
+-- this is what the check keeps of the bytes of a drill file, and the content has its plating and its span
 abbrev pub HasDrillContent : Profile → Bool → Option LayerSpan → List ℕ → Content → Type 0
 HasDrillContent profile plated span bytes (content.Layer image) = ⊥
-HasDrillContent profile plated span bytes (content.Drill has through holes) = ReadsDrill profile bytes (Ok holes) × (has ≡ plated) × (through ≡ span)
+HasDrillContent profile plated span bytes (content.Drill has through drill) = ReadsDrill profile plated bytes (Ok drill) × (has ≡ plated) × (through ≡ span)
 HasDrillContent profile plated span bytes (content.Mixed through holes) = ⊥
 
 -- the bytes of a mixed drill file drill just these holes, each plated as its tool is called, and the content has its span
 abbrev pub HasMixedContent : Profile → Option LayerSpan → List ℕ → Content → Type 0
 HasMixedContent profile span bytes (content.Layer image) = ⊥
-HasMixedContent profile span bytes (content.Drill has through holes) = ⊥
+HasMixedContent profile span bytes (content.Drill has through drill) = ⊥
 HasMixedContent profile span bytes (content.Mixed through holes) = ReadsMixed profile span bytes (Ok holes) × (through ≡ span)
 
 -- the bytes of a file have this content, as they are read by its role
@@ -127,7 +127,7 @@ ReadsCopper profile bytes (Err fault) = ReadsLayer profile bytes (Err fault) ⊎
 -- a drill file has this content, or its text has this fault
 abbrev pub ReadsHoles : Profile → Bool → Option LayerSpan → List ℕ → Result Content Fault → Type 0
 ReadsHoles profile plated span bytes (Ok content) = HasDrillContent profile plated span bytes content
-ReadsHoles profile plated span bytes (Err fault) = ReadsDrill profile bytes (Err fault)
+ReadsHoles profile plated span bytes (Err fault) = ReadsDrill profile plated bytes (Err fault)
 
 -- a mixed drill file has this content, or its text has this fault
 abbrev pub ReadsMixedHoles : Profile → Option LayerSpan → List ℕ → Result Content Fault → Type 0
@@ -152,16 +152,17 @@ ReadsUnlessBadSpan false source answer = ReadsBytes source answer
 abbrev pub Reads : FileView → Result Content Fault → Type 0
 Reads source answer = ReadsUnlessBadSpan (is_bad_span source.role source.span source.setting.layers) source answer
 
--- the counts of a file: flashed pads, other flashes and contours of a layer, round holes and slots of a drill file, and of a mixed one those that are not plated
+-- the counts of a file: flashed pads, other flashes and contours of a layer, round holes and slots of a drill file, and of a mixed one those that are not plated;
+-- and of a drill file whether its comments contradict its role
 abbrev pub sum_of : Content → FileSum
 sum_of (content.Layer image) = sum.Layer image.flashed image.other image.contours
-sum_of (content.Drill plated span holes) = sum.Drill plated span (count_by is_round holes) (count_by (λ hole. not (is_round hole)) holes)
+sum_of (content.Drill plated span drill) = sum.Drill plated span drill.contradicted (count_by is_round drill.holes) (count_by (λ hole. not (is_round hole)) drill.holes)
 sum_of (content.Mixed span holes) = sum.Mixed span (count_by (λ one. is_round one.hole) holes) (count_by (λ one. not (is_round one.hole)) holes) (count_by (λ one. not one.plated) holes)
 
 -- the pads of a copper file, as a list of one; none for a drill file
 abbrev pub pads_of : Content → List (List WidePad)
 pads_of (content.Layer image) = image.pads ∷ []
-pads_of (content.Drill plated span holes) = []
+pads_of (content.Drill plated span drill) = []
 pads_of (content.Mixed span holes) = []
 
 -- the pads of each copper file, in the order of the files
@@ -171,7 +172,7 @@ layers contents = flat_map pads_of contents
 -- the index of a copper file, as a list of one; none for a drill file
 abbrev pub index_of : ℕ × Content → List ℕ
 index_of (file, content.Layer image) = file ∷ []
-index_of (file, content.Drill plated span holes) = []
+index_of (file, content.Drill plated span drill) = []
 index_of (file, content.Mixed span holes) = []
 
 -- the indexes of the copper files among all files, from 0
@@ -186,7 +187,7 @@ file_holes file plated span holes =
 -- the holes of a file with their places; a copper file has none
 abbrev pub holes_of : ℕ × Content → List Numbered
 holes_of (file, content.Layer image) = []
-holes_of (file, content.Drill plated span holes) = file_holes file plated span holes
+holes_of (file, content.Drill plated span drill) = file_holes file plated span drill.holes
 holes_of (file, content.Mixed span holes) = map (λ hole. record { file = file; number = hole.0; drilled = hole.1 }) (enumerate_from 1 holes)
 
 -- the holes of all drill files with their places, file by file

@@ -19,7 +19,7 @@ AreLegal sources = (contents : List Content) × HaveContents sources contents
 -- the holes of a file with their plating and its span; a copper file has none
 abbrev pub drilled_in : Content → List Drilled
 drilled_in (content.Layer image) = []
-drilled_in (content.Drill plated span holes) = map (λ hole. record { hole = hole; plated = plated; span = span }) holes
+drilled_in (content.Drill plated span drill) = map (λ hole. record { hole = hole; plated = plated; span = span }) drill.holes
 drilled_in (content.Mixed span holes) = holes
 
 -- a plated hole of some drill file that goes through this layer, by its place among the copper files, from 0

@@ -58,7 +58,7 @@ layer_words n pads other contours = codes "file " ++ (decimal n ++ (codes " laye
 -- the line of a file, by its number from 1, its name and its counts: `file 1 layer pads=1 other=0 name=top`, `file 2 drill plated=mixed round=2 slots=0 unplated=1 name=all`
 abbrev pub file_line : Profile → ℕ → List ℕ → FileSum → List ℕ
 file_line profile n name (sum.Layer pads other contours) = layer_words n pads other (contour_words profile contours) ++ name_words name
-file_line profile n name (sum.Drill plated span round slots) = (drill_words n (yes_or_no plated) round slots ++ span_words span) ++ name_words name
+file_line profile n name (sum.Drill plated span contradicted round slots) = (drill_words n (yes_or_no plated) round slots ++ span_words span) ++ name_words name
 file_line profile n name (sum.Mixed span round slots unplated) = drill_words n (codes "mixed") round slots ++ (codes " unplated=" ++ (decimal unplated ++ (span_words span ++ name_words name)))
 
 -- the lines of the files, numbered from n on

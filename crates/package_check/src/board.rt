@@ -178,6 +178,7 @@ pub(crate) fn sum_of(content: &Content) -> FileSum
         } => FileSum::Drill {
             plated: *plated,
             span: *span,
+            contradicted: drill.is_contradicted(),
             round: round_holes(drill.holes()),
             slots: slots(drill.holes()),
         },

@@ -2,12 +2,12 @@
 ghost use Rattle.std.specs.Prelude.{◌≡◌, ℕ, List, Ok, OnOk, true};
 ghost use Rattle.grid_units.specs.Results.{Answers};
 ghost use Rattle.grid_units.specs.declared.fault.Fail.TheVariants as fails;
-ghost use Rattle.drill_text.specs.Holding.{StandsBy, StandsIn};
+ghost use Rattle.drill_text.specs.Holding.{StandsBy};
 ghost use Rattle.drill_text.specs.Profiles.{mixed_in};
 ghost use Rattle.grid_units.specs.declared.profile.Profile.{Profile as TheProfile};
 ghost use Rattle.drill_text.specs.declared.kept.Keep.TheVariants as drill_keep;
 ghost use Rattle.layer_image.specs.KeptFlashes.{keeps_commands, keeps_flashes};
-ghost use Rattle.package_check.specs.FileTexts.{Draws, HasRows, ReadsLayer};
+ghost use Rattle.package_check.specs.FileTexts.{Draws, HasRows, ReadsLayer, drill_kind};
 ghost use Rattle.package_check.specs.Holding.{is_kind};
 ghost use Rattle.package_check.specs.OpenFiles.{CopperStandsIn};
 ghost use Rattle.package_check.specs.Package.{ReadsCopper, ReadsHoles, ReadsMixedHoles, bad_span, is_bad_span, is_copper, not_copper};
@@ -90,9 +90,9 @@ pub(crate) fn read_drill_content(
     span: Option<Span>,
     reader: DrillReader,
 ) -> Result<Content, Fail>
-    ensures { (profile : TheProfile) (text : List ℕ) → StandsIn reader profile drill_keep.Holes text → Answers (λ x. x) (ReadsHoles profile plated span text) result }
+    ensures { (profile : TheProfile) (text : List ℕ) → StandsBy reader (drill_kind profile plated) drill_keep.Holes text → Answers (λ x. x) (ReadsHoles profile plated span text) result }
 {
-    let drill = read_holes(reader)?;
+    let drill = read_holes(plated, reader)?;
     Ok(Content::Drill {
         plated,
         span,

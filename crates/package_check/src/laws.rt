@@ -4,7 +4,7 @@ ghost use Rattle.package_check.specs.Boards.{FileCountsAddUp};
 ghost use Rattle.package_check.specs.Package.{FindingsNameTheirPlaces};
 ghost use Rattle.package_check.specs.Soundness.{HolesAreSaidOnce, PadsAreSaidOnce, PassingIsSound};
 ghost use Rattle.package_check.specs.SoundnessAsRead.{PassingIsSoundAsRead, SoundAsReadIsSound};
-ghost use Rattle.package_check.specs.WiderProfile.{WideFindsNoMore};
+ghost use Rattle.package_check.specs.WiderProfile.{ReadIsUncontradicted, WideFindsNoMore};
 
 use ring_rules::laws::{findings_name_places, gaps_hold, holes_hold, rings_hold};
 use wide_pads::WidePad;
@@ -31,6 +31,7 @@ pub fn sound_as_read_is_sound()
     drill_text::laws::drill_texts();
     drill_text::laws::strict_profile();
     drill_text::laws::mixed_files();
+    drill_text::laws::readings_of_kinds();
 }
 
 /// A package whose report has no finding is sound.
@@ -78,7 +79,6 @@ pub fn unique_reading()
     layer_image::readings_in_profiles();
     wide_layers::unique_reading();
     drill_text::laws::unique_reading();
-    drill_text::laws::readings_in_profiles();
     drill_text::laws::drill_texts();
     drill_text::laws::readings_of_kinds();
 }
@@ -89,7 +89,6 @@ pub fn reading_exists()
 {
     layer_image::readings_in_profiles();
     drill_text::laws::first_faults();
-    drill_text::laws::readings_in_profiles();
     drill_text::laws::readings_of_kinds();
 }
 
@@ -107,15 +106,19 @@ pub fn answer_exists()
     reading_exists();
 }
 
-/// A package that the strict profile reads, the wide one reads too: with the same holes, the same gaps lacking, and no ring that does not
-/// lack in the strict profile.
+/// A package that the strict profile reads, the wide one reads too, unless a file calls holes plated that its role calls unplated: with
+/// the same holes, the same gaps lacking, and no ring that does not lack in the strict profile. A file that the wide profile reads calls no
+/// holes plated that its role calls unplated.
 pub fn wide_finds_no_more()
-    ensures { WideFindsNoMore }
+    ensures fewer { WideFindsNoMore }
+    ensures uncontradicted { ReadIsUncontradicted }
 {
     wide_layers::strict_layers();
     drill_text::laws::drill_texts();
     drill_text::laws::wide_reads_more();
     drill_text::laws::strict_profile();
-    drill_text::laws::mixed_files();
+    drill_text::laws::readings_in_profiles();
+    drill_text::laws::readings_of_kinds();
+    drill_text::laws::unplated_files();
     ring_rules::laws::wide_finds_no_more::<WidePad, WidePad>();
 }

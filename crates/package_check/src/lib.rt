@@ -77,9 +77,12 @@ pub enum FileSum {
         other: usize,
         contours: usize,
     },
+    /// A drill file whose role says whether its holes are plated. It is `contradicted` where its role is `unplated` and a comment says
+    /// that holes are plated, or its role is `plated` and a comment says that holes are not plated, and none that they are.
     Drill {
         plated: bool,
         span: Option<Span>,
+        contradicted: bool,
         round: usize,
         slots: usize,
     },

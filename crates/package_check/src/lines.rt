@@ -107,6 +107,7 @@ impl Display for FileLine<'_> {
                 span,
                 round,
                 slots,
+                ..
             } => {
                 let (plated, span) = (yes_or_no(plated), SpanWords(span));
                 write!(

@@ -9,7 +9,7 @@ ghost use Rattle.layer_image.specs.KeptFlashes.{keeps_commands, keeps_flashes};
 ghost use Rattle.layer_image.specs.declared.keep.Keep.{Keep as TheKeep};
 ghost use Rattle.manifest.specs.declared.Role.{Role as TheRole};
 ghost use Rattle.manifest.specs.declared.Role.TheVariants as role;
-ghost use Rattle.package_check.specs.FileTexts.{Draws, HasRows};
+ghost use Rattle.package_check.specs.FileTexts.{Draws, HasRows, plating_in};
 ghost use Rattle.package_check.specs.OpenFiles.{HasFailed, HasOpened, HasReadText, drill_role};
 ghost use Rattle.package_check.specs.Package.{Reads, Setting, is_bad_span, is_copper, unnamed_file};
 ghost use Rattle.package_check.specs.declared.package_reader.PackageReader.{PackageReader as TheReader};
@@ -20,7 +20,7 @@ use crate::contents::{
 };
 use crate::copper_reader::CopperReader;
 use crate::readers::Shown;
-use drill_text::DrillReader;
+use drill_text::{DrillReader, PlatingKind};
 use grid_units::{Fail, Profile};
 use layer_image::Keep;
 use ring_rules::Span;
@@ -41,11 +41,24 @@ pub(crate) enum Reading {
     Skipped,
 }
 
+/// By what it is known which holes of a file are plated whose role says of all of them whether they are. In the wide profile the words of
+/// a file that its role calls unplated are held to that.
+fn plating_in(profile: Profile, plated: bool) -> PlatingKind
+    ensures { result ≡ plating_in profile plated }
+{
+    match profile {
+        Profile::Strict => PlatingKind::Stated,
+        Profile::Wide if plated => PlatingKind::Stated,
+        Profile::Wide => PlatingKind::Unplated,
+    }
+}
+
 /// A drill file of which nothing was read.
 fn begin_drill(alloc: Global, plated: bool, profile: Profile) -> Reading
     ensures { (keep : TheKeep) (of : TheRole) (span : Option LayerSpan) (layers : ℕ) → of ≡ drill_role plated → is_bad_span of span layers ≡ false → HasReadText keep of span (record { layers = layers; profile = profile }) result [] }
 {
-    let reader = DrillReader::in_profile(alloc, drill_text::Keep::Holes, profile);
+    let known = plating_in(profile, plated);
+    let reader = DrillReader::of_kind(alloc, drill_text::Keep::Holes, profile, known);
     Reading::Drill { plated, reader }
 }
 
@@ -53,7 +66,12 @@ fn begin_drill(alloc: Global, plated: bool, profile: Profile) -> Reading
 fn begin_mixed(alloc: Global, profile: Profile) -> Reading
     ensures { (keep : TheKeep) (span : Option LayerSpan) (layers : ℕ) → is_bad_span role.Mixed span layers ≡ false → HasReadText keep role.Mixed span (record { layers = layers; profile = profile }) result [] }
 {
-    Reading::Mixed(DrillReader::mixed(alloc, drill_text::Keep::Holes, profile))
+    Reading::Mixed(DrillReader::of_kind(
+        alloc,
+        drill_text::Keep::Holes,
+        profile,
+        PlatingKind::Mixed,
+    ))
 }
 
 /// A copper file of which nothing was read.
@@ -92,7 +110,6 @@ impl Reading {
         ensures err { (keep : TheKeep) (of : TheRole) (span : Option LayerSpan) (setting : Setting) (text : List ℕ) → HasReadText keep of span setting self.old text → IfErr result (λ fail. HasFailed of span setting fail (text ++ piece.now)) }
     {
         layer_image::readings_in_profiles();
-        drill_text::laws::readings_in_profiles();
         drill_text::laws::readings_of_kinds();
         match self {
             Reading::Layer(reader) => reader.feed(piece),

@@ -7,7 +7,7 @@ ghost use Rattle.std.specs.List.{take_while};
 ghost use Rattle.std.specs.Option.{option_copied};
 ghost use Rattle.grid_units.specs.Results.{Answers};
 ghost use Rattle.layer_image.specs.Flashes.{pads_of};
-ghost use Rattle.drill_text.specs.Holding.{StandsBy, StandsIn};
+ghost use Rattle.drill_text.specs.Holding.{StandsBy};
 ghost use Rattle.drill_text.specs.Profiles.{mixed_in};
 ghost use Rattle.drill_text.specs.declared.kept.Keep.TheVariants as drill_keep;
 ghost use Rattle.layer_image.specs.Holding.{LayerStandsAfter};
@@ -16,7 +16,7 @@ ghost use Rattle.layer_image.specs.declared.keep.Keep.{Keep as TheKeep};
 ghost use Rattle.layer_image.specs.declared.keep.Keep.TheVariants as keep;
 ghost use Rattle.further_copper.specs.Features.{rows_of, strict_row};
 ghost use Rattle.wide_layers.specs.Holding.{WideStandsAfter};
-ghost use Rattle.package_check.specs.FileTexts.{Draws, HasRows, ReadsLayer, ReadsDrill, ReadsMixed, is_copper_function, marked, wide_view};
+ghost use Rattle.package_check.specs.FileTexts.{Draws, HasRows, ReadsLayer, ReadsDrill, ReadsMixed, drill_kind, is_copper_function, marked, wide_view};
 ghost use Rattle.package_check.specs.LayerViews.{plain};
 ghost use Rattle.package_check.specs.OpenFiles.{CopperStandsIn};
 
@@ -97,26 +97,32 @@ fn plain_pads(alloc: Global, pads: Vec<Pad>) -> Result<Vec<WidePad>, AllocError>
     Ok(all)
 }
 
-/// What the check keeps of a drill file: its holes.
+/// What the check keeps of a drill file: its holes, and whether its comments contradict its role.
 #[derive(Drop)]
 pub(crate) struct Drill {
     holes: Vec<Hole>,
+    contradicted: bool,
 }
 
 impl Model for Drill {
-    ghost use Rattle.std.specs.Prelude.{List};
-    ghost use Rattle.grid_units.specs.Holes.{GridHole};
+    ghost use Rattle.package_check.specs.DrillViews.{DrillView};
 
-    ghost Value = { List GridHole };
+    ghost Value = { DrillView };
 
-    ghost view = { λ d. d.holes.items };
+    ghost view = { λ d. record { holes = d.holes.items; contradicted = d.contradicted } };
 }
 
 impl Drill {
     pub(crate) fn holes(&self) -> &[Hole]
-        ensures { result.now ≡ self.now }
+        ensures { result.now ≡ self.now.holes }
     {
         &self.holes
+    }
+
+    pub(crate) fn is_contradicted(&self) -> bool
+        ensures { result ≡ self.now.contradicted }
+    {
+        self.contradicted
     }
 }
 
@@ -351,13 +357,15 @@ pub(crate) fn read_layer_view(
     }
 }
 
-/// What the check keeps of the drill file whose text the reader has read, or its fault.
-pub(crate) fn read_holes(reader: DrillReader) -> Result<Drill, Fail>
-    ensures { (profile : TheProfile) (text : List ℕ) → StandsIn reader profile drill_keep.Holes text → Answers (λ x. x) (ReadsDrill profile text) result }
+/// What the check keeps of the drill file whose text the reader has read, and whose role calls its holes plated or unplated; or its fault.
+pub(crate) fn read_holes(plated: bool, reader: DrillReader) -> Result<Drill, Fail>
+    ensures { (profile : TheProfile) (text : List ℕ) → StandsBy reader (drill_kind profile plated) drill_keep.Holes text → Answers (λ x. x) (ReadsDrill profile plated text) result }
 {
     let drill = reader.finish()?;
+    let contradicted = drill.contradicts(plated);
     Ok(Drill {
         holes: drill.into_holes(),
+        contradicted,
     })
 }
 

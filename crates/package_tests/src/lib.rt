@@ -7,3 +7,5 @@ mod mixed_calls;
 mod package_check_calls;
 #[cfg(test)]
 mod profile_calls;
+#[cfg(test)]
+mod unplated_calls;

@@ -430,6 +430,26 @@ pub(crate) fn fault_in(
     Ok(check_bytes(alloc, &files, rules_in(profile)?).err())
 }
 
+/// How many drill files of a package have comments that contradict their role, in a profile.
+pub(crate) fn contradicted_in(
+    alloc: Global,
+    profile: Profile,
+    rows: &[FileRow],
+) -> Result<usize, RowFail> {
+    let files = files_of(alloc, rows)?;
+    let board = read_package(alloc, profile, &files, Keep::Pads)?;
+    let contradicted = board.files().iter().filter(|file| {
+        matches!(
+            file,
+            FileSum::Drill {
+                contradicted: true,
+                ..
+            }
+        )
+    });
+    Ok(contradicted.count())
+}
+
 /// A file's number, from 0, and the reason why the package is refused for it, in place of a report and of a board.
 fn is_refused(alloc: Global, rows: &[FileRow], fault: PackageFault) -> Result<bool, RowFail> {
     let files = files_of(alloc, rows)?;
@@ -651,6 +671,7 @@ fn has_flashes(
 const DRILL_OF_ONE: FileSum = FileSum::Drill {
     plated: true,
     span: None,
+    contradicted: false,
     round: 1,
     slots: 0,
 };

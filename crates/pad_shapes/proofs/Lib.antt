@@ -3,3 +3,4 @@ pub mod EdgesLemmas
 pub mod PartsLemmas
 pub mod MovedShapes
 pub mod PlacedLemmas
+pub mod FrameLemmas

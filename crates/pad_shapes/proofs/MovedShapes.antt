@@ -8,7 +8,7 @@ use Rattle.std.proofs.lemmas.Int.{clamps, ints}
 use Rattle.std.proofs.lemmas.List.Folds.{list_all-map}
 use Rattle.std.specs.Int.{int_min, int_max}
 use Rattle.grid_units.specs.Points.{GridPoint, square, square_distance}
-use Rattle.pad_shapes.specs.Rounded.{GridRounded, Edge, along, corners, cross, edges, edges_back, greatest_corner, has_area, is_beside, is_beside_some, is_convex, is_deep_inside, is_deep_left, is_deep_left_of_all, is_near_corner, is_near_rim, is_outline, least_corner, rounded_bottom, rounded_covers, rounded_left, rounded_right, rounded_top, square_edge}
+use Rattle.pad_shapes.specs.Rounded.{GridRounded, Edge, along, corners, cross, edges, edges_back, greatest_corner, has_area, is_beside, is_beside_some, is_convex, is_deep_inside, is_deep_left, is_deep_left_of_all, is_near_corner, is_outline, least_corner, rounded_bottom, rounded_covers, rounded_left, rounded_right, rounded_top, square_edge}
 use Rattle.pad_shapes.specs.Placed.{moved_point, moved_shape}
 
 shift : (o a b : ℤ) → (o +ℤ a) -ℤ (o +ℤ b) ≡ a -ℤ b
@@ -116,13 +116,13 @@ min_shift o a b = omega (arith, ints, clamps)
 max_shift : (o a b : ℤ) → int_max (o +ℤ a) (o +ℤ b) ≡ o +ℤ int_max a b
 max_shift o a b = omega (arith, ints, clamps)
 
-least-shift : (f : GridPoint → ℤ) (o : GridPoint) (by : ℤ) → ((v : GridPoint) → f (moved_point o v) ≡ by +ℤ f v) → (a : ℤ) (vs : List GridPoint)
+pub least-shift : (f : GridPoint → ℤ) (o : GridPoint) (by : ℤ) → ((v : GridPoint) → f (moved_point o v) ≡ by +ℤ f v) → (a : ℤ) (vs : List GridPoint)
     → fold (λ least v. int_min least (f v)) (by +ℤ a) (map (moved_point o) vs) ≡ by +ℤ fold (λ least v. int_min least (f v)) a vs
 least-shift f o by e a [] = refl
 least-shift f o by e a (v ∷ vs) =
     ap (λ (z : ℤ). fold (λ least v. int_min least (f v)) z (map (moved_point o) vs)) (ap (int_min (by +ℤ a)) (e v) ∙ min_shift by a (f v)) ∙ least-shift f o by e (int_min a (f v)) vs
 
-greatest-shift : (f : GridPoint → ℤ) (o : GridPoint) (by : ℤ) → ((v : GridPoint) → f (moved_point o v) ≡ by +ℤ f v) → (a : ℤ) (vs : List GridPoint)
+pub greatest-shift : (f : GridPoint → ℤ) (o : GridPoint) (by : ℤ) → ((v : GridPoint) → f (moved_point o v) ≡ by +ℤ f v) → (a : ℤ) (vs : List GridPoint)
     → fold (λ greatest v. int_max greatest (f v)) (by +ℤ a) (map (moved_point o) vs) ≡ by +ℤ fold (λ greatest v. int_max greatest (f v)) a vs
 greatest-shift f o by e a [] = refl
 greatest-shift f o by e a (v ∷ vs) =

@@ -1,9 +1,9 @@
 -- Each point of a rounded polygon lies in the polygon, no further than the radius from a corner, or beside an edge. Some mean of
 -- corners is no further from the point than the radius, and lies to the right of no edge. Where the point lies to the right of some
 -- edge, the way from it to the mean comes into the polygon at an edge, and what it meets there is no further from the point.
-use Rattle.std.proofs.Common.{◌≡◌, ℕ, zero, suc, ℤ, pos, negsuc, ◌+◌, ◌-◌, ◌*◌, ◌≤◌, ◌<◌, ◌+ℤ◌, ◌-ℤ◌, ◌*ℤ◌, ◌≤ℤ◌, ◌<ℤ◌, unsigned_abs, Bool, true, false, List, [], ◌∷◌, length, refl, sym, ap, subst, ◌∙◌, ◌⊎◌, inl, inr, arith}
-use Rattle.std.specs.Prelude.{not, ◌&&◌, ◌||◌, ◌↔◌, nat_le, int_le, int_lt}
-use Rattle.std.specs.List.{All, Contains, list_any, list_all}
+use Rattle.std.proofs.Common.{◌≡◌, ℕ, zero, suc, ℤ, pos, negsuc, ◌+◌, ◌-◌, ◌*◌, ◌≤◌, ◌<◌, ◌+ℤ◌, ◌-ℤ◌, ◌*ℤ◌, ◌≤ℤ◌, ◌<ℤ◌, unsigned_abs, Bool, true, false, List, [], ◌∷◌, refl, sym, ap, subst, ◌∙◌, ◌⊎◌, inl, inr, arith}
+use Rattle.std.specs.Prelude.{not, ◌&&◌, ◌||◌, nat_le, int_le, int_lt}
+use Rattle.std.specs.List.{All, Contains, list_any}
 use Rattle.std.specs.Ordering.{int_eq}
 use Rattle.std.proofs.lemmas.Bool.{and_parts, and_from, or_left, or_right, or_cases, le-leb, leb-true, cases_lt, not-true, false≢true}
 use Rattle.std.proofs.lemmas.Bool.Decides.{Decides-int_eq}
@@ -14,8 +14,7 @@ use borrow.Author.Differences.{true_is_lt}
 use Rattle.grid_units.specs.Laws.{square_length}
 use Rattle.grid_units.specs.Points.{GridPoint, square, square_distance}
 use Rattle.grid_units.proofs.TriangleInequalities.{triangle_inequality, square_distance_comm}
-use Rattle.pad_shapes.specs.Shapes.{IsInDisc}
-use Rattle.pad_shapes.specs.Rounded.{GridRounded, WeightedPoint, total_weight, weighted_sum, IsNear, IsInRounded, corners, Edge, edges, edges_back, cross, along, square_edge, is_deep_left, is_deep_left_of_all, has_area, is_deep_inside, is_near_corner, is_beside, is_beside_some, is_near_rim, is_convex, is_outline, rounded_covers, PointsAreCovered}
+use Rattle.pad_shapes.specs.Rounded.{GridRounded, WeightedPoint, total_weight, weighted_sum, IsInRounded, corners, Edge, edges, edges_back, cross, along, square_edge, is_deep_left, is_deep_left_of_all, has_area, is_deep_inside, is_near_corner, is_beside, is_beside_some, is_near_rim, is_convex, is_outline, rounded_covers, PointsAreCovered}
 use Rattle.pad_shapes.specs.Inner.Identities.{is_z, is_n, is_add, is_sub, is_mul, same, of_natural, square_is, pos_injective, scaled-le, cancel, times-le, untimes-le, length_is, area-le}
 use Rattle.pad_shapes.specs.Inner.Means.{length_same}
 use Rattle.pad_shapes.specs.Inner.Fan.{edge, turn, EachEdge, SomeEdge, each_edge, map_each, map_some, edge_and_ends, turned_back, no_area}

@@ -34,14 +34,6 @@ near_y p h = near p.y (not_true (is_too_far p.y) ((both_true (not (is_too_far p.
 pub near_each : (o : GridPoint) (points : List GridPoint) → list_all is_near (map (moved_point o) points) ≡ true → (k : ℕ) (d : GridPoint) → k < length points → is_near (moved_point o (get_or points k d)) ≡ true
 near_each o points h k d lt = AllPass-from_list_all (λ (v : GridPoint). is_near (moved_point o v)) points (sym (list_all-map is_near (moved_point o) points) ∙ h) k d lt
 
--- one point that does not stay near keeps all from it
-pub not_all : (o : GridPoint) (points : List GridPoint) (k : ℕ) (d : GridPoint) → k < length points → is_near (moved_point o (get_or points k d)) ≡ false → false ≡ list_all is_near (map (moved_point o) points)
-not_all o points k d lt e = by (list_all is_near (map (moved_point o) points)) refl
-  where
-    by : (b : Bool) → list_all is_near (map (moved_point o) points) ≡ b → false ≡ list_all is_near (map (moved_point o) points)
-    by true h = absurd (false≢true (sym e ∙ near_each o points h k d lt))
-    by false h = sym h
-
 -- corners that are moved are those of a rounded polygon as they were
 pub rounded_there : (o : GridPoint) (s : GridRounded) (first : GridPoint) (others : List GridPoint) (radius : ℤ) → first ≡ moved_point o s.first → others ≡ map (moved_point o) s.others → radius ≡ pos s.radius
     → IsRounded s.first s.others (pos s.radius) → IsRounded first others radius
@@ -53,7 +45,7 @@ rounded_there o s first others radius e f g h = record {
 
 -- ---- how far the box of near corners reaches
 
-least_near : (f : GridPoint → ℤ) → ((v : GridPoint) → is_near v ≡ true → IsCoordinate (f v)) → (vs : List GridPoint) (a : ℤ) → IsCoordinate a → list_all is_near vs ≡ true → IsCoordinate (fold (λ least v. int_min least (f v)) a vs)
+pub least_near : (f : GridPoint → ℤ) → ((v : GridPoint) → is_near v ≡ true → IsCoordinate (f v)) → (vs : List GridPoint) (a : ℤ) → IsCoordinate a → list_all is_near vs ≡ true → IsCoordinate (fold (λ least v. int_min least (f v)) a vs)
 least_near f near_f [] a h all = h
 least_near f near_f (v ∷ vs) a h all =
     let both = both_true (is_near v) (list_all is_near vs) all in
@@ -62,7 +54,7 @@ least_near f near_f (v ∷ vs) a h all =
     lesser : (p q : ℤ) → IsCoordinate p → IsCoordinate q → IsCoordinate (int_min p q)
     lesser p q h k = omega (arith, ints, clamps)
 
-greatest_near : (f : GridPoint → ℤ) → ((v : GridPoint) → is_near v ≡ true → IsCoordinate (f v)) → (vs : List GridPoint) (a : ℤ) → IsCoordinate a → list_all is_near vs ≡ true → IsCoordinate (fold (λ greatest v. int_max greatest (f v)) a vs)
+pub greatest_near : (f : GridPoint → ℤ) → ((v : GridPoint) → is_near v ≡ true → IsCoordinate (f v)) → (vs : List GridPoint) (a : ℤ) → IsCoordinate a → list_all is_near vs ≡ true → IsCoordinate (fold (λ greatest v. int_max greatest (f v)) a vs)
 greatest_near f near_f [] a h all = h
 greatest_near f near_f (v ∷ vs) a h all =
     let both = both_true (is_near v) (list_all is_near vs) all in

@@ -4,3 +4,4 @@ pub mod Means
 pub mod Fan
 pub mod RoundedLaws
 pub mod RoundedSets
+pub mod Frames

@@ -204,27 +204,13 @@ fn stays_near(x: i128, y: i128, p: Point) -> bool
     is_near_sum(x, p.x()) && is_near_sum(y, p.y())
 }
 
-/// Whether all points moved by an offset are.
-fn all_stay_near(x: i128, y: i128, points: &[Point]) -> bool
-    requires x { unsigned_abs x ≤ 2 ^ 104 }
-    requires y { unsigned_abs y ≤ 2 ^ 104 }
-    ensures { result ≡ list_all is_near (map (moved_point (record { x = x; y = y })) points.now) }
-{
-    for point in points {
-        if !stays_near(x, y, *point) {
-            return false;
-        }
-    }
-    true
-}
-
-/// Whether each corner of a shape moved by an offset is at most 10 m from zero along each axis.
+/// Whether each corner of a shape moved by an offset is at most 10 m from zero along each axis: both corners of their box are.
 fn lies_near(shape: &Rounded, x: i128, y: i128) -> bool
     requires x { unsigned_abs x ≤ 2 ^ 104 }
     requires y { unsigned_abs y ≤ 2 ^ 104 }
     ensures { result ≡ list_all is_near (corners (moved_shape (record { x = x; y = y }) shape.now)) }
 {
-    stays_near(x, y, shape.first()) && all_stay_near(x, y, shape.others())
+    stays_near(x, y, shape.low()) && stays_near(x, y, shape.high())
 }
 
 /// An offset that moves one coordinate to another.
@@ -279,7 +265,7 @@ fn left_at(x: i64, shape: &Rounded) -> i64
     requires { unsigned_abs x ≤ 20000000000000 }
     ensures { (y : ℤ) → result ≡ rounded_left (moved_shape (record { x = x; y = y }) shape.now) }
 {
-    x + shape.least_x() - shape.radius()
+    x + shape.low().x() - shape.radius()
 }
 
 /// The greatest x of a shape moved by an offset.
@@ -287,7 +273,7 @@ fn right_at(x: i64, shape: &Rounded) -> i64
     requires { unsigned_abs x ≤ 20000000000000 }
     ensures { (y : ℤ) → result ≡ rounded_right (moved_shape (record { x = x; y = y }) shape.now) }
 {
-    x + shape.greatest_x() + shape.radius()
+    x + shape.high().x() + shape.radius()
 }
 
 /// The least box along the axes that holds the points of a shape moved by an offset.
@@ -299,11 +285,12 @@ fn bounds_at(x: i64, y: i64, shape: &Rounded) -> Zone
     ensures in_range { IsWithin 15000000000000 result }
 {
     let radius = shape.radius();
+    let (low, high) = (shape.low(), shape.high());
     Zone {
-        left: x + shape.least_x() - radius,
-        right: x + shape.greatest_x() + radius,
-        bottom: y + shape.least_y() - radius,
-        top: y + shape.greatest_y() + radius,
+        left: x + low.x() - radius,
+        right: x + high.x() + radius,
+        bottom: y + low.y() - radius,
+        top: y + high.y() + radius,
     }
 }
 

@@ -3,6 +3,7 @@
 ghost use Rattle.std.specs.Prelude.{◌≡◌, ◌≤◌};
 ghost use Rattle.grid_units.specs.Points.{IsCoordinate};
 ghost use Rattle.pad_shapes.specs.Rounded.{has_area, is_deep_inside, is_near_corner, is_near_rim, is_convex, is_outline, is_deep_left_of_all, is_beside_some, least_corner, greatest_corner};
+ghost use Rattle.pad_shapes.specs.Inner.Frames.{high_corner, low_corner};
 
 use crate::edges::{cross, is_beside, is_deep_left, square_distance_to};
 use crate::relative::RelativePoint;
@@ -126,7 +127,7 @@ pub(crate) fn is_outline(first: Point, others: &[Point]) -> bool
 }
 
 /// The least x of the corners, in pm.
-pub(crate) fn least_x(first: Point, others: &[Point]) -> i64
+fn least_x(first: Point, others: &[Point]) -> i64
     ensures value { result ≡ least_corner (λ v. v.x) (record { first = first; others = others.now; radius = 0 }) }
     ensures in_range { IsCoordinate result }
 {
@@ -138,7 +139,7 @@ pub(crate) fn least_x(first: Point, others: &[Point]) -> i64
 }
 
 /// The greatest x of the corners, in pm.
-pub(crate) fn greatest_x(first: Point, others: &[Point]) -> i64
+fn greatest_x(first: Point, others: &[Point]) -> i64
     ensures value { result ≡ greatest_corner (λ v. v.x) (record { first = first; others = others.now; radius = 0 }) }
     ensures in_range { IsCoordinate result }
 {
@@ -150,7 +151,7 @@ pub(crate) fn greatest_x(first: Point, others: &[Point]) -> i64
 }
 
 /// The least y of the corners, in pm.
-pub(crate) fn least_y(first: Point, others: &[Point]) -> i64
+fn least_y(first: Point, others: &[Point]) -> i64
     ensures value { result ≡ least_corner (λ v. v.y) (record { first = first; others = others.now; radius = 0 }) }
     ensures in_range { IsCoordinate result }
 {
@@ -162,7 +163,7 @@ pub(crate) fn least_y(first: Point, others: &[Point]) -> i64
 }
 
 /// The greatest y of the corners, in pm.
-pub(crate) fn greatest_y(first: Point, others: &[Point]) -> i64
+fn greatest_y(first: Point, others: &[Point]) -> i64
     ensures value { result ≡ greatest_corner (λ v. v.y) (record { first = first; others = others.now; radius = 0 }) }
     ensures in_range { IsCoordinate result }
 {
@@ -171,4 +172,18 @@ pub(crate) fn greatest_y(first: Point, others: &[Point]) -> i64
         greatest = greatest.max(corner.y());
     }
     greatest
+}
+
+/// The corner with the least x and the least y of the box of the corners.
+pub(crate) fn low_corner(first: Point, others: &[Point]) -> Point
+    ensures { result ≡ low_corner (record { first = first; others = others.now; radius = 0 }) }
+{
+    Point::new(least_x(first, others), least_y(first, others)).unwrap()
+}
+
+/// The corner with the greatest x and the greatest y of the box of the corners.
+pub(crate) fn high_corner(first: Point, others: &[Point]) -> Point
+    ensures { result ≡ high_corner (record { first = first; others = others.now; radius = 0 }) }
+{
+    Point::new(greatest_x(first, others), greatest_y(first, others)).unwrap()
 }

@@ -1,15 +1,14 @@
 //! Rounded polygons: convex polygons, and all that lies within a radius of them.
 
 ghost use Rattle.std.specs.Prelude.{◌≡◌, ℕ, pos, ◌<◌, ◌≤◌, ◌↔◌, false, IsSome, IfSome, MatchOption, unsigned_abs};
-ghost use Rattle.grid_units.specs.Points.{GridPoint, IsCoordinate};
+ghost use Rattle.grid_units.specs.Points.{GridPoint};
 ghost use Rattle.pad_shapes.specs.Shapes.{IsPadRadius, max_reach};
 ghost use Rattle.pad_shapes.specs.Zones.{BoundsCentres, IsWithin};
-ghost use Rattle.pad_shapes.specs.Rounded.{IsRounded, IsInRounded, IsGreatestReach, greatest_corner, least_corner, rounded_covers, rounded_left, rounded_right};
+ghost use Rattle.pad_shapes.specs.Rounded.{IsRounded, IsInRounded, IsGreatestReach, rounded_covers, rounded_left, rounded_right};
+ghost use Rattle.pad_shapes.specs.Inner.Frames.{high_corner, low_corner};
 ghost use Rattle.pad_shapes.specs.Inner.RoundedLaws.{rounded_contains_covered, rounded_contains_slots, rounded_between, rounded_extent};
 
-use crate::polygon::{
-    greatest_x, greatest_y, is_deep_inside, is_near_rim, is_outline, least_x, least_y,
-};
+use crate::polygon::{high_corner, is_deep_inside, is_near_rim, is_outline, low_corner};
 use crate::relative::RelativePoint;
 use crate::shape::{MAX_HALF_SIDE, PadShape};
 use crate::zone::{Zone, are_apart};
@@ -30,18 +29,22 @@ pub struct Rounded {
     first: Point,
     others: Vec<Point>,
     radius: u64,
+    // The box of the corners, so that no copy of the shape goes over them to find where it lies.
+    low: Point,
+    high: Point,
 }
 
 impl Model for Rounded {
     ghost use Rattle.std.specs.Prelude.{◌≡◌, ◌≤◌, ◌<◌, true, length};
     ghost use Rattle.pad_shapes.specs.Shapes.{max_half_side};
     ghost use Rattle.pad_shapes.specs.Rounded.{GridRounded, max_corners, is_outline};
+    ghost use Rattle.pad_shapes.specs.Inner.Frames.{high_corner, low_corner};
 
     ghost Value = { GridRounded };
 
     ghost view = { λ r. record { first = r.first; others = r.others.items; radius = r.radius } };
 
-    ghost invariant = { λ r. (length r.others.items < max_corners) × (r.radius ≤ max_half_side) × (is_outline r.first r.others.items ≡ true) };
+    ghost invariant = { λ r. (length r.others.items < max_corners) × (r.radius ≤ max_half_side) × (is_outline r.first r.others.items ≡ true) × (r.low ≡ low_corner (record { first = r.first; others = r.others.items; radius = r.radius })) × (r.high ≡ high_corner (record { first = r.first; others = r.others.items; radius = r.radius })) };
 }
 
 impl Rounded {
@@ -54,10 +57,14 @@ impl Rounded {
     {
         let is_in_range = others.len() < MAX_CORNERS && 0 <= radius && radius <= MAX_HALF_SIDE;
         if is_in_range && is_outline(first, &others) {
+            let low = low_corner(first, &others);
+            let high = high_corner(first, &others);
             Some(Rounded {
                 first,
                 others,
                 radius: radius.unsigned_abs(),
+                low,
+                high,
             })
         } else {
             None
@@ -94,13 +101,12 @@ impl Rounded {
         ensures bound { BoundsCentres rounded_covers self.now reach result }
         ensures in_range { IsWithin 40000000000000 result }
     {
-        let others = &self.others;
         let inset = reach as i64 - self.radius as i64;
         Zone {
-            left: least_x(self.first, others) + inset,
-            right: greatest_x(self.first, others) - inset,
-            bottom: least_y(self.first, others) + inset,
-            top: greatest_y(self.first, others) - inset,
+            left: self.low.x() + inset,
+            right: self.high.x() - inset,
+            bottom: self.low.y() + inset,
+            top: self.high.y() - inset,
         }
     }
 
@@ -116,36 +122,18 @@ impl Rounded {
         reach <= self.radius && is_near_rim(self.first, &self.others, self.radius - reach, centre)
     }
 
-    /// The least x of the corners, in pm.
-    pub(crate) fn least_x(&self) -> i64
-        ensures value { result ≡ least_corner (λ v. v.x) self.now }
-        ensures in_range { IsCoordinate result }
+    /// The corner of the box of the corners that has the least x and the least y.
+    pub(crate) fn low(&self) -> Point
+        ensures { result ≡ low_corner self.now }
     {
-        least_x(self.first, &self.others)
+        self.low
     }
 
-    /// The greatest x of the corners, in pm.
-    pub(crate) fn greatest_x(&self) -> i64
-        ensures value { result ≡ greatest_corner (λ v. v.x) self.now }
-        ensures in_range { IsCoordinate result }
+    /// The corner of the box of the corners that has the greatest x and the greatest y.
+    pub(crate) fn high(&self) -> Point
+        ensures { result ≡ high_corner self.now }
     {
-        greatest_x(self.first, &self.others)
-    }
-
-    /// The least y of the corners, in pm.
-    pub(crate) fn least_y(&self) -> i64
-        ensures value { result ≡ least_corner (λ v. v.y) self.now }
-        ensures in_range { IsCoordinate result }
-    {
-        least_y(self.first, &self.others)
-    }
-
-    /// The greatest y of the corners, in pm.
-    pub(crate) fn greatest_y(&self) -> i64
-        ensures value { result ≡ greatest_corner (λ v. v.y) self.now }
-        ensures in_range { IsCoordinate result }
-    {
-        greatest_y(self.first, &self.others)
+        self.high
     }
 
     /// Half the width of the shape in pm, at most 15,000,000,000,000 pm. It covers nothing with a greater reach.
@@ -153,8 +141,7 @@ impl Rounded {
         ensures in_range { result ≤ 15000000000000 }
         ensures bound { (c : GridPoint) (reach : ℕ) → result < reach → rounded_covers self.now c reach ≡ false }
     {
-        let others = &self.others;
-        let width = greatest_x(self.first, others) - least_x(self.first, others);
+        let width = self.high.x() - self.low.x();
         self.radius + width.unsigned_abs() / 2
     }
 
@@ -210,11 +197,11 @@ impl PadShape for Rounded {
     }
 
     fn left(&self) -> i64 {
-        least_x(self.first, &self.others) - self.radius as i64
+        self.low.x() - self.radius as i64
     }
 
     fn right(&self) -> i64 {
-        greatest_x(self.first, &self.others) + self.radius as i64
+        self.high.x() + self.radius as i64
     }
 
     fn zone(&self, reach: u64) -> Option<Zone> {

@@ -169,7 +169,7 @@ crosses_start pen = after (codes "<path class=\"other\" stroke-width=\"") (pos (
 
 -- the end of the path of crosses, with its title
 abbrev pub crosses_end : List ℕ
-crosses_end = codes "\"><title>flash that is no pad</title></path>\n"
+crosses_end = codes "\"><title>flash not counted as a pad</title></path>\n"
 
 -- the path of all crosses; nothing where there are none
 abbrev pub crosses : Pen → List GridPoint → List ℕ

@@ -70,11 +70,11 @@ abbrev pub drawn_words : Scene → List ℕ
 drawn_words scene =
     if scene.crowded then codes "more than 100000 flashes and holes" else flash_words (pad_count scene) (length scene.crosses.items)
 
--- the number of rings lacking: `, 2 rings lacking`; nothing where there are no rules
+-- the number of rings that are too small: `, 2 rings too small`; nothing where there are no rules
 abbrev pub lacking_words : Pen → ℕ → List ℕ
-lacking_words pen count = if pen.has_rules then codes ", " ++ amount count (codes " ring lacking") (codes " rings lacking") else []
+lacking_words pen count = if pen.has_rules then codes ", " ++ amount count (codes " ring too small") (codes " rings too small") else []
 
--- the note of a panel: `361 pads, 1 other, 2 rings lacking</text>`
+-- the note of a panel: `361 pads, 1 other, 2 rings too small</text>`
 unfoldable pub note : Pen → Scene → List ℕ
 note pen scene = drawn_words scene ++ (lacking_words pen (ring_count scene.lacks.items) ++ codes "</text>\n")
 

@@ -70,7 +70,7 @@ impl Display for Crosses<'_> {
         };
         write!(
             f,
-            "<path class=\"other\" stroke-width=\"{width}\" d=\"{lines}\"><title>flash that is no pad</title></path>\n"
+            "<path class=\"other\" stroke-width=\"{width}\" d=\"{lines}\"><title>flash not counted as a pad</title></path>\n"
         )
     }
 }

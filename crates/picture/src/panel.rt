@@ -114,11 +114,11 @@ fn write_lacking<W: fmt::Write>(f: &mut Formatter<W>, pen: &Pen, count: usize) -
     if !pen.has_rules {
         return Ok(());
     }
-    let word = words_for(count, " ring lacking", " rings lacking");
+    let word = words_for(count, " ring too small", " rings too small");
     write!(f, ", {count}{word}")
 }
 
-/// The note of a panel, and the end of its element: `361 pads, 1 other, 2 rings lacking</text>`.
+/// The note of a panel, and the end of its element: `361 pads, 1 other, 2 rings too small</text>`.
 #[derive(Clone, Copy)]
 struct Note<'a> {
     pen: &'a Pen,

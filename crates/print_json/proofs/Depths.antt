@@ -1,5 +1,5 @@
 -- The depth to which values nest.
-use Rattle.std.proofs.Common.{◌≤◌, ◌+◌, ◌++◌, ℕ, suc, List, [], ◌∷◌, Option, Some, None, arith, length, map}
+use Rattle.std.proofs.Common.{◌≤◌, ◌+◌, ◌++◌, ℕ, suc, true, false, List, [], ◌∷◌, Option, Some, None, arith, length, map}
 use Rattle.std.specs.Borrow.{Bor}
 use Rattle.std.specs.List.{All, enumerate_from}
 use Rattle.std.specs.Prelude.{codes, ⊤}
@@ -25,6 +25,7 @@ use Rattle.report.specs.declared.PlacedHole.{PlacedHole}
 use Rattle.report.specs.declared.LayerHead.{LayerHead}
 use Rattle.report.specs.declared.RingLack.{RingLack}
 use Rattle.report.specs.declared.BoardReport.{BoardReport}
+use Rattle.print_text.specs.declared.particulars.Particulars.{Particulars}
 use Rattle.printing.specs.Holes.{name_of}
 use Rattle.report.specs.Acceptances.{acceptance_at}
 use Rattle.ring_rules.specs.declared.finding.Drilled.{Drilled}
@@ -74,7 +75,8 @@ file_within : (profile : Profile) (n : ℕ) (name : List ℕ) (sum : FileSum) �
 unfolding layer_value wide_layer_value drill_value mixed_value
 file_within Strict n name (sums.Layer pads other contours) = omega arith
 file_within Wide n name (sums.Layer pads other contours) = omega arith
-file_within profile n name (sums.Drill plated span round slots) = let layers = span_within span in omega (arith, layers)
+file_within profile n name (sums.Drill plated span true round slots) = let layers = span_within span in omega (arith, layers)
+file_within profile n name (sums.Drill plated span false round slots) = let layers = span_within span in omega (arith, layers)
 file_within profile n name (sums.Mixed span round slots unplated) = let layers = span_within span in omega (arith, layers)
 
 scale_within : (line : UnitMistake) → depth (scale_value line) ≤ 1
@@ -136,9 +138,9 @@ gaps_within before gaps accepted =
     All-map (λ v. depth v ≤ 3) (λ (one : ℕ × GapLack). gap_value (before + (one.0 + 1)) one.1 (acceptance_at accepted one.0)) (enumerate_from 0 gaps) (λ k d l. gap_within _ _ _)
 
 -- the depth of a report
-pub report_within : (profile : Profile) (names : List (List ℕ)) (files : List FileSum) (report : BoardReport) (of_rings of_gaps : List (Option (Bor (List ℕ)))) → depth (report_value profile names files report of_rings of_gaps) ≤ max_depth
+pub report_within : (profile : Profile) (about : Particulars) (names : List (List ℕ)) (files : List FileSum) (report : BoardReport) (of_rings of_gaps : List (Option (Bor (List ℕ)))) → depth (report_value profile about names files report of_rings of_gaps) ≤ max_depth
 unfolding report_value rules_value
-report_within Strict names files report of_rings of_gaps =
+report_within Strict about names files report of_rings of_gaps =
     let meets = meets_within report.meets in
     let named = files_within Strict names files in
     let scales = each_within scale_value 1 scale_within report.scales.items in
@@ -147,7 +149,7 @@ report_within Strict names files report of_rings of_gaps =
     let found = items_within 3 (rings ++ gap_values before report.gaps.items of_gaps)
     (All-append (λ v. depth v ≤ 3) rings (gap_values before report.gaps.items of_gaps) (rings_within report.layers.items report.rings.items of_rings) (gaps_within before report.gaps.items of_gaps)) in
     omega (arith, meets, named, scales, found)
-report_within Wide names files report of_rings of_gaps =
+report_within Wide about names files report of_rings of_gaps =
     let meets = meets_within report.meets in
     let named = files_within Wide names files in
     let scales = each_within scale_value 1 scale_within report.scales.items in

@@ -4,7 +4,7 @@ use Rattle.grid_units.specs.declared.profile.Profile.{Profile}
 use Rattle.grid_units.specs.declared.profile.Profile.TheVariants.{Strict, Wide}
 use Rattle.std.specs.Borrow.{Bor}
 use Rattle.std.specs.List.{enumerate_from}
-use Rattle.json.specs.Json.{Json, boolean}
+use Rattle.json.specs.Json.{Json, boolean, null}
 use Rattle.grid_units.specs.Reasons.{reason_name}
 use Rattle.grid_units.specs.declared.fault.Fault.{Fault}
 use Rattle.grid_units.specs.declared.fault.Reason.{Reason}
@@ -18,22 +18,29 @@ use Rattle.report.specs.declared.LayerHead.{LayerHead}
 use Rattle.report.specs.declared.RingLack.{RingLack}
 use Rattle.report.specs.declared.BoardReport.{BoardReport}
 use Rattle.report.specs.declared.Acceptances.{Acceptances}
+use Rattle.print_text.specs.declared.particulars.Particulars.{Particulars}
 use Rattle.print_json.specs.Values.{array_of, file_value, gap_value, or_null, least_gap_value, meets_value, object_of, ring_value, row_value, rules_value, scale_value, whole, word}
 use Rattle.print_json.specs.declared.refused.InputError.{InputError}
 use Rattle.print_json.specs.declared.refused.InputError.TheVariants as stops
 
--- the member that names a profile, where it is not the strict one: `"profile":"wide"`
-abbrev pub profile_member : Profile → List (List ℕ × Json)
-profile_member Strict = []
-profile_member Wide = (codes "profile", word (codes "wide")) ∷ []
+-- the name of a profile
+abbrev pub profile_value : Profile → Json
+profile_value Strict = word (codes "strict")
+profile_value Wide = word (codes "wide")
+
+-- how many findings the wide profile does not have; null of a report in the wide profile
+abbrev pub fewer_value : Profile → ℕ → Json
+fewer_value Strict fewer = whole fewer
+fewer_value Wide fewer = null
 
 -- the first members of an object about files that are read in a profile
 abbrev pub opening_in : Profile → List ℕ → List (List ℕ × Json)
-opening_in profile result = (codes "format", word (codes "ringcheck")) ∷ (codes "version", whole 2) ∷ (profile_member profile ++ (codes "result", word result) ∷ [])
+opening_in profile result =
+    (codes "format", word (codes "ringcheck")) ∷ (codes "version", whole 3) ∷ (codes "profile", profile_value profile) ∷ (codes "result", word result) ∷ []
 
--- the first members of each other object: `"format":"ringcheck","version":2,"result":"refused"`
+-- the first members of each other object: `"format":"ringcheck","version":3,"result":"refused"`
 abbrev pub opening : List ℕ → List (List ℕ × Json)
-opening result = (codes "format", word (codes "ringcheck")) ∷ (codes "version", whole 2) ∷ (codes "result", word result) ∷ []
+opening result = (codes "format", word (codes "ringcheck")) ∷ (codes "version", whole 3) ∷ (codes "result", word result) ∷ []
 
 -- the contents of each file in a profile, in order, with the files' numbers and names
 abbrev pub file_values : Profile → List (List ℕ) → List FileSum → List Json
@@ -62,20 +69,22 @@ result_word findings waived = if findings == 0 then codes "pass" else if waived 
 abbrev pub report_result : BoardReport → List (Option (Bor (List ℕ))) → List (Option (Bor (List ℕ))) → List ℕ
 report_result report rings gaps = result_word (length report.rings.items + length report.gaps.items) (waived_in report rings gaps)
 
--- a report in a profile with such reasons: the rules, the rules that are met, the files, the scales, and all findings, rings before gaps
-unfoldable pub report_value : Profile → List (List ℕ) → List FileSum → BoardReport → List (Option (Bor (List ℕ))) → List (Option (Bor (List ℕ))) → Json
-report_value profile names files report rings gaps =
-    object_of (opening_in profile (report_result report rings gaps) ++ ((codes "rules", rules_value report.rules) ∷ (codes "meets", meets_value report.meets)
+-- a report in a profile with such reasons: the manifest, the program, the rules, the rules that are met, how many findings the wide profile does
+-- not have, the files, the scales, and all findings, rings before gaps
+unfoldable pub report_value : Profile → Particulars → List (List ℕ) → List FileSum → BoardReport → List (Option (Bor (List ℕ))) → List (Option (Bor (List ℕ))) → Json
+report_value profile about names files report rings gaps =
+    object_of (opening_in profile (report_result report rings gaps) ++ ((codes "manifest", word about.manifest.now) ∷ (codes "program", word about.program.now)
+    ∷ (codes "rules", rules_value report.rules) ∷ (codes "meets", meets_value report.meets) ∷ (codes "fewer_in_wide", fewer_value profile about.fewer)
     ∷ (codes "files", array_of (file_values profile names files)) ∷ (codes "scales", array_of (map scale_value report.scales.items))
     ∷ (codes "findings", array_of (finding_values report rings gaps)) ∷ []))
 
 -- a report with waivers, in the profile of its rules
-abbrev pub waived_report_value : List (List ℕ) → List FileSum → BoardReport → Acceptances → Json
-waived_report_value names files report accepted = report_value report.rules.profile names files report accepted.rings.now accepted.gaps.now
+abbrev pub waived_report_value : Particulars → List (List ℕ) → List FileSum → BoardReport → Acceptances → Json
+waived_report_value about names files report accepted = report_value report.rules.profile about names files report accepted.rings.now accepted.gaps.now
 
 -- a report without waivers, in the profile of its rules
-abbrev pub board_report_value : List (List ℕ) → List FileSum → BoardReport → Json
-board_report_value names files report = report_value report.rules.profile names files report [] []
+abbrev pub board_report_value : Particulars → List (List ℕ) → List FileSum → BoardReport → Json
+board_report_value about names files report = report_value report.rules.profile about names files report [] []
 
 -- a measure in a profile: the rules that are met, the files, the scales, the rows of rings, and the least gap of the board's holes
 unfoldable pub measure_value : Profile → List (List ℕ) → BoardView → Measure → Json
@@ -98,11 +107,11 @@ refused_manifest_value place reason = object_of (opening (codes "refused") ++ ((
 abbrev pub device_value : ℕ → List ℕ → Json
 device_value index name = object_of (opening (codes "device") ++ ((codes "file", whole (index + 1)) ∷ (codes "name", word name) ∷ []))
 
--- a manifest that cannot be read: `{"format":"ringcheck","version":2,"result":"device"}`
+-- a manifest that cannot be read: `{"format":"ringcheck","version":3,"result":"device"}`
 abbrev pub manifest_device_value : Json
 manifest_device_value = object_of (opening (codes "device"))
 
--- the first members of an object about the file of waivers: `"format":"ringcheck","version":2,"result":"refused","waivers":true`
+-- the first members of an object about the file of waivers: `"format":"ringcheck","version":3,"result":"refused","waivers":true`
 abbrev pub waivers_opening : List ℕ → List (List ℕ × Json)
 waivers_opening result = opening result ++ (codes "waivers", boolean true) ∷ []
 
@@ -110,7 +119,7 @@ waivers_opening result = opening result ++ (codes "waivers", boolean true) ∷ [
 abbrev pub refused_waivers_value : ℕ → Reason → Json
 refused_waivers_value place reason = object_of (waivers_opening (codes "refused") ++ ((codes "place", whole place) ∷ (codes "reason", word (reason_name reason)) ∷ []))
 
--- a file of waivers that cannot be read: `{"format":"ringcheck","version":2,"result":"device","waivers":true}`
+-- a file of waivers that cannot be read: `{"format":"ringcheck","version":3,"result":"device","waivers":true}`
 abbrev pub waivers_device_value : Json
 waivers_device_value = object_of (waivers_opening (codes "device"))
 

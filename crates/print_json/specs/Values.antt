@@ -1,11 +1,11 @@
 -- Values of JSON, from the smallest up (docs/FORMATS.md, JSON). Lengths are whole pm. JSON numbers files and holes from 1, definitions
 -- number files from 0.
-use Rattle.std.specs.Prelude.{ℕ, ℤ, pos, ◌+◌, ◌-◌, ◌*◌, ◌++◌, Bool, List, [], ◌∷◌, codes, decimal, drop, Option, Some, None, option_map, slice_get, if◌then◌else◌}
+use Rattle.std.specs.Prelude.{ℕ, ℤ, pos, ◌+◌, ◌-◌, ◌*◌, ◌++◌, Bool, true, false, List, [], ◌∷◌, codes, decimal, drop, Option, Some, None, option_map, slice_get, if◌then◌else◌}
 use Rattle.grid_units.specs.declared.profile.Profile.{Profile}
 use Rattle.grid_units.specs.declared.profile.Profile.TheVariants.{Strict, Wide}
 use Rattle.std.specs.Borrow.{Bor}
 use Rattle.std.specs.Fmt.{signed_decimal}
-use Rattle.json.specs.Json.{Json, null, number, string, array, object, Items, no_items, item, Members, no_members, member}
+use Rattle.json.specs.Json.{Json, null, boolean, number, string, array, object, Items, no_items, item, Members, no_members, member}
 use Rattle.json.specs.Print.{print}
 use Rattle.json.specs.Tree.{json_tokens}
 use Rattle.grid_units.specs.Holes.{GridHole, GridRules}
@@ -126,11 +126,17 @@ copper_value Wide n name pads other contours = wide_layer_value n name pads othe
 abbrev pub span_value : Option LayerSpan → Json
 span_value span = or_null (λ layers. array_of (whole layers.first ∷ whole layers.last ∷ [])) span
 
--- a drill file, by its number: `{"number":2,"role":"plated","name":"pth","round":1,"slots":0,"span":null}`
-unfoldable pub drill_value : ℕ → List ℕ → Bool → Option LayerSpan → ℕ → ℕ → Json
-drill_value n name plated span round slots =
+-- the member of a drill file whose own comments contradict its role: `"contradicted":true`; none of another
+abbrev pub contradicted_member : Bool → List (List ℕ × Json)
+contradicted_member true = (codes "contradicted", boolean true) ∷ []
+contradicted_member false = []
+
+-- a drill file, by its number: `{"number":2,"role":"plated","name":"pth","round":1,"slots":0,"span":null}`; with `"contradicted":true` at its end
+-- where its own comments contradict its role
+unfoldable pub drill_value : ℕ → List ℕ → Bool → Option LayerSpan → Bool → ℕ → ℕ → Json
+drill_value n name plated span contradicted round slots =
     object_of ((codes "number", whole n) ∷ (codes "role", word (drill_role plated)) ∷ (codes "name", word name) ∷ (codes "round", whole round) ∷ (codes "slots", whole slots)
-    ∷ (codes "span", span_value span) ∷ [])
+    ∷ (codes "span", span_value span) ∷ contradicted_member contradicted)
 
 -- a mixed drill file, by its number: `{"number":2,"role":"mixed","name":"all","round":2,"slots":0,"unplated":1,"span":null}`
 unfoldable pub mixed_value : ℕ → List ℕ → Option LayerSpan → ℕ → ℕ → ℕ → Json
@@ -141,7 +147,7 @@ mixed_value n name span round slots unplated =
 -- a file of any kind in a profile, by its number
 abbrev pub file_value : Profile → ℕ → List ℕ → FileSum → Json
 file_value profile n name (sums.Layer pads other contours) = copper_value profile n name pads other contours
-file_value profile n name (sums.Drill plated span round slots) = drill_value n name plated span round slots
+file_value profile n name (sums.Drill plated span contradicted round slots) = drill_value n name plated span contradicted round slots
 file_value profile n name (sums.Mixed span round slots unplated) = mixed_value n name span round slots unplated
 
 -- a drill file whose coordinates seem to be off by a factor: `{"drill":2,"bare":3,"factor":"25.4","then":0}`

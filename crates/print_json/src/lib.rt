@@ -17,4 +17,4 @@ pub use measured::MeasureJson;
 pub use refused::InputError;
 
 /// The version of the format.
-const VERSION: u8 = 2;
+const VERSION: u8 = 3;

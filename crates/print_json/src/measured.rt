@@ -13,7 +13,7 @@ ghost use Rattle.print_json.specs.Values.{hole_at_place, or_null, json_text, lea
 use crate::VERSION;
 use crate::arrays::{Array, Files, Rows, Scales, array_numbers};
 use crate::numbers::{hole_numbers, length_number, meets_numbers, whole_number};
-use crate::values::{HoleJson, MeetsJson};
+use crate::values::{HoleJson, MeetsJson, ProfileJson};
 use grid_units::Profile;
 use package_check::{Board, FileSum, hole_count};
 use report::{GapLine, HolePlace, Measure, PlacedHole};
@@ -138,16 +138,11 @@ impl Display for MeasureObject<'_> {
     #[tactic(auto, unfolding(crate::specs::Packages::measure_value, json::specs::Print::escape_byte))]
     fn fmt<W: fmt::Write>(&self, f: &mut Formatter<W>) -> fmt::Result {
         let (meets, rest) = (MeetsJson(self.0.measure.meets), MeasureRest(self.0));
-        match self.0.profile {
-            Profile::Strict => write!(
-                f,
-                r#"{{"format":"ringcheck","version":{VERSION},"result":"measured","meets":{meets}{rest}"#
-            ),
-            Profile::Wide => write!(
-                f,
-                r#"{{"format":"ringcheck","version":{VERSION},"profile":"wide","result":"measured","meets":{meets}{rest}"#
-            ),
-        }
+        let profile = ProfileJson(self.0.profile);
+        write!(
+            f,
+            r#"{{"format":"ringcheck","version":{VERSION},"profile":{profile},"result":"measured","meets":{meets}{rest}"#
+        )
     }
 }
 

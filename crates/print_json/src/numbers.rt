@@ -1,7 +1,7 @@
 //! What is printed of a thing holds numbers of RFC 8259 alone. These functions do nothing but give their clauses.
 
 ghost use Rattle.json.specs.Tree.{HasNumbers};
-ghost use Rattle.print_json.specs.Values.{file_value, flash_of, gap_value, hole_value, or_null, layer_number, least_hole, least_ring, meets_value, met_value, picometres, point_value, ring_of, ring_value, row_value, rules_value, scale_value, span_value, whole};
+ghost use Rattle.print_json.specs.Values.{contradicted_member, file_value, flash_of, gap_value, hole_value, or_null, layer_number, least_hole, least_ring, meets_value, met_value, object_of, picometres, point_value, ring_of, ring_value, row_value, rules_value, scale_value, span_value, whole};
 ghost use Rattle.report.specs.Causes.{lack_of};
 
 use crate::findings::{GapJson, RingJson};
@@ -82,6 +82,13 @@ fn span_numbers(span: Option<Span>)
     }
 }
 
+/// The member of a drill file whose own comments contradict its role.
+fn contradicted_numbers(contradicted: bool)
+    ensures { HasNumbers (object_of (contradicted_member contradicted)) }
+{
+    if contradicted {}
+}
+
 /// A file.
 #[tactic(auto, unfolding(crate::specs::Values::layer_value, crate::specs::Values::wide_layer_value, crate::specs::Values::drill_value, crate::specs::Values::mixed_value))]
 pub(crate) fn file_numbers(file: &FileJson)
@@ -100,6 +107,7 @@ pub(crate) fn file_numbers(file: &FileJson)
         }
         FileSum::Drill {
             span,
+            contradicted,
             round,
             slots,
             ..
@@ -107,6 +115,7 @@ pub(crate) fn file_numbers(file: &FileJson)
             whole_number(round as u128);
             whole_number(slots as u128);
             span_numbers(span);
+            contradicted_numbers(contradicted);
         }
         FileSum::Mixed {
             span,

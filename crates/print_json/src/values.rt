@@ -1,8 +1,9 @@
 //! The values of holes, files, scales and rows.
 
 ghost use Rattle.std.specs.Prelude.{◌≡◌, pos, Some, option_map};
-ghost use Rattle.print_json.specs.Inner.Texts.{value_text};
-ghost use Rattle.print_json.specs.Values.{diameter_of, drill_role, copper_value, file_value, hole_value, or_null, meets_value, met_value, mixed_value, picometres, point_value, row_value, rules_value, scale_value, span_value, whole};
+ghost use Rattle.print_json.specs.Inner.Texts.{more_members, value_text};
+ghost use Rattle.print_json.specs.Packages.{profile_value};
+ghost use Rattle.print_json.specs.Values.{contradicted_member, diameter_of, drill_role, drill_value, copper_value, file_value, hole_value, or_null, meets_value, members_of, met_value, mixed_value, picometres, point_value, row_value, rules_value, scale_value, span_value, whole};
 
 use crate::strings::Escaped;
 use grid_units::{Hole, Point, Profile, Rules, Span};
@@ -24,6 +25,22 @@ impl Display for MetJson {
             Met::Any => f.write_str(r#""any""#),
             Met::UpTo(length) => write!(f, "{length}"),
             Met::None => f.write_str(r#""none""#),
+        }
+    }
+}
+
+/// The name of a profile: `"strict"` or `"wide"`.
+#[derive(Clone, Copy)]
+pub(crate) struct ProfileJson(pub(crate) Profile);
+
+impl Display for ProfileJson {
+    ghost output = { λ json. Some (value_text (profile_value json.0)) };
+
+    #[tactic(auto, unfolding(json::specs::Print::escape_byte))]
+    fn fmt<W: fmt::Write>(&self, f: &mut Formatter<W>) -> fmt::Result {
+        match self.0 {
+            Profile::Strict => f.write_str(r#""strict""#),
+            Profile::Wide => f.write_str(r#""wide""#),
         }
     }
 }
@@ -153,6 +170,53 @@ impl Display for LayerJson<'_> {
     }
 }
 
+/// The last member of a drill file whose own comments contradict its role, and none of another, with the closing bracket:
+/// `,"contradicted":true}`.
+#[derive(Clone, Copy)]
+struct DrillRest(bool);
+
+impl Display for DrillRest {
+    ghost output = { λ rest. Some (more_members (members_of (contradicted_member rest.0))) };
+
+    #[tactic(auto, unfolding(json::specs::Print::escape_byte))]
+    fn fmt<W: fmt::Write>(&self, f: &mut Formatter<W>) -> fmt::Result {
+        f.write_str(if self.0 {
+            r#","contradicted":true}"#
+        } else {
+            "}"
+        })
+    }
+}
+
+/// A drill file of one role, by its number: `{"number":2,"role":"plated","name":"pth","round":1,"slots":0,"span":null}`, with
+/// `"contradicted":true` at its end where its own comments contradict its role.
+#[derive(Clone, Copy)]
+struct DrillJson<'a> {
+    number: u128,
+    name: &'a str,
+    plated: bool,
+    span: Option<Span>,
+    contradicted: bool,
+    round: usize,
+    slots: usize,
+}
+
+impl Display for DrillJson<'_> {
+    ghost output = { λ json. Some (value_text (drill_value json.number json.name.now json.plated json.span json.contradicted json.round json.slots)) };
+
+    #[tactic(auto, unfolding(crate::specs::Values::drill_value, json::specs::Print::escape_byte))]
+    fn fmt<W: fmt::Write>(&self, f: &mut Formatter<W>) -> fmt::Result {
+        let (number, name) = (self.number, Escaped(self.name));
+        let (round, slots) = (self.round, self.slots);
+        let (role, span) = (Escaped(drill_role(self.plated)), SpanJson(self.span));
+        let rest = DrillRest(self.contradicted);
+        write!(
+            f,
+            r#"{{"number":{number},"role":"{role}","name":"{name}","round":{round},"slots":{slots},"span":{span}{rest}"#
+        )
+    }
+}
+
 /// A mixed drill file, by its number:
 /// `{"number":2,"role":"mixed","name":"all","round":2,"slots":0,"unplated":1,"span":null}`.
 #[derive(Clone, Copy)]
@@ -194,7 +258,6 @@ pub(crate) struct FileJson<'a> {
 impl Display for FileJson<'_> {
     ghost output = { λ json. Some (value_text (file_value json.profile json.number json.name.now json.sum)) };
 
-    #[tactic(auto, unfolding(crate::specs::Values::drill_value, json::specs::Print::escape_byte))]
     fn fmt<W: fmt::Write>(&self, f: &mut Formatter<W>) -> fmt::Result {
         match self.sum {
             FileSum::Layer {
@@ -215,15 +278,20 @@ impl Display for FileJson<'_> {
             FileSum::Drill {
                 plated,
                 span,
+                contradicted,
                 round,
                 slots,
             } => {
-                let (number, name) = (self.number, Escaped(self.name));
-                let (role, span) = (Escaped(drill_role(plated)), SpanJson(span));
-                write!(
-                    f,
-                    r#"{{"number":{number},"role":"{role}","name":"{name}","round":{round},"slots":{slots},"span":{span}}}"#
-                )
+                let drill = DrillJson {
+                    number: self.number,
+                    name: self.name,
+                    plated,
+                    span,
+                    contradicted,
+                    round,
+                    slots,
+                };
+                write!(f, "{drill}")
             }
             FileSum::Mixed {
                 span,

@@ -15,6 +15,8 @@ use Rattle.margins.specs.Depths.{pad_middle}
 use Rattle.margins.specs.declared.met.Met.{Met}
 use Rattle.margins.specs.declared.met.Met.TheVariants as mets
 use Rattle.report.specs.declared.Meets.{Meets}
+use Rattle.report.specs.RoleConflicts.{conflict_words}
+use Rattle.report.specs.declared.RoleConflict.{RoleConflict}
 use Rattle.report.specs.declared.UnitMistake.{UnitMistake}
 use Rattle.report.specs.UnitMistakes.{factor_word}
 use Rattle.report.specs.declared.UnitFactor.{UnitFactor}
@@ -267,38 +269,59 @@ scale_words name size bare factor still =
 abbrev pub scale_line : List (List ℕ) → UnitMistake → List ℕ
 scale_line names line = scale_words (name_of names line.drill) (size_words line.factor) line.bare (factor_word line.factor) line.then
 
--- the greatest rule that is met: a length, `any` where every rule is met, or `none`
-abbrev pub met_words : Met → List ℕ
-met_words mets.Any = codes "any"
-met_words (mets.UpTo length) = short_millimetres length
-met_words mets.None = codes "none"
+-- a warning of a drill file by its name: `warning: npth: its role is unplated, and it says that holes are plated`
+unfoldable pub warning_words : List ℕ → List ℕ → List ℕ
+warning_words name says = codes "warning: " ++ (name ++ (codes ": " ++ (says ++ ascii.line_feed ∷ [])))
 
--- equal rules are met
-abbrev pub are_equal_rules : Met → Met → Bool
-are_equal_rules mets.Any mets.Any = true
-are_equal_rules (mets.UpTo first) (mets.UpTo second) = int_eq first second
-are_equal_rules mets.None mets.None = true
-are_equal_rules _ _ = false
+-- the line of a drill file whose own comments contradict its role
+abbrev pub conflict_line : List (List ℕ) → RoleConflict → List ℕ
+conflict_line names line = warning_words (name_of names line.drill) (conflict_words line.plated)
 
--- words, then the greatest rule that is met: `; where a pad is, annular ring 0.275`
-abbrev pub named_met : List ℕ → Met → List ℕ
-named_met words met = words ++ met_words met
+-- a hole has no pad that counts, so that its ring is not measured: it lies in no pad, or is an oblique slot, for which no pad counts
+abbrev pub has_no_pad : RingCause → Bool
+has_no_pad (causes.TooSmall place) = false
+has_no_pad (causes.OffCentre place) = false
+has_no_pad (causes.Edge at_edge) = false
+has_no_pad (causes.Other why flash) = true
+has_no_pad (causes.Clear flash) = true
+has_no_pad (causes.Cleared flash) = true
+has_no_pad causes.NoFlash = true
+has_no_pad causes.Oblique = true
 
--- the greatest ring for holes that lie in pads: `; where a pad is, annular ring 0.275`
-abbrev pub pad_ring_words : Met → List ℕ
-pad_ring_words held = named_met (codes "; where a pad is, annular ring ") held
+-- how many findings are of such holes, for which no ring is met: `: 3 findings are of holes with no pad that counts`; nothing for none
+abbrev pub no_pad_words : ℕ → List ℕ
+no_pad_words without =
+    if without == 0 then []
+    else if without == 1 then codes ": 1 finding is of a hole with no pad that counts"
+    else codes ": " ++ (decimal without ++ codes " findings are of holes with no pad that counts")
 
--- these words, if that ring differs from the one of all holes
-abbrev pub pad_ring_if_differs : Met → Met → List ℕ
-pad_ring_if_differs ring held = if are_equal_rules ring held then [] else pad_ring_words held
+-- the start of the words for the ring that is met without these holes
+abbrev pub without_start : ℕ → List ℕ
+without_start without = if without == 1 then codes " (without it: " else codes " (without them: "
 
--- the greatest ring and gap that the package meets: `this board meets annular ring none, hole to hole 1.046051224`
-abbrev pub ring_and_gap_words : Met → Met → List ℕ
-ring_and_gap_words ring gap = codes "this board meets annular ring " ++ (met_words ring ++ (codes ", hole to hole " ++ met_words gap))
+-- the greatest ring that is met without these holes: ` (without them: 0.149)`; nothing where no other hole needs a ring
+abbrev pub without_words : ℕ → Met → List ℕ
+without_words without mets.Any = []
+without_words without (mets.UpTo length) = without_start without ++ (short_millimetres length ++ codes ")")
+without_words without mets.None = []
 
--- the line of these: `this board meets annular ring none, hole to hole 1.046051224; where a pad is, annular ring 0.275`
-unfoldable pub meets_line : Meets → List ℕ
-meets_line meets = ring_and_gap_words meets.ring meets.gap ++ (pad_ring_if_differs meets.ring meets.in_pads ++ ascii.line_feed ∷ [])
+-- the greatest ring that the package meets: `annular ring 0.149 is met`; `any` where no hole needs one; where none is met also why,
+-- and the one without the holes that have no pad
+abbrev pub ring_met_words : ℕ → Met → Met → List ℕ
+ring_met_words without in_pads mets.Any = codes "any annular ring is met"
+ring_met_words without in_pads (mets.UpTo length) = codes "annular ring " ++ (short_millimetres length ++ codes " is met")
+ring_met_words without in_pads mets.None = codes "no annular ring is met" ++ (no_pad_words without ++ without_words without in_pads)
+
+-- the greatest gap that the package meets: `hole to hole 0.2 is met`; `any` where there are no two holes
+abbrev pub gap_met_words : Met → List ℕ
+gap_met_words mets.Any = codes "any hole to hole gap is met"
+gap_met_words (mets.UpTo length) = codes "hole to hole " ++ (short_millimetres length ++ codes " is met")
+gap_met_words mets.None = codes "no hole to hole gap is met"
+
+-- the line of these, by the number of findings of holes that have no pad:
+-- `no annular ring is met: 3 findings are of holes with no pad that counts (without them: 0.149); hole to hole 0.2 is met`
+unfoldable pub meets_line : ℕ → Meets → List ℕ
+meets_line without meets = ring_met_words without meets.in_pads meets.ring ++ (codes "; " ++ (gap_met_words meets.gap ++ ascii.line_feed ∷ []))
 
 -- a rule: `rules: annular ring 0.15 mm`
 unfoldable pub rule_words : List ℕ → ℤ → List ℕ
@@ -315,9 +338,9 @@ rules_line rules =
     rule_words (codes "rules: annular ring ") (pos rules.ring)
     ++ (rule_words (codes ", hole to hole ") (pos rules.gap) ++ (profile_words rules.profile ++ ascii.line_feed ∷ []))
 
--- the line of a waiver that waives nothing, by the number of its record: `waiver 8 waives nothing`
+-- the line of a waiver that waives no finding, by the number of its record: `waiver 8 matches no finding`
 abbrev pub idle_line : ℕ → List ℕ
-idle_line number = codes "waiver " ++ (decimal number ++ codes " waives nothing\n")
+idle_line number = codes "waiver " ++ (decimal number ++ codes " matches no finding\n")
 
 -- the last line: `PASS` without findings, `WAIVED 6` where all are waived, else `FINDINGS 6` with the number of the others
 abbrev pub last_line : ℕ → ℕ → List ℕ
@@ -369,9 +392,9 @@ groups_text names rings layer =
 abbrev pub summary_text : List (List ℕ) → ℕ → List LayerHead → List RingLack → List ℕ
 summary_text names findings layers rings = if nat_lt 10 findings then flat_map (groups_text names rings) (enumerate_from 0 layers) else []
 
--- the first part of a report: the drill files whose coordinates seem to be off, and the rules
+-- the first part of a report: the drill files whose coordinates seem to be off, those whose own comments contradict their role, and the rules
 unfoldable pub head_text : List (List ℕ) → BoardReport → List ℕ
-head_text names report = flat_map (scale_line names) report.scales.items ++ rules_line report.rules
+head_text names report = flat_map (scale_line names) report.scales.items ++ (flat_map (conflict_line names) report.conflicts.items ++ rules_line report.rules)
 
 -- the second part: the findings, and those of rings summed up
 abbrev pub findings_text : List (List ℕ) → BoardReport → Option ℕ → List (Option (Bor (List ℕ))) → List (Option (Bor (List ℕ))) → List ℕ
@@ -384,22 +407,34 @@ findings_text names report limit rings gaps =
 abbrev pub causes_text : BoardReport → List ℕ
 causes_text report = flat_map (kind_line report.rules.profile report.rings.items) all_kinds ++ smallest_lines report.rules report.rings.items report.gaps.items
 
--- how many findings are not there in the wide profile: `3 of these are not there with --profile wide`; no line for none
-abbrev pub fewer_line : ℕ → List ℕ
-fewer_line fewer =
-    if fewer == 0 then []
-    else if fewer == 1 then codes "1 of these is not there with --profile wide" ++ ascii.line_feed ∷ []
-    else decimal fewer ++ (codes " of these are not there with --profile wide" ++ ascii.line_feed ∷ [])
+-- why findings disappear in the wide profile
+abbrev pub wide_words : List ℕ
+wide_words = codes " with --profile wide, which counts pads with rounded corners"
 
--- the last part: the rules that the package meets, the waivers that waive nothing, how many findings the wide profile does not have, and the
+-- the words after the number of findings, by how many disappear
+abbrev pub disappear_words : ℕ → List ℕ
+disappear_words fewer = if fewer == 1 then codes " findings disappears" else codes " findings disappear"
+
+-- how many of the findings disappear in the wide profile: `2 of these 6 findings disappear with --profile wide, which counts pads with rounded corners`
+abbrev pub fewer_words : ℕ → ℕ → List ℕ
+fewer_words findings fewer =
+    if findings == 1 then codes "this finding disappears" ++ wide_words
+    else decimal fewer ++ (codes " of these " ++ (decimal findings ++ (disappear_words fewer ++ wide_words)))
+
+-- the line of these words; no line for none
+abbrev pub fewer_line : ℕ → ℕ → List ℕ
+fewer_line findings fewer = if fewer == 0 then [] else fewer_words findings fewer ++ ascii.line_feed ∷ []
+
+-- the last part: the rules that the package meets, the waivers that match no finding, how many findings the wide profile does not have, and the
 -- last line
 abbrev pub last_lines : BoardReport → ℕ → List (Option (Bor (List ℕ))) → List (Option (Bor (List ℕ))) → List ℕ → List ℕ
 last_lines report fewer rings gaps idle =
-    meets_line report.meets
-    ++ (flat_map idle_line idle ++ (fewer_line fewer ++ last_line (length report.rings.items + length report.gaps.items) (waived_in report rings gaps)))
+    meets_line (count_by (λ lack. has_no_pad lack.cause) report.rings.items) report.meets
+    ++ (flat_map idle_line idle
+    ++ (fewer_line (length report.rings.items + length report.gaps.items) fewer ++ last_line (length report.rings.items + length report.gaps.items) (waived_in report rings gaps)))
 
 -- the text of a report, by how many findings the wide profile does not have, the reasons of its rings and gaps, and the numbers of the waivers
--- that waive nothing
+-- that match no finding
 abbrev pub full_text : List (List ℕ) → BoardReport → ℕ → Option ℕ → List (Option (Bor (List ℕ))) → List (Option (Bor (List ℕ))) → List ℕ → List ℕ
 full_text names report fewer limit rings gaps idle =
     (head_text names report ++ findings_text names report limit rings gaps) ++ (causes_text report ++ last_lines report fewer rings gaps idle)

@@ -3,10 +3,13 @@
 //! All lengths are whole picometres (pm), and are printed in millimetres without zeros at the end.
 #![tactic(auto)]
 
+mod fewer;
 mod kind;
 mod lines;
 mod measure_lines;
 mod measures;
+mod met_lines;
+mod particulars;
 mod report_text;
 mod runs;
 mod summary;
@@ -14,6 +17,8 @@ mod tallies;
 mod waived;
 mod words;
 
+pub use fewer::FewerWords;
 pub use measures::MeasureText;
+pub use particulars::Particulars;
 pub use report_text::ReportText;
 pub use waived::no_acceptances;

@@ -1,14 +1,17 @@
 //! The lines of a report, one by one.
 
 ghost use Rattle.std.specs.Prelude.{◌≡◌, ◌≤◌, map, Some};
-ghost use Rattle.print_text.specs.Texts.{are_equal_rules, fewer_line, gap_line, gaps_line, pad_ring_if_differs, profile_words, idle_line, kind_line, last_line, layer_line, meets_line, met_words, more_line, pair_words, ring_line, rule_words, rules_line, scale_line, size_words, smallest_line, too_small_words, waived_words, acceptance_words};
+ghost use Rattle.print_text.specs.Texts.{conflict_line, gap_line, gaps_line, profile_words, idle_line, kind_line, last_line, layer_line, more_line, pair_words, ring_line, rule_words, rules_line, scale_line, size_words, smallest_line, too_small_words, waived_words, acceptance_words};
 
 use crate::kind::{CauseKind, hint, kind_words};
 use crate::tallies::rings_of_kind;
 use crate::words::{CauseWords, HoleWords, MeasuredWords};
 use grid_units::{Profile, Rules};
 use printing::{Line, ShortMillimetres, name_of};
-use report::{GapLack, Meets, Met, PlacedHole, RingLack, UnitFactor, UnitMistake, factor_word};
+use report::{
+    GapLack, PlacedHole, RingLack, RoleConflict, UnitFactor, UnitMistake, conflict_words,
+    factor_word,
+};
 use std::fmt;
 use std::fmt::{Display, Formatter};
 
@@ -330,64 +333,15 @@ impl Line<FileNames<'_>> for UnitMistake {
     }
 }
 
-/// The greatest rule that is met: a length, `any` or `none`.
-#[derive(Clone, Copy)]
-struct MetWords(Met);
+/// The line of a drill file whose own comments contradict its role:
+/// `warning: npth: its role is unplated, and it says that holes are plated`.
+impl Line<FileNames<'_>> for RoleConflict {
+    ghost text = { λ names line. conflict_line (map (λ name. name.now) names.0.now) line };
 
-impl Display for MetWords {
-    ghost output = { λ met. Some (met_words met.0) };
-
-    fn fmt<W: fmt::Write>(&self, f: &mut Formatter<W>) -> fmt::Result {
-        match self.0 {
-            Met::Any => f.write_str("any"),
-            Met::UpTo(length) => write!(f, "{}", ShortMillimetres(length)),
-            Met::None => f.write_str("none"),
-        }
-    }
-}
-
-fn are_equal_rules(first: Met, second: Met) -> bool
-    ensures { result ≡ are_equal_rules first second }
-{
-    first == second
-}
-
-/// The greatest ring for holes that lie in pads, if it differs from that of all holes: `; where a pad is, annular ring 0.275`.
-#[derive(Clone, Copy)]
-struct HeldWords {
-    /// The greatest ring of all holes.
-    ring: Met,
-    /// The greatest ring for holes that lie in pads.
-    held: Met,
-}
-
-impl Display for HeldWords {
-    ghost output = { λ words. Some (pad_ring_if_differs words.ring words.held) };
-
-    fn fmt<W: fmt::Write>(&self, f: &mut Formatter<W>) -> fmt::Result {
-        if are_equal_rules(self.ring, self.held) {
-            return Ok(());
-        }
-        write!(f, "; where a pad is, annular ring {}", MetWords(self.held))
-    }
-}
-
-/// The line of the rules that the package meets: `this board meets annular ring none, hole to hole 0.2; where a pad is, annular ring 0.149`.
-#[derive(Clone, Copy)]
-pub(crate) struct MeetsLine(pub(crate) Meets);
-
-impl Display for MeetsLine {
-    ghost output = { λ line. Some (meets_line line.0) };
-
-    #[tactic(auto, unfolding(crate::specs::Texts::meets_line))]
-    fn fmt<W: fmt::Write>(&self, f: &mut Formatter<W>) -> fmt::Result {
-        let (ring, held) = (self.0.ring, self.0.in_pads);
-        let words = HeldWords { ring, held };
-        let (ring, gap) = (MetWords(ring), MetWords(self.0.gap));
-        write!(
-            f,
-            "this board meets annular ring {ring}, hole to hole {gap}{words}\n"
-        )
+    #[tactic(auto, unfolding(crate::specs::Texts::warning_words))]
+    fn fmt_on<W: fmt::Write>(&self, page: &FileNames<'_>, f: &mut Formatter<W>) -> fmt::Result {
+        let name = name_of(page.0, self.drill);
+        write!(f, "warning: {name}: {}\n", conflict_words(self.plated))
     }
 }
 
@@ -395,30 +349,12 @@ impl Display for MeetsLine {
 #[derive(Clone, Copy)]
 pub(crate) struct WaiverFile;
 
-/// The line of a waiver that waives nothing, by the number of its record: `waiver 8 waives nothing`.
+/// The line of a waiver that waives no finding, by the number of its record: `waiver 8 matches no finding`.
 impl Line<WaiverFile> for usize {
     ghost text = { λ _ number. idle_line number };
 
     fn fmt_on<W: fmt::Write>(&self, _page: &WaiverFile, f: &mut Formatter<W>) -> fmt::Result {
-        write!(f, "waiver {self} waives nothing\n")
-    }
-}
-
-/// How many findings the wide profile does not have; no line for none.
-#[derive(Clone, Copy)]
-pub(crate) struct FewerLine(pub(crate) u128);
-
-impl Display for FewerLine {
-    ghost output = { λ line. Some (fewer_line line.0) };
-
-    fn fmt<W: fmt::Write>(&self, f: &mut Formatter<W>) -> fmt::Result {
-        if self.0 == 0 {
-            return Ok(());
-        }
-        if self.0 == 1 {
-            return f.write_str("1 of these is not there with --profile wide\n");
-        }
-        write!(f, "{} of these are not there with --profile wide\n", self.0)
+        write!(f, "waiver {self} matches no finding\n")
     }
 }
 

@@ -6,15 +6,18 @@ ghost use Rattle.std.specs.List.{enumerate_from, flat_map};
 ghost use Rattle.print_text.specs.Inner.{AreRuns, IsRun, gap_lines, ring_lines};
 ghost use Rattle.print_text.specs.Texts.{causes_text, gaps_text, groups_text, head_text, last_lines, layer_text, smallest_lines, summary_text, waived_report_text};
 
+use crate::fewer::{FewerLine, FewerWords};
 use crate::kind::CAUSE_KINDS;
 use crate::lines::{
-    FewerLine, FileNames, GapLine, GapsLine, LastLine, LayerLine, MeetsLine, MoreLine,
-    ProfileRings, RingLine, RulesLine, SmallestLine, WaiverFile,
+    FileNames, GapLine, GapsLine, LastLine, LayerLine, MoreLine, ProfileRings, RingLine, RulesLine,
+    SmallestLine, WaiverFile,
 };
+use crate::met_lines::MeetsLine;
 use crate::runs::{Run, runs_of};
 use crate::summary::write_groups;
 use crate::tallies::{
-    gaps_hidden_count, is_shown, is_shown_on, rings_hidden, rings_on, smallest_gap, smallest_ring,
+    gaps_hidden_count, is_shown, is_shown_on, rings_hidden, rings_on, rings_without_pad,
+    smallest_gap, smallest_ring,
 };
 use crate::waived::waived_on;
 use grid_units::Rules;
@@ -201,7 +204,7 @@ impl Display for GapsText<'_> {
     }
 }
 
-/// The drill files whose coordinates seem to be off by a factor, and the rules.
+/// The drill files whose coordinates seem to be off by a factor, those whose own comments contradict their role, and the rules.
 #[derive(Clone, Copy)]
 struct HeadText<'a> {
     /// The names of the files of the package.
@@ -213,11 +216,16 @@ impl Display for HeadText<'_> {
     ghost output = { λ text. Some (head_text (map (λ name. name.now) text.names.now) text.report.now) };
 
     fn fmt<W: fmt::Write>(&self, f: &mut Formatter<W>) -> fmt::Result {
+        let page = FileNames(self.names);
         let scales = Lines {
-            page: &FileNames(self.names),
+            page: &page,
             lines: &self.report.scales,
         };
-        write!(f, "{scales}{}", RulesLine(&self.report.rules))
+        let conflicts = Lines {
+            page: &page,
+            lines: &self.report.conflicts,
+        };
+        write!(f, "{scales}{conflicts}{}", RulesLine(&self.report.rules))
     }
 }
 
@@ -293,7 +301,7 @@ impl Display for CausesText<'_> {
     }
 }
 
-/// The last lines: the rules that the package meets, the waivers that waive nothing, how many findings the wide profile does not have, and
+/// The last lines: the rules that the package meets, the waivers that match no finding, how many findings the wide profile does not have, and
 /// the result.
 #[derive(Clone, Copy)]
 struct LastLines<'a> {
@@ -314,8 +322,15 @@ impl Display for LastLines<'_> {
             lines: self.accepted.idle,
         };
         let last = LastLine { findings, waived };
-        write!(f, "{}{idle}", MeetsLine(self.report.meets))?;
-        write!(f, "{}{last}", FewerLine(self.fewer))
+        let meets = MeetsLine {
+            without: rings_without_pad(&self.report.rings),
+            meets: self.report.meets,
+        };
+        let fewer = FewerWords {
+            findings,
+            fewer: self.fewer,
+        };
+        write!(f, "{meets}{idle}{}{last}", FewerLine(fewer))
     }
 }
 

@@ -4,7 +4,7 @@ ghost use Rattle.std.specs.Prelude.{◌≡◌, ◌≤◌, ◌==◌, ◌&&◌, if
 ghost use Rattle.std.specs.List.{count_by, enumerate_from, filter, filter_map};
 ghost use Rattle.print_text.specs.Causes.{is_of_kind};
 ghost use Rattle.print_text.specs.Inner.{IsRun, smaller};
-ghost use Rattle.print_text.specs.Texts.{is_shown, ring_of, smallest};
+ghost use Rattle.print_text.specs.Texts.{has_no_pad, is_shown, ring_of, smallest};
 
 use crate::kind::{CauseKind, is_of_kind};
 use crate::runs::Run;
@@ -43,6 +43,24 @@ pub(crate) fn rings_of_kind(rings: &[RingLack], kind: CauseKind) -> usize
         .iter()
         .filter(|lack| is_of_kind(kind, &lack.cause))
         .count()
+}
+
+/// Whether a hole has no pad that counts, so that its ring is not measured.
+fn has_no_pad(cause: &RingCause) -> bool
+    ensures { result ≡ has_no_pad cause.now }
+{
+    match cause {
+        RingCause::TooSmall(_) | RingCause::OffCentre(_) | RingCause::Edge(_) => false,
+        RingCause::Other { .. } | RingCause::Clear { .. } | RingCause::Cleared { .. } => true,
+        RingCause::NoFlash | RingCause::Oblique => true,
+    }
+}
+
+/// The number of rings of holes that have no pad that counts.
+pub(crate) fn rings_without_pad(rings: &[RingLack]) -> usize
+    ensures { result ≡ count_by (λ lack. has_no_pad lack.cause) rings.now }
+{
+    rings.iter().filter(|lack| has_no_pad(&lack.cause)).count()
 }
 
 /// Whether a ring at a position of the whole report is on a layer, and shown.

@@ -45,7 +45,7 @@ fn each_word_has_a_page(rt: HostRuntime) {
 
 #[test]
 fn there_are_so_many_words(rt: HostRuntime) {
-    assert!(rt; words().lines().count() == 47 + 18);
+    assert!(rt; words().lines().count() == 48 + 18);
 }
 
 /// A word, and a setting that its page names.
@@ -53,8 +53,8 @@ const SETTINGS: [(&str, &str); 9] = [
     ("Routed", "use alternate drill mode"),
     ("ring", "less 0.001 mm"),
     ("none", "keep pads on all layers"),
-    ("none", "no flash stands in the hole"),
-    ("BadManifest", "as ringcheck manifest gerbers/*"),
+    ("none", "no flash lies in the hole"),
+    ("BadManifest", "as in ringcheck manifest gerbers/*"),
     ("oblique", "OBLIQUE"),
     ("RING", "What to do"),
     ("GAP", "What to do"),

@@ -158,8 +158,8 @@ fn a_read_that_fails_is_told(rt: HostRuntime) {
     assert!(rt; failed == Some(ReadFail::ReadFault) && failing.calls == 2);
 }
 
-/// A limit, and how often a reader is called that is interrupted each time.
-const CALLS: [(u64, u64); 2] = [(0, 65_536), (1000, 66_536)];
+/// A limit, and how often a reader is called that is interrupted each time: at most so often in a row, whatever the limit.
+const CALLS: [(u64, u64); 3] = [(0, 65_536), (1000, 65_536), (268_435_456, 65_536)];
 
 #[test]
 fn reads_are_called_no_more_than_so_often(rt: HostRuntime) {

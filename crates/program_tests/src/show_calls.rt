@@ -1,7 +1,7 @@
 //! Tables of layers and of drill files in both profiles, and refused ones. Other tables are in the data of `worked_examples`.
 
 use grid_units::{Fail, Fault, Profile, Reason};
-use single_files::{show_drill, show_layer};
+use single_files::{show_drill, show_drill_in, show_layer, show_layer_in};
 use std::alloc::{AllocError, Global};
 use std::test::Fail as TestFail;
 
@@ -37,7 +37,7 @@ fn has_rows(shown: Result<Vec<u8>, Fail>, header: &[u8], rows: &str) -> bool {
 /// Whether the table of a layer has just these rows after its header.
 fn shows_flashes(alloc: Global, profile: Profile, text: &str, rows: &str) -> bool {
     has_rows(
-        show_layer(alloc, profile, text.as_bytes()),
+        show_layer_in(alloc, profile, text.as_bytes()),
         LAYER_HEADER,
         rows,
     )
@@ -46,7 +46,7 @@ fn shows_flashes(alloc: Global, profile: Profile, text: &str, rows: &str) -> boo
 /// Whether the table of a drill file has just these rows after its header.
 fn shows_holes(alloc: Global, profile: Profile, text: &str, rows: &str) -> bool {
     has_rows(
-        show_drill(alloc, profile, text.as_bytes()),
+        show_drill_in(alloc, profile, text.as_bytes()),
         DRILL_HEADER,
         rows,
     )
@@ -234,7 +234,7 @@ fn the_strict_profile_refuses_clear_polarity(rt: HostRuntime) -> Result<(), Test
         byte: 22,
         reason: Reason::ClearPolarity,
     });
-    assert!(rt; fault_in(show_layer(rt.alloc(), Profile::Strict, text.as_bytes())) == fault);
+    assert!(rt; fault_in(show_layer(rt.alloc(), text.as_bytes())) == fault);
     assert!(rt; shows_flashes(rt.alloc(), Profile::Wide, text.as_str(), ""));
     Ok(())
 }
@@ -247,7 +247,7 @@ fn a_layer_without_a_format_has_no_table(rt: HostRuntime) {
         reason: Reason::NoFormat,
     });
     for &profile in &[Profile::Strict, Profile::Wide] {
-        assert!(rt; fault_in(show_layer(rt.alloc(), profile, b"M02*\n")) == fault);
+        assert!(rt; fault_in(show_layer_in(rt.alloc(), profile, b"M02*\n")) == fault);
     }
 }
 
@@ -267,6 +267,6 @@ fn a_routed_slot_has_a_row_in_the_wide_profile(rt: HostRuntime) -> Result<(), Te
         byte: 52,
         reason: Reason::Routed,
     });
-    assert!(rt; fault_in(show_drill(rt.alloc(), Profile::Strict, text.as_bytes())) == fault);
+    assert!(rt; fault_in(show_drill(rt.alloc(), text.as_bytes())) == fault);
     Ok(())
 }

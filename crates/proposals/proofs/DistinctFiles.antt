@@ -9,6 +9,7 @@ use Rattle.std.proofs.lemmas.List.{append-nil, map-append, take_more}
 use Rattle.std.proofs.lemmas.List.Elements.{filter_map-append}
 use Rattle.std.proofs.lemmas.Map.Text.{is_eq-slice_cmp}
 use Rattle.grid_units.specs.Lists.{with_prefixes}
+use Rattle.grid_units.specs.declared.profile.Profile.{Profile}
 use Rattle.grid_units.proofs.LookbackLemmas.{with_prefixes-append}
 use Rattle.proposals.specs.declared.model.InputFile.{InputFile}
 use Rattle.proposals.specs.declared.model.FileContent.TheVariants as content
@@ -52,22 +53,22 @@ is_new name key before had new same e was = sym (ap not e ∙ (not_not had ∙ (
 once_more : (before : List InputFile) (file : InputFile) → distinct (before ++ file ∷ []) ≡ distinct before ++ cons_option (unless_seen (before, file)) []
 once_more before file = ap (filter_map unless_seen) (with_prefixes-append before (file ∷ [])) ∙ filter_map-append unless_seen (with_prefixes before) ((before, file) ∷ [])
 
-module _ (files : List InputFile) (i : ℕ) (lt : i < length files) where
+module _ (profile : Profile) (files : List InputFile) (i : ℕ) (lt : i < length files) where
   abbrev file : InputFile
   file = file_at files i
 
   grown : take (i + 1) files ≡ take i files ++ file ∷ []
   grown = take_more files i nothing lt
 
-  by : (b : Bool) → is_named (name_of file) (take i files) ≡ b → separate_proposals (take (i + 1) files) ≡ separate_proposals (take i files) ++ map proposal (cons_option (if b then None else Some file) [])
+  by : (b : Bool) → is_named (name_of file) (take i files) ≡ b → separate_proposals profile (take (i + 1) files) ≡ separate_proposals profile (take i files) ++ map (proposal profile) (cons_option (if b then None else Some file) [])
   by b e =
-      ap separate_proposals grown ∙ ap (map proposal) (once_more (take i files) file) ∙ map-append proposal (distinct (take i files)) (cons_option (unless_seen (take i files, file)) [])
-      ∙ ap (λ (k : Bool). separate_proposals (take i files) ++ map proposal (cons_option (if k then None else Some file) [])) e
+      ap (separate_proposals profile) grown ∙ ap (map (proposal profile)) (once_more (take i files) file) ∙ map-append (proposal profile) (distinct (take i files)) (cons_option (unless_seen (take i files, file)) [])
+      ∙ ap (λ (k : Bool). separate_proposals profile (take i files) ++ map (proposal profile) (cons_option (if k then None else Some file) [])) e
 
   -- a file with a new name
-  pub one_more : is_named (name_of file) (take i files) ≡ false → separate_proposals (take (i + 1) files) ≡ separate_proposals (take i files) ++ proposal file ∷ []
+  pub one_more : is_named (name_of file) (take i files) ≡ false → separate_proposals profile (take (i + 1) files) ≡ separate_proposals profile (take i files) ++ proposal profile file ∷ []
   one_more e = by false e
 
   -- a file with a name that was there
-  pub no_more : is_named (name_of file) (take i files) ≡ true → separate_proposals (take (i + 1) files) ≡ separate_proposals (take i files)
-  no_more e = by true e ∙ append-nil (separate_proposals (take i files))
+  pub no_more : is_named (name_of file) (take i files) ≡ true → separate_proposals profile (take (i + 1) files) ≡ separate_proposals profile (take i files)
+  no_more e = by true e ∙ append-nil (separate_proposals profile (take i files))

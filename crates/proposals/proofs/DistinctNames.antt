@@ -1,6 +1,6 @@
 -- Each name is proposed once.
-use Rattle.std.proofs.Common.{◌≡◌, ◌∙◌, ◌≤◌, ◌++◌, ◌||◌, ℕ, Bool, true, false, cond, List, [], ◌∷◌, Some, None, arith, refl, sym, ap}
-use Rattle.std.specs.Prelude.{if◌then◌else◌}
+use Rattle.std.proofs.Common.{◌≡◌, ◌∙◌, ◌≤◌, ◌++◌, ◌||◌, ◌&&◌, ℕ, Bool, true, false, cond, List, [], ◌∷◌, map, Some, None, arith, refl, sym, ap}
+use Rattle.std.specs.Prelude.{nat_lt, if◌then◌else◌}
 use Rattle.std.specs.List.{list_any, count_by, filter, filter_map, cons_option}
 use Rattle.std.specs.List.Sorted.{IsPermutation}
 use Rattle.std.specs.Str.{bytes_eq}
@@ -9,10 +9,12 @@ use Rattle.std.proofs.lemmas.List.Folds.{list_any-append}
 use Rattle.std.proofs.lemmas.List.Sorted.{sum_by-IsPermutation}
 use Rattle.std.proofs.lemmas.Slice.Eq.{bytes_eq-Decides}
 use Rattle.grid_units.specs.Lists.{with_prefixes_from}
+use Rattle.grid_units.specs.declared.profile.Profile.{Profile}
 use Rattle.proposals.specs.declared.model.InputFile.{InputFile}
 use Rattle.proposals.specs.declared.model.Proposal.{Proposal}
-use Rattle.proposals.specs.Manifests.{is_copper, is_listed, layers_of_role}
-use Rattle.proposals.specs.ProposalList.{separate_proposals, is_named, name_of, distinct, proposal, proposals, unless_seen}
+use Rattle.proposals.specs.Manifests.{is_copper, is_listed, layers_of_role, rank}
+use Rattle.proposals.specs.Places.{count_ranked, has_known_place, place_checked}
+use Rattle.proposals.specs.ProposalList.{placed_proposals, separate_proposals, is_named, name_of, distinct, proposal, proposals, unless_seen}
 use Rattle.proposals.specs.Stack.{are_clear, is_stack, layers_checked}
 use Rattle.proposals.specs.declared.model.ProposedRole.TheVariants.{Undecided}
 use Rattle.proposals.specs.declared.model.ProposalReason.TheVariants as because
@@ -68,10 +70,24 @@ same_file ps p = by (are_clear (is_stack ps) (count_by is_copper ps) (layers_of_
     by true = refl
     by false = refl
 
+same_placed : (ps : List Proposal) (p : Proposal) → (place_checked ps p).file ≡ p.file
+same_placed ps p = by (has_known_place p.role && nat_lt 1 (count_ranked ps (rank p.role)))
+  where
+    by : (b : Bool) → (if b then record { file = p.file; role = Undecided; because = because.RepeatedLayer } else p).file ≡ p.file
+    by true = refl
+    by false = refl
+
+module _ (check : Proposal → Proposal) (same : (p : Proposal) → (check p).file ≡ p.file) where
+  -- a name stands as often in proposals that are checked
+  same_names : (name : List ℕ) (ps : List Proposal) → count_by (has_name name) (map check ps) ≡ count_by (has_name name) ps
+  same_names name ps = count_of_map check (has_name name) ps ∙ ap (λ (t : Proposal → Bool). count_by t ps) (λ i p. bytes_eq (same p i) name)
+
 -- the files of a manifest in its order
-pub names_once : (files : List InputFile) (entries : List Proposal) → IsPermutation (filter is_listed (proposals files)) entries → IsOnce entries
-names_once files entries same name =
-    let same_names : count_by (has_name name) (proposals files) ≡ count_by (has_name name) (separate_proposals files) =
-    count_of_map (layers_checked (separate_proposals files)) (has_name name) (separate_proposals files) ∙ ap (λ (t : Proposal → Bool). count_by t (separate_proposals files)) (λ i p. bytes_eq (same_file (separate_proposals files) p i) name) in
-    let all : count_by (has_name name) (separate_proposals files) ≡ count_by (asks name) (distinct files) = count_of_map proposal (has_name name) (distinct files) in
-    omega (arith, same_names, all, at_most name [] files, count_filter (has_name name) is_listed (proposals files), sum_by-IsPermutation (λ (p : Proposal). cond (has_name name p) 1 0) (filter is_listed (proposals files)) entries same)
+pub names_once : (profile : Profile) (files : List InputFile) (entries : List Proposal) → IsPermutation (filter is_listed (proposals profile files)) entries → IsOnce entries
+names_once profile files entries same name =
+    let placed = placed_proposals profile files in
+    let alone = separate_proposals profile files in
+    let as_placed : count_by (has_name name) (proposals profile files) ≡ count_by (has_name name) placed = same_names (layers_checked placed) (same_file placed) name placed in
+    let as_alone : count_by (has_name name) placed ≡ count_by (has_name name) alone = same_names (place_checked alone) (same_placed alone) name alone in
+    let all : count_by (has_name name) (separate_proposals profile files) ≡ count_by (asks name) (distinct files) = count_of_map (proposal profile) (has_name name) (distinct files) in
+    omega (arith, as_placed, as_alone, all, at_most name [] files, count_filter (has_name name) is_listed (proposals profile files), sum_by-IsPermutation (λ (p : Proposal). cond (has_name name p) 1 0) (filter is_listed (proposals profile files)) entries same)

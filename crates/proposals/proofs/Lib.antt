@@ -12,6 +12,7 @@ pub mod DistinctNames
 pub mod SharedNames
 pub mod OneToN
 pub mod DecisionCases
+pub mod MixedFileLemmas
 pub mod StackLemmas
 pub mod PrintableReasons
 pub mod LayerCheckLoop

@@ -1,14 +1,15 @@
 -- Words and numbers of a name.
-use Rattle.std.proofs.Common.{◌≡◌, ◌∙◌, ◌<◌, ◌≤◌, ◌||◌, ◌-◌, ℕ, min, List, [], ◌∷◌, Bool, true, false, Option, Some, length, map, take, reverse, Bor, unwrap_or, arith, refl, ap, sym}
+use Rattle.std.proofs.Common.{◌≡◌, ◌∙◌, ◌<◌, ◌≤◌, ◌||◌, ◌-◌, ◌+◌, ℕ, min, codes, List, [], ◌∷◌, Bool, true, false, Option, Some, length, map, take, drop, get_or, reverse, Bor, unwrap_or, arith, refl, ap, sym}
 use mathlib.Core.List.{reverse_aux}
 use Rattle.std.specs.Prelude.{if◌then◌else◌}
 use Rattle.std.specs.List.{list_any, find}
 use Rattle.std.specs.Option.{option_map}
-use Rattle.std.proofs.lemmas.Bool.{le-leb}
-use Rattle.std.proofs.lemmas.List.{length-map, take-map, take_all}
+use Rattle.std.proofs.lemmas.Bool.{false≢true, le-leb}
+use Rattle.std.proofs.lemmas.List.{drop_more, length-map, take-map, take_all}
 use Rattle.grid_units.specs.Numbers.{is_digits, value}
 use Rattle.grid_units.proofs.DigitLemmas.{nine_digits}
-use Rattle.proposals.specs.Names.{has_non_plated, is_number_within, number_within, stem_of}
+use Rattle.std.specs.Str.{bytes_eq}
+use Rattle.proposals.specs.Names.{has_non_plated, has_plated, is_number_within, is_plated_word, number_within, stem_of}
 
 pub any_map : {X Y : Type 0} (p : Y → Bool) (f : X → Y) (xs : List X) → list_any (λ x. p (f x)) xs ≡ list_any p (map f xs)
 any_map p f [] = refl
@@ -57,3 +58,23 @@ stem_is true ends n xs e k =
     let same : n ≡ length (map (λ (x : Bor (List ℕ)). x.now) xs) - 1 = omega (arith, length-map xs (λ (x : Bor (List ℕ)). x.now)) in
     sym (take-map (λ (x : Bor (List ℕ)). x.now) n xs) ∙ ap (λ k. take k (map (λ (x : Bor (List ℕ)). x.now) xs)) same
 stem_is false ends n xs e k = ap (map (λ (x : Bor (List ℕ)). x.now)) (take_all n xs (omega arith))
+
+-- the words that are left, where that at i says nothing
+pub plated_more : (words : List (Bor (List ℕ))) (i : ℕ) (after_non : Bool) (d : Bor (List ℕ)) → i < length words → is_plated_word after_non (get_or words i d).now ≡ false
+    → has_plated (bytes_eq (get_or words i d).now (codes "non")) (map (λ w. w.now) (drop (i + 1) words)) ≡ has_plated after_non (map (λ w. w.now) (drop i words))
+plated_more words i after_non d lt silent =
+    sym (ap (λ (ws : List (Bor (List ℕ))). has_plated after_non (map (λ w. w.now) ws)) (drop_more words i d lt)
+    ∙ ap (λ b. b || has_plated (bytes_eq (get_or words i d).now (codes "non")) (map (λ w. w.now) (drop (i + 1) words))) silent)
+
+-- and where it says that holes are plated
+pub plated_here : (words : List (Bor (List ℕ))) (i : ℕ) (after_non : Bool) (d : Bor (List ℕ)) → i < length words → is_plated_word after_non (get_or words i d).now ≡ true
+    → has_plated after_non (map (λ w. w.now) (drop i words)) ≡ true
+plated_here words i after_non d lt said =
+    ap (λ (ws : List (Bor (List ℕ))). has_plated after_non (map (λ w. w.now) ws)) (drop_more words i d lt)
+    ∙ ap (λ b. b || has_plated (bytes_eq (get_or words i d).now (codes "non")) (map (λ w. w.now) (drop (i + 1) words))) said
+
+-- the last of three values
+pub third : {A : Type 0} (x y : Bool) (a b c : A) → x ≡ false → y ≡ false → c ≡ (if x then a else if y then b else c)
+third true y a b c e k = absurd (false≢true (sym e))
+third false true a b c e k = absurd (false≢true (sym k))
+third false false a b c e k = refl

@@ -1,9 +1,8 @@
 -- A reason is printable ASCII.
-use Rattle.std.proofs.Common.{◌≡◌, ◌∙◌, ◌<◌, ◌≤◌, ◌&&◌, ◌++◌, ℕ, ◌+◌, ◌-◌, ◌/◌, ◌%◌, Bool, true, false, not, List, [], ◌∷◌, arith, refl, ap, sym}
+use Rattle.std.proofs.Common.{◌≡◌, ◌∙◌, ◌<◌, ◌&&◌, ℕ, ◌+◌, ◌-◌, ◌/◌, ◌%◌, Bool, true, false, not, List, [], ◌∷◌, arith, refl}
 use Rattle.std.specs.Prelude.{nat_le, nat_lt, ◌==◌, if◌then◌else◌}
 use Rattle.std.specs.List.{list_all, flat_map}
-use Rattle.std.proofs.lemmas.Bool.{leb-true, ltb-true, le-leb}
-use Rattle.std.proofs.lemmas.Bool.Decides.{nat_tests}
+use Rattle.std.proofs.lemmas.Bool.{ltb-true, le-leb}
 use Rattle.std.proofs.lemmas.List.Folds.{list_all-append}
 use Rattle.grid_units.proofs.BoolLemmas.{and_true, both_true}
 use Rattle.proposals.specs.declared.model.ProposalReason.{ProposalReason}
@@ -23,9 +22,13 @@ words_visible because.Archive = refl
 words_visible because.Folder = refl
 words_visible (because.FileFunction function) = refl
 words_visible because.MixedHoles = refl
+words_visible because.MixedTools = refl
+words_visible because.UnreadMixed = refl
 words_visible because.PlatedType = refl
 words_visible because.UnplatedType = refl
 words_visible because.ByName = refl
+words_visible because.ConflictingName = refl
+words_visible because.RepeatedLayer = refl
 words_visible because.DrillByDefault = refl
 words_visible because.DrillInGerber = refl
 words_visible because.Plane = refl

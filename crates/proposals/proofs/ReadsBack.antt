@@ -12,14 +12,14 @@ use Rattle.csv.specs.Writing.{default_writer, read_back, row_text}
 use Rattle.grid_units.specs.Lists.{violation_at, violations, with_prefixes_from}
 use Rattle.grid_units.specs.declared.fault.Reason.{Reason}
 use Rattle.grid_units.specs.declared.fault.Reason.TheVariants.{BadSpan}
-use Rattle.grid_units.specs.declared.profile.Profile.TheVariants.{Strict}
+use Rattle.grid_units.specs.declared.profile.Profile.{Profile}
 use Rattle.manifest.specs.declared.Entry.{Entry}
 use Rattle.manifest.specs.Manifest as manifests
-use Rattle.manifest.specs.Manifest.{CsvRecord, broken_after, first_broken_rule, exceeds_layers, entries_of, entry_of, field, is_repeated, manifest, parse_manifest_records, missing_role, joint_fault}
+use Rattle.manifest.specs.Manifest.{CsvRecord, broken_after, first_broken_rule, exceeds_layers, entries_of, entry_of, field, is_repeated, manifest_in, parse_manifest_records, missing_role, joint_fault}
 use Rattle.manifest.proofs.EntryLoop.{at_end}
 use Rattle.proposals.specs.declared.model.LayerRange.{LayerRange}
 use Rattle.proposals.specs.declared.model.ProposedRole.{ProposedRole}
-use Rattle.proposals.specs.declared.model.ProposedRole.TheVariants.{Copper, Plated, Unplated, Undecided, LeftOut}
+use Rattle.proposals.specs.declared.model.ProposedRole.TheVariants.{Copper, Plated, Unplated, Mixed, Undecided, LeftOut}
 use Rattle.proposals.specs.declared.model.Proposal.{Proposal}
 use Rattle.proposals.specs.Manifests.{has_spans, is_copper, is_copper_role, label, manifest_text, layers_of_role}
 use Rattle.proposals.specs.ReadBack.{AreDecided, as_span, entry_in, is_decided, is_valid_name, role_of}
@@ -92,9 +92,9 @@ rows_are entries =
     ap (λ (t : List ℕ). records default_config (strip_bom t)) (text_is entries) ∙ ap (records default_config) (no_mark spans rows) ∙ read_all (heading_row spans ∷ rows)
     ∙ ap (λ (rs : List CsvRecord). heading_row spans ∷ rs) (back spans entries entries)
 
-by_width : (spans : Bool) (rows : List CsvRecord) → parse_manifest_records Strict (heading_row spans ∷ rows) ≡ entries_of Strict (width spans) rows
-by_width true rows = refl
-by_width false rows = refl
+by_width : (profile : Profile) (spans : Bool) (rows : List CsvRecord) → parse_manifest_records profile (heading_row spans ∷ rows) ≡ entries_of profile (width spans) rows
+by_width profile true rows = refl
+by_width profile false rows = refl
 
 -- ---- the files
 
@@ -119,11 +119,12 @@ same_copper : (role : ProposedRole) → manifests.is_copper_role (role_of role) 
 same_copper (Copper place) = refl
 same_copper (Plated span) = refl
 same_copper (Unplated span) = refl
+same_copper (Mixed span) = refl
 same_copper Undecided = refl
 same_copper LeftOut = refl
 
-module _ (entries : List Proposal) (distinct : IsOnce entries) (short : list_all names_short entries ≡ true) (layers : list_all (λ p. are_within_count (count_by is_copper entries) (layers_of_role p.role)) entries ≡ true)
-    (decision_for : AreDecided entries) where
+module _ (profile : Profile) (entries : List Proposal) (distinct : IsOnce entries) (short : list_all names_short entries ≡ true) (layers : list_all (λ p. are_within_count (count_by is_copper entries) (layers_of_role p.role)) entries ≡ true)
+    (decision_for : AreDecided profile entries) where
   abbrev spans : Bool
   spans = has_spans entries
 
@@ -134,8 +135,8 @@ module _ (entries : List Proposal) (distinct : IsOnce entries) (short : list_all
   rows = map (row_in spans entries) entries
 
   module _ (before : List Proposal) (p : Proposal) (after : List Proposal) (split : entries ≡ before ++ p ∷ after) where
-    role_decided : is_decided p.role ≡ true
-    role_decided = all_at (λ (q : Proposal). is_decided q.role) before p after (ap (list_all (λ (q : Proposal). is_decided q.role)) (sym split) ∙ decision_for.roles)
+    role_decided : is_decided profile p.role ≡ true
+    role_decided = all_at (λ (q : Proposal). is_decided profile q.role) before p after (ap (list_all (λ (q : Proposal). is_decided profile q.role)) (sym split) ∙ decision_for.roles)
 
     file_stands : is_valid_name p.file ≡ true
     file_stands = all_at (λ (q : Proposal). is_valid_name q.file) before p after (ap (list_all (λ (q : Proposal). is_valid_name q.file)) (sym split) ∙ decision_for.names)
@@ -151,19 +152,19 @@ module _ (entries : List Proposal) (distinct : IsOnce entries) (short : list_all
         any_of_map entry_of (λ (e : Entry). bytes_eq e.name (label entries p)) (map (row_in spans entries) before)
         ∙ any_of_map (row_in spans entries) (λ (row : CsvRecord). bytes_eq (entry_of row).name (label entries p)) before ∙ not_repeated entries before p after split distinct
 
-    unbroken : broken_after Strict (width spans) (map (row_in spans entries) before) (row_in spans entries p) ≡ None
+    unbroken : broken_after profile (width spans) (map (row_in spans entries) before) (row_in spans entries p) ≡ None
     unbroken =
-        ap (λ (b : Bool). first_broken_rule Strict (width spans) b (row_in spans entries p)) new_name
-        ∙ no_rule_broken (label entries p) p.file (label_stands entries p file_stands) file_stands spans p.role role_decided named
+        ap (λ (b : Bool). first_broken_rule profile (width spans) b (row_in spans entries p)) new_name
+        ∙ no_rule_broken (label entries p) p.file (label_stands entries p file_stands) file_stands profile spans p.role role_decided named
 
     entry_right : entry_in entries p ≡ entry_of (row_in spans entries p)
-    entry_right = entry_is (label entries p) p.file spans p.role role_decided named
+    entry_right = entry_is profile (label entries p) p.file spans p.role role_decided named
 
     within : exceeds_layers count (entry_in entries p).span ≡ false
     within = not_beyond count spans (layers_of_role p.role) among
 
-  no_breaks : violations (broken_after Strict (width spans)) rows ≡ []
-  no_breaks = none_after (row_in spans entries) (broken_after Strict (width spans)) [] entries unbroken
+  no_breaks : violations (broken_after profile (width spans)) rows ≡ []
+  no_breaks = none_after (row_in spans entries) (broken_after profile (width spans)) [] entries unbroken
 
   files_are : map (entry_in entries) entries ≡ map entry_of rows
   files_are = same_map (entry_in entries) (λ (p : Proposal). entry_of (row_in spans entries p)) [] entries entry_right ∙ twice entries
@@ -202,7 +203,7 @@ module _ (entries : List Proposal) (distinct : IsOnce entries) (short : list_all
       (option_map (λ (n : ℕ). (n, BadSpan)) (first_none i))
 
   -- the manifest reads back
-  pub reads_back : manifest (manifest_text entries) ≡ Ok (map (entry_in entries) entries)
+  pub reads_back : manifest_in profile (manifest_text entries) ≡ Ok (map (entry_in entries) entries)
   reads_back =
-      ap (parse_manifest_records Strict) (rows_are entries) ∙ by_width spans rows
-      ∙ sym (at_end Strict (width spans) rows (map (entry_in entries) entries) None files_are (sym all_right) no_breaks)
+      ap (parse_manifest_records profile) (rows_are entries) ∙ by_width profile spans rows
+      ∙ sym (at_end profile (width spans) rows (map (entry_in entries) entries) None files_are (sym all_right) no_breaks)

@@ -1,6 +1,6 @@
 -- Where a manifest names layers, its copper files are the layers 1, 2 and so on, in order.
-use Rattle.std.proofs.Common.{◌≡◌, ◌∙◌, ◌<◌, ◌≤◌, ◌+◌, ◌&&◌, ◌||◌, ◌==◌, ℕ, Bool, true, false, not, List, [], ◌∷◌, length, map, cond, Option, Some, None, is_some, arith, refl, sym, ap}
-use Rattle.std.specs.Prelude.{nat_lt, nat_le, if◌then◌else◌}
+use Rattle.std.proofs.Common.{◌≡◌, ◌∙◌, ◌≤◌, ◌+◌, ◌&&◌, ◌||◌, ℕ, Bool, true, false, not, List, [], ◌∷◌, length, map, cond, Option, Some, None, is_some, arith, refl, sym, ap}
+use Rattle.std.specs.Prelude.{nat_le, if◌then◌else◌}
 use Rattle.std.specs.List.{list_all, list_any, filter, count_by}
 use Rattle.std.specs.List.Sorted.{IsPermutation, IsNonDecreasingBy}
 use Rattle.std.proofs.lemmas.Bool.{false≢true, leb-true, le-leb}
@@ -9,20 +9,21 @@ use Rattle.std.proofs.lemmas.List.Folds.{list_all-map}
 use Rattle.std.proofs.lemmas.List.Sorted.{list_any-IsPermutation, sum_by-IsPermutation}
 use Rattle.std.proofs.lemmas.List.Sums.{length-filter}
 use Rattle.grid_units.proofs.BoolLemmas.{and_true, both_true}
+use Rattle.grid_units.specs.declared.profile.Profile.{Profile}
 use Rattle.proposals.specs.declared.model.StackPosition.{StackPosition}
 use Rattle.proposals.specs.declared.model.StackPosition.TheVariants.{Numbered, Top, Inner, Unknown, Bottom}
 use Rattle.proposals.specs.declared.model.LayerRange.{LayerRange}
 use Rattle.proposals.specs.declared.model.InputFile.{InputFile}
 use Rattle.proposals.specs.declared.model.Proposal.{Proposal}
 use Rattle.proposals.specs.declared.model.ProposedRole.{ProposedRole}
-use Rattle.proposals.specs.declared.model.ProposedRole.TheVariants.{Copper, Plated, Unplated, Undecided, LeftOut}
+use Rattle.proposals.specs.declared.model.ProposedRole.TheVariants.{Copper, Plated, Unplated, Mixed, Undecided, LeftOut}
 use Rattle.proposals.specs.declared.model.ProposalReason.TheVariants as because
 use Rattle.proposals.specs.Manifests.{IsManifestOrder, is_copper, is_listed, is_copper_role, place_rank, rank, layers_of_role, is_listed_role}
-use Rattle.proposals.specs.ProposalList.{separate_proposals, proposals}
-use Rattle.proposals.specs.Stack.{AreLayersInOrder, is_copper_complete, are_within_count, are_clear, copper_layers, occurs_once_in_range, is_stack, layer_at_position, layer_of_role, names_layers, numbers_from, layers_checked, layers_checked_in}
+use Rattle.proposals.specs.ProposalList.{placed_proposals, proposals}
+use Rattle.proposals.specs.Stack.{AreLayersInOrder, is_copper_complete, are_within_count, are_clear, copper_layers, fit_kind, is_stack, layer_at_position, layer_of_role, names_layers, numbers_from, layers_checked_in}
 use Rattle.proposals.proofs.DecisionCases.{is_low_place}
 use Rattle.proposals.proofs.OneToN.{AreOnce, Ascends, all_follow, all_moves, ascends, both_follow, counts_up, each_once, in_range, is_number, is_within}
-use Rattle.proposals.proofs.CountLemmas.{any_of_map, count_cons, count_filter, count_hit, count_miss, count_of_map, one}
+use Rattle.proposals.proofs.CountLemmas.{any_of_map, count_cons, count_hit, count_miss, count_of_map, one}
 use Rattle.proposals.proofs.FunctionLayers.{all_kept, all_stay, is_small, names_short, shorts}
 
 -- ---- lists
@@ -118,6 +119,11 @@ same_kind stack count (Unplated span) = by (are_clear stack count span)
     by : (b : Bool) → is_copper_role (if b then Unplated span else Undecided) ≡ false
     by true = refl
     by false = refl
+same_kind stack count (Mixed span) = by (are_clear stack count span)
+  where
+    by : (b : Bool) → is_copper_role (if b then Mixed span else Undecided) ≡ false
+    by true = refl
+    by false = refl
 same_kind stack count Undecided = refl
 same_kind stack count LeftOut = refl
 
@@ -133,6 +139,7 @@ layer_stands : (role : ProposedRole) → is_copper_role role ≡ true → is_lis
 layer_stands (Copper place) h = refl
 layer_stands (Plated span) h = absurd (false≢true h)
 layer_stands (Unplated span) h = absurd (false≢true h)
+layer_stands (Mixed span) h = absurd (false≢true h)
 layer_stands Undecided h = absurd (false≢true h)
 layer_stands LeftOut h = absurd (false≢true h)
 
@@ -142,7 +149,7 @@ clear_among stack count role = by (are_clear stack count (layers_of_role role)) 
   where
     among : (span : Option LayerRange) → are_clear stack count span ≡ true → are_within_count count span ≡ true
     among None e = refl
-    among (Some layers) e = (both_true stack (are_within_count count (Some layers)) e).1
+    among (Some layers) e = (both_true (are_within_count count (Some layers)) (fit_kind count layers) (both_true stack (are_within_count count (Some layers) && fit_kind count layers) e).1).0
 
     by : (b : Bool) → are_clear stack count (layers_of_role role) ≡ b → are_within_count count (layers_of_role (if b then role else Undecided)) ≡ true
     by true e = among (layers_of_role role) e
@@ -154,7 +161,7 @@ clear_stack stack count role h = by (are_clear stack count (layers_of_role role)
   where
     named : (span : Option LayerRange) → is_some span ≡ true → are_clear stack count span ≡ true → stack ≡ true
     named None k e = absurd (false≢true k)
-    named (Some layers) k e = (both_true stack (are_within_count count (Some layers)) e).0
+    named (Some layers) k e = (both_true stack (are_within_count count (Some layers) && fit_kind count layers) e).0
 
     by : (b : Bool) → are_clear stack count (layers_of_role role) ≡ b → is_some (layers_of_role (if b then role else Undecided)) ≡ true → stack ≡ true
     by true e k = named (layers_of_role role) k e
@@ -176,6 +183,7 @@ known : (here : Bool) (count last : ℕ) (role : ProposedRole) → is_within 1 l
 known here count last (Copper place) h = known_at here count last place h
 known here count last (Plated span) h = refl
 known here count last (Unplated span) h = refl
+known here count last (Mixed span) h = refl
 known here count last Undecided h = refl
 known here count last LeftOut h = refl
 
@@ -228,10 +236,12 @@ lower count (Copper a) (Copper b) l h k le =
     lower_at count a b g.0 i.0 i.1 le
 lower count (Copper a) (Plated span) l h k le = refl
 lower count (Copper a) (Unplated span) l h k le = refl
+lower count (Copper a) (Mixed span) l h k le = refl
 lower count (Copper a) Undecided l h k le = refl
 lower count (Copper a) LeftOut l h k le = refl
 lower count (Plated span) s l h k le = absurd (false≢true l)
 lower count (Unplated span) s l h k le = absurd (false≢true l)
+lower count (Mixed span) s l h k le = absurd (false≢true l)
 lower count Undecided s l h k le = absurd (false≢true l)
 lower count LeftOut s l h k le = absurd (false≢true l)
 
@@ -258,9 +268,9 @@ layers_ascend count (p ∷ ps) up good =
 
 -- ---- all files
 
-module _ (files : List InputFile) (entries : List Proposal) (same : IsPermutation (filter is_listed (proposals files)) entries) where
+module _ (profile : Profile) (files : List InputFile) (entries : List Proposal) (same : IsPermutation (filter is_listed (proposals profile files)) entries) where
   abbrev alone : List Proposal
-  alone = separate_proposals files
+  alone = placed_proposals profile files
 
   abbrev count : ℕ
   count = count_by is_copper alone
@@ -273,13 +283,13 @@ module _ (files : List InputFile) (entries : List Proposal) (same : IsPermutatio
 
   -- a test that each settled proposal passes
   to_entries : (p : Proposal → Bool) → list_all p (map check_layers alone) ≡ true → list_all p entries ≡ true
-  to_entries p h = all_moves p (filter is_listed (proposals files)) entries same ∙ all_kept p is_listed (proposals files) h
+  to_entries p h = all_moves p (filter is_listed (proposals profile files)) entries same ∙ all_kept p is_listed (proposals profile files) h
 
   -- how often a test of copper files passes
   count_copper : (p : Proposal → Bool) → ((q : Proposal) → p q ≡ true → is_copper q ≡ true) → count_by p entries ≡ count_by (λ q. p (check_layers q)) alone
   count_copper p gives =
-      sum_by-IsPermutation (λ (q : Proposal). one (p q)) (filter is_listed (proposals files)) entries same
-      ∙ count_kept p is_listed (λ q h. layer_stands q.role (gives q h)) (proposals files) ∙ count_of_map check_layers p alone
+      sum_by-IsPermutation (λ (q : Proposal). one (p q)) (filter is_listed (proposals profile files)) entries same
+      ∙ count_kept p is_listed (λ q h. layer_stands q.role (gives q h)) (proposals profile files) ∙ count_of_map check_layers p alone
 
   kind_stays : (q : Proposal) → is_copper (check_layers q) ≡ is_copper q
   kind_stays q = ap is_copper_role (role_is stack count q) ∙ same_kind stack count q.role
@@ -305,7 +315,7 @@ module _ (files : List InputFile) (entries : List Proposal) (same : IsPermutatio
   are_stack h =
       any_gives (λ (p : Proposal). names_layers (check_layers p))
       (λ p k. clear_stack stack count p.role (ap (λ (r : ProposedRole). is_some (layers_of_role r)) (sym (role_is stack count p)) ∙ k)) alone
-      (sym (any_of_map check_layers names_layers alone) ∙ any_kept names_layers is_listed (proposals files) (list_any-IsPermutation names_layers (filter is_listed (proposals files)) entries same ∙ h))
+      (sym (any_of_map check_layers names_layers alone) ∙ any_kept names_layers is_listed (proposals profile files) (list_any-IsPermutation names_layers (filter is_listed (proposals profile files)) entries same ∙ h))
 
   module _ (whole : stack ≡ true) (up : IsNonDecreasingBy (λ (p : Proposal). rank p.role) entries) where
     abbrev here : Bool
@@ -355,7 +365,7 @@ module _ (files : List InputFile) (entries : List Proposal) (same : IsPermutatio
     entries_good : list_all (λ (p : Proposal). is_good count p.role) entries ≡ true
     entries_good =
         both_follow has_layer names_short (λ (p : Proposal). is_good count p.role) (λ p h k. and_true (not (is_copper p) || is_within 1 count (layer p)) (is_small p.role) (known_too p h) k)
-        entries entries_have (shorts files entries same)
+        entries entries_have (shorts profile files entries same)
 
     within : list_all (is_within 1 count) (values_of is_copper layer entries) ≡ true
     within =
@@ -392,8 +402,8 @@ module _ (files : List InputFile) (entries : List Proposal) (same : IsPermutatio
         counts_up 1 count in_entries (layers_ascend count entries (ascends (λ (p : Proposal). rank p.role) entries up) entries_good) within distinct (omega (arith, length_is)) ∙ ap (numbers_from 1) length_is
 
 -- the copper files of a manifest in which a drill file names layers
-pub in_place : (files : List InputFile) (entries : List Proposal) → IsManifestOrder (filter is_listed (proposals files)) entries → list_any names_layers entries ≡ true → AreLayersInOrder entries
-in_place files entries sorted h =
+pub in_place : (profile : Profile) (files : List InputFile) (entries : List Proposal) → IsManifestOrder (filter is_listed (proposals profile files)) entries → list_any names_layers entries ≡ true → AreLayersInOrder entries
+in_place profile files entries sorted h =
     let same = sorted.permutation in
-    let many = as_many files entries same in
-    ap (λ (n : ℕ). map (λ (p : Proposal). layer_of_role true n p.role) (filter is_copper entries)) many ∙ in_manifest_order files entries same (are_stack files entries same h) sorted.ranked ∙ ap (numbers_from 1) (sym many)
+    let many = as_many profile files entries same in
+    ap (λ (n : ℕ). map (λ (p : Proposal). layer_of_role true n p.role) (filter is_copper entries)) many ∙ in_manifest_order profile files entries same (are_stack profile files entries same h) sorted.ranked ∙ ap (numbers_from 1) (sym many)

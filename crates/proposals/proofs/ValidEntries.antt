@@ -14,14 +14,15 @@ use Rattle.grid_units.specs.declared.fault.Reason.{Reason}
 use Rattle.grid_units.specs.declared.fault.Reason.TheVariants.{BadManifest, BadRole, BadSpan, EmptyName, RepeatedName}
 use Rattle.grid_units.proofs.SpellingsLemmas.{spells_decimal}
 use Rattle.manifest.proofs.EntryFields.{empty_plain, well_formed}
-use Rattle.manifest.specs.Manifest.{CsvRecord, are_empty, are_span_numbers, first_broken_rule, entry_of, field, is_bad_span, is_control, is_copper_role, is_layer_number, is_role_in, is_plain_text, is_well_formed, role_of_word, span_of_fields}
-use Rattle.grid_units.specs.declared.profile.Profile.TheVariants.{Strict}
+use Rattle.manifest.specs.Manifest.{CsvRecord, are_empty, are_span_numbers, first_broken_rule, entry_of, field, is_bad_span, is_control, is_copper_role, is_layer_number, is_role_in, is_wide_alone, is_plain_text, is_well_formed, role_of_word, span_of_fields}
+use Rattle.grid_units.specs.declared.profile.Profile.{Profile}
+use Rattle.grid_units.specs.declared.profile.Profile.TheVariants.{Strict, Wide}
 use Rattle.manifest.specs.declared.Entry.{Entry}
 use Rattle.manifest.specs.declared.Role.{Role}
 use Rattle.manifest.specs.declared.Role.TheVariants as roles
 use Rattle.proposals.specs.declared.model.LayerRange.{LayerRange}
 use Rattle.proposals.specs.declared.model.ProposedRole.{ProposedRole}
-use Rattle.proposals.specs.declared.model.ProposedRole.TheVariants.{Copper, Plated, Unplated, Undecided, LeftOut}
+use Rattle.proposals.specs.declared.model.ProposedRole.TheVariants.{Copper, Plated, Unplated, Mixed, Undecided, LeftOut}
 use Rattle.proposals.specs.Manifests.{role_word, span_fields, layers_of_role}
 use Rattle.proposals.specs.ReadBack.{as_span, is_decided, is_valid_name, role_of}
 use Rattle.grid_units.proofs.BoolLemmas.{and_true, both_true}
@@ -139,55 +140,65 @@ neither true b h k = absurd (false≢true h)
 neither false true h k = absurd (false≢true k)
 neither false false h k = refl
 
-lawful : (n : ℕ) (row : CsvRecord) → length row ≡ n → n ≤ 5 → is_plain_text (field 0 row) ≡ true → is_valid_name (field 1 row) ≡ true → is_valid_name (field 2 row) ≡ true → is_plain_text (field 3 row) ≡ true
-    → is_plain_text (field 4 row) ≡ true → (is_some (role_of_word (field 0 row)) && is_role_in Strict (entry_of row).role) ≡ true → is_bad_span (entry_of row).role (field 3 row) (field 4 row) ≡ false → first_broken_rule Strict n false row ≡ None
-lawful n row len five word name file first last role span =
+lawful : (profile : Profile) (n : ℕ) (row : CsvRecord) → length row ≡ n → n ≤ 5 → is_plain_text (field 0 row) ≡ true → is_valid_name (field 1 row) ≡ true → is_valid_name (field 2 row) ≡ true → is_plain_text (field 3 row) ≡ true
+    → is_plain_text (field 4 row) ≡ true → (is_some (role_of_word (field 0 row)) && is_role_in profile (entry_of row).role) ≡ true → is_bad_span (entry_of row).role (field 3 row) (field 4 row) ≡ false → first_broken_rule profile n false row ≡ None
+lawful profile n row len five word name file first last role span =
     let a = both_true (is_plain_text (field 1 row)) (not (length (field 1 row) == 0)) name in
     let b = both_true (is_plain_text (field 2 row)) (not (length (field 2 row) == 0)) file in
-    none_broken (is_well_formed n row) (is_some (role_of_word (field 0 row)) && is_role_in Strict (entry_of row).role) ((length (field 1 row) == 0) || (length (field 2 row) == 0)) (is_bad_span (entry_of row).role (field 3 row) (field 4 row))
+    none_broken (is_well_formed n row) (is_some (role_of_word (field 0 row)) && is_role_in profile (entry_of row).role) ((length (field 1 row) == 0) || (length (field 2 row) == 0)) (is_bad_span (entry_of row).role (field 3 row) (field 4 row))
     (well_formed row n len five word a.0 b.0 first last) role (neither (length (field 1 row) == 0) (length (field 2 row) == 0) a.1 b.1) span
 
 not_bad : (a n : Bool) → n ≡ true → (a && (false || not n)) ≡ false
 not_bad true n e = ap not e
 not_bad false n e = refl
 
+-- a role of the strict profile is one of each
+old_role : (profile : Profile) (role : Role) → is_wide_alone role ≡ false → is_role_in profile role ≡ true
+old_role Strict role e = ap not e
+old_role Wide role e = refl
+
 module _ (name file : List ℕ) (is_listed_role : is_valid_name name ≡ true) (loads : is_valid_name file ≡ true) where
   -- a drill file's record
-  drill : (spans : Bool) (word : List ℕ) (span : Option LayerRange) → is_plain_text word ≡ true → (is_some (role_of_word word) && is_role_in Strict (unwrap_or (role_of_word word) roles.Copper)) ≡ true → is_copper_role (unwrap_or (role_of_word word) roles.Copper) ≡ false → CanBeNamed span
-      → first_broken_rule Strict (width spans) false (word ∷ name ∷ file ∷ (if spans then span_fields span else [])) ≡ None
-  drill false word span w r l h = lawful 3 (word ∷ name ∷ file ∷ []) refl (omega arith) w is_listed_role loads empty_plain empty_plain r refl
-  drill true word None w r l h = lawful 5 (word ∷ name ∷ file ∷ [] ∷ [] ∷ []) refl (omega arith) w is_listed_role loads empty_plain empty_plain r refl
-  drill true word (Some layers) w r l h =
+  drill : (profile : Profile) (spans : Bool) (word : List ℕ) (span : Option LayerRange) → is_plain_text word ≡ true → (is_some (role_of_word word) && is_role_in profile (unwrap_or (role_of_word word) roles.Copper)) ≡ true → is_copper_role (unwrap_or (role_of_word word) roles.Copper) ≡ false → CanBeNamed span
+      → first_broken_rule profile (width spans) false (word ∷ name ∷ file ∷ (if spans then span_fields span else [])) ≡ None
+  drill profile false word span w r l h = lawful profile 3 (word ∷ name ∷ file ∷ []) refl (omega arith) w is_listed_role loads empty_plain empty_plain r refl
+  drill profile true word None w r l h = lawful profile 5 (word ∷ name ∷ file ∷ [] ∷ [] ∷ []) refl (omega arith) w is_listed_role loads empty_plain empty_plain r refl
+  drill profile true word (Some layers) w r l h =
       let order : layers.first ≤ layers.last = h.1 in
       let most : layers.last ≤ 999999999 = h.2 in
       let a = decimal layers.first in
       let b = decimal layers.last in
       let fine : is_bad_span (unwrap_or (role_of_word word) roles.Copper) a b ≡ false =
       ap (λ (t : Bool). not (are_empty a b) && (t || not (are_span_numbers a b))) l ∙ not_bad (not (are_empty a b)) (are_span_numbers a b) (numbers_are layers h) in
-      lawful 5 (word ∷ name ∷ file ∷ a ∷ b ∷ []) refl (omega arith) w is_listed_role loads (number_plain layers.first (omega arith)) (number_plain layers.last most) r fine
+      lawful profile 5 (word ∷ name ∷ file ∷ a ∷ b ∷ []) refl (omega arith) w is_listed_role loads (number_plain layers.first (omega arith)) (number_plain layers.last most) r fine
 
   -- the record breaks no rule
-  pub no_rule_broken : (spans : Bool) (role : ProposedRole) → is_decided role ≡ true → CanBeNamed (layers_of_role role) → first_broken_rule Strict (width spans) false (fields_of spans role name file) ≡ None
-  no_rule_broken false (Copper place) d h = lawful 3 (codes "copper" ∷ name ∷ file ∷ []) refl (omega arith) (plain (codes "copper") refl) is_listed_role loads empty_plain empty_plain refl refl
-  no_rule_broken true (Copper place) d h = lawful 5 (codes "copper" ∷ name ∷ file ∷ [] ∷ [] ∷ []) refl (omega arith) (plain (codes "copper") refl) is_listed_role loads empty_plain empty_plain refl refl
-  no_rule_broken spans (Plated span) d h = drill spans (codes "plated") span (plain (codes "plated") refl) refl refl h
-  no_rule_broken spans (Unplated span) d h = drill spans (codes "unplated") span (plain (codes "unplated") refl) refl refl h
-  no_rule_broken spans Undecided d h = absurd (false≢true d)
-  no_rule_broken spans LeftOut d h = absurd (false≢true d)
+  pub no_rule_broken : (profile : Profile) (spans : Bool) (role : ProposedRole) → is_decided profile role ≡ true → CanBeNamed (layers_of_role role) → first_broken_rule profile (width spans) false (fields_of spans role name file) ≡ None
+  no_rule_broken profile false (Copper place) d h = lawful profile 3 (codes "copper" ∷ name ∷ file ∷ []) refl (omega arith) (plain (codes "copper") refl) is_listed_role loads empty_plain empty_plain (old_role profile roles.Copper refl) refl
+  no_rule_broken profile true (Copper place) d h = lawful profile 5 (codes "copper" ∷ name ∷ file ∷ [] ∷ [] ∷ []) refl (omega arith) (plain (codes "copper") refl) is_listed_role loads empty_plain empty_plain (old_role profile roles.Copper refl) refl
+  no_rule_broken profile spans (Plated span) d h = drill profile spans (codes "plated") span (plain (codes "plated") refl) (old_role profile roles.Plated refl) refl h
+  no_rule_broken profile spans (Unplated span) d h = drill profile spans (codes "unplated") span (plain (codes "unplated") refl) (old_role profile roles.Unplated refl) refl h
+  no_rule_broken Strict spans (Mixed span) d h = absurd (false≢true d)
+  no_rule_broken Wide spans (Mixed span) d h = drill Wide spans (codes "mixed") span (plain (codes "mixed") refl) refl refl h
+  no_rule_broken profile spans Undecided d h = absurd (false≢true d)
+  no_rule_broken profile spans LeftOut d h = absurd (false≢true d)
 
 abbrev file_as : Role → List ℕ → List ℕ → Option LayerSpan → Entry
 file_as role name file span = record { role = role; name = name; file = file; span = span }
 
 -- the file that the record names
-pub entry_is : (name file : List ℕ) (spans : Bool) (role : ProposedRole) → is_decided role ≡ true → CanBeNamed (layers_of_role role)
+pub entry_is : (profile : Profile) (name file : List ℕ) (spans : Bool) (role : ProposedRole) → is_decided profile role ≡ true → CanBeNamed (layers_of_role role)
     → record { role = role_of role; name = name; file = file; span = if spans then as_span (layers_of_role role) else None } ≡ entry_of (fields_of spans role name file)
-entry_is name file false (Copper place) d h = refl
-entry_is name file true (Copper place) d h = refl
-entry_is name file false (Plated span) d h = refl
-entry_is name file true (Plated None) d h = refl
-entry_is name file true (Plated (Some layers)) d h = ap (file_as roles.Plated name file) (sym (span_is layers h))
-entry_is name file false (Unplated span) d h = refl
-entry_is name file true (Unplated None) d h = refl
-entry_is name file true (Unplated (Some layers)) d h = ap (file_as roles.Unplated name file) (sym (span_is layers h))
-entry_is name file spans Undecided d h = absurd (false≢true d)
-entry_is name file spans LeftOut d h = absurd (false≢true d)
+entry_is profile name file false (Copper place) d h = refl
+entry_is profile name file true (Copper place) d h = refl
+entry_is profile name file false (Plated span) d h = refl
+entry_is profile name file true (Plated None) d h = refl
+entry_is profile name file true (Plated (Some layers)) d h = ap (file_as roles.Plated name file) (sym (span_is layers h))
+entry_is profile name file false (Unplated span) d h = refl
+entry_is profile name file true (Unplated None) d h = refl
+entry_is profile name file true (Unplated (Some layers)) d h = ap (file_as roles.Unplated name file) (sym (span_is layers h))
+entry_is profile name file false (Mixed span) d h = refl
+entry_is profile name file true (Mixed None) d h = refl
+entry_is profile name file true (Mixed (Some layers)) d h = ap (file_as roles.Mixed name file) (sym (span_is layers h))
+entry_is profile name file spans Undecided d h = absurd (false≢true d)
+entry_is profile name file spans LeftOut d h = absurd (false≢true d)

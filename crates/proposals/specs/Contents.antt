@@ -80,7 +80,7 @@ abbrev pub field : ℕ → List ℕ → List ℕ
 field zero function = before_first is_comma function
 field (suc k) function = field k (after_first is_comma function)
 
--- ---- plating by a line
+-- ---- plating by the text
 
 -- the line that says that the holes are plated
 abbrev pub plated_line : List ℕ
@@ -89,3 +89,11 @@ plated_line = codes ";TYPE=PLATED"
 -- the line that says that the holes are not plated
 abbrev pub unplated_line : List ℕ
 unplated_line = codes ";TYPE=NON_PLATED"
+
+-- the text says that holes are plated: in a file function, in a line, or in the function of a tool
+abbrev pub says_plated_holes : List ℕ → Bool
+says_plated_holes text = contains text (codes ".FileFunction,Plated") || (has_line plated_line text || contains text (codes "TA.AperFunction,Plated"))
+
+-- the text says that holes are not plated, likewise
+abbrev pub says_unplated_holes : List ℕ → Bool
+says_unplated_holes text = contains text (codes ".FileFunction,NonPlated") || (has_line unplated_line text || contains text (codes "TA.AperFunction,NonPlated"))

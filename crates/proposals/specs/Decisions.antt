@@ -1,13 +1,16 @@
 -- What is proposed for a file, and why (docs/FORMATS.md, Proposals).
 use Rattle.std.specs.Prelude.{ℕ, Bool, true, false, ◌||◌, ◌&&◌, not, List, Option, Some, None, is_some, unwrap_or, take, drop, codes, if◌then◌else◌}
+use Rattle.std.specs.List.{list_any}
 use Rattle.std.specs.Option.{option_or, option_map}
 use Rattle.std.specs.Str.{bytes_eq}
-use Rattle.proposals.specs.Contents.{field, function_of, has_line, kind_of, plated_line, unplated_line}
-use Rattle.proposals.specs.Names.{bottom_extensions, bottom_words, extension_of, ends_in_copper, has_dot, inner_extensions, inner_words, is_one_of, last_other_word, says_unplated, number_within, number_suffix, numbered_other_extensions, other_extensions, other_words, plane_extensions, stem_of, top_extensions, top_words, words_of}
+use Rattle.proposals.specs.Contents.{field, function_of, kind_of, says_plated_holes, says_unplated_holes}
+use Rattle.proposals.specs.Names.{bottom_extensions, bottom_words, extension_of, ends_in_copper, has_dot, has_end, inner_extensions, inner_words, is_one_of, is_other_word, is_unclear_word, last_other_word, names_copper, says_plated, says_unplated, number_within, number_suffix, numbered_other_extensions, other_extensions, plane_extensions, stem_of, top_extensions, top_words, words_of}
 use Rattle.proposals.specs.declared.contents.FileKind.{FileKind}
 use Rattle.proposals.specs.declared.contents.FileKind.TheVariants.{Gerber, Drill, Empty, Archive, Neither}
 use Rattle.proposals.specs.declared.model.StackPosition.{StackPosition}
 use Rattle.proposals.specs.declared.model.StackPosition.TheVariants.{Numbered, Top, Inner, Unknown, Bottom}
+use Rattle.proposals.specs.declared.model.HoleKind.{HoleKind}
+use Rattle.proposals.specs.declared.model.HoleKind.TheVariants as kinds
 use Rattle.proposals.specs.declared.model.LayerRange.{LayerRange}
 use Rattle.proposals.specs.declared.model.ProposedRole.{ProposedRole}
 use Rattle.proposals.specs.declared.model.ProposedRole.TheVariants.{Copper, Plated, Unplated, Undecided, LeftOut}
@@ -20,43 +23,73 @@ Decision = ProposedRole × ProposalReason
 
 -- ---- drill files
 
--- the layers that two fields name, None where one of them is no number
-abbrev pub layers_of_fields : Option ℕ → Option ℕ → Option LayerRange
-layers_of_fields None last = None
-layers_of_fields (Some first) None = None
-layers_of_fields (Some first) (Some last) = Some (record { first = first; last = last })
+-- how holes go through a board by the word after their layers: `PTH`, `NPTH`, `Blind` or `Buried`
+-- (Gerber Layer Format Specification 2024.05, section 5.6.3)
+abbrev pub hole_kind : List ℕ → HoleKind
+hole_kind word =
+    if bytes_eq word (codes "PTH") || bytes_eq word (codes "NPTH") then kinds.Through
+    else if bytes_eq word (codes "Blind") then kinds.Blind
+    else if bytes_eq word (codes "Buried") then kinds.Buried else kinds.Unsaid
+
+-- holes that do not go through the whole board
+abbrev pub ends_inside : HoleKind → Bool
+ends_inside kinds.Through = false
+ends_inside kinds.Blind = true
+ends_inside kinds.Buried = true
+ends_inside kinds.Unsaid = false
+
+-- the layers that two fields name for holes of a kind, None where one of them is no number
+abbrev pub layers_of_fields : HoleKind → Option ℕ → Option ℕ → Option LayerRange
+layers_of_fields kind None last = None
+layers_of_fields kind (Some first) None = None
+layers_of_fields kind (Some first) (Some last) = Some (record { first = first; last = last; kind = kind })
 
 -- the layers that the second and the third field of a file function name, if both are numbers: 1 and 2 in `Plated,1,2,PTH`
 abbrev pub layers_of_function : List ℕ → Option LayerRange
-layers_of_function function = layers_of_fields (number_within 9 (field 1 function)) (number_within 9 (field 2 function))
+layers_of_function function = layers_of_fields (hole_kind (field 3 function)) (number_within 9 (field 1 function)) (number_within 9 (field 2 function))
+
+-- the function says that holes are blind or buried, and names no layers: `Plated,,,Blind`
+abbrev pub lacks_layers : List ℕ → Bool
+lacks_layers function = ends_inside (hole_kind (field 3 function)) && not (is_some (layers_of_function function))
+
+-- a role by a file function, undecided where layers are lacking
+abbrev pub role_by_function : List ℕ → ProposedRole → Option Decision
+role_by_function function role = Some (if lacks_layers function then (Undecided, because.UnclearLayers) else (role, because.FileFunction (field 0 function)))
 
 -- what the function of a drill file says: `Plated,1,2,PTH` plated with layers, `NonPlated` unplated, `MixedPlating` undecided
 abbrev pub drill_by_function : List ℕ → Option Decision
 drill_by_function function =
-    if bytes_eq (field 0 function) (codes "Plated") then Some (Plated (layers_of_function function), because.FileFunction (field 0 function))
-    else if bytes_eq (field 0 function) (codes "NonPlated") then Some (Unplated (layers_of_function function), because.FileFunction (field 0 function))
+    if bytes_eq (field 0 function) (codes "Plated") then role_by_function function (Plated (layers_of_function function))
+    else if bytes_eq (field 0 function) (codes "NonPlated") then role_by_function function (Unplated (layers_of_function function))
     else if bytes_eq (field 0 function) (codes "MixedPlating") then Some (Undecided, because.MixedHoles) else None
 
--- what the lines of a drill file say: whether one says that holes are plated, and whether one says that they are not
-abbrev pub drill_by_lines : Bool → Bool → Option Decision
-drill_by_lines true true = Some (Undecided, because.MixedHoles)
-drill_by_lines true false = Some (Plated None, because.PlatedType)
-drill_by_lines false true = Some (Unplated None, because.UnplatedType)
-drill_by_lines false false = None
+-- what the text of a drill file says: whether it says that holes are plated, whether it says that they are not, and what its function
+-- says. Where it says both, nothing else counts.
+abbrev pub drill_by_text : Bool → Bool → Option Decision → Option Decision
+drill_by_text true true function = Some (Undecided, because.MixedHoles)
+drill_by_text true false function = option_or function (Some (Plated None, because.PlatedType))
+drill_by_text false true function = option_or function (Some (Unplated None, because.UnplatedType))
+drill_by_text false false function = function
 
--- what the name of a drill file says: `b-NPTH.drl` is unplated, and `b.drl` is plated by default
+-- what the words of the name of a drill file say: whether holes are plated, and whether they are not
+abbrev pub drill_by_words : Bool → Bool → Decision
+drill_by_words true true = (Undecided, because.ConflictingName)
+drill_by_words false true = (Unplated None, because.ByName)
+drill_by_words plated false = (Plated None, because.DrillByDefault)
+
+-- what the name of a drill file says: `b-NPTH.drl` is unplated, `b-PTH-NPTH.drl` undecided, and `b.drl` plated by default
 abbrev pub drill_by_name : List ℕ → Decision
-drill_by_name name = if says_unplated (words_of name) then (Unplated None, because.ByName) else (Plated None, because.DrillByDefault)
+drill_by_name name = drill_by_words (says_plated (words_of name)) (says_unplated (words_of name))
 
 -- what a file function says, None where there is no function
 abbrev pub by_file_function : {A : Type 0} → (List ℕ → Option A) → Option (List ℕ) → Option A
 by_file_function says None = None
 by_file_function says (Some function) = says function
 
--- what a drill file is: by its function, else by its lines, else by its name
+-- what a drill file is: by its text, else by its name
 abbrev pub drill_decision : List ℕ → List ℕ → Decision
 drill_decision name text =
-    unwrap_or (option_or (by_file_function drill_by_function (function_of text)) (drill_by_lines (has_line plated_line text) (has_line unplated_line text))) (drill_by_name name)
+    unwrap_or (drill_by_text (says_plated_holes text) (says_unplated_holes text) (by_file_function drill_by_function (function_of text))) (drill_by_name name)
 
 -- ---- Gerber files
 
@@ -106,18 +139,24 @@ is_top_word dropped word = is_one_of word top_words || (dropped && bytes_eq word
 abbrev pub is_bottom_word : Bool → List ℕ → Bool
 is_bottom_word dropped word = is_one_of word bottom_words || (dropped && bytes_eq word (codes "b"))
 
--- What the last word of a stem says; `dropped` says whether words for copper that followed it were dropped. Where none was, the
--- word may be that of a layer without copper.
+-- what the last word of a stem says; `dropped` says whether words for copper that followed it were dropped
 abbrev pub gerber_by_word : Bool → List ℕ → Option Decision
 gerber_by_word dropped word =
-    if not dropped && is_one_of word other_words then left_out_by_name
-    else if is_top_word dropped word then copper_by_name Top
+    if is_top_word dropped word then copper_by_name Top
     else if is_bottom_word dropped word then copper_by_name Bottom
     else option_or (inner_copper_by_name (number_suffix inner_words word)) (if dropped then copper_by_name Unknown else None)
 
--- what the stem of the name of a Gerber file says: its last word that is not one for copper
+-- what a word of a layer without copper says in a stem: the file is left out, or undecided where the stem names copper too
+abbrev pub other_by_name : Bool → Decision
+other_by_name copper = if copper then (Undecided, because.ConflictingName) else (LeftOut, because.ByName)
+
+-- What the stem of the name of a Gerber file says. Any word of a layer without copper comes first: `soldermask_top` is left out, and
+-- `mask-F_Cu`, which names copper too, undecided. An unclear word says nothing. Else the last word counts that is not one for copper.
 abbrev pub gerber_by_stem : List (List ℕ) → Option Decision
-gerber_by_stem stem = gerber_by_word (ends_in_copper stem) (last_other_word stem)
+gerber_by_stem stem =
+    if list_any is_other_word stem then Some (other_by_name (list_any names_copper stem))
+    else if list_any is_unclear_word stem then None
+    else gerber_by_word (ends_in_copper stem) (last_other_word stem)
 
 -- what the name of a Gerber file says: by its end, else by the last word of its stem
 abbrev pub gerber_by_words : Bool → List (List ℕ) → Decision
@@ -126,7 +165,7 @@ gerber_by_words point words =
 
 -- what a Gerber file is: by its function, else by its name
 abbrev pub gerber_decision : List ℕ → List ℕ → Decision
-gerber_decision name text = unwrap_or (option_map gerber_by_function (function_of text)) (gerber_by_words (has_dot name) (words_of name))
+gerber_decision name text = unwrap_or (option_map gerber_by_function (function_of text)) (gerber_by_words (has_end (has_dot name) (words_of name)) (words_of name))
 
 -- ---- each file
 

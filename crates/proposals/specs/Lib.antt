@@ -1,7 +1,9 @@
 pub mod Decisions
+pub mod MixedFiles
 pub mod ProposalList
 pub mod Manifests
 pub mod Stack
+pub mod Places
 pub mod Omission
 pub mod ReadBack
 pub mod Contents

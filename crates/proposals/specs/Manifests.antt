@@ -11,7 +11,7 @@ use Rattle.proposals.specs.declared.model.StackPosition.{StackPosition}
 use Rattle.proposals.specs.declared.model.StackPosition.TheVariants.{Numbered, Top, Inner, Unknown, Bottom}
 use Rattle.proposals.specs.declared.model.LayerRange.{LayerRange}
 use Rattle.proposals.specs.declared.model.ProposedRole.{ProposedRole}
-use Rattle.proposals.specs.declared.model.ProposedRole.TheVariants.{Copper, Plated, Unplated, Undecided, LeftOut}
+use Rattle.proposals.specs.declared.model.ProposedRole.TheVariants.{Copper, Plated, Unplated, Mixed, Undecided, LeftOut}
 use Rattle.proposals.specs.declared.model.ProposalReason.{ProposalReason}
 use Rattle.proposals.specs.declared.model.ProposalReason.TheVariants as because
 use Rattle.proposals.specs.declared.model.Proposal.{Proposal}
@@ -23,6 +23,7 @@ abbrev pub role_word : ProposedRole → List ℕ
 role_word (Copper place) = codes "copper"
 role_word (Plated span) = codes "plated"
 role_word (Unplated span) = codes "unplated"
+role_word (Mixed span) = codes "mixed"
 role_word Undecided = codes "?"
 role_word LeftOut = codes "-"
 
@@ -34,9 +35,13 @@ reason_words because.Archive = codes "a zip archive: unpack it"
 reason_words because.Folder = codes "a folder: name its files"
 reason_words (because.FileFunction function) = codes "file function "
 reason_words because.MixedHoles = codes "mixed: role mixed with --profile wide, or export two files"
-reason_words because.PlatedType = codes ";TYPE=PLATED"
-reason_words because.UnplatedType = codes ";TYPE=NON_PLATED"
+reason_words because.MixedTools = codes "its comments say which holes are plated"
+reason_words because.UnreadMixed = codes "mixed, but not read as mixed: export two files"
+reason_words because.PlatedType = codes "its comments say plated"
+reason_words because.UnplatedType = codes "its comments say not plated"
 reason_words because.ByName = codes "name"
+reason_words because.ConflictingName = codes "its name says two things"
+reason_words because.RepeatedLayer = codes "another file is the same layer"
 reason_words because.DrillByDefault = codes "a drill file is taken as plated"
 reason_words because.DrillInGerber = codes "a drill file in Gerber: export Excellon"
 reason_words because.Plane = codes "a plane that may be negative"
@@ -53,9 +58,13 @@ named_function because.Archive = []
 named_function because.Folder = []
 named_function (because.FileFunction function) = function
 named_function because.MixedHoles = []
+named_function because.MixedTools = []
+named_function because.UnreadMixed = []
 named_function because.PlatedType = []
 named_function because.UnplatedType = []
 named_function because.ByName = []
+named_function because.ConflictingName = []
+named_function because.RepeatedLayer = []
 named_function because.DrillByDefault = []
 named_function because.DrillInGerber = []
 named_function because.Plane = []
@@ -113,19 +122,21 @@ place_rank (Inner n) = n + 1
 place_rank Unknown = 4294967296
 place_rank Bottom = 4294967297
 
--- the copper layers first, by their place, then plated, unplated and undecided files
+-- the copper layers first, by their place, then plated, unplated, mixed and undecided files
 abbrev pub rank : ProposedRole → ℕ
 rank (Copper place) = place_rank place
 rank (Plated span) = 4294967298
 rank (Unplated span) = 4294967299
-rank Undecided = 4294967300
-rank LeftOut = 4294967301
+rank (Mixed span) = 4294967300
+rank Undecided = 4294967301
+rank LeftOut = 4294967302
 
 -- a file of this role stands in the manifest
 abbrev pub is_listed_role : ProposedRole → Bool
 is_listed_role (Copper place) = true
 is_listed_role (Plated span) = true
 is_listed_role (Unplated span) = true
+is_listed_role (Mixed span) = true
 is_listed_role Undecided = true
 is_listed_role LeftOut = false
 
@@ -158,6 +169,7 @@ abbrev pub layers_of_role : ProposedRole → Option LayerRange
 layers_of_role (Copper place) = None
 layers_of_role (Plated span) = span
 layers_of_role (Unplated span) = span
+layers_of_role (Mixed span) = span
 layers_of_role Undecided = None
 layers_of_role LeftOut = None
 
@@ -166,6 +178,7 @@ abbrev pub is_copper_role : ProposedRole → Bool
 is_copper_role (Copper place) = true
 is_copper_role (Plated span) = false
 is_copper_role (Unplated span) = false
+is_copper_role (Mixed span) = false
 is_copper_role Undecided = false
 is_copper_role LeftOut = false
 

@@ -1,10 +1,11 @@
 -- What the name of a file says: its words, and the words that exporters use (docs/FORMATS.md, Proposals).
-use Rattle.std.specs.Prelude.{ℕ, ◌-◌, Bool, false, ◌||◌, ◌&&◌, ◌==◌, not, nat_le, List, [], ◌∷◌, Option, Some, None, length, take, drop, map, reverse, unwrap_or, slice_get, codes, if◌then◌else◌}
+use Rattle.std.specs.Prelude.{ℕ, ◌-◌, Bool, false, ◌||◌, ◌&&◌, ◌==◌, not, nat_le, ◌++◌, List, [], ◌∷◌, Option, Some, None, is_some, length, take, drop, map, reverse, unwrap_or, slice_get, codes, if◌then◌else◌}
 use Rattle.std.specs.List.{list_any, slice_split, filter, find, before_first, after_last, position_or_len}
 use Rattle.std.specs.Char.{to_ascii_lowercase}
 use Rattle.std.specs.Str.{bytes_eq}
 use Rattle.grid_units.specs.Numbers.{is_digit, is_digits, value}
 use Rattle.grid_units.specs.Ascii as ascii
+use Rattle.proposals.specs.Contents.{contains}
 
 -- ---- words
 
@@ -12,19 +13,37 @@ use Rattle.grid_units.specs.Ascii as ascii
 abbrev pub base_name : List ℕ → List ℕ
 base_name name = after_last (λ b. b == ascii.slash) name
 
+-- a small letter
+abbrev pub is_small_letter : ℕ → Bool
+is_small_letter b = nat_le ascii.lower_a b && nat_le b ascii.lower_z
+
+-- a capital that follows a small letter, as the `M` of `SolderMask` does: it begins a word
+abbrev pub begins_word : ℕ → ℕ → Bool
+begins_word before b = is_small_letter before && (nat_le ascii.upper_a b && nat_le b ascii.upper_z)
+
+-- a byte after the byte before it: where it begins a word, a space stands between the two
+abbrev pub parted_byte : ℕ → ℕ → List ℕ
+parted_byte before b = if begins_word before b then ascii.space ∷ b ∷ [] else b ∷ []
+
+-- the bytes after the byte before them, with a space before each that begins a word: `Solder Mask Top` of `SolderMaskTop`
+abbrev pub parted : ℕ → List ℕ → List ℕ
+parted before [] = []
+parted before (b ∷ bs) = parted_byte before b ++ parted b bs
+
 -- a small letter or a digit
 abbrev pub is_word_byte : ℕ → Bool
-is_word_byte b = is_digit b || (nat_le ascii.lower_a b && nat_le b ascii.lower_z)
+is_word_byte b = is_digit b || is_small_letter b
 
 -- the runs of small letters and digits: `f`, `cu` of `f_cu`
 abbrev pub word_runs : List ℕ → List (List ℕ)
 word_runs name = filter (λ run. not (length run == 0)) (slice_split (λ b. not (is_word_byte b)) name)
 
--- what follows the last slash of a name, in lower case: `b-f_cu.gbr` of `out/b-F_Cu.gbr`
+-- what follows the last slash of a name, cut before the capitals that begin words, in lower case: `top layer.gbr` of `out/TopLayer.gbr`
 abbrev pub lower_base_name : List ℕ → List ℕ
-lower_base_name name = map to_ascii_lowercase (base_name name)
+lower_base_name name = map to_ascii_lowercase (parted 0 (base_name name))
 
--- the words of a name, the runs of letters and digits after its last slash, in lower case: `b`, `f`, `cu`, `gbr` of `out/b-F_Cu.gbr`
+-- the words of a name, the runs of letters and digits after its last slash, cut before the capitals that begin words, in lower case:
+-- `b`, `f`, `cu`, `gbr` of `out/b-F_Cu.gbr`, and `solder`, `mask`, `top`, `gbr` of `SolderMaskTop.gbr`
 abbrev pub words_of : List ℕ → List (List ℕ)
 words_of name = word_runs (lower_base_name name)
 
@@ -47,6 +66,14 @@ stem_of point words = if point then take (length words - 1) words else words
 -- the word is one of these
 abbrev pub is_one_of : List ℕ → List (List ℕ) → Bool
 is_one_of word these = list_any (λ one. bytes_eq one word) these
+
+-- the words of sides that may stand after the point of a name: `bot` in `silk.bot`
+abbrev pub side_ends : List (List ℕ)
+side_ends = codes "top" ∷ codes "bot" ∷ []
+
+-- the name has an end: it has a point, and the last of its words is not that of a side
+abbrev pub has_end : Bool → List (List ℕ) → Bool
+has_end point words = point && not (is_one_of (last_word_or_empty words) side_ends)
 
 -- ---- words with a number
 
@@ -87,11 +114,11 @@ numbered_other_extensions = codes "gm" ∷ codes "gd" ∷ []
 
 -- the ends of top layers: `b.gtl`
 abbrev pub top_extensions : List (List ℕ)
-top_extensions = codes "gtl" ∷ codes "cmp" ∷ codes "top" ∷ []
+top_extensions = codes "gtl" ∷ codes "cmp" ∷ []
 
 -- the ends of bottom layers: `b.gbl`
 abbrev pub bottom_extensions : List (List ℕ)
-bottom_extensions = codes "gbl" ∷ codes "sol" ∷ codes "bot" ∷ []
+bottom_extensions = codes "gbl" ∷ codes "sol" ∷ []
 
 -- the ends of inner layers, followed by a number: `b.g1`
 abbrev pub inner_extensions : List (List ℕ)
@@ -101,11 +128,26 @@ inner_extensions = codes "g" ∷ codes "gl" ∷ codes "ly" ∷ []
 abbrev pub copper_words : List (List ℕ)
 copper_words = codes "cu" ∷ codes "copper" ∷ codes "layer" ∷ []
 
--- the words of layers without copper: `mask` in `b-F_Mask.gbr`
+-- the parts of words that stand in the names of layers without copper: `mask` in `soldermask_top.gbr`
+abbrev pub other_parts : List (List ℕ)
+other_parts = codes "mask" ∷ codes "paste" ∷ codes "silk" ∷ codes "legend" ∷ codes "overlay" ∷ codes "outline" ∷ codes "contour" ∷ codes "courtyard"
+    ∷ codes "crtyd" ∷ codes "adhes" ∷ codes "keepout" ∷ codes "stencil" ∷ codes "stiffen" ∷ codes "mechanic" ∷ codes "dimension" ∷ codes "document"
+    ∷ codes "drawing" ∷ codes "assembl" ∷ codes "placement" ∷ codes "profile" ∷ codes "cream" ∷ codes "milling" ∷ codes "drillmap" ∷ codes "vcut" ∷ []
+
+-- the words of layers without copper, with or without a number: `edge` and `cuts` in `b-Edge_Cuts.gbr`, `user` in `b-User_1.gbr`
 abbrev pub other_words : List (List ℕ)
-other_words = codes "mask" ∷ codes "topmask" ∷ codes "bottommask" ∷ codes "paste" ∷ codes "toppaste" ∷ codes "bottompaste" ∷ codes "silk" ∷ codes "silks" ∷ codes "silkscreen"
-    ∷ codes "topsilk" ∷ codes "bottomsilk" ∷ codes "soldermask" ∷ codes "solderpaste" ∷ codes "adhes" ∷ codes "adhesive" ∷ codes "cuts" ∷ codes "outline" ∷ codes "profile"
-    ∷ codes "edge" ∷ codes "fab" ∷ codes "crtyd" ∷ codes "courtyard" ∷ codes "margin" ∷ codes "user" ∷ codes "drawings" ∷ codes "comments" ∷ codes "assembly" ∷ codes "legend" ∷ []
+other_words = codes "crt" ∷ codes "yd" ∷ codes "cover" ∷ codes "edge" ∷ codes "edges" ∷ codes "cut" ∷ codes "cuts" ∷ codes "border" ∷ codes "fab" ∷ codes "fabrication" ∷ codes "user"
+    ∷ codes "margin" ∷ codes "comments" ∷ codes "cmts" ∷ codes "dwg" ∷ codes "dwgs" ∷ codes "eco" ∷ codes "note" ∷ codes "notes"
+    ∷ codes "doc" ∷ codes "docu" ∷ codes "dim" ∷ codes "dims" ∷ codes "mech" ∷ codes "assy" ∷ codes "asm" ∷ codes "place"
+    ∷ codes "glue" ∷ codes "tglue" ∷ codes "bglue" ∷ codes "stop" ∷ codes "tstop" ∷ codes "bstop" ∷ codes "resist" ∷ codes "keep"
+    ∷ codes "map" ∷ codes "guide" ∷ codes "marking" ∷ codes "ident" ∷ codes "score" ∷ codes "vscore" ∷ codes "sm" ∷ codes "smt"
+    ∷ codes "smb" ∷ codes "ss" ∷ codes "sst" ∷ codes "ssb" ∷ codes "sp" ∷ codes "spt" ∷ codes "spb" ∷ codes "tsm"
+    ∷ codes "bsm" ∷ codes "tss" ∷ codes "bss" ∷ codes "tsp" ∷ codes "bsp" ∷ []
+
+-- the words of layers that may be copper or not, with or without a number: `solder` in `solder_side.gbr` and in `top_solder.gbr`
+abbrev pub unclear_words : List (List ℕ)
+unclear_words = codes "solder" ∷ codes "pad" ∷ codes "pads" ∷ codes "plane" ∷ codes "planes" ∷ codes "drill" ∷ codes "drills" ∷ codes "hole"
+    ∷ codes "holes" ∷ codes "via" ∷ codes "vias" ∷ codes "slot" ∷ codes "slots" ∷ codes "route" ∷ codes "routing" ∷ codes "rout" ∷ []
 
 -- the words of top layers: `top` in `copper_top.gbr`
 abbrev pub top_words : List (List ℕ)
@@ -132,6 +174,41 @@ has_non_plated (word ∷ next ∷ rest) = (bytes_eq word (codes "non") && bytes_
 -- the words of a name say that holes are not plated, by one word or by `non` and `plated`
 abbrev pub says_unplated : List (List ℕ) → Bool
 says_unplated words = list_any (λ word. is_one_of word unplated_words) words || has_non_plated words
+
+-- the words that each say that holes are plated, unless `non` stands right before it: `pth` in `b-PTH.drl`
+abbrev pub plated_words : List (List ℕ)
+plated_words = codes "pth" ∷ codes "plated" ∷ codes "plt" ∷ codes "via" ∷ codes "vias" ∷ []
+
+-- the word says that holes are plated; `after_non` says whether `non` stands right before it
+abbrev pub is_plated_word : Bool → List ℕ → Bool
+is_plated_word after_non word = is_one_of word plated_words && not after_non
+
+-- a word that says that holes are plated stands among these, the first of which stands right after `non` or not
+abbrev pub has_plated : Bool → List (List ℕ) → Bool
+has_plated after_non [] = false
+has_plated after_non (word ∷ rest) = is_plated_word after_non word || has_plated (bytes_eq word (codes "non")) rest
+
+-- the words of a name say that holes are plated
+abbrev pub says_plated : List (List ℕ) → Bool
+says_plated words = has_plated false words
+
+-- ---- what a word says of a layer
+
+-- one of these parts stands in the word
+abbrev pub has_part : List ℕ → List (List ℕ) → Bool
+has_part word parts = list_any (λ part. contains word part) parts
+
+-- a word of a layer without copper, by a part of it or up to its first digit: `soldermask`, `user`, `user1`
+abbrev pub is_other_word : List ℕ → Bool
+is_other_word word = has_part word other_parts || is_one_of (letters_of word) other_words
+
+-- a word that may be of a layer without copper, up to its first digit: `plane2`
+abbrev pub is_unclear_word : List ℕ → Bool
+is_unclear_word word = is_one_of (letters_of word) unclear_words
+
+-- a word that names copper: `cu`, `coppertop`, `in2`
+abbrev pub names_copper : List ℕ → Bool
+names_copper word = has_part word (codes "copper" ∷ []) || (bytes_eq word (codes "cu") || is_some (number_suffix inner_words word))
 
 -- ---- the last word of a stem
 

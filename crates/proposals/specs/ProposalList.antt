@@ -3,7 +3,10 @@ use Rattle.std.specs.Prelude.{ℕ, Bool, List, map, Option, Some, None, if◌the
 use Rattle.std.specs.List.{list_any, filter_map}
 use Rattle.std.specs.Str.{bytes_eq}
 use Rattle.grid_units.specs.Lists.{with_prefixes}
-use Rattle.proposals.specs.Decisions.{Decision, decision}
+use Rattle.grid_units.specs.declared.profile.Profile.{Profile}
+use Rattle.proposals.specs.Decisions.{Decision}
+use Rattle.proposals.specs.MixedFiles.{decision_in}
+use Rattle.proposals.specs.Places.{places_checked}
 use Rattle.proposals.specs.Stack.{layers_checked}
 use Rattle.proposals.specs.declared.model.ProposedRole.TheVariants.{LeftOut, Undecided}
 use Rattle.proposals.specs.declared.model.ProposalReason.TheVariants as because
@@ -12,20 +15,20 @@ use Rattle.proposals.specs.declared.model.InputFile.{InputFile}
 use Rattle.proposals.specs.declared.model.FileContent.{FileContent}
 use Rattle.proposals.specs.declared.model.FileContent.TheVariants as content
 
--- what a file of this name is: by its bytes, undecided where it cannot be read or is too long, and left out where it is a folder
-abbrev pub decision_for : List ℕ → FileContent → Decision
-decision_for name (content.Bytes bytes) = decision name bytes.now
-decision_for name content.NotRead = (Undecided, because.NotRead)
-decision_for name content.Folder = (LeftOut, because.Folder)
-decision_for name content.TooLong = (Undecided, because.TooLong)
+-- what a file of this name is in a profile: by its bytes, undecided where it cannot be read or is too long, and left out where it is a folder
+abbrev pub decision_for : Profile → List ℕ → FileContent → Decision
+decision_for profile name (content.Bytes bytes) = decision_in profile name bytes.now
+decision_for profile name content.NotRead = (Undecided, because.NotRead)
+decision_for profile name content.Folder = (LeftOut, because.Folder)
+decision_for profile name content.TooLong = (Undecided, because.TooLong)
 
 -- the name of a file, as it was asked for
 abbrev pub name_of : InputFile → List ℕ
 name_of file = file.name.now
 
 -- the proposal for a file, taken by itself
-abbrev pub proposal : InputFile → Proposal
-proposal file = record { file = name_of file; role = (decision_for (name_of file) file.content).0; because = (decision_for (name_of file) file.content).1 }
+abbrev pub proposal : Profile → InputFile → Proposal
+proposal profile file = record { file = name_of file; role = (decision_for profile (name_of file) file.content).0; because = (decision_for profile (name_of file) file.content).1 }
 
 -- one of these files has the name
 abbrev pub is_named : List ℕ → List InputFile → Bool
@@ -40,9 +43,13 @@ abbrev pub distinct : List InputFile → List InputFile
 distinct files = filter_map unless_seen (with_prefixes files)
 
 -- the proposal for each file, taken by itself, each name once
-abbrev pub separate_proposals : List InputFile → List Proposal
-separate_proposals files = map proposal (distinct files)
+abbrev pub separate_proposals : Profile → List InputFile → List Proposal
+separate_proposals profile files = map (proposal profile) (distinct files)
 
--- the proposals for the files, each name once: a drill file that names layers is undecided where these are not clear among the others
-abbrev pub proposals : List InputFile → List Proposal
-proposals files = map (layers_checked (separate_proposals files)) (separate_proposals files)
+-- the proposal for each file, each name once: copper files that have one place are undecided
+abbrev pub placed_proposals : Profile → List InputFile → List Proposal
+placed_proposals profile files = places_checked (separate_proposals profile files)
+
+-- the proposals for the files in a profile, each name once: a drill file that names layers is undecided where these are not clear among the others
+abbrev pub proposals : Profile → List InputFile → List Proposal
+proposals profile files = map (layers_checked (placed_proposals profile files)) (placed_proposals profile files)

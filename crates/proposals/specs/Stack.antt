@@ -4,9 +4,11 @@ use Rattle.std.specs.Prelude.{◌≡◌, ℕ, zero, suc, ◌+◌, Bool, true, fa
 use Rattle.std.specs.List.{list_all, list_any, filter, count_by}
 use Rattle.proposals.specs.declared.model.StackPosition.{StackPosition}
 use Rattle.proposals.specs.declared.model.StackPosition.TheVariants.{Numbered, Top, Inner, Unknown, Bottom}
+use Rattle.proposals.specs.declared.model.HoleKind.{HoleKind}
+use Rattle.proposals.specs.declared.model.HoleKind.TheVariants as kinds
 use Rattle.proposals.specs.declared.model.LayerRange.{LayerRange}
 use Rattle.proposals.specs.declared.model.ProposedRole.{ProposedRole}
-use Rattle.proposals.specs.declared.model.ProposedRole.TheVariants.{Copper, Plated, Unplated, Undecided, LeftOut}
+use Rattle.proposals.specs.declared.model.ProposedRole.TheVariants.{Copper, Plated, Unplated, Mixed, Undecided, LeftOut}
 use Rattle.proposals.specs.declared.model.ProposalReason.{ProposalReason}
 use Rattle.proposals.specs.declared.model.ProposalReason.TheVariants as because
 use Rattle.proposals.specs.declared.model.Proposal.{Proposal}
@@ -22,9 +24,13 @@ may_be_copper because.Archive = false
 may_be_copper because.Folder = false
 may_be_copper (because.FileFunction function) = false
 may_be_copper because.MixedHoles = false
+may_be_copper because.MixedTools = false
+may_be_copper because.UnreadMixed = false
 may_be_copper because.PlatedType = false
 may_be_copper because.UnplatedType = false
 may_be_copper because.ByName = false
+may_be_copper because.ConflictingName = true
+may_be_copper because.RepeatedLayer = true
 may_be_copper because.DrillByDefault = false
 may_be_copper because.DrillInGerber = false
 may_be_copper because.Plane = true
@@ -60,6 +66,7 @@ abbrev pub layer_of_role : Bool → ℕ → ProposedRole → ℕ
 layer_of_role here count (Copper place) = layer_at_position here count place
 layer_of_role here count (Plated span) = 0
 layer_of_role here count (Unplated span) = 0
+layer_of_role here count (Mixed span) = 0
 layer_of_role here count Undecided = 0
 layer_of_role here count LeftOut = 0
 
@@ -81,15 +88,27 @@ is_stack ps = are_one_to_n (copper_layers ps)
 
 -- ---- the layers of drill files
 
+-- whether holes from the top layer or not, to the bottom layer or not, are of a kind
+abbrev pub is_of_kind : HoleKind → Bool → Bool → Bool
+is_of_kind kinds.Through top bottom = top && bottom
+is_of_kind kinds.Blind top bottom = (top && not bottom) || (not top && bottom)
+is_of_kind kinds.Buried top bottom = not top && not bottom
+is_of_kind kinds.Unsaid top bottom = true
+
 -- the layers, if any are named, are a first one from 1 and a last one that is not below it, among so many
 abbrev pub are_within_count : ℕ → Option LayerRange → Bool
 are_within_count count None = true
 are_within_count count (Some layers) = nat_le 1 layers.first && (nat_le layers.first layers.last && nat_le layers.last count)
 
--- no layers are named, or the copper files are a stack and these are some of its layers
+-- The layers are of the kind that their function says, among so many: `PTH` and `NPTH` holes end at both outer layers, `Blind` ones at
+-- just one and `Buried` ones at none (Gerber Layer Format Specification 2024.05, section 5.6.3). Of other holes nothing is asked.
+abbrev pub fit_kind : ℕ → LayerRange → Bool
+fit_kind count layers = is_of_kind layers.kind (layers.first == 1) (layers.last == count)
+
+-- no layers are named, or the copper files are a stack and these are some of its layers, of the kind that is said
 abbrev pub are_clear : Bool → ℕ → Option LayerRange → Bool
 are_clear stack count None = true
-are_clear stack count (Some layers) = stack && are_within_count count (Some layers)
+are_clear stack count (Some layers) = stack && (are_within_count count (Some layers) && fit_kind count layers)
 
 -- a proposal, made undecided where it names layers that are not clear
 abbrev pub layers_checked_in : Bool → ℕ → Proposal → Proposal

@@ -69,7 +69,7 @@ fn has_no_holes(text: &[u8]) -> bool
 }
 
 /// Whether these bytes stand somewhere in a text.
-fn contains(text: &[u8], part: &[u8]) -> bool
+pub(crate) fn contains(text: &[u8], part: &[u8]) -> bool
     ensures { result ≡ says.contains text.now part.now }
 {
     memmem::find(text, part).is_some()
@@ -151,26 +151,50 @@ fn split_at_comma(text: &[u8]) -> (&[u8], &[u8])
     (text, &[])
 }
 
-/// The first three fields of a file function, empty where there are fewer.
+/// The first four fields of a file function, empty where there are fewer.
 #[derive(Clone, Copy, Debug)]
 pub struct FunctionFields<'a> {
     pub first: &'a [u8],
     pub second: &'a [u8],
     pub third: &'a [u8],
+    pub fourth: &'a [u8],
 }
 
-/// The first three fields of a file function: `Copper`, `L1` and `Top` of `Copper,L1,Top`.
+/// The first four fields of a file function: `Plated`, `1`, `2` and `PTH` of `Plated,1,2,PTH`.
 pub fn fields_of(function: &[u8]) -> FunctionFields<'_>
     ensures first { result.first.now ≡ says.field 0 function.now }
     ensures second { result.second.now ≡ says.field 1 function.now }
     ensures third { result.third.now ≡ says.field 2 function.now }
+    ensures fourth { result.fourth.now ≡ says.field 3 function.now }
 {
     let (first, after) = split_at_comma(function);
     let (second, after) = split_at_comma(after);
-    let (third, _) = split_at_comma(after);
+    let (third, after) = split_at_comma(after);
+    let (fourth, _) = split_at_comma(after);
     FunctionFields {
         first,
         second,
         third,
+        fourth,
     }
+}
+
+/// Whether the text of a drill file says that holes are plated: in a file function, in a line `;TYPE=PLATED`, or in the function
+/// of a tool, as `TA.AperFunction,Plated,PTH,ViaDrill`.
+pub(crate) fn says_plated_holes(text: &[u8]) -> bool
+    ensures { result ≡ says.says_plated_holes text.now }
+{
+    contains(text, b".FileFunction,Plated")
+        || has_line(b";TYPE=PLATED", text)
+        || contains(text, b"TA.AperFunction,Plated")
+}
+
+/// Whether the text of a drill file says that holes are not plated: in a file function, in a line `;TYPE=NON_PLATED`, or in the
+/// function of a tool.
+pub(crate) fn says_unplated_holes(text: &[u8]) -> bool
+    ensures { result ≡ says.says_unplated_holes text.now }
+{
+    contains(text, b".FileFunction,NonPlated")
+        || has_line(b";TYPE=NON_PLATED", text)
+        || contains(text, b"TA.AperFunction,NonPlated")
 }

@@ -1,30 +1,65 @@
 //! What a file is, and why.
 
 ghost use Rattle.std.specs.Prelude.{◌≡◌, IfOk, map};
+ghost use Rattle.std.specs.List.{list_any};
 ghost use Rattle.proposals.specs.Contents as contents_say;
 ghost use Rattle.proposals.specs.Decisions as says;
 ghost use Rattle.proposals.specs.Names as naming;
 
-use crate::model::{LayerRange, ProposalReason, ProposedRole, StackPosition};
+use crate::contents::{says_plated_holes, says_unplated_holes};
+use crate::model::{HoleKind, LayerRange, ProposalReason, ProposedRole, StackPosition};
+use crate::names::{has_end, is_other_word, is_unclear_word, names_copper, says_plated};
 use crate::{
-    FileKind, ends_in_copper, extension_of, fields_of, function_of, has_dot, has_line, is_one_of,
-    kind_of, last_other_word, layer_number, lower_base_name, number_suffix, says_unplated, stem_of,
+    FileKind, ends_in_copper, extension_of, fields_of, function_of, has_dot, is_one_of, kind_of,
+    last_other_word, layer_number, lower_base_name, number_suffix, says_unplated, stem_of,
     word_runs,
 };
 use grid_units::Text;
 use std::alloc::{AllocError, Global};
 
 /// What is proposed for a file, and the reason for it.
-type Decision = (ProposedRole, ProposalReason);
+pub(crate) type Decision = (ProposedRole, ProposalReason);
 
-/// The layers that two fields name, if both are one to nine digits.
-fn layers_of_fields(first: &[u8], last: &[u8]) -> Option<LayerRange>
-    ensures { result ≡ says.layers_of_fields (naming.number_within 9 first.now) (naming.number_within 9 last.now) }
+/// How holes go through a board, by the word after their layers.
+fn hole_kind(word: &[u8]) -> HoleKind
+    ensures { result ≡ says.hole_kind word.now }
+{
+    if word == b"PTH".as_slice() || word == b"NPTH".as_slice() {
+        HoleKind::Through
+    } else if word == b"Blind".as_slice() {
+        HoleKind::Blind
+    } else if word == b"Buried".as_slice() {
+        HoleKind::Buried
+    } else {
+        HoleKind::Unsaid
+    }
+}
+
+/// The layers that two fields name for holes of a kind, if both are one to nine digits.
+fn layers_of_fields(kind: HoleKind, first: &[u8], last: &[u8]) -> Option<LayerRange>
+    ensures { result ≡ says.layers_of_fields kind (naming.number_within 9 first.now) (naming.number_within 9 last.now) }
 {
     Some(LayerRange {
         first: layer_number(first)?,
         last: layer_number(last)?,
+        kind,
     })
+}
+
+/// The layers that a drill file's function names.
+pub(crate) fn layers_of_function(function: &[u8]) -> Option<LayerRange>
+    ensures { result ≡ says.layers_of_function function.now }
+{
+    let fields = fields_of(function);
+    layers_of_fields(hole_kind(fields.fourth), fields.second, fields.third)
+}
+
+/// Whether a drill file's function says that its holes are blind or buried, and names no layers.
+pub(crate) fn lacks_layers(function: &[u8]) -> bool
+    ensures { result ≡ says.lacks_layers function.now }
+{
+    let kind = hole_kind(fields_of(function).fourth);
+    matches!(kind, HoleKind::Blind | HoleKind::Buried) && layers_of_function(function).is_none()
 }
 
 /// The reason that names the first field of a file function.
@@ -34,40 +69,64 @@ fn by_function(alloc: Global, first: &[u8]) -> Result<ProposalReason, AllocError
     Ok(ProposalReason::FileFunction(Text::from_slice(alloc, first)?))
 }
 
+/// A role by a file function, undecided where layers are lacking.
+fn role_by_function(
+    alloc: Global,
+    function: &[u8],
+    role: ProposedRole,
+) -> Result<Option<Decision>, AllocError>
+    ensures { IfOk result (λ decision. decision ≡ says.role_by_function function.now role) }
+{
+    if lacks_layers(function) {
+        return Ok(Some((ProposedRole::Undecided, ProposalReason::UnclearLayers)));
+    }
+    Ok(Some((role, by_function(alloc, fields_of(function).first)?)))
+}
+
 /// What a drill file's function says.
 fn drill_by_function(alloc: Global, function: &[u8]) -> Result<Option<Decision>, AllocError>
     ensures { IfOk result (λ decision. decision ≡ says.drill_by_function function.now) }
 {
-    let fields = fields_of(function);
-    if fields.first == b"Plated".as_slice() {
-        let span = layers_of_fields(fields.second, fields.third);
-        return Ok(Some((
-            ProposedRole::Plated(span),
-            by_function(alloc, fields.first)?,
-        )));
+    let first = fields_of(function).first;
+    let span = layers_of_function(function);
+    if first == b"Plated".as_slice() {
+        return role_by_function(alloc, function, ProposedRole::Plated(span));
     }
-    if fields.first == b"NonPlated".as_slice() {
-        let span = layers_of_fields(fields.second, fields.third);
-        return Ok(Some((
-            ProposedRole::Unplated(span),
-            by_function(alloc, fields.first)?,
-        )));
+    if first == b"NonPlated".as_slice() {
+        return role_by_function(alloc, function, ProposedRole::Unplated(span));
     }
-    if fields.first == b"MixedPlating".as_slice() {
+    if first == b"MixedPlating".as_slice() {
         return Ok(Some((ProposedRole::Undecided, ProposalReason::MixedHoles)));
     }
     Ok(None)
 }
 
-/// What a drill file's lines say: whether one says that holes are plated, and whether one says that they are not.
-fn drill_by_lines(plated: bool, unplated: bool) -> Option<Decision>
-    ensures { result ≡ says.drill_by_lines plated unplated }
+/// What a drill file's text says: whether it says that holes are plated, whether it says that they are not, and what its function
+/// says. Where it says both, nothing else counts.
+fn drill_by_text(plated: bool, unplated: bool, function: Option<Decision>) -> Option<Decision>
+    ensures { result ≡ says.drill_by_text plated unplated function }
 {
     match (plated, unplated) {
         (true, true) => Some((ProposedRole::Undecided, ProposalReason::MixedHoles)),
-        (true, false) => Some((ProposedRole::Plated(None), ProposalReason::PlatedType)),
-        (false, true) => Some((ProposedRole::Unplated(None), ProposalReason::UnplatedType)),
-        (false, false) => None,
+        (true, false) => function.or(Some((
+            ProposedRole::Plated(None),
+            ProposalReason::PlatedType,
+        ))),
+        (false, true) => {
+            function.or(Some((ProposedRole::Unplated(None), ProposalReason::UnplatedType)))
+        }
+        (false, false) => function,
+    }
+}
+
+/// What the words of a drill file's name say: whether holes are plated, and whether they are not.
+fn drill_by_words(plated: bool, unplated: bool) -> Decision
+    ensures { result ≡ says.drill_by_words plated unplated }
+{
+    match (plated, unplated) {
+        (true, true) => (ProposedRole::Undecided, ProposalReason::ConflictingName),
+        (false, true) => (ProposedRole::Unplated(None), ProposalReason::ByName),
+        (_, false) => (ProposedRole::Plated(None), ProposalReason::DrillByDefault),
     }
 }
 
@@ -77,11 +136,11 @@ fn drill_by_name(alloc: Global, name: &[u8]) -> Result<Decision, AllocError>
 {
     let lower = lower_base_name(alloc, name)?;
     let words = word_runs(alloc, lower.as_slice())?;
-    if says_unplated(words.as_slice()) {
-        Ok((ProposedRole::Unplated(None), ProposalReason::ByName))
-    } else {
-        Ok((ProposedRole::Plated(None), ProposalReason::DrillByDefault))
-    }
+    let (plated, unplated) = (
+        says_plated(words.as_slice()),
+        says_unplated(words.as_slice()),
+    );
+    Ok(drill_by_words(plated, unplated))
 }
 
 /// What a drill file's function says, if it has one that says something.
@@ -94,16 +153,13 @@ fn drill_function(alloc: Global, text: &[u8]) -> Result<Option<Decision>, AllocE
     }
 }
 
-/// What a drill file is: by its function, else by its lines, else by its name.
+/// What a drill file is: by its text, else by its name.
 fn drill_decision(alloc: Global, name: &[u8], text: &[u8]) -> Result<Decision, AllocError>
     ensures { IfOk result (λ decision. decision ≡ says.drill_decision name.now text.now) }
 {
-    if let Some(decision) = drill_function(alloc, text)? {
-        return Ok(decision);
-    }
-    let plated = has_line(b";TYPE=PLATED", text);
-    let unplated = has_line(b";TYPE=NON_PLATED", text);
-    if let Some(decision) = drill_by_lines(plated, unplated) {
+    let function = drill_function(alloc, text)?;
+    let (plated, unplated) = (says_plated_holes(text), says_unplated_holes(text));
+    if let Some(decision) = drill_by_text(plated, unplated, function) {
         return Ok(decision);
     }
     drill_by_name(alloc, name)
@@ -191,52 +247,13 @@ fn gerber_by_extension(end: &[u8]) -> Option<Decision>
     if is_other_extension(end) {
         return Some((ProposedRole::LeftOut, ProposalReason::ByName));
     }
-    if is_one_of(end, &["gtl", "cmp", "top"]) {
+    if is_one_of(end, &["gtl", "cmp"]) {
         return copper_by_name(StackPosition::Top);
     }
-    if is_one_of(end, &["gbl", "sol", "bot"]) {
+    if is_one_of(end, &["gbl", "sol"]) {
         return copper_by_name(StackPosition::Bottom);
     }
     inner_copper_by_name(number_suffix(&["g", "gl", "ly"], end))
-}
-
-/// Whether a word is one of a layer without copper.
-fn is_other_word(word: &[u8]) -> bool
-    ensures { result ≡ naming.is_one_of word.now naming.other_words }
-{
-    is_one_of(
-        word,
-        &[
-            "mask",
-            "topmask",
-            "bottommask",
-            "paste",
-            "toppaste",
-            "bottompaste",
-            "silk",
-            "silks",
-            "silkscreen",
-            "topsilk",
-            "bottomsilk",
-            "soldermask",
-            "solderpaste",
-            "adhes",
-            "adhesive",
-            "cuts",
-            "outline",
-            "profile",
-            "edge",
-            "fab",
-            "crtyd",
-            "courtyard",
-            "margin",
-            "user",
-            "drawings",
-            "comments",
-            "assembly",
-            "legend",
-        ],
-    )
 }
 
 /// Whether a word is one of a top layer; `dropped` says whether a word for copper that followed it was dropped.
@@ -270,9 +287,6 @@ fn is_bottom_word(dropped: bool, word: &[u8]) -> bool
 fn gerber_by_word(dropped: bool, word: &[u8]) -> Option<Decision>
     ensures { result ≡ says.gerber_by_word dropped word.now }
 {
-    if !dropped && is_other_word(word) {
-        return Some((ProposedRole::LeftOut, ProposalReason::ByName));
-    }
     if is_top_word(dropped, word) {
         return copper_by_name(StackPosition::Top);
     }
@@ -293,10 +307,48 @@ fn gerber_by_word(dropped: bool, word: &[u8]) -> Option<Decision>
     }
 }
 
-/// What the stem of a Gerber file's name says.
+/// Whether a stem has a word of a layer without copper.
+fn has_other_word(stem: &[&[u8]]) -> bool
+    ensures { result ≡ list_any naming.is_other_word (map (λ word. word.now) stem.now) }
+{
+    stem.iter().any(|word| is_other_word(word))
+}
+
+/// Whether a stem has a word that names copper.
+fn has_copper_word(stem: &[&[u8]]) -> bool
+    ensures { result ≡ list_any naming.names_copper (map (λ word. word.now) stem.now) }
+{
+    stem.iter().any(|word| names_copper(word))
+}
+
+/// Whether a stem has a word that may be one of a layer without copper.
+fn has_unclear_word(stem: &[&[u8]]) -> bool
+    ensures { result ≡ list_any naming.is_unclear_word (map (λ word. word.now) stem.now) }
+{
+    stem.iter().any(|word| is_unclear_word(word))
+}
+
+/// What a stem with a word of a layer without copper says; `copper` says whether it names copper too.
+fn other_by_name(copper: bool) -> Decision
+    ensures { result ≡ says.other_by_name copper }
+{
+    if copper {
+        (ProposedRole::Undecided, ProposalReason::ConflictingName)
+    } else {
+        (ProposedRole::LeftOut, ProposalReason::ByName)
+    }
+}
+
+/// What the stem of a Gerber file's name says. A word of a layer without copper comes before all others.
 fn gerber_by_stem(stem: &[&[u8]]) -> Option<Decision>
     ensures { result ≡ says.gerber_by_stem (map (λ word. word.now) stem.now) }
 {
+    if has_other_word(stem) {
+        return Some(other_by_name(has_copper_word(stem)));
+    }
+    if has_unclear_word(stem) {
+        return None;
+    }
     gerber_by_word(ends_in_copper(stem), last_other_word(stem))
 }
 
@@ -314,11 +366,12 @@ fn gerber_by_words(point: bool, words: &[&[u8]]) -> Decision
 
 /// What the name of a Gerber file says.
 fn gerber_by_name(alloc: Global, name: &[u8]) -> Result<Decision, AllocError>
-    ensures { IfOk result (λ decision. decision ≡ says.gerber_by_words (naming.has_dot name.now) (naming.words_of name.now)) }
+    ensures { IfOk result (λ decision. decision ≡ says.gerber_by_words (naming.has_end (naming.has_dot name.now) (naming.words_of name.now)) (naming.words_of name.now)) }
 {
     let lower = lower_base_name(alloc, name)?;
     let words = word_runs(alloc, lower.as_slice())?;
-    Ok(gerber_by_words(has_dot(name), words.as_slice()))
+    let end = has_end(has_dot(name), words.as_slice());
+    Ok(gerber_by_words(end, words.as_slice()))
 }
 
 /// What a Gerber file is: by its function, else by its name.

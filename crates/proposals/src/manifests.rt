@@ -32,7 +32,9 @@ pub(crate) fn layers_of_role(role: ProposedRole) -> Option<LayerRange>
     ensures { result ≡ says.layers_of_role role }
 {
     match role {
-        ProposedRole::Plated(span) | ProposedRole::Unplated(span) => span,
+        ProposedRole::Plated(span) | ProposedRole::Unplated(span) | ProposedRole::Mixed(span) => {
+            span
+        }
         ProposedRole::Copper(_) | ProposedRole::Undecided | ProposedRole::LeftOut => None,
     }
 }
@@ -147,7 +149,7 @@ fn manifest_text(alloc: Global, entries: &[&Proposal]) -> Result<Vec<u8>, AllocE
     table.into_bytes()
 }
 
-/// The manifest of the files that are not left out: copper layers by their place, then plated, unplated and undecided
+/// The manifest of the files that are not left out: copper layers by their place, then plated, unplated, mixed and undecided
 /// files, those of one kind in the order of the proposals. An undecided file has the role `?`, which no manifest may have. The
 /// manifest has version 1, unless some file names other layers than all copper layers.
 ///

@@ -38,12 +38,28 @@ pub enum StackPosition {
     Bottom,
 }
 
+/// How holes go through a board, as the word after the layers of their file function says
+/// (Gerber Layer Format Specification 2024.05, section 5.6.3).
+#[derive(Clone, Copy, Debug, PartialEq, Eq)]
+pub enum HoleKind {
+    /// `PTH` or `NPTH`: from the top layer to the bottom layer.
+    Through,
+    /// `Blind`: from an outer layer to an inner one.
+    Blind,
+    /// `Buried`: from an inner layer to another one.
+    Buried,
+    /// Another word, or none.
+    Unsaid,
+}
+
 /// The layers that a drill file's holes go through, as its file function names them: two numbers, each at most 999,999,999.
 /// They need not be the numbers of layers.
 #[derive(Clone, Copy, Debug, PartialEq, Eq)]
 pub struct LayerRange {
     pub first: u32,
     pub last: u32,
+    /// How the holes go through the board, as the function says.
+    pub kind: HoleKind,
 }
 
 /// What is proposed for a file.
@@ -55,6 +71,8 @@ pub enum ProposedRole {
     Plated(Option<LayerRange>),
     /// A drill file whose holes are not plated.
     Unplated(Option<LayerRange>),
+    /// A drill file that says itself which of its holes are plated. The wide profile alone has it.
+    Mixed(Option<LayerRange>),
     /// The user has to decide; the role is `?`.
     Undecided,
     /// No file of the package: it does not stand in the manifest.
@@ -76,12 +94,20 @@ pub enum ProposalReason {
     FileFunction(Text),
     /// Plated and unplated holes stand in one file.
     MixedHoles,
-    /// A line `;TYPE=PLATED`.
+    /// Plated and unplated holes stand in one file, which says of each tool that drills whether its holes are plated.
+    MixedTools,
+    /// Plated and unplated holes stand in one file, which the wide profile does not read as a mixed one.
+    UnreadMixed,
+    /// A line, or the function of a tool, says that holes are plated.
     PlatedType,
-    /// A line `;TYPE=NON_PLATED`.
+    /// A line, or the function of a tool, says that holes are not plated.
     UnplatedType,
     /// The name of the file.
     ByName,
+    /// The name says two things of which one at most is right, as `board-PTH-NPTH.drl` does.
+    ConflictingName,
+    /// Another copper file has the same place in the stack.
+    RepeatedLayer,
     /// Nothing says whether the holes of a drill file are plated, so it is taken as plated.
     DrillByDefault,
     /// A drill file in Gerber, which is not read.

@@ -1,10 +1,12 @@
 //! What the name of a file says.
 
-ghost use Rattle.std.specs.Prelude.{◌≡◌, ◌≤◌, IfOk, IfSome, map, option_map};
+ghost use Rattle.std.specs.Prelude.{◌≡◌, ◌≤◌, ◌++◌, IfOk, IfSome, OnOk, codes, map, option_map};
+ghost use Rattle.std.specs.Str.{bytes_eq};
 ghost use Rattle.std.specs.List.{list_any};
 ghost use Rattle.grid_units.specs.Numbers as numbers;
 ghost use Rattle.proposals.specs.Names as says;
 
+use crate::contents::contains;
 use grid_units::numbers::{capped_value, is_digit, is_digits};
 use memchr::memrchr;
 use std::alloc::{AllocError, Global};
@@ -19,10 +21,16 @@ pub fn base_name(name: &[u8]) -> &[u8]
     }
 }
 
+fn is_small_letter(byte: u8) -> bool
+    ensures { result ≡ says.is_small_letter byte }
+{
+    b'a' <= byte && byte <= b'z'
+}
+
 fn is_word_byte(byte: u8) -> bool
     ensures { result ≡ says.is_word_byte byte }
 {
-    is_digit(byte) || (b'a' <= byte && byte <= b'z')
+    is_digit(byte) || is_small_letter(byte)
 }
 
 /// The runs of small letters and digits.
@@ -53,6 +61,13 @@ fn last<'a>(words: &[&'a [u8]]) -> &'a [u8]
         Some(word) => *word,
         None => &[],
     }
+}
+
+/// Whether a name has an end: it has a point, and its last word is not `top` or `bot`.
+pub(crate) fn has_end(point: bool, words: &[&[u8]]) -> bool
+    ensures { result ≡ says.has_end point (map (λ word. word.now) words.now) }
+{
+    point && !is_one_of(last(words), &["top", "bot"])
 }
 
 /// The end of a name: the last of its words where it has a point, else empty.
@@ -169,7 +184,212 @@ pub fn says_unplated(words: &[&[u8]]) -> bool
     has_unplated_word(words) || has_non_plated(words)
 }
 
-/// What follows the last slash of a name, with `A` to `Z` in lower case. Its runs are the words of the name.
+/// Whether a word is `non`.
+fn is_non(word: &[u8]) -> bool
+    ensures { result ≡ bytes_eq word.now (codes "non") }
+{
+    word == b"non".as_slice()
+}
+
+/// Whether a word says that holes are plated; `after_non` says whether `non` stands right before it.
+fn is_plated_word(after_non: bool, word: &[u8]) -> bool
+    ensures { result ≡ says.is_plated_word after_non word.now }
+{
+    is_one_of(word, &["pth", "plated", "plt", "via", "vias"]) && !after_non
+}
+
+/// Whether one of these words says that holes are plated: `pth`, `plated`, `plt`, `via` or `vias`, but not right after `non`.
+pub(crate) fn says_plated(words: &[&[u8]]) -> bool
+    ensures { result ≡ says.says_plated (map (λ word. word.now) words.now) }
+{
+    let mut after_non = false;
+    for word in words {
+        if is_plated_word(after_non, *word) {
+            return true;
+        }
+        after_non = is_non(*word);
+    }
+    false
+}
+
+/// Whether one of these parts stands in a word.
+fn has_part(word: &[u8], parts: &[&str]) -> bool
+    ensures { result ≡ says.has_part word.now (map (λ part. part.now) parts.now) }
+{
+    parts.iter().any(|part| contains(word, part.as_bytes()))
+}
+
+/// Whether a word has a part that stands in the names of layers without copper.
+fn has_other_part(word: &[u8]) -> bool
+    ensures { result ≡ says.has_part word.now says.other_parts }
+{
+    has_part(
+        word,
+        &[
+            "mask",
+            "paste",
+            "silk",
+            "legend",
+            "overlay",
+            "outline",
+            "contour",
+            "courtyard",
+            "crtyd",
+            "adhes",
+            "keepout",
+            "stencil",
+            "stiffen",
+            "mechanic",
+            "dimension",
+            "document",
+            "drawing",
+            "assembl",
+            "placement",
+            "profile",
+            "cream",
+            "milling",
+            "drillmap",
+            "vcut",
+        ],
+    )
+}
+
+/// Whether a word, up to its first digit, is one of a layer without copper.
+fn has_other_letters(word: &[u8]) -> bool
+    ensures { result ≡ says.is_one_of (says.letters_of word.now) says.other_words }
+{
+    let (letters, _) = split_at_digit(word);
+    is_one_of(
+        letters,
+        &[
+            "crt",
+            "yd",
+            "cover",
+            "edge",
+            "edges",
+            "cut",
+            "cuts",
+            "border",
+            "fab",
+            "fabrication",
+            "user",
+            "margin",
+            "comments",
+            "cmts",
+            "dwg",
+            "dwgs",
+            "eco",
+            "note",
+            "notes",
+            "doc",
+            "docu",
+            "dim",
+            "dims",
+            "mech",
+            "assy",
+            "asm",
+            "place",
+            "glue",
+            "tglue",
+            "bglue",
+            "stop",
+            "tstop",
+            "bstop",
+            "resist",
+            "keep",
+            "map",
+            "guide",
+            "marking",
+            "ident",
+            "score",
+            "vscore",
+            "sm",
+            "smt",
+            "smb",
+            "ss",
+            "sst",
+            "ssb",
+            "sp",
+            "spt",
+            "spb",
+            "tsm",
+            "bsm",
+            "tss",
+            "bss",
+            "tsp",
+            "bsp",
+        ],
+    )
+}
+
+/// Whether a word is one of a layer without copper, with or without a number: by a part of it, as `soldermask` by `mask`, or
+/// up to its first digit, as `user1`.
+pub(crate) fn is_other_word(word: &[u8]) -> bool
+    ensures { result ≡ says.is_other_word word.now }
+{
+    has_other_part(word) || has_other_letters(word)
+}
+
+/// Whether a word may be one of a layer without copper, with or without a number: `solder`, `plane2`.
+pub(crate) fn is_unclear_word(word: &[u8]) -> bool
+    ensures { result ≡ says.is_unclear_word word.now }
+{
+    let (letters, _) = split_at_digit(word);
+    is_one_of(
+        letters,
+        &[
+            "solder", "pad", "pads", "plane", "planes", "drill", "drills", "hole", "holes", "via",
+            "vias", "slot", "slots", "route", "routing", "rout",
+        ],
+    )
+}
+
+/// Whether a word names copper: `cu`, one with `copper` in it, or that of an inner layer with its number.
+pub(crate) fn names_copper(word: &[u8]) -> bool
+    ensures { result ≡ says.names_copper word.now }
+{
+    has_part(word, &["copper"])
+        || word == b"cu".as_slice()
+        || number_suffix(
+            &["in", "inner", "innerlayer", "l", "layer", "group", "signal"],
+            word,
+        )
+        .is_some()
+}
+
+/// Whether a byte is a capital that follows a small letter, and so begins a word.
+fn begins_word(before: u8, byte: u8) -> bool
+    ensures { result ≡ says.begins_word before byte }
+{
+    is_small_letter(before) && b'A' <= byte && byte <= b'Z'
+}
+
+/// Appends a byte, and a space before it where it begins a word.
+fn push_parted(text: &mut Vec<u8>, before: u8, byte: u8) -> Result<(), AllocError>
+    ensures { OnOk result (text.new.items ≡ text.old.items ++ says.parted_byte before byte) }
+{
+    if begins_word(before, byte) {
+        return text.extend_from_slice(&[b' ', byte]);
+    }
+    text.push(byte)?;
+    Ok(())
+}
+
+/// A text with a space before each capital that follows a small letter.
+fn parted(alloc: Global, name: &[u8]) -> Result<Vec<u8>, AllocError>
+    ensures { IfOk result (λ text. text.items ≡ says.parted 0 name.now) }
+{
+    let mut text = Vec::new(alloc);
+    let mut before = 0;
+    for byte in name {
+        push_parted(&mut text, before, *byte)?;
+        before = *byte;
+    }
+    Ok(text)
+}
+
+/// What follows the last slash of a name, with a space before each capital that follows a small letter, and `A` to `Z` in lower
+/// case. Its runs are the words of the name.
 ///
 /// # Errors
 ///
@@ -177,5 +397,6 @@ pub fn says_unplated(words: &[&[u8]]) -> bool
 pub fn lower_base_name(alloc: Global, name: &[u8]) -> Result<Vec<u8>, AllocError>
     ensures { IfOk result (λ lower. lower.items ≡ says.lower_base_name name.now) }
 {
-    base_name(name).to_ascii_lowercase(alloc)
+    let words = parted(alloc, base_name(name))?;
+    words.as_slice().to_ascii_lowercase(alloc)
 }

@@ -21,15 +21,16 @@ fn place_rank(place: StackPosition) -> u64
 }
 
 /// The rank of a file in a manifest: the lower one stands first.
-fn rank(role: ProposedRole) -> u64
+pub(crate) fn rank(role: ProposedRole) -> u64
     ensures { result ≡ says.rank role }
 {
     match role {
         ProposedRole::Copper(place) => place_rank(place),
         ProposedRole::Plated(_) => 4_294_967_298,
         ProposedRole::Unplated(_) => 4_294_967_299,
-        ProposedRole::Undecided => 4_294_967_300,
-        ProposedRole::LeftOut => 4_294_967_301,
+        ProposedRole::Mixed(_) => 4_294_967_300,
+        ProposedRole::Undecided => 4_294_967_301,
+        ProposedRole::LeftOut => 4_294_967_302,
     }
 }
 

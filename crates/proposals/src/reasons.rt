@@ -8,7 +8,7 @@ use crate::model::{Proposal, ProposalReason, ProposedRole};
 use manifest::table::Table;
 use std::alloc::{AllocError, Global};
 
-/// The word of a role: `copper`, `plated`, `unplated`, `?`, or `-` for a file that is left out.
+/// The word of a role: `copper`, `plated`, `unplated`, `mixed`, `?`, or `-` for a file that is left out.
 pub(crate) fn role_word(role: ProposedRole) -> &'static str
     ensures { result.now ≡ says.role_word role }
 {
@@ -16,6 +16,7 @@ pub(crate) fn role_word(role: ProposedRole) -> &'static str
         ProposedRole::Copper(_) => "copper",
         ProposedRole::Plated(_) => "plated",
         ProposedRole::Unplated(_) => "unplated",
+        ProposedRole::Mixed(_) => "mixed",
         ProposedRole::Undecided => "?",
         ProposedRole::LeftOut => "-",
     }
@@ -32,9 +33,13 @@ fn reason_words(because: &ProposalReason) -> &'static str
         ProposalReason::Folder => "a folder: name its files",
         ProposalReason::FileFunction(_) => "file function ",
         ProposalReason::MixedHoles => "mixed: role mixed with --profile wide, or export two files",
-        ProposalReason::PlatedType => ";TYPE=PLATED",
-        ProposalReason::UnplatedType => ";TYPE=NON_PLATED",
+        ProposalReason::MixedTools => "its comments say which holes are plated",
+        ProposalReason::UnreadMixed => "mixed, but not read as mixed: export two files",
+        ProposalReason::PlatedType => "its comments say plated",
+        ProposalReason::UnplatedType => "its comments say not plated",
         ProposalReason::ByName => "name",
+        ProposalReason::ConflictingName => "its name says two things",
+        ProposalReason::RepeatedLayer => "another file is the same layer",
         ProposalReason::DrillByDefault => "a drill file is taken as plated",
         ProposalReason::DrillInGerber => "a drill file in Gerber: export Excellon",
         ProposalReason::Plane => "a plane that may be negative",

@@ -7,7 +7,7 @@ ghost use Rattle.proposals.specs.Manifests as manifests;
 ghost use Rattle.proposals.specs.Stack as says;
 
 use crate::manifests::{is_copper, layers_of_role};
-use crate::model::{LayerRange, Proposal, ProposalReason, ProposedRole, StackPosition};
+use crate::model::{HoleKind, LayerRange, Proposal, ProposalReason, ProposedRole, StackPosition};
 use std::alloc::{AllocError, Global};
 
 /// Whether a file that is undecided for this reason may be a copper layer.
@@ -18,6 +18,8 @@ fn may_be_copper(because: &ProposalReason) -> bool
         because,
         ProposalReason::Plane
             | ProposalReason::NothingSays
+            | ProposalReason::ConflictingName
+            | ProposalReason::RepeatedLayer
             | ProposalReason::NotRead
             | ProposalReason::TooLong
     )
@@ -127,12 +129,35 @@ fn are_within_count(count: usize, layers: LayerRange) -> bool
     1 <= layers.first && layers.first <= layers.last && layers.last as usize <= count
 }
 
-/// Whether no layers are named, or the copper files are a stack and these are some of its layers.
+/// Whether holes from the top layer or not, to the bottom layer or not, are of a kind.
+fn is_of_kind(kind: HoleKind, top: bool, bottom: bool) -> bool
+    ensures { result ≡ says.is_of_kind kind top bottom }
+{
+    match kind {
+        HoleKind::Through => top && bottom,
+        HoleKind::Blind => top != bottom,
+        HoleKind::Buried => !top && !bottom,
+        HoleKind::Unsaid => true,
+    }
+}
+
+/// Whether layers are of the kind that their function says, among so many.
+fn fit_kind(count: usize, layers: LayerRange) -> bool
+    ensures { result ≡ says.fit_kind count layers }
+{
+    is_of_kind(
+        layers.kind,
+        layers.first == 1,
+        layers.last as usize == count,
+    )
+}
+
+/// Whether no layers are named, or the copper files are a stack and these are some of its layers, of the kind that is said.
 fn are_clear(stack: bool, count: usize, span: Option<LayerRange>) -> bool
     ensures { result ≡ says.are_clear stack count span }
 {
     match span {
-        Some(layers) => stack && are_within_count(count, layers),
+        Some(layers) => stack && are_within_count(count, layers) && fit_kind(count, layers),
         None => true,
     }
 }

@@ -1,11 +1,11 @@
 -- The first flash in a hole, among flashes that stand in groups.
-use Rattle.std.proofs.Common.{◌≡◌, ◌<◌, ◌≤◌, ◌+◌, ◌≤ℤ◌, ◌-ℤ◌, ◌++◌, ◌∷◌, ℕ, ℤ, Bool, true, false, cond, List, [], Option, Some, None, length, get_or, take, drop, refl, ap, subst, sym, ◌∙◌, ◌⊎◌, inl, inr, arith}
-use Rattle.std.specs.Prelude.{◌-◌, max, nat_le, nat_lt, if◌then◌else◌}
+use Rattle.std.proofs.Common.{◌≡◌, ◌<◌, ◌≤◌, ◌+◌, ◌≤ℤ◌, ◌++◌, ◌∷◌, ℕ, ℤ, Bool, true, false, cond, List, [], Option, Some, None, length, get_or, take, drop, refl, ap, subst, sym, ◌∙◌, ◌⊎◌, inl, inr, arith}
+use Rattle.std.specs.Prelude.{◌-◌, nat_lt, if◌then◌else◌}
 use Rattle.std.specs.Int.{int_max, int_min}
 use Rattle.std.specs.List.{All, AllPairs, Contains, cons_option, enumerate_from, filter_map, find, slice_range}
 use Rattle.std.specs.List.Sorted.{IsPermutation}
 use Rattle.std.specs.Option.{option_map_or, IfSome}
-use Rattle.std.proofs.lemmas.Bool.{cases_lt, false≢true}
+use Rattle.std.proofs.lemmas.Bool.{and_from, cases_lt, false≢true}
 use Rattle.std.proofs.lemmas.Bool.Decides.{nat_tests}
 use Rattle.std.proofs.lemmas.Int.{clamps, ints}
 use Rattle.std.proofs.lemmas.List.{get_or-drop, get_or-take, get_or_append_left, length-append, length-drop, length-take-le, take_more}
@@ -13,92 +13,44 @@ use Rattle.std.proofs.lemmas.List.Elements.{All-append, All-cons, All-contains, 
 use Rattle.std.proofs.Math.Seq.{get_or-append_seam, take-add}
 use Rattle.std.proofs.lemmas.List.Kept.{AllPairs-cons}
 use Rattle.std.proofs.lemmas.List.Sorted.{All-permutation, Contains-permutation, IsPermutation-sym}
-use Rattle.grid_units.specs.Holes.{GridHole}
-use Rattle.grid_units.specs.Points.{GridPoint, square}
+use Rattle.grid_units.specs.Holes.{IsBetween}
+use Rattle.grid_units.specs.Points.{GridPoint}
+use Rattle.pad_shapes.specs.Rounded.{GridRounded, is_outline, rounded_covers}
+use Rattle.pad_shapes.specs.Shapes.{IsAxisAligned, IsInBox, covers_both_ends}
+use Rattle.pad_shapes.specs.Inner.RoundedLaws.{no_distance, rounded_contains_slots}
+use Rattle.pad_shapes.proofs.PartsLemmas.{points_are_covered}
 use Rattle.further_copper.specs.Features.{is_pad_row}
 use Rattle.further_copper.specs.declared.feature.FeatureRow.{FeatureRow}
-use Rattle.ring_rules.specs.Cores.{positive_part, range_distance}
-use Rattle.grid_units.proofs.TriangleInequalities.{square-le}
-use Rattle.ring_rules.proofs.CoreLemmas.{positive_part_is}
 use Rattle.ring_rules.proofs.SortedPairs.{contains_cases, contains_first, pairs_head, pairs_tail}
 use Rattle.report.proofs.PlacesLemmas.{at_head, if_other}
-use Rattle.report.specs.Causes.{IsGroup, IsWithin, is_in_hole, other_in, other_row, others}
+use Rattle.report.specs.Causes.{IsGroup, IsWithin, is_in_shape, other_row, others}
 use Rattle.report.specs.Inner.FirstInHole.{HasPassed, IsFirstIn}
 use Rattle.report.specs.declared.bounds.Bounds.{Bounds}
 use Rattle.report.specs.declared.groups.Group.{Group}
 use Rattle.report.specs.declared.groups.Search.{Search}
 use Rattle.report.specs.declared.other.Other.{Other}
 
--- ---- how far a hole is from a box
+-- ---- boxes in a hole, and beside it
 
-less_part : (z w : ℤ) → z ≤ℤ w → positive_part z ≤ positive_part w
-less_part z w h = omega (arith, ints, positive_part_is z, positive_part_is w)
+-- where both ends of a side lie in a hole, so does each point of it
+side_in : (h : GridRounded) → is_outline h.first h.others ≡ true → (from to p : GridPoint) → IsAxisAligned from to → covers_both_ends rounded_covers h from to 0 ≡ true → IsInBox from to p → is_in_shape h p ≡ true
+side_in h outline from to p aligned ends inside = (points_are_covered h outline p).0 (rounded_contains_slots h from to 0 aligned ends p p inside (no_distance p 0))
 
-max_less : (a b c d : ℕ) → a ≤ c → b ≤ d → max a b ≤ max c d
-max_less a b c d h k = omega arith
+between : (low z high : ℤ) → low ≤ℤ z → z ≤ℤ high → IsBetween low high z
+between low z high h k = (omega (arith, ints, clamps), omega (arith, ints, clamps))
 
--- the distance to a range is at most that to a number in it
-nearer : (a b l x g : ℤ) → l ≤ℤ x → x ≤ℤ g → range_distance a b l g ≤ range_distance a b x x
-nearer a b l x g low high =
-    max_less (positive_part (int_min l g -ℤ int_max a b)) (positive_part (int_min a b -ℤ int_max l g)) (positive_part (int_min x x -ℤ int_max a b)) (positive_part (int_min a b -ℤ int_max x x))
-    (less_part (int_min l g -ℤ int_max a b) (int_min x x -ℤ int_max a b) (omega (arith, ints, clamps)))
-    (less_part (int_min a b -ℤ int_max l g) (int_min a b -ℤ int_max x x) (omega (arith, ints, clamps)))
+at_itself : (z : ℤ) → IsBetween z z z
+at_itself z = (omega (arith, ints, clamps), omega (arith, ints, clamps))
 
--- and the further end of the range is at least as far as a number in it
-further : (a b l x g : ℤ) → l ≤ℤ x → x ≤ℤ g → range_distance a b x x ≤ max (range_distance a b l l) (range_distance a b g g)
-further a b l x g low high =
-    let right = less_part (int_min x x -ℤ int_max a b) (int_min g g -ℤ int_max a b) (omega (arith, ints, clamps)) in
-    let left = less_part (int_min a b -ℤ int_max x x) (int_min a b -ℤ int_max l l) (omega (arith, ints, clamps)) in
-    omega (arith, left, right)
-
-sums_rise : (a b c d : ℕ) → a ≤ c → b ≤ d → square a + square b ≤ square c + square d
-sums_rise a b c d h k = omega (arith, square-le a c h, square-le b d k)
-
--- the square of the distance from a hole to a box
-abbrev pub box_distance : GridHole → Bounds → ℕ
-box_distance h b = square (range_distance h.from.x h.to.x b.least.x b.greatest.x) + square (range_distance h.from.y h.to.y b.least.y b.greatest.y)
-
--- and to the furthest corner of the box
-abbrev pub corner_distance : GridHole → Bounds → ℕ
-corner_distance h b =
-    square (max (range_distance h.from.x h.to.x b.least.x b.least.x) (range_distance h.from.x h.to.x b.greatest.x b.greatest.x))
-    + square (max (range_distance h.from.y h.to.y b.least.y b.least.y) (range_distance h.from.y h.to.y b.greatest.y b.greatest.y))
-
-abbrev pub point_distance : GridHole → GridPoint → ℕ
-point_distance h p = square (range_distance h.from.x h.to.x p.x p.x) + square (range_distance h.from.y h.to.y p.y p.y)
-
-tests_above : (m n : ℕ) → n < m → nat_le m n ≡ false
-tests_above m n h = by_test (nat_le m n) refl
-  where
-    by_test : (t : Bool) → nat_le m n ≡ t → t ≡ false
-    by_test true e = absurd (grind (arith, nat_tests))
-    by_test false e = refl
-
-tests_within : (m n : ℕ) → m ≤ n → nat_le m n ≡ true
-tests_within m n h = by_test (nat_le m n) refl
-  where
-    by_test : (t : Bool) → nat_le m n ≡ t → t ≡ true
-    by_test true e = refl
-    by_test false e = absurd (grind (arith, nat_tests))
-
--- where a box is further from a hole than its radius, no point of it lies in the hole
-pub apart_out : (h : GridHole) (b : Bounds) (o : Other) → square h.radius < box_distance h b → IsWithin b o → is_in_hole h o.at ≡ false
-apart_out h b o far w =
-    let sum = sums_rise _ _ _ _ (nearer h.from.x h.to.x b.least.x o.at.x b.greatest.x w.left w.right) (nearer h.from.y h.to.y b.least.y o.at.y b.greatest.y w.low w.high) in
-    tests_above (point_distance h o.at) (square h.radius) (omega (arith, sum, far))
-
--- where all corners of a box lie in the hole, so does each point of it
-pub inside_in : (h : GridHole) (b : Bounds) (o : Other) → corner_distance h b ≤ square h.radius → IsWithin b o → is_in_hole h o.at ≡ true
-inside_in h b o near w =
-    let sum = sums_rise _ _ _ _ (further h.from.x h.to.x b.least.x o.at.x b.greatest.x w.left w.right) (further h.from.y h.to.y b.least.y o.at.y b.greatest.y w.low w.high) in
-    tests_within (point_distance h o.at) (square h.radius) (omega (arith, sum, near))
-
--- `nat_le` as inequalities
-pub above_of : (m n : ℕ) → nat_le m n ≡ false → n < m
-above_of m n e = grind (arith, nat_tests)
-
-pub within_of : (m n : ℕ) → nat_le m n ≡ true → m ≤ n
-within_of m n e = grind (arith, nat_tests)
+-- where all corners of a box lie in a hole, so does each point of it
+pub inside_in : (h : GridRounded) → is_outline h.first h.others ≡ true → (b : Bounds) (o : Other) → covers_both_ends rounded_covers h b.least (record { x = b.greatest.x; y = b.least.y }) 0 ≡ true
+    → covers_both_ends rounded_covers h (record { x = b.least.x; y = b.greatest.y }) b.greatest 0 ≡ true → IsWithin b o → is_in_shape h o.at ≡ true
+inside_in h outline b o below above w =
+    let across = between b.least.x o.at.x b.greatest.x w.left w.right in
+    let low = side_in h outline b.least (record { x = b.greatest.x; y = b.least.y }) (record { x = o.at.x; y = b.least.y }) (inr refl) below (across, at_itself b.least.y) in
+    let high = side_in h outline (record { x = b.least.x; y = b.greatest.y }) b.greatest (record { x = o.at.x; y = b.greatest.y }) (inr refl) above (across, at_itself b.greatest.y) in
+    side_in h outline (record { x = o.at.x; y = b.least.y }) (record { x = o.at.x; y = b.greatest.y }) o.at (inl refl) (and_from (is_in_shape h (record { x = o.at.x; y = b.least.y })) (is_in_shape h (record { x = o.at.x; y = b.greatest.y })) low high)
+    (at_itself o.at.x, between b.least.y o.at.y b.greatest.y w.low w.high)
 
 -- a box lies in the wider one
 pub widened : (b wide : Bounds) (o held : Other) → wide.least.x ≡ int_min b.least.x o.at.x → wide.least.y ≡ int_min b.least.y o.at.y → wide.greatest.x ≡ int_max b.greatest.x o.at.x → wide.greatest.y ≡ int_max b.greatest.y o.at.y
@@ -127,21 +79,27 @@ holds_new b wide o lx ly gx gy first = record {
 pushed : (P : Other → Type 0) (xs : List Other) (x : Other) → All P xs → P x → All P (xs ++ x ∷ [])
 pushed P xs x all p = All-append P xs (x ∷ []) all (All-cons P x [] p (All-nil P))
 
-out_of : (h : GridHole) (P : Other → Type 0) (xs : List Other) → All (λ other. is_in_hole h other.at ≡ false) xs → All (λ other. is_in_hole h other.at ≡ true → P other) xs
-out_of h P xs out = All-weaker (λ other. is_in_hole h other.at ≡ false) (λ other. is_in_hole h other.at ≡ true → P other) (λ other out inside. absurd (false≢true (sym out ∙ inside))) xs out
+out_of : (h : GridRounded) (P : Other → Type 0) (xs : List Other) → All (λ other. is_in_shape h other.at ≡ false) xs → All (λ other. is_in_shape h other.at ≡ true → P other) xs
+out_of h P xs out = All-weaker (λ other. is_in_shape h other.at ≡ false) (λ other. is_in_shape h other.at ≡ true → P other) (λ other out inside. absurd (false≢true (sym out ∙ inside))) xs out
 
-not_before : (h : GridHole) (seen : List Other) (first other : Other) → nat_lt other.place first.place ≡ false → IsFirstIn seen h (Some first) → IsFirstIn (seen ++ other ∷ []) h (Some first)
-not_before h seen first other e is = (Contains-append_left seen (other ∷ []) first is.0, is.1, pushed (λ o. is_in_hole h o.at ≡ true → first.place ≤ o.place) seen other is.2 (λ inside. later first.place other.place e))
+not_before : (h : GridRounded) (seen : List Other) (first other : Other) → nat_lt other.place first.place ≡ false → IsFirstIn seen h (Some first) → IsFirstIn (seen ++ other ∷ []) h (Some first)
+not_before h seen first other e is = (Contains-append_left seen (other ∷ []) first is.0, is.1, pushed (λ o. is_in_shape h o.at ≡ true → first.place ≤ o.place) seen other is.2 (λ inside. later first.place other.place e))
   where
     later : (m n : ℕ) → nat_lt n m ≡ false → m ≤ n
     later m n e = grind (arith, nat_tests)
 
-comes_first : (h : GridHole) (seen : List Other) (first other : Other) → is_in_hole h other.at ≡ true → nat_lt other.place first.place ≡ true → IsFirstIn seen h (Some first) → IsFirstIn (seen ++ other ∷ []) h (Some other)
+-- a flash outside the hole changes nothing
+pub passed_by : (h : GridRounded) (seen : List Other) (first : Option Other) (other : Other) → is_in_shape h other.at ≡ false → IsFirstIn seen h first → IsFirstIn (seen ++ other ∷ []) h first
+passed_by h seen None other out all = pushed (λ o. is_in_shape h o.at ≡ false) seen other all out
+passed_by h seen (Some first) other out is =
+    (Contains-append_left seen (other ∷ []) first is.0, is.1, pushed (λ o. is_in_shape h o.at ≡ true → first.place ≤ o.place) seen other is.2 (λ inside. absurd (false≢true (sym out ∙ inside))))
+
+comes_first : (h : GridRounded) (seen : List Other) (first other : Other) → is_in_shape h other.at ≡ true → nat_lt other.place first.place ≡ true → IsFirstIn seen h (Some first) → IsFirstIn (seen ++ other ∷ []) h (Some other)
 comes_first h seen first other inside e is = (
   Contains-append_right seen (other ∷ []) other (contains_first other []),
   inside,
-  pushed (λ o. is_in_hole h o.at ≡ true → other.place ≤ o.place) seen other
-      (All-weaker (λ o. is_in_hole h o.at ≡ true → first.place ≤ o.place) (λ o. is_in_hole h o.at ≡ true → other.place ≤ o.place) (λ o f here. (let before = earlier_in_hole other.place first.place e in let least = f here in omega (arith, before, least))) seen is.2)
+  pushed (λ o. is_in_shape h o.at ≡ true → other.place ≤ o.place) seen other
+      (All-weaker (λ o. is_in_shape h o.at ≡ true → first.place ≤ o.place) (λ o. is_in_shape h o.at ≡ true → other.place ≤ o.place) (λ o f here. (let before = earlier_in_hole other.place first.place e in let least = f here in omega (arith, before, least))) seen is.2)
       (λ here. omega arith),
 )
   where
@@ -149,9 +107,9 @@ comes_first h seen first other inside e is = (
     earlier_in_hole m n e = grind (arith, nat_tests)
 
 -- a flash in the hole, and the first so far: the earlier one of them
-pub lesser_is : (h : GridHole) (seen : List Other) (first : Option Other) (other : Other) → is_in_hole h other.at ≡ true → IsFirstIn seen h first → IsFirstIn (seen ++ other ∷ []) h (Some (option_map_or (λ held. if nat_lt other.place held.place then other else held) first other))
+pub lesser_is : (h : GridRounded) (seen : List Other) (first : Option Other) (other : Other) → is_in_shape h other.at ≡ true → IsFirstIn seen h first → IsFirstIn (seen ++ other ∷ []) h (Some (option_map_or (λ held. if nat_lt other.place held.place then other else held) first other))
 lesser_is h seen None other inside all =
-    (Contains-append_right seen (other ∷ []) other (contains_first other []), inside, pushed (λ o. is_in_hole h o.at ≡ true → other.place ≤ o.place) seen other (out_of h (λ o. other.place ≤ o.place) seen all) (λ here. omega arith))
+    (Contains-append_right seen (other ∷ []) other (contains_first other []), inside, pushed (λ o. is_in_shape h o.at ≡ true → other.place ≤ o.place) seen other (out_of h (λ o. other.place ≤ o.place) seen all) (λ here. omega arith))
 lesser_is h seen (Some first) other inside is = by (nat_lt other.place first.place) refl
   where
     by : (t : Bool) → nat_lt other.place first.place ≡ t → IsFirstIn (seen ++ other ∷ []) h (Some (if t then other else first))
@@ -208,17 +166,17 @@ one x y among = elim (contains_cases x [] y among) [
   | inr none ↦ absurd (let some = none.1 in omega (arith, some))
 ]
 
-module _ (all : List Other) (h : GridHole) (g : Group) (is : IsGroup all g) (p : ℕ) (starts : g.start ≤ p) (ends : p ≤ g.end) where
+module _ (all : List Other) (h : GridRounded) (g : Group) (is : IsGroup all g) (p : ℕ) (starts : g.start ≤ p) (ends : p ≤ g.end) where
   abbrev pub own : List Other
   own = slice_range all g.start g.end
 
   -- no flash of a group lies in the hole
-  pub passed_out : (first : Option Other) → All (λ other. is_in_hole h other.at ≡ false) own → IsFirstIn (take p all) h first → IsFirstIn (take g.end all) h first
-  passed_out None out was = all_to all g.start p g.end starts ends is.inside (λ other. is_in_hole h other.at ≡ false) was out
+  pub passed_out : (first : Option Other) → All (λ other. is_in_shape h other.at ≡ false) own → IsFirstIn (take p all) h first → IsFirstIn (take g.end all) h first
+  passed_out None out was = all_to all g.start p g.end starts ends is.inside (λ other. is_in_shape h other.at ≡ false) was out
   passed_out (Some first) out was = (
     prefix_to all g.start p g.end starts ends is.inside first was.0,
     was.1,
-    all_to all g.start p g.end starts ends is.inside (λ other. is_in_hole h other.at ≡ true → first.place ≤ other.place) was.2 (out_of h (λ other. first.place ≤ other.place) own out),
+    all_to all g.start p g.end starts ends is.inside (λ other. is_in_shape h other.at ≡ true → first.place ≤ other.place) was.2 (out_of h (λ other. first.place ≤ other.place) own out),
   )
 
   -- all flashes of a group come after the first so far
@@ -226,17 +184,17 @@ module _ (all : List Other) (h : GridHole) (g : Group) (is : IsGroup all g) (p :
   passed_later first before was = (
     prefix_to all g.start p g.end starts ends is.inside first was.0,
     was.1,
-    all_to all g.start p g.end starts ends is.inside (λ other. is_in_hole h other.at ≡ true → first.place ≤ other.place) was.2
-        (All-weaker (IsWithin g.bounds) (λ other. is_in_hole h other.at ≡ true → first.place ≤ other.place) (λ other w here. (let later = w.later in omega (arith, before, later))) own is.bounds.within),
+    all_to all g.start p g.end starts ends is.inside (λ other. is_in_shape h other.at ≡ true → first.place ≤ other.place) was.2
+        (All-weaker (IsWithin g.bounds) (λ other. is_in_shape h other.at ≡ true → first.place ≤ other.place) (λ other w here. (let later = w.later in omega (arith, before, later))) own is.bounds.within),
   )
 
   -- all flashes of a group lie in the hole
-  pub passed_inside : (first : Option Other) → ((other : Other) → IsWithin g.bounds other → is_in_hole h other.at ≡ true) → IsFirstIn (take p all) h first
+  pub passed_inside : (first : Option Other) → ((other : Other) → IsWithin g.bounds other → is_in_shape h other.at ≡ true) → IsFirstIn (take p all) h first
       → IsFirstIn (take g.end all) h (Some (option_map_or (λ held. if nat_lt g.bounds.first.place held.place then g.bounds.first else held) first g.bounds.first))
   passed_inside first all_in was =
       with_least (option_map_or (λ held. if nat_lt g.bounds.first.place held.place then g.bounds.first else held) first g.bounds.first) (lesser_is h (take p all) first g.bounds.first here was)
     where
-      here : is_in_hole h g.bounds.first.at ≡ true
+      here : is_in_shape h g.bounds.first.at ≡ true
       here = all_in g.bounds.first (All-contains (IsWithin g.bounds) own g.bounds.first is.bounds.within is.bounds.first)
 
       there : (x : Other) → Contains (take p all ++ g.bounds.first ∷ []) x → Contains (take g.end all) x
@@ -247,7 +205,7 @@ module _ (all : List Other) (h : GridHole) (g : Group) (is : IsGroup all g) (p :
 
       with_least : (least : Other) → IsFirstIn (take p all ++ g.bounds.first ∷ []) h (Some least) → IsFirstIn (take g.end all) h (Some least)
       with_least least found =
-          let P = λ (other : Other). is_in_hole h other.at ≡ true → least.place ≤ other.place in
+          let P = λ (other : Other). is_in_shape h other.at ≡ true → least.place ≤ other.place in
           let last = found.2 (length (take p all)) g.bounds.first (let size = length-append (take p all) (g.bounds.first ∷ []) in omega (arith, size)) in
           let bound = subst P (get_or-append_seam (take p all) g.bounds.first [] g.bounds.first) last here in (
             there least found.0,
@@ -261,7 +219,7 @@ pub joined_to : (xs : List Other) (p e : ℕ) → p ≤ e → take p xs ++ slice
 joined_to xs p e h = sym (take-add p (e - p) xs) ∙ ap (λ (n : ℕ). take n xs) (let same : p + (e - p) ≡ e = omega (arith, h) in same)
 
 -- a search that has passed a group
-pub has_passed : (all : List Other) (h : GridHole) (e : ℕ) (first : Option Other) (s : Search) → s.passed ≡ e → s.first ≡ first → e ≤ length all → IsFirstIn (take e all) h first → HasPassed all h s
+pub has_passed : (all : List Other) (h : GridRounded) (e : ℕ) (first : Option Other) (s : Search) → s.passed ≡ e → s.first ≡ first → e ≤ length all → IsFirstIn (take e all) h first → HasPassed all h s
 has_passed all h e first s ends is inside found = record {
   inside = omega (arith, ends, inside);
   first = subst (λ (n : ℕ). IsFirstIn (take n all) h s.first) (sym ends) (subst (IsFirstIn (take e all) h) (sym is) found);
@@ -309,9 +267,9 @@ find_least p (x ∷ xs) first up among inside least =
     by false e (inr later) rest = rest later
 
 -- the earliest of all, in whatever order they are listed, is the first of the layer
-pub first_is_found : (rows : List FeatureRow) (all : List Other) (h : GridHole) (first : Option Other) → IsPermutation (others rows) all → IsFirstIn all h first → first ≡ other_in rows h
-first_is_found rows all h None moved out = sym (find_none (λ other. is_in_hole h other.at) (others rows) (All-permutation (λ other. is_in_hole h other.at ≡ false) all (others rows) (IsPermutation-sym (others rows) all moved) out))
+pub first_is_found : (rows : List FeatureRow) (all : List Other) (h : GridRounded) (first : Option Other) → IsPermutation (others rows) all → IsFirstIn all h first → first ≡ find (λ other. is_in_shape h other.at) (others rows)
+first_is_found rows all h None moved out = sym (find_none (λ other. is_in_shape h other.at) (others rows) (All-permutation (λ other. is_in_shape h other.at ≡ false) all (others rows) (IsPermutation-sym (others rows) all moved) out))
 first_is_found rows all h (Some first) moved is =
     (let back = IsPermutation-sym (others rows) all moved in
-    sym (find_least (λ other. is_in_hole h other.at) (others rows) first (places_rise_from 0 rows) (Contains-permutation all (others rows) first back is.0) is.1
-    (All-permutation (λ other. is_in_hole h other.at ≡ true → first.place ≤ other.place) all (others rows) back is.2)))
+    sym (find_least (λ other. is_in_shape h other.at) (others rows) first (places_rise_from 0 rows) (Contains-permutation all (others rows) first back is.0) is.1
+    (All-permutation (λ other. is_in_shape h other.at ≡ true → first.place ≤ other.place) all (others rows) back is.2)))

@@ -1,5 +1,6 @@
 pub mod PlacesLemmas
 pub mod FirstInHole
+pub mod HolePoints
 pub mod MatchedRows
 pub mod PlainBests
 pub mod StrictLemmas

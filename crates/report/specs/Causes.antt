@@ -1,17 +1,16 @@
 -- Why a hole lacks its ring on a layer. Lengths are whole picometres. A place counts from 0, a flash's number from 1. A row is a flash or a
 -- contour without its pad, so the numbers of flashes count contours too; the pads of a layer are those of its rows that are pads, in order.
-use Rattle.std.specs.Prelude.{◌≡◌, ℕ, ℤ, pos, ◌+◌, ◌≤◌, ◌+ℤ◌, ◌-ℤ◌, ◌≤ℤ◌, Bool, true, false, not, Option, Some, None, List, length, get_or, nat_le, if◌then◌else◌}
+use Rattle.std.specs.Prelude.{◌≡◌, ◌↔◌, ℕ, ℤ, pos, ◌+◌, ◌≤◌, ◌+ℤ◌, ◌-ℤ◌, ◌≤ℤ◌, Bool, true, false, not, Option, Some, None, List, [], ◌∷◌, length, get_or, if◌then◌else◌}
 use Rattle.std.specs.Int.{div_ceil}
 use Rattle.std.specs.List.{All, Contains, enumerate_from, filter_map, find, slice_range}
 use Rattle.std.specs.List.Sorted.{IsPermutation}
-use Rattle.grid_units.specs.Points.{GridPoint, abs_diff, square}
-use Rattle.grid_units.specs.Holes.{GridHole}
+use Rattle.grid_units.specs.Points.{GridPoint, abs_diff}
+use Rattle.grid_units.specs.Holes.{GridHole, is_round}
 use Rattle.grid_units.specs.declared.profile.Profile.{Profile}
 use Rattle.pad_shapes.specs.Pads.{pad_covers}
-use Rattle.pad_shapes.specs.Rounded.{GridRounded}
+use Rattle.pad_shapes.specs.Rounded.{GridRounded, IsInSlot, rounded_covers}
 use Rattle.pad_shapes.specs.Shapes.{covers_both_ends}
 use Rattle.pad_shapes.specs.declared.pad.Pad.{Pad}
-use Rattle.ring_rules.specs.Cores.{range_distance}
 use Rattle.wide_pads.specs.WidePads.{wide_pad_covers}
 use Rattle.wide_pads.specs.declared.wide_pad.WidePad.{WidePad}
 use Rattle.wide_pads.specs.declared.wide_pad.WidePad.TheVariants.{Plain, Rounded}
@@ -53,9 +52,21 @@ other_row (place, row) = if is_pad_row row.what then None else Some (record { pl
 abbrev pub others : List FeatureRow → List Other
 others rows = filter_map other_row (enumerate_from 0 rows)
 
--- a point lies in a hole: it is no further from the hole's core than its radius
+-- a hole as a rounded polygon: round its centre, or round the straight line between the ends of a slot at any angle
+abbrev pub hole_shape : GridHole → GridRounded
+hole_shape h = record { first = h.from; others = if is_round h then [] else h.to ∷ []; radius = h.radius }
+
+-- a point is one of a rounded polygon, whose points are those that it covers with the reach 0
+abbrev pub is_in_shape : GridRounded → GridPoint → Bool
+is_in_shape shape p = rounded_covers shape p 0
+
+-- a point lies in a hole: it is no further than its radius from its centre, or from the straight line between the ends of a slot
 abbrev pub is_in_hole : GridHole → GridPoint → Bool
-is_in_hole h p = nat_le (square (range_distance h.from.x h.to.x p.x p.x) + square (range_distance h.from.y h.to.y p.y p.y)) (square h.radius)
+is_in_hole h p = is_in_shape (hole_shape h) p
+
+-- the points that lie in a hole are those of its slot, and in a round hole those of the slot with both ends at its centre
+abbrev pub HolesHaveTheirPoints : Type 0
+HolesHaveTheirPoints = (h : GridHole) (p : GridPoint) → IsInSlot h.from h.to h.radius p ↔ (is_in_hole h p ≡ true)
 
 -- the first row that is no pad and whose point lies in the hole
 abbrev pub other_in : List FeatureRow → GridHole → Option Other

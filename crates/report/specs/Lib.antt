@@ -1,5 +1,6 @@
 pub mod Acceptances
 pub mod Causes
 pub mod Inner
+pub mod RoleConflicts
 pub mod StrictCauses
 pub mod UnitMistakes

@@ -1,15 +1,16 @@
 //! Boxes that hold the points of some flashes.
 
-ghost use Rattle.std.specs.Prelude.{◌≡◌, ◌⊎◌, ◌+◌, ◌<◌, ◌≤◌, true, false, length, max, nat_le};
+ghost use Rattle.std.specs.Prelude.{◌≡◌, ◌⊎◌, ◌<◌, ◌≤◌, true, false, length};
 ghost use Rattle.std.specs.Int.{int_max, int_min};
-ghost use Rattle.grid_units.specs.Points.{IsCoordinate, square};
-ghost use Rattle.ring_rules.specs.Cores.{range_distance};
-ghost use Rattle.report.specs.Causes.{IsBounds, IsWithin, is_in_hole};
+ghost use Rattle.grid_units.specs.Points.{IsCoordinate};
+ghost use Rattle.pad_shapes.specs.Rounded.{is_outline};
+ghost use Rattle.pad_shapes.specs.Zones.{IsInZone};
+ghost use Rattle.report.specs.Causes.{IsBounds, IsWithin, is_in_shape};
 ghost use Rattle.report.specs.declared.other.Other.{Other as TheOther};
 
 use crate::other::Other;
-use grid_units::{Hole, Point, square, square_length};
-use ring_rules::{core_distance_x, core_distance_y};
+use grid_units::Point;
+use pad_shapes::{PadShape, Rounded, Zone};
 
 /// A box that holds the points of some flashes, with the earliest of these on the layer.
 #[derive(Clone, Copy)]
@@ -58,20 +59,11 @@ fn greater_corner(a: Point, b: Point) -> Point
     Point::new(greatest_of(a.x(), b.x()), greatest_of(a.y(), b.y())).unwrap()
 }
 
-/// A hole from one point to another, with the radius of a given hole.
-fn hole_from(from: Point, to: Point, hole: &Hole) -> Hole
-    ensures { result ≡ record { from = from; to = to; radius = hole.now.radius } }
+/// The point at the x of one point and the y of another.
+fn corner(across: Point, up: Point) -> Point
+    ensures { result ≡ record { x = across.x; y = up.y } }
 {
-    Hole::new(from, to, hole.radius()).unwrap()
-}
-
-/// Whether a point at these distances from the core of a hole, in pm along each axis, is no further from it than the radius.
-fn is_within(x: u64, y: u64, hole: &Hole) -> bool
-    requires x { x ≤ 20000000000000 }
-    requires y { y ≤ 20000000000000 }
-    ensures { result ≡ nat_le (square x + square y) (square hole.now.radius) }
-{
-    square_length(x, y) <= square(hole.radius().unsigned_abs())
+    Point::new(across.x(), up.y()).unwrap()
 }
 
 /// Whichever of two flashes has the lesser place.
@@ -121,42 +113,32 @@ impl Bounds {
         bounds
     }
 
-    /// Whether the box comes as near to the core of a hole as its radius. Where it does not, no point of it is in the hole.
-    pub(crate) fn may_touch(&self, hole: &Hole) -> bool
-        ensures { result ≡ false → (held : TheOther) → IsWithin self.now held → is_in_hole hole.now held.at ≡ false }
+    /// The box as a zone.
+    fn zone(&self) -> Zone
+        ensures { (held : TheOther) → IsWithin self.now held → IsInZone result held.at }
     {
-        let there = hole_from(self.least, self.greatest, hole);
-        is_within(
-            core_distance_x(hole, &there),
-            core_distance_y(hole, &there),
-            hole,
-        )
+        Zone {
+            left: self.least.x(),
+            right: self.greatest.x(),
+            bottom: self.least.y(),
+            top: self.greatest.y(),
+        }
     }
 
-    /// The distance along x from the core of a hole to the further side of the box, in pm.
-    fn furthest_x(&self, hole: &Hole) -> u64
-        ensures value { result ≡ max (range_distance hole.now.from.x hole.now.to.x self.now.least.x self.now.least.x) (range_distance hole.now.from.x hole.now.to.x self.now.greatest.x self.now.greatest.x) }
-        ensures in_range { result ≤ 20000000000000 }
+    /// Whether the box meets that of a hole. Where it does not, no point of it is in the hole.
+    pub(crate) fn may_touch(&self, hole: &Rounded) -> bool
+        ensures { result ≡ false → (held : TheOther) → IsWithin self.now held → is_in_shape hole.now held.at ≡ false }
     {
-        let least = hole_from(self.least, self.least, hole);
-        let greatest = hole_from(self.greatest, self.greatest, hole);
-        core_distance_x(hole, &least).max(core_distance_x(hole, &greatest))
+        hole.may_cover(&self.zone(), 0)
     }
 
-    /// The distance along y from the core of a hole to the further side of the box, in pm.
-    fn furthest_y(&self, hole: &Hole) -> u64
-        ensures value { result ≡ max (range_distance hole.now.from.y hole.now.to.y self.now.least.y self.now.least.y) (range_distance hole.now.from.y hole.now.to.y self.now.greatest.y self.now.greatest.y) }
-        ensures in_range { result ≤ 20000000000000 }
+    /// Whether all corners of the box lie in a hole, so that each point of it does: the points of a hole are convex.
+    pub(crate) fn is_inside(&self, hole: &Rounded) -> bool
+        requires { is_outline hole.now.first hole.now.others ≡ true }
+        ensures { result ≡ true → (held : TheOther) → IsWithin self.now held → is_in_shape hole.now held.at ≡ true }
     {
-        let least = hole_from(self.least, self.least, hole);
-        let greatest = hole_from(self.greatest, self.greatest, hole);
-        core_distance_y(hole, &least).max(core_distance_y(hole, &greatest))
-    }
-
-    /// Whether all corners of the box lie in a hole, so that each point of it does.
-    pub(crate) fn is_inside(&self, hole: &Hole) -> bool
-        ensures { result ≡ true → (held : TheOther) → IsWithin self.now held → is_in_hole hole.now held.at ≡ true }
-    {
-        is_within(self.furthest_x(hole), self.furthest_y(hole), hole)
+        let (least, greatest) = (self.least, self.greatest);
+        hole.covers_slot(least, corner(greatest, least), 0)
+            && hole.covers_slot(corner(least, greatest), greatest, 0)
     }
 }

@@ -1,29 +1,24 @@
 //! Why one hole lacks its ring.
 
-ghost use Rattle.std.specs.Prelude.{◌≡◌, ◌+◌, ◌≤◌, unsigned_abs};
+ghost use Rattle.std.specs.Prelude.{◌≡◌, ◌+◌, ◌≤◌, IfOk};
 ghost use Rattle.grid_units.specs.Points.{IsCoordinate, abs_diff, max_coordinate};
 ghost use Rattle.pad_shapes.specs.Pads.{pad_covers};
-ghost use Rattle.report.specs.Causes.{half_apart, is_in_hole, is_small};
+ghost use Rattle.report.specs.Causes.{half_apart, hole_shape, is_small};
 
-use grid_units::{Hole, Point, Rules, square, square_length};
+use grid_units::{Hole, Point, Rules};
 use margins::DepthShape;
-use pad_shapes::{Pad, PadShape};
-use ring_rules::{core_distance_x, core_distance_y};
+use pad_shapes::{Pad, PadShape, Rounded};
+use std::alloc::{AllocError, Global};
 
-/// A hole of the same radius, round, at a point.
-fn hole_at(at: Point, hole: &Hole) -> Hole
-    ensures { result ≡ record { from = at; to = at; radius = hole.now.radius } }
+/// The points of a hole as a rounded polygon: of one corner where the hole is round, of two where it is a slot.
+pub(crate) fn hole_shape(alloc: Global, hole: &Hole) -> Result<Rounded, AllocError>
+    ensures { IfOk result (λ shape. shape ≡ hole_shape hole.now) }
 {
-    Hole::new(at, at, hole.radius()).unwrap()
-}
-
-/// Whether a point is no further from the core of a hole than its radius.
-pub(crate) fn is_in_hole(hole: &Hole, at: Point) -> bool
-    ensures { result ≡ is_in_hole hole.now at }
-{
-    let there = hole_at(at, hole);
-    let far = square_length(core_distance_x(hole, &there), core_distance_y(hole, &there));
-    far <= square(hole.radius().unsigned_abs())
+    let mut others = Vec::new(alloc);
+    if !hole.is_round() {
+        others.push(hole.to())?;
+    }
+    Ok(Rounded::new(hole.from(), others, hole.radius()).unwrap())
 }
 
 /// Half the distance of two coordinates in pm, rounded up.

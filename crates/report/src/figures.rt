@@ -1,7 +1,8 @@
-//! Figures of causes and of factors.
+//! Figures of causes and of factors, and the words of a contradicted role.
 
 ghost use Rattle.std.specs.Prelude.{◌≡◌};
 ghost use Rattle.report.specs.Causes.{lack_of};
+ghost use Rattle.report.specs.RoleConflicts.{conflict_words};
 ghost use Rattle.report.specs.UnitMistakes.{factor_word};
 
 use crate::{RingCause, UnitFactor};
@@ -30,5 +31,17 @@ pub fn factor_word(factor: UnitFactor) -> &'static str
         UnitFactor::Tenth => "0.1",
         UnitFactor::Inch => "25.4",
         UnitFactor::PerInch => "1/25.4",
+    }
+}
+
+/// What the role of a drill file is and what its comments say, by whether its role calls its holes plated:
+/// `its role is unplated, and it says that holes are plated`.
+pub fn conflict_words(plated: bool) -> &'static str
+    ensures { result.now ≡ conflict_words plated }
+{
+    if plated {
+        "its role is plated, and it says that holes are not plated"
+    } else {
+        "its role is unplated, and it says that holes are plated"
     }
 }

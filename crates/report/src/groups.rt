@@ -1,15 +1,17 @@
 //! Flashes in groups, each with its box, so that a search in a hole skips most of them.
 
 ghost use Rattle.std.specs.Prelude.{◌≡◌, ◌<◌, ◌≤◌, List, Some, length, true, IfOk, OnOk};
+ghost use Rattle.std.specs.List.{find};
 ghost use Rattle.std.specs.List.Sorted.{IsPermutation};
+ghost use Rattle.pad_shapes.specs.Rounded.{is_outline};
 ghost use Rattle.further_copper.specs.declared.feature.FeatureRow.{FeatureRow as TheRow};
-ghost use Rattle.report.specs.Causes.{AreGroups, IsGroup, other_in, others};
+ghost use Rattle.report.specs.Causes.{AreGroups, IsGroup, is_in_shape, others};
 ghost use Rattle.report.specs.Inner.FirstInHole.{HasPassed};
 ghost use Rattle.report.specs.declared.other.Other.{Other as TheOther};
 
 use crate::bounds::Bounds;
 use crate::other::{Other, earlier_flash, first_in_hole};
-use grid_units::Hole;
+use pad_shapes::Rounded;
 use std::alloc::{AllocError, Global};
 
 /// Consecutive flashes of a list.
@@ -131,10 +133,11 @@ impl Search {
     }
 
     /// The search after a group; or after its head alone, where its parts must be looked at.
-    fn after_group(&self, others: &[Other], group: &Group, hole: &Hole) -> Search
+    fn after_group(&self, others: &[Other], group: &Group, hole: &Rounded) -> Search
         requires next { self.now.next < usize.MAX }
         requires group { IsGroup others.now group.now }
         requires passed { HasPassed others.now hole.now self.now }
+        requires outline { is_outline hole.now.first hole.now.others ≡ true }
         ensures next { self.now.next < result.next }
         ensures passed { HasPassed others.now hole.now result }
     {
@@ -161,9 +164,10 @@ impl Search {
 
 /// The earliest flash of a layer that is no pad and whose point lies in a hole. `all` are these flashes in any order, `groups` are
 /// groups of them.
-pub(crate) fn first_in(all: &[Other], groups: &[Group], hole: &Hole) -> Option<Other>
-    requires { AreGroups all.now groups.now }
-    ensures { (rows : List TheRow) → IsPermutation (others rows) all.now → result ≡ other_in rows hole.now }
+pub(crate) fn first_in(all: &[Other], groups: &[Group], hole: &Rounded) -> Option<Other>
+    requires groups { AreGroups all.now groups.now }
+    requires outline { is_outline hole.now.first hole.now.others ≡ true }
+    ensures { (rows : List TheRow) → IsPermutation (others rows) all.now → result ≡ find (λ other. is_in_shape hole.now other.at) (others rows) }
 {
     let mut search = Search {
         next: 0,

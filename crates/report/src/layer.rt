@@ -10,10 +10,10 @@ ghost use Rattle.ring_rules.specs.declared.finding.Drilled.{Drilled as TheDrille
 ghost use Rattle.further_copper.specs.Features.{is_pad_row};
 ghost use Rattle.further_copper.specs.declared.feature.FeatureRow.{FeatureRow as TheRow};
 ghost use Rattle.margins.specs.BestPads.{AreBestPads, IsBestPad, IsDeepest};
-ghost use Rattle.report.specs.Causes.{HasNoPad, HoldsRows, HoldsRowsAndBests, IsCause, pad_place, pad_places};
+ghost use Rattle.report.specs.Causes.{HasNoPad, HoldsRows, HoldsRowsAndBests, IsCause, other_in, pad_place, pad_places};
 ghost use Rattle.report.specs.Inner.CauseParts.{other_cause, plain_cause};
 
-use crate::cause::is_small;
+use crate::cause::{hole_shape, is_small};
 use crate::groups::{Group, first_in, groups_of};
 use crate::other::{Other, others};
 use crate::{RingAtEdge, RingCause, RingInPad};
@@ -188,14 +188,23 @@ impl CauseFinder {
         }
     }
 
-    /// Why a hole that no pad covers lacks its ring.
-    fn cause_without_pad(&self, rows: &[FeatureRow], hole: &Hole) -> RingCause
+    /// The first row that is no pad and whose point lies in a hole.
+    fn other_in(&self, rows: &[FeatureRow], hole: &Hole) -> Result<Option<Other>, AllocError>
         requires { HoldsRows rows.now self.now }
-        ensures { (profile : TheProfile) (pads : List TheWidePad) (ring : ℕ) → HasNoPad profile pads hole.now → IsCause profile rows.now pads ring hole.now result }
+        ensures { IfOk result (λ other. other ≡ other_in rows.now hole.now) }
     {
-        match first_in(&self.others, &self.groups, hole) {
-            Some(other) => other_cause(other.what, other.place + 1),
-            None => RingCause::NoFlash,
+        let shape = hole_shape(*self.others.allocator(), hole)?;
+        Ok(first_in(&self.others, &self.groups, &shape))
+    }
+
+    /// Why a hole that no pad covers lacks its ring.
+    fn cause_without_pad(&self, rows: &[FeatureRow], hole: &Hole) -> Result<RingCause, AllocError>
+        requires { HoldsRows rows.now self.now }
+        ensures { (profile : TheProfile) (pads : List TheWidePad) (ring : ℕ) → HasNoPad profile pads hole.now → IfOk result (IsCause profile rows.now pads ring hole.now) }
+    {
+        match self.other_in(rows, hole)? {
+            Some(other) => Ok(other_cause(other.what, other.place + 1)),
+            None => Ok(RingCause::NoFlash),
         }
     }
 
@@ -207,22 +216,26 @@ impl CauseFinder {
         hole: &Hole,
         best: Option<BestPad>,
         rules: Rules,
-    ) -> RingCause
+    ) -> Result<RingCause, AllocError>
         requires known { HoldsRows rows.now self.now }
         requires best { IsBestPad wide_pad_covers pads.now hole.now best }
-        ensures { IsCause rules.profile rows.now pads.now rules.ring hole.now result }
+        ensures { IfOk result (IsCause rules.profile rows.now pads.now rules.ring hole.now) }
     {
         if is_refused_slot(rules.profile(), hole) {
-            return RingCause::Oblique;
+            return Ok(RingCause::Oblique);
         }
         match best {
-            Some(best) => self.cause_in_best(rows, pads, hole, best, rules),
+            Some(best) => Ok(self.cause_in_best(rows, pads, hole, best, rules)),
             None => self.cause_without_pad(rows, hole),
         }
     }
 
     /// Why the hole at a place, from 0, lacks the ring of these rules on the layer. The rows, pads and holes must be those of the data; the pads
     /// are those of the rows that are pads, or a flash has no number of its own.
+    ///
+    /// # Errors
+    ///
+    /// An `AllocError` when memory runs out.
     pub fn cause(
         &self,
         rows: &[FeatureRow],
@@ -230,10 +243,10 @@ impl CauseFinder {
         holes: &[Drilled],
         place: usize,
         rules: Rules,
-    ) -> RingCause
+    ) -> Result<RingCause, AllocError>
         requires known { HoldsRowsAndBests rows.now pads.now holes.now self.now }
         requires place { place < length holes.now }
-        ensures { IsCause rules.profile rows.now pads.now rules.ring (hole_at holes.now place) result }
+        ensures { IfOk result (IsCause rules.profile rows.now pads.now rules.ring (hole_at holes.now place)) }
     {
         self.cause_of(rows, pads, &holes[place].hole, self.bests[place], rules)
     }

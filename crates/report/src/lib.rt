@@ -20,7 +20,7 @@ mod waived;
 
 pub use bare::bare_among;
 pub use counts::bare_with_factor;
-pub use figures::{factor_word, lack_of};
+pub use figures::{conflict_words, factor_word, lack_of};
 use grid_units::{Hole, Rules};
 pub use layer::CauseFinder;
 use layer_image::Why;
@@ -85,6 +85,15 @@ pub struct UnitMistake {
     pub factor: UnitFactor,
     /// How many of its round holes would be bare then.
     pub then: usize,
+}
+
+/// A drill file whose own comments contradict its role.
+#[derive(Clone, Copy, Debug, PartialEq, Eq)]
+pub struct RoleConflict {
+    /// The index of the drill file in the package, from 0.
+    pub drill: usize,
+    /// Whether the role calls its holes plated. Its comments say the other of them.
+    pub plated: bool,
 }
 
 /// A factor that coordinates are multiplied by.
@@ -233,6 +242,8 @@ pub struct BoardReport {
     pub gaps: Vec<GapLack>,
     /// The drill files whose coordinates seem to be off by a factor.
     pub scales: Vec<UnitMistake>,
+    /// The drill files whose own comments contradict their role, in the order of the files.
+    pub conflicts: Vec<RoleConflict>,
     /// The rules that the package meets.
     pub meets: Meets,
 }

@@ -3,12 +3,12 @@
 ghost use Rattle.std.specs.Prelude.{◌≡◌, ◌++◌, ◌∷◌, [], List, nat_lt, IfOk, if◌then◌else◌};
 ghost use Rattle.std.specs.List.Sorted.{IsPermutation};
 ghost use Rattle.std.specs.Option.{option_map_or};
-ghost use Rattle.report.specs.Causes.{other_row, others};
+ghost use Rattle.report.specs.Causes.{is_in_shape, other_row, others};
 ghost use Rattle.report.specs.Inner.FirstInHole.{IsFirstIn};
 
-use crate::cause::is_in_hole;
 use further_copper::{FeatureRow, RowKind};
-use grid_units::{Hole, Point};
+use grid_units::Point;
+use pad_shapes::{PadShape, Rounded};
 use std::alloc::{AllocError, Global};
 use std::cmp::Ordering;
 
@@ -90,8 +90,15 @@ pub(crate) fn earlier_flash(first: Option<Other>, other: Other) -> Other
     }
 }
 
+/// Whether a point lies in a hole.
+fn is_in_hole(hole: &Rounded, at: Point) -> bool
+    ensures { result ≡ is_in_shape hole.now at }
+{
+    hole.covers(at, 0)
+}
+
 /// The earliest flash in a hole, of those so far and one more.
-fn earlier_in_hole(first: Option<Other>, other: Other, hole: &Hole) -> Option<Other>
+fn earlier_in_hole(first: Option<Other>, other: Other, hole: &Rounded) -> Option<Other>
     ensures { (seen : List Other) → IsFirstIn seen hole.now first → IsFirstIn (seen ++ other ∷ []) hole.now result }
 {
     if !is_in_hole(hole, other.at) {
@@ -101,7 +108,7 @@ fn earlier_in_hole(first: Option<Other>, other: Other, hole: &Hole) -> Option<Ot
 }
 
 /// The earliest flash in a hole, of those so far and some more.
-pub(crate) fn first_in_hole(first: Option<Other>, others: &[Other], hole: &Hole) -> Option<Other>
+pub(crate) fn first_in_hole(first: Option<Other>, others: &[Other], hole: &Rounded) -> Option<Other>
     ensures { (seen : List Other) → IsFirstIn seen hole.now first → IsFirstIn (seen ++ others.now) hole.now result }
 {
     let mut first = first;

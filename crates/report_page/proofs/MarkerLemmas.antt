@@ -208,9 +208,9 @@ indexed_from n [] = refl
 indexed_from n (content.Layer image ∷ cs) =
     ap length (flat_map-cons pads_of (content.Layer image) cs)
     ∙ (ap suc (indexed_from (n + 1) cs) ∙ sym (ap length (flat_map-cons index_of (n, content.Layer image) (enumerate_from (n + 1) cs))))
-indexed_from n (content.Drill plated span holes ∷ cs) =
-    ap length (flat_map-cons pads_of (content.Drill plated span holes) cs)
-    ∙ (indexed_from (n + 1) cs ∙ sym (ap length (flat_map-cons index_of (n, content.Drill plated span holes) (enumerate_from (n + 1) cs))))
+indexed_from n (content.Drill plated span drill ∷ cs) =
+    ap length (flat_map-cons pads_of (content.Drill plated span drill) cs)
+    ∙ (indexed_from (n + 1) cs ∙ sym (ap length (flat_map-cons index_of (n, content.Drill plated span drill) (enumerate_from (n + 1) cs))))
 indexed_from n (content.Mixed span holes ∷ cs) =
     ap length (flat_map-cons pads_of (content.Mixed span holes) cs)
     ∙ (indexed_from (n + 1) cs ∙ sym (ap length (flat_map-cons index_of (n, content.Mixed span holes) (enumerate_from (n + 1) cs))))
@@ -219,7 +219,7 @@ as_many_layers : (sources : List FileView) (board : BoardView) → IsBoard sourc
 as_many_layers sources board b = ap (λ (x : BoardView). length x.layers) b.is ∙ (indexed_from 0 b.contents ∙ sym (ap (λ (x : BoardView). length x.layer_indexes) b.is))
 
 pub each_row_has_its_marker : RingsNamePlaces wide_pad_covers → GapsNamePlaces → EachRowHasItsMarker
-each_row_has_its_marker rings gaps sources names board outline report accepted text is_board some is_report page k d lt =
+each_row_has_its_marker rings gaps sources names about board outline report accepted text is_board some is_report page k d lt =
     let rules = report.rules in
     let findings = board_findings rules board in
     let numbers = numbers_each_once report in

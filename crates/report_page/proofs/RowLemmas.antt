@@ -1,4 +1,4 @@
--- One more row of the table.
+-- One more row of the table, and one more file.
 use Rattle.std.proofs.Common.{◌≡◌, ◌<◌, ◌+◌, ◌++◌, ℕ, List, [], ◌∷◌, Option, length, take, get_or, refl, ap, ◌∙◌, arith}
 use Rattle.std.specs.Prelude.{◌-◌}
 use Rattle.std.specs.Borrow.{Bor}
@@ -12,7 +12,11 @@ use Rattle.report.specs.declared.LayerHead.{LayerHead}
 use Rattle.report.specs.declared.RingLack.{RingLack}
 use Rattle.print_text.proofs.Showing.{marks_more}
 use Rattle.print_text.specs.Texts.{number_of}
-use Rattle.report_page.specs.Pages.{gap_row, gap_rows, ring_row, ring_rows}
+use Rattle.grid_units.specs.declared.profile.Profile.{Profile}
+use Rattle.package_check.specs.declared.FileSum.{FileSum}
+use Rattle.picture.specs.Escapes.{escaped}
+use Rattle.printing.specs.Holes.{name_of}
+use Rattle.report_page.specs.Pages.{file_items, file_words, gap_row, gap_rows, ring_row, ring_rows}
 
 -- what one more element gives, by its position
 pub texts_more : {X : Type 0} (f : ℕ × X → List ℕ) (n : ℕ) (xs : List X) (i : ℕ) (d : X) → i < length xs
@@ -39,3 +43,11 @@ gap_added names rules accepted first gaps i d lt =
     let place : (first + i) - first ≡ i = omega arith in
     texts_more (λ (finding : ℕ × GapLack). gap_row names rules (number_of finding.0) finding.1 (acceptance_at accepted (finding.0 - first))) first gaps i d lt
     ∙ ap (λ (j : ℕ). gap_rows names rules accepted first (take i (enumerate_from first gaps)) ++ gap_row names rules (number_of (first + i)) (get_or gaps i d) (acceptance_at accepted j)) place
+
+-- one more file
+pub file_added : (profile : Profile) (names : List (List ℕ)) (files : List FileSum) (i : ℕ) (d : FileSum) → i < length files
+    → file_items profile names (take (i + 1) (enumerate_from 0 files)) ≡ file_items profile names (take i (enumerate_from 0 files)) ++ file_words profile (escaped (name_of names i)) (get_or files i d)
+file_added profile names files i d lt =
+    let place : 0 + i ≡ i = omega arith in
+    texts_more (λ (file : ℕ × FileSum). file_words profile (escaped (name_of names file.0)) file.1) 0 files i d lt
+    ∙ ap (λ (j : ℕ). file_items profile names (take i (enumerate_from 0 files)) ++ file_words profile (escaped (name_of names j)) (get_or files i d)) place

@@ -8,6 +8,7 @@ use Rattle.layer_image.specs.declared.drawn.Drawn.{Drawn}
 use Rattle.package_check.specs.Boards.{BoardView, IsBoard}
 use Rattle.package_check.specs.Package.{FileView}
 use Rattle.board_report.specs.BoardReport.{IsBoardReport}
+use Rattle.print_text.specs.declared.particulars.Particulars.{Particulars}
 use Rattle.report_page.specs.Pages.{IsHtmlPage, row_numbers}
 
 -- the start of the marker of a finding, by its number; the link of its row leads to this id: `<g class="finding" id="f27">`
@@ -17,6 +18,6 @@ marker_start number = codes "<g class=\"finding\" id=\"f" ++ (decimal number ++ 
 -- where a page is that of the report on a package's board, and the package has a copper file, each row has its marker in the picture
 abbrev pub EachRowHasItsMarker : Type 0
 EachRowHasItsMarker =
-    (sources : List FileView) (names : List (List ℕ)) (board : BoardView) (outline : List Drawn) (report : BoardReport) (accepted : Acceptances) (text : List ℕ)
-    → IsBoard sources board → 0 < length board.layer_indexes → IsBoardReport report.rules board report → (page : IsHtmlPage names board outline report accepted text)
+    (sources : List FileView) (names : List (List ℕ)) (about : Particulars) (board : BoardView) (outline : List Drawn) (report : BoardReport) (accepted : Acceptances) (text : List ℕ)
+    → IsBoard sources board → 0 < length board.layer_indexes → IsBoardReport report.rules board report → (page : IsHtmlPage names about board outline report accepted text)
     → All (λ number. HasSubslice page.svg (marker_start number)) (row_numbers report)

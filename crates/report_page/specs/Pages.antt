@@ -1,12 +1,16 @@
 -- The report as one page of HTML (docs/FORMATS.md, Page). Lengths are whole picometres, printed in millimetres.
 -- Positions count all findings of a report from 0: the rings first, then the gaps. Their numbers count them from 1.
-use Rattle.std.specs.Prelude.{◌≡◌, ◌<◌, ℕ, ℤ, pos, ◌+◌, ◌-◌, ◌*◌, ◌==◌, ◌++◌, List, [], length, get_or, map, codes, decimal, slice_get, Option, Some, None, if◌then◌else◌}
+use Rattle.std.specs.Prelude.{◌≡◌, ◌<◌, ℕ, ℤ, pos, ◌+◌, ◌-◌, ◌*◌, ◌==◌, ◌++◌, Bool, List, [], length, get_or, map, codes, decimal, slice_get, Option, Some, None, if◌then◌else◌}
 use Rattle.std.specs.Borrow.{Bor}
 use Rattle.std.specs.List.{enumerate_from, flat_map}
 use Rattle.grid_units.specs.Holes.{GridHole, GridRules}
+use Rattle.grid_units.specs.Spans.{LayerSpan}
+use Rattle.grid_units.specs.declared.profile.Profile.{Profile}
+use Rattle.grid_units.specs.declared.profile.Profile.TheVariants.{Strict, Wide}
 use Rattle.printing.specs.Holes.{ends_words, name_of, two_lengths}
 use Rattle.printing.specs.Lengths.{short_millimetres}
 use Rattle.report.specs.Acceptances.{acceptance_at, waived_in}
+use Rattle.report.specs.RoleConflicts.{conflict_words}
 use Rattle.report.specs.declared.Acceptances.{Acceptances}
 use Rattle.report.specs.declared.BoardReport.{BoardReport}
 use Rattle.report.specs.declared.GapLack.{GapLack}
@@ -15,35 +19,128 @@ use Rattle.report.specs.declared.PlacedHole.{PlacedHole}
 use Rattle.report.specs.declared.RingCause.{RingCause}
 use Rattle.report.specs.declared.RingCause.TheVariants as causes
 use Rattle.report.specs.declared.RingLack.{RingLack}
+use Rattle.report.specs.declared.RoleConflict.{RoleConflict}
 use Rattle.print_text.specs.Causes.{kind_of, kind_words}
-use Rattle.print_text.specs.Texts.{number_of, profile_words, rule_words, waived_words}
+use Rattle.print_text.specs.Texts.{fewer_words, number_of, rule_words, waived_words}
+use Rattle.print_text.specs.declared.particulars.Particulars.{Particulars}
 use Rattle.package_check.specs.Boards.{BoardView}
+use Rattle.package_check.specs.declared.FileSum.{FileSum}
+use Rattle.package_check.specs.declared.FileSum.TheVariants as sums
 use Rattle.picture.specs.Escapes.{escaped}
 use Rattle.layer_image.specs.declared.drawn.Drawn.{Drawn}
 use Rattle.drawing.specs.Drawings.{IsDrawn, declaration, number_of as file_number, svg_text}
-use Rattle.report_page.specs.declared.frame.TheConstants.{BEFORE_RULES, BEFORE_SCRIPT, BEFORE_STYLE, BODY, CAPTION, COLUMNS, END, FIGURE, HEAD, TOOLS}
+use Rattle.report_page.specs.declared.frame.TheConstants.{BEFORE_RULES, BEFORE_SCRIPT, BEFORE_STYLE, BODY, CAPTION, COLUMNS, END, FIGURE, FILES, HEAD, PREMISES, STRICT_PROMISE, TOOLS, WIDE_PROMISE}
 use Rattle.report_page.specs.declared.page.HtmlReport.{HtmlReport}
 use Rattle.report_page.specs.declared.script.TheConstants.{SCRIPT}
 use Rattle.report_page.specs.declared.style.TheConstants.{STYLE}
 
 -- ---- the verdict and the rules
 
--- `PASS` without findings, `WAIVED` where each is waived, else `FINDINGS`
+-- `PASS: ` without findings, `WAIVED: ` where each is waived, else nothing
 abbrev pub verdict_word : ℕ → ℕ → List ℕ
-verdict_word findings waived = if findings == 0 then codes "PASS" else if waived == findings then codes "WAIVED" else codes "FINDINGS"
+verdict_word findings waived = if findings == 0 then codes "PASS: " else if waived == findings then codes "WAIVED: " else []
 
 -- the number of findings: `1 finding` or `6 findings`
 abbrev pub count_words : ℕ → List ℕ
 count_words findings = if findings == 1 then codes "1 finding" else decimal findings ++ codes " findings"
 
--- the verdict, by the numbers of findings and of waived ones: `FINDINGS: 6 findings, 2 waived`
+-- the verdict, by the numbers of findings and of waived ones: `PASS: 0 findings`, `WAIVED: 2 findings, 2 waived` or `6 findings, 2 waived`
 abbrev pub verdict : ℕ → ℕ → List ℕ
-verdict findings waived = verdict_word findings waived ++ (codes ": " ++ (count_words findings ++ waived_words waived))
+verdict findings waived = verdict_word findings waived ++ (count_words findings ++ waived_words waived)
 
--- the rules and the profile, as in the text of a report: `rules: annular ring 0.15 mm, hole to hole 0.25 mm`, in the wide profile with `, profile wide`
+-- the profile at the end of the rules: `, profile strict`
+abbrev pub profile_words : Profile → List ℕ
+profile_words Strict = codes ", profile strict"
+profile_words Wide = codes ", profile wide"
+
+-- the rules and the profile: `rules: annular ring 0.15 mm, hole to hole 0.25 mm, profile strict`
 abbrev pub rules_words : GridRules → List ℕ
 rules_words rules =
     rule_words (codes "rules: annular ring ") (pos rules.ring) ++ (rule_words (codes ", hole to hole ") (pos rules.gap) ++ profile_words rules.profile)
+
+-- how many findings disappear in the wide profile, as in the text of a report, and what comes before the next paragraph; nothing for none
+abbrev pub fewer_note : ℕ → ℕ → List ℕ
+fewer_note findings fewer = if fewer == 0 then [] else fewer_words findings fewer ++ codes "</p>\n<p>"
+
+-- the manifest of the board, and what comes before the next paragraph: `board: board.csv`
+unfoldable pub board_words : List ℕ → List ℕ
+board_words manifest = codes "board: " ++ (manifest ++ codes "</p>\n<p>")
+
+-- the program, in a paragraph of its own: `program: ringcheck 0.1.0`
+unfoldable pub program_words : List ℕ → List ℕ
+program_words program = codes "</p>\n<p>program: " ++ program
+
+-- the particulars of a report, by the number of its findings: the findings that disappear in the wide profile, the manifest, the rules, the program
+abbrev pub particulars_text : Particulars → GridRules → ℕ → List ℕ
+particulars_text about rules findings =
+    fewer_note findings about.fewer
+    ++ (board_words (escaped about.manifest.now) ++ (rules_words rules ++ program_words (escaped about.program.now)))
+
+-- ---- the drill files whose own comments contradict their role
+
+-- a warning of a drill file by its name, and what comes before the next paragraph: `warning: npth: its role is unplated, and it says that holes are plated`
+unfoldable pub warning : List ℕ → List ℕ → List ℕ
+warning name says = codes "warning: " ++ (name ++ (codes ": " ++ (says ++ codes "</p>\n<p>")))
+
+-- the warning of a drill file whose own comments contradict its role
+abbrev pub conflict_warning : List (List ℕ) → RoleConflict → List ℕ
+conflict_warning names line = warning (escaped (name_of names line.drill)) (conflict_words line.plated)
+
+-- ---- the files, and what a pass promises
+
+-- a number and its words, for one and for others: `1 pad, ` or `361 pads, `
+abbrev pub amount : ℕ → List ℕ → List ℕ → List ℕ
+amount count one many = decimal count ++ (if count == 1 then one else many)
+
+-- the contours of a copper file that count as pads: `, 2 contours`; nothing in the strict profile, where none does
+abbrev pub contour_words : Profile → ℕ → List ℕ
+contour_words Strict contours = []
+contour_words Wide contours = codes ", " ++ amount contours (codes " contour") (codes " contours")
+
+-- the counts of a copper file: `361 pads, 1 other flash`
+abbrev pub copper_words : Profile → ℕ → ℕ → ℕ → List ℕ
+copper_words profile pads other contours =
+    amount pads (codes " pad, ") (codes " pads, ") ++ (amount other (codes " other flash") (codes " other flashes") ++ contour_words profile contours)
+
+-- the counts of a drill file: `322 round holes, 1 slot`
+abbrev pub drill_words : ℕ → ℕ → List ℕ
+drill_words round slots = amount round (codes " round hole, ") (codes " round holes, ") ++ amount slots (codes " slot") (codes " slots")
+
+-- the layers that the holes of a drill file go through, if the manifest names them: `, from layer 2 to layer 3`
+abbrev pub span_words : Option LayerSpan → List ℕ
+span_words None = []
+span_words (Some span) = codes ", from layer " ++ (decimal span.first ++ (codes " to layer " ++ decimal span.last))
+
+-- the role of a drill file
+abbrev pub drill_role : Bool → List ℕ
+drill_role plated = if plated then codes "plated" else codes "unplated"
+
+-- a file, by its role, its name and its counts: `<li>plated board-PTH.drl: 322 round holes, 0 slots</li>`
+unfoldable pub file_item : List ℕ → List ℕ → List ℕ → List ℕ
+file_item role name counts = codes "<li>" ++ (role ++ (codes " " ++ (name ++ (codes ": " ++ (counts ++ codes "</li>\n")))))
+
+-- the counts of a mixed drill file: `2 round holes, 0 slots, unplated: 1`
+unfoldable pub mixed_words : ℕ → ℕ → ℕ → List ℕ
+mixed_words round slots unplated = drill_words round slots ++ (codes ", unplated: " ++ decimal unplated)
+
+-- a file of any kind in a profile, by its name
+abbrev pub file_words : Profile → List ℕ → FileSum → List ℕ
+file_words profile name (sums.Layer pads other contours) = file_item (codes "copper") name (copper_words profile pads other contours)
+file_words profile name (sums.Drill plated span contradicted round slots) = file_item (drill_role plated) name (drill_words round slots ++ span_words span)
+file_words profile name (sums.Mixed span round slots unplated) = file_item (codes "mixed") name (mixed_words round slots unplated ++ span_words span)
+
+-- the files of these, with their places
+abbrev pub file_items : Profile → List (List ℕ) → List (ℕ × FileSum) → List ℕ
+file_items profile names files = flat_map (λ file. file_words profile (escaped (name_of names file.0)) file.1) files
+
+-- what a pass promises in a profile
+abbrev pub promise : Profile → List ℕ
+promise Strict = STRICT_PROMISE.now
+promise Wide = WIDE_PROMISE.now
+
+-- each file with its role and its counts, what a pass promises in the profile, and under which premises
+abbrev pub files_text : Profile → List (List ℕ) → List FileSum → List ℕ
+files_text profile names files = FILES.now ++ (file_items profile names (enumerate_from 0 files) ++ (promise profile ++ PREMISES.now))
 
 -- ---- the buttons of the layers
 
@@ -182,11 +279,13 @@ pub record NumbersEachOnce (report : BoardReport) : Type 0 where
 abbrev pub finding_count : BoardReport → ℕ
 finding_count report = length report.rings.items + length report.gaps.items
 
--- the head of a page: its title, its style, the verdict and the rules
-abbrev pub head_text : GridRules → ℕ → ℕ → List ℕ
-head_text rules findings waived =
+-- the head of a page: its title, its style, the verdict, a warning of each drill file whose own comments contradict its role, the particulars, the
+-- files and what a pass promises
+abbrev pub head_text : List (List ℕ) → Particulars → List FileSum → List RoleConflict → GridRules → ℕ → ℕ → List ℕ
+head_text names about files conflicts rules findings waived =
     (HEAD.now ++ (verdict findings waived ++ (BEFORE_STYLE.now ++ (STYLE.now ++ BODY.now))))
-    ++ (verdict findings waived ++ (BEFORE_RULES.now ++ rules_words rules))
+    ++ ((verdict findings waived ++ (BEFORE_RULES.now ++ flat_map (conflict_warning names) conflicts))
+    ++ (particulars_text about rules findings ++ files_text rules.profile names files))
 
 -- the picture: the buttons of the layers, and the element `svg` of the drawing
 abbrev pub picture_text : List (List ℕ) → List LayerHead → List ℕ → List ℕ
@@ -199,17 +298,17 @@ table_text names report rings gaps =
     ++ (BEFORE_SCRIPT.now ++ (SCRIPT.now ++ END.now))
 
 -- the text of a page, by the element `svg` of its drawing; `names` are those of the package's files
-abbrev pub html_text : List (List ℕ) → BoardReport → Acceptances → List ℕ → List ℕ
-html_text names report accepted svg =
-    head_text report.rules (finding_count report) (waived_in report accepted.rings.now accepted.gaps.now)
+abbrev pub html_text : List (List ℕ) → Particulars → List FileSum → BoardReport → Acceptances → List ℕ → List ℕ
+html_text names about files report accepted svg =
+    head_text names about files report.conflicts.items report.rules (finding_count report) (waived_in report accepted.rings.now accepted.gaps.now)
     ++ (picture_text names report.layers.items svg ++ table_text names report accepted.rings.now accepted.gaps.now)
 
 -- what a page prints
 abbrev pub page_text : HtmlReport → List ℕ
-page_text page = html_text (map (λ name. name.now) page.names.now) page.report.now page.accepted.now (svg_text page.drawing)
+page_text page = html_text (map (λ name. name.now) page.names.now) page.about.now page.files.now page.report.now page.accepted.now (svg_text page.drawing)
 
 -- a text is the page of a report, with the drawing of a board under the rules of the report and with the outline that these parts draw
-pub record IsHtmlPage (names : List (List ℕ)) (board : BoardView) (outline : List Drawn) (report : BoardReport) (accepted : Acceptances) (text : List ℕ) : Type 0 where
+pub record IsHtmlPage (names : List (List ℕ)) (about : Particulars) (board : BoardView) (outline : List Drawn) (report : BoardReport) (accepted : Acceptances) (text : List ℕ) : Type 0 where
   pub svg : List ℕ
   pub drawn : IsDrawn names board outline (Some report.rules) (declaration ++ svg)
-  pub is : text ≡ html_text names report accepted svg
+  pub is : text ≡ html_text names about board.files report accepted svg

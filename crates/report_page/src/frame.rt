@@ -1,12 +1,14 @@
 //! What stands on every page, between what is said of a package.
 
-/// From the start to the page's title: it is UTF-8, and no browser loads anything for it.
+/// From the start to the page's title: it is UTF-8, and no browser loads anything for it. The policy has the SHA-256 of each style and script
+/// of the page, from tag to tag: the styles of the page and of its picture, and the scripts at its head and at its end. A browser runs no other,
+/// whatever a name or a reason may be taken for.
 pub const HEAD: &str = "\
 <!DOCTYPE html>
 <html lang=\"en\">
 <head>
 <meta charset=\"utf-8\">
-<meta http-equiv=\"Content-Security-Policy\" content=\"default-src 'none'; style-src 'unsafe-inline'; script-src 'unsafe-inline'\">
+<meta http-equiv=\"Content-Security-Policy\" content=\"default-src 'none'; style-src 'sha256-JNO6FhsM7DP6NQyoCNty2B4CNxkwKV72WbvF4aeu2cc=' 'sha256-blXjcbfO961yVKxrEwJwWdE7jWJrdRTPj3qDpArJ4vs='; script-src 'sha256-csla810vQzhPU7yIUMJzKEb27vpT4YJVkWmKqyqpL1I=' 'sha256-s7T3FnPXJwAcHys8Hkqo0+R5fCeYtknlX8xpfPmife0='; base-uri 'none'; form-action 'none'\">
 <meta name=\"viewport\" content=\"width=device-width, initial-scale=1\">
 <title>";
 
@@ -26,14 +28,48 @@ pub const BODY: &str = "\
 <header>
 <h1>";
 
-/// From the heading to the rules.
+/// From the heading to the particulars of the report.
 pub const BEFORE_RULES: &str = "\
 </h1>
 <p>";
 
-/// From the rules to the buttons of the layers: the buttons that zoom.
+/// From the program to the files.
+pub const FILES: &str = "\
+</p>
+<details open>
+<summary>files, and what PASS promises</summary>
+<ul>
+";
+
+/// From the files to the premises, in the strict profile: what a pass promises.
+pub const STRICT_PROMISE: &str = "\
+</ul>
+<p>In the profile strict PASS promises that every file is a text of its profile's grammar, on every copper layer of its drill file's span each plated \
+round hole lies in one flashed pad, whose points hold every grid point within the hole's radius plus the required ring of its centre, and no points of \
+two holes are nearer than the required gap. Each plated slot along an axis lies in one flashed pad in the same way, with the ring round each point of \
+the line between its ends, and no plated slot is oblique.</p>
+";
+
+/// From the files to the premises, in the wide profile: what a pass promises.
+pub const WIDE_PROMISE: &str = "\
+</ul>
+<p>In the profile wide PASS promises that every file is a text of its profile's grammar, on every copper layer of its drill file's span each plated \
+hole, round or a slot in any direction, lies in one pad, whose points hold every grid point within the hole's radius plus the required ring of its \
+centre line, and no points of two holes are nearer than the required gap. A pad is a flashed disc, rectangle or obround, the shape of a flashed macro, \
+or a closed convex contour, from which clear polarity takes nothing away.</p>
+";
+
+/// From what a pass promises to the buttons: the premises, which no program can check.
+pub const PREMISES: &str = "\
+<p>The premises: these are the files that the board is made from; their roles and the order of the copper files are right; plated holes go through the \
+layers of the span that is named, or through all copper layers if none is named; what is flashed on a layer is copper when the board is made; in the \
+profile wide, macros, regions and polarity mean what the Gerber format says; the toolchain, its compiler, libraries and logic and the operating system \
+do what they say. Nothing is promised of findings that are waived.";
+
+/// From the premises to the buttons of the layers: the buttons that zoom.
 pub const TOOLS: &str = "\
 </p>
+</details>
 </header>
 <main>
 <section aria-label=\"picture\">
@@ -68,7 +104,7 @@ pub const CAPTION: &str = "\
 pub const COLUMNS: &str = "\
 ; lengths in mm</caption>
 <thead>
-<tr><th scope=\"col\">number</th><th scope=\"col\">kind</th><th scope=\"col\">layer</th><th scope=\"col\">hole or pair</th><th scope=\"col\">diameter</th><th scope=\"col\">ring or gap</th><th scope=\"col\">rule</th><th scope=\"col\">cause</th><th scope=\"col\">waived</th></tr>
+<tr><th scope=\"col\">number</th><th scope=\"col\">kind</th><th scope=\"col\">layer</th><th scope=\"col\">hole or holes</th><th scope=\"col\">diameter</th><th scope=\"col\">ring or gap</th><th scope=\"col\">rule</th><th scope=\"col\">cause</th><th scope=\"col\">waived</th></tr>
 </thead>
 <tbody>
 ";

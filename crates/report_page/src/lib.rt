@@ -4,9 +4,11 @@
 #![tactic(auto)]
 
 mod cells;
+mod files;
 mod frame;
 mod laws;
 mod page;
+mod particulars;
 mod rows;
 mod script;
 mod style;

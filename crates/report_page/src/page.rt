@@ -3,21 +3,24 @@
 ghost use Rattle.std.specs.Prelude.{◌≡◌, Some, map, IfOk};
 ghost use Rattle.std.specs.Fmt.{DisplaysOnOk};
 ghost use Rattle.drawing.specs.Drawings.{svg_text};
-ghost use Rattle.report_page.specs.Pages.{IsHtmlPage, finding_count, head_text, layer_button, page_text, picture_text, table_text};
+ghost use Rattle.report_page.specs.Pages.{IsHtmlPage, conflict_warning, finding_count, head_text, layer_button, page_text, picture_text, table_text};
 
+use crate::files::FilesText;
 use crate::frame::{
     BEFORE_RULES, BEFORE_SCRIPT, BEFORE_STYLE, BODY, CAPTION, COLUMNS, END, FIGURE, HEAD, TOOLS,
 };
+use crate::particulars::ParticularsText;
 use crate::rows::Rows;
 use crate::script::SCRIPT;
 use crate::style::STYLE;
-use crate::verdict::{CountWords, RulesWords, Verdict};
+use crate::verdict::{CountWords, Verdict};
 use drawing::{Drawing, Svg};
 use layer_image::Drawn;
-use package_check::Board;
+use package_check::{Board, FileSum};
 use picture::Escaped;
+use print_text::Particulars;
 use printing::{Line, Lines, name_of};
-use report::{Acceptances, BoardReport, LayerHead, count_waived};
+use report::{Acceptances, BoardReport, LayerHead, RoleConflict, conflict_words, count_waived};
 use std::alloc::{AllocError, Global};
 use std::fmt;
 use std::fmt::{Display, Formatter};
@@ -41,6 +44,21 @@ impl Line<FileNames<'_>> for LayerHead {
     }
 }
 
+/// The warning of a drill file whose own comments contradict its role, and what comes before the next paragraph.
+impl Line<FileNames<'_>> for RoleConflict {
+    ghost text = { λ names line. conflict_warning (map (λ name. name.now) names.0.now) line };
+
+    #[tactic(auto, unfolding(crate::specs::Pages::warning))]
+    fn fmt_on<W: fmt::Write>(&self, page: &FileNames<'_>, f: &mut Formatter<W>) -> fmt::Result {
+        let name = Escaped(name_of(page.0, self.drill));
+        write!(
+            f,
+            "warning: {name}: {}</p>\n<p>",
+            conflict_words(self.plated)
+        )
+    }
+}
+
 /// The number of findings of a report.
 fn finding_count(report: &BoardReport) -> u128
     ensures { result ≡ finding_count report.now }
@@ -48,16 +66,34 @@ fn finding_count(report: &BoardReport) -> u128
     report.rings.len() as u128 + report.gaps.len() as u128
 }
 
-/// Writes the head of a page: its title, its style, the verdict and the rules.
+/// Writes the head of a page: its title, its style, the verdict, the warnings, the particulars, the files and what a pass promises.
 fn write_head<W: fmt::Write>(
     f: &mut Formatter<W>,
+    names: &[&str],
+    files: &[FileSum],
     report: &BoardReport,
+    about: &Particulars,
     verdict: &Verdict,
 ) -> fmt::Result
-    ensures { DisplaysOnOk W.write_str_gives f.old result (Some (head_text report.now.rules verdict.now.findings verdict.now.waived)) f.new }
+    ensures { DisplaysOnOk W.write_str_gives f.old result (Some (head_text (map (λ name. name.now) names.now) about.now files.now report.now.conflicts.items report.now.rules verdict.now.findings verdict.now.waived)) f.new }
 {
+    let warnings = Lines {
+        page: &FileNames(names),
+        lines: &report.conflicts,
+    };
     write!(f, "{HEAD}{verdict}{BEFORE_STYLE}{STYLE}{BODY}")?;
-    write!(f, "{verdict}{BEFORE_RULES}{}", RulesWords(&report.rules))
+    write!(f, "{verdict}{BEFORE_RULES}{warnings}")?;
+    let particulars = ParticularsText {
+        about,
+        rules: &report.rules,
+        findings: verdict.findings,
+    };
+    let files = FilesText {
+        profile: report.rules.profile(),
+        names,
+        files,
+    };
+    write!(f, "{particulars}{files}")
 }
 
 /// Writes the picture: the buttons of the layers, and the drawing.
@@ -85,20 +121,22 @@ fn write_table<W: fmt::Write>(f: &mut Formatter<W>, rows: &Rows) -> fmt::Result
     write!(f, "{BEFORE_SCRIPT}{SCRIPT}{END}")
 }
 
-/// A report as one page of HTML, which is what it prints: the verdict and the rules, the picture of the board with buttons for its layers,
+/// A report as one page of HTML, which is what it prints: the verdict and the particulars of the report, its files and what a pass promises, the picture of the board with buttons for its layers,
 /// and a table with a row for each finding. The page loads nothing. Each row links to the marker of its finding, whose id is `f` and
 /// its number. Lengths are printed in millimetres.
 #[derive(Drop)]
 pub struct HtmlReport<'a> {
     names: &'a [&'a str],
+    about: &'a Particulars<'a>,
+    files: &'a [FileSum],
     report: &'a BoardReport,
     accepted: &'a Acceptances<'a>,
     drawing: Drawing<'a>,
 }
 
 impl<'a> HtmlReport<'a> {
-    /// The page of a report on a board, with the reasons why findings are waived. `names` are those of the package's files. All memory is
-    /// taken here, for the drawing of the board under the rules of the report, with the outline that these parts draw; printing takes none.
+    /// The page of a report on a board, with the reasons why findings are waived. `names` are those of the package's files, and `about` says on
+    /// which manifest the report is, by which program, and how many findings the wide profile does not have. All memory is taken here, for the drawing of the board under the rules of the report, with the outline that these parts draw; printing takes none.
     ///
     /// # Errors
     ///
@@ -106,16 +144,20 @@ impl<'a> HtmlReport<'a> {
     pub fn new(
         alloc: Global,
         names: &'a [&'a str],
+        about: &'a Particulars<'a>,
         board: &'a Board,
         outline: &'a [Drawn],
         report: &'a BoardReport,
         accepted: &'a Acceptances<'a>,
     ) -> Result<HtmlReport<'a>, AllocError>
-        ensures { IfOk result (λ page. IsHtmlPage (map (λ name. name.now) names.now) board.now outline.now report.now accepted.now (page_text page)) }
+        ensures { IfOk result (λ page. IsHtmlPage (map (λ name. name.now) names.now) about.now board.now outline.now report.now accepted.now (page_text page)) }
     {
         let drawing = Drawing::new(alloc, names, board, outline, Some(report.rules))?;
+        let files = board.files();
         Ok(HtmlReport {
             names,
+            about,
+            files,
             report,
             accepted,
             drawing,
@@ -136,7 +178,7 @@ impl Display for HtmlReport<'_> {
             report: self.report,
             accepted: self.accepted,
         };
-        write_head(f, self.report, &verdict)?;
+        write_head(f, self.names, self.files, self.report, self.about, &verdict)?;
         write_picture(f, self.names, &self.report.layers, &self.drawing)?;
         write_table(f, &rows)
     }

@@ -10,7 +10,7 @@ pub const SCRIPT: &str = "\
 document.documentElement.className = '';
 const picture = document.getElementById('picture'), spoken = document.getElementById('spoken');
 const drawing = picture.querySelector('svg'), table = document.querySelector('table');
-const rows = Array.from(table.tBodies[0].rows), heads = table.tHead.rows[0].cells;
+const rows = Array.from(table.tBodies[0].rows);
 const panels = Array.from(drawing.querySelectorAll('.layer'));
 const board = boardOf(panels[0]);
 // The room that a marker takes, in pixels, and the least and the greatest part of the board that is shown.
@@ -40,7 +40,7 @@ function showLegend() {
   const legend = drawing.querySelector('.legend');
   legend.removeAttribute('transform');
   drawing.replaceChildren(drawing.querySelector('style'), legend);
-  drawing.setAttribute('viewBox', '-1 -1.2 40 4.8');
+  drawing.setAttribute('viewBox', '-1 -1.2 46 4.8');
   drawing.setAttribute('class', 'key');
   picture.after(drawing);
 }
@@ -298,10 +298,17 @@ function choose(number) {
   row.setAttribute('aria-current', 'true');
   chosen = number;
   if (places.length > 0) { lookAt(places.find(it => isOn(it.sheet)) || places[0]); }
-  document.getElementById('selected').textContent = Array.from(row.cells, (cell, i) => {
-    return cell.textContent === '' ? '' : `${heads[i].textContent} ${cell.textContent}`;
-  }).filter(Boolean).join('; ');
+  document.getElementById('selected').textContent = sentenceOf(row);
   row.scrollIntoView({block: 'nearest'});
+}
+
+// A finding as one says it: #3: annular ring on top, hole 14 of board-PTH.drl at 15,13; diameter 0.3; ring 0.149; rule 0.15; off centre: flash 14.
+function sentenceOf(row) {
+  const [number, kind, layer, holes, diameter, has, rule, cause, why] = Array.from(row.cells, cell => cell.textContent);
+  const isGap = kind === 'hole to hole', where = isGap ? '' : ` on ${layer}`;
+  const measured = has === 'no pad' ? '' : `${isGap ? 'gap' : 'ring'} ${has}`;
+  const parts = [`#${number}: ${kind}${where}, ${holes}`, `${isGap ? 'diameters' : 'diameter'} ${diameter}`, measured, `rule ${rule}`, cause];
+  return parts.concat(why && `waived: ${why}`).filter(Boolean).join('; ');
 }
 
 // Goes so near to a finding that its marker stands alone, unless others are all but at its place, and rings the place in each layer.

@@ -1,10 +1,11 @@
 //! How the page looks. The picture has a style of its own, whose classes are not used here.
 
-/// The style sheet of the page: the picture and the table side by side, on a narrow screen one below the other. The sheets of the layers
-/// stand in as many columns as have 22em each. On paper stand all layers and all rows, with the colours for light ground.
+/// The style sheet of the page: the picture and the table side by side, on a narrow screen one below the other, and on a very narrow one, such as
+/// that of a phone, each finding as a card in place of a row. The sheets of the layers stand in as many columns as have 22em each. On paper stand
+/// all layers and all rows, with the colours for light ground.
 /// The parts of a table of many findings (`many`) are laid out as they come into view, which a browser does for boxes other than those of a
 /// table alone: each row is a grid whose columns are as wide as those of the table. The third column, the name of a layer's file, takes the width
-/// that the others leave: at least 8em, or some fifteen letters.
+/// that the others leave.
 pub const STYLE: &str = "\
 :root{color-scheme:light dark;--ink:#222;--paper:#fff;--edge:#999;--rule:#ddd;--head:#eee;--over:#f4f1e6;--on:#ffe08a;--link:#0040b0;--strong:#0050d0;--faint:#666;--lack:#c00018}
 @media screen and (prefers-color-scheme:dark){
@@ -23,10 +24,11 @@ main .gap{stroke:#c99aff}
 main .outline{stroke:#ccc}
 }
 body{margin:0;font:16px/1.4 sans-serif;color:var(--ink);background:var(--paper);display:flex;flex-direction:column;height:100vh}
-header{padding:.5em 1em;border-bottom:1px solid var(--edge)}
+header{flex:none;max-height:40vh;overflow:auto;padding:.5em 1em;border-bottom:1px solid var(--edge)}
+header ul{margin:.2em 0;padding-left:1.2em}
 h1{font-size:1.3em;margin:0}
 header p,#selected{margin:0}
-main{flex:1;min-height:0;display:grid;grid-template-columns:minmax(0,1fr) minmax(0,1fr)}
+main{flex:1;min-height:0;display:grid;grid-template-columns:minmax(0,1fr) minmax(0,1.15fr)}
 section{display:flex;flex-direction:column;min-height:0;padding:.5em;gap:.5em}
 .tools{display:flex;flex-wrap:wrap;gap:.3em;max-height:7em;overflow:auto}
 button{font:inherit;font-size:.85em;padding:.2em .6em;overflow-wrap:anywhere}
@@ -51,11 +53,11 @@ small{font-weight:normal;color:var(--faint)}
 .marker.on::after{border-top-color:var(--strong)}
 .marker:hover,.marker:focus,.marker.on{z-index:1}
 .bar{position:absolute;left:6px;bottom:6px;border:1px solid;border-top:0;font-size:.7em;line-height:1.2;text-align:center;white-space:nowrap;pointer-events:none}
-.key{flex:none;width:100%;max-width:26rem;height:3.2rem}
+.key{flex:none;width:100%;max-width:30rem;height:3.2rem}
 #selected{height:4.2em;overflow:auto;overflow-wrap:anywhere}
 #spoken{position:absolute;width:1px;height:1px;margin:0;overflow:hidden;clip-path:inset(50%);white-space:nowrap}
 #rows{flex:1;min-height:0;overflow:auto;border:1px solid var(--edge)}
-table{table-layout:fixed;width:100%;min-width:62em;border-collapse:collapse;font-size:.8em}
+table{table-layout:fixed;width:100%;min-width:54em;border-collapse:collapse;font-size:.75em}
 caption{text-align:left;padding:.3em;font-weight:bold}
 th,td{text-align:left;vertical-align:top;padding:.2em .3em;border-top:1px solid var(--rule);overflow-wrap:anywhere}
 thead th{position:sticky;top:0;background:var(--head)}
@@ -82,16 +84,34 @@ table.many,.many caption,.many thead,.many tbody{display:block}
 .many thead{position:sticky;top:0;z-index:1}
 .many thead th{position:static;width:auto}
 }
-@media screen and (max-width:60em){
+@media screen and (max-width:85em){
 body{height:auto}
+header{max-height:none}
 main{display:block}
 #picture{overflow:visible;grid-auto-rows:60vh}
 #rows{max-height:70vh}
 }
+@media screen and (max-width:43em){
+#rows{max-height:none;overflow:visible;border:0}
+table{min-width:0;font-size:.9em}
+table,caption,tbody,tr,th,td,.many tr{display:block}
+thead,.many thead,td:empty{display:none}
+tbody tr{margin:.5em 0;padding:.3em;border:1px solid var(--edge);border-radius:.4em}
+th,td{border:0;padding:.1em .3em}
+tbody th::before{content:'#'}
+td:nth-child(3)::before{content:'layer: '}
+td:nth-child(5)::before{content:'diameter: '}
+td:nth-child(6)::before{content:'ring or gap: '}
+td:nth-child(7)::before{content:'rule: '}
+td:nth-child(8)::before{content:'cause: '}
+td:nth-child(9)::before{content:'waived: '}
+td::before{color:var(--faint)}
+}
 @media print{
 body,main,section,#picture,.sheet,.sheet[hidden]{display:block;height:auto}
 #picture,#rows{border:0;overflow:visible}
-.tools,details,#selected{display:none}
+.tools,#selected{display:none}
+header{max-height:none;overflow:visible}
 .sheet{outline:0;break-inside:avoid;margin-bottom:1em}
 .sight{aspect-ratio:var(--shape);width:min(100%,80vh*var(--shape))}
 table{min-width:0;font-size:.6em}

@@ -1,12 +1,9 @@
-//! The verdict and the rules in words.
+//! The verdict in words.
 
-ghost use Rattle.std.specs.Prelude.{◌≡◌, ◌≤◌, ◌++◌, ◌∷◌, pos, Some, codes};
-ghost use Rattle.std.specs.Fmt.{DisplaysOnOk};
-ghost use Rattle.print_text.specs.Texts.{profile_words, rule_words, waived_words};
-ghost use Rattle.report_page.specs.Pages.{count_words, rules_words, verdict, verdict_word};
+ghost use Rattle.std.specs.Prelude.{◌≡◌, Some};
+ghost use Rattle.print_text.specs.Texts.{waived_words};
+ghost use Rattle.report_page.specs.Pages.{count_words, verdict, verdict_word};
 
-use grid_units::{Profile, Rules};
-use printing::ShortMillimetres;
 use std::fmt;
 use std::fmt::{Display, Formatter};
 
@@ -41,20 +38,20 @@ impl Display for WaivedWords {
     }
 }
 
-/// `PASS` without findings, `WAIVED` where each is waived, else `FINDINGS`.
+/// `PASS: ` without findings, `WAIVED: ` where each is waived, else nothing.
 fn verdict_word(findings: u128, waived: u128) -> &'static str
     ensures { result.now ≡ verdict_word findings waived }
 {
     if findings == 0 {
-        "PASS"
+        "PASS: "
     } else if waived == findings {
-        "WAIVED"
+        "WAIVED: "
     } else {
-        "FINDINGS"
+        ""
     }
 }
 
-/// The verdict: `FINDINGS: 6 findings, 2 waived`.
+/// The verdict: `PASS: 0 findings`, `WAIVED: 2 findings, 2 waived` or `6 findings, 2 waived`.
 #[derive(Clone, Copy)]
 pub(crate) struct Verdict {
     pub(crate) findings: u128,
@@ -68,53 +65,6 @@ impl Display for Verdict {
     fn fmt<W: fmt::Write>(&self, f: &mut Formatter<W>) -> fmt::Result {
         let word = verdict_word(self.findings, self.waived);
         let (count, waived) = (CountWords(self.findings), WaivedWords(self.waived));
-        write!(f, "{word}: {count}{waived}")
-    }
-}
-
-/// A rule, in pm, after its words: `rules: annular ring 0.15 mm`.
-#[derive(Clone, Copy)]
-struct RuleWords {
-    words: &'static str,
-    rule: i64,
-}
-
-impl Display for RuleWords {
-    ghost output = { λ it. Some (rule_words it.words.now it.rule) };
-
-    #[tactic(auto, unfolding(print_text::specs::Texts::rule_words))]
-    fn fmt<W: fmt::Write>(&self, f: &mut Formatter<W>) -> fmt::Result {
-        write!(f, "{}{} mm", self.words, ShortMillimetres(self.rule))
-    }
-}
-
-/// The profile at the end of the rules: `, profile wide`; nothing of the strict one.
-fn profile_words(profile: Profile) -> &'static str
-    ensures { result.now ≡ profile_words profile }
-{
-    match profile {
-        Profile::Strict => "",
-        Profile::Wide => ", profile wide",
-    }
-}
-
-/// The rules and the profile: `rules: annular ring 0.15 mm, hole to hole 0.25 mm`, in the wide profile with `, profile wide`.
-#[derive(Clone, Copy)]
-pub(crate) struct RulesWords<'a>(pub(crate) &'a Rules);
-
-impl Display for RulesWords<'_> {
-    ghost output = { λ rules. Some (rules_words rules.0.now) };
-
-    fn fmt<W: fmt::Write>(&self, f: &mut Formatter<W>) -> fmt::Result {
-        let ring = RuleWords {
-            words: "rules: annular ring ",
-            rule: self.0.ring(),
-        };
-        let gap = RuleWords {
-            words: ", hole to hole ",
-            rule: self.0.gap(),
-        };
-        let profile = profile_words(self.0.profile());
-        write!(f, "{ring}{gap}{profile}")
+        write!(f, "{word}{count}{waived}")
     }
 }

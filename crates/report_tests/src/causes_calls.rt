@@ -5,7 +5,7 @@ ghost use Rattle.report.specs.Causes.{HoldsRowsAndBests};
 
 use crate::rows::{Form, RowFail, what_at};
 use further_copper::{FeatureRow, RowKind};
-use grid_units::{Hole, Point, Rules};
+use grid_units::{Hole, Point, Profile, Rules};
 use layer_image::{What, Why};
 use margins::best_pads;
 use report::{RingCause, *};
@@ -102,12 +102,37 @@ fn row_of(cause: RingCause) -> CauseRow {
     }
 }
 
+/// Adds an item, where there was memory for it.
+fn add<T: Copy>(all: &mut Vec<T>, item: Result<T, AllocError>) -> Result<(), AllocError> {
+    all.push(item?)?;
+    Ok(())
+}
+
+/// The first of some causes as a row.
+fn first_row(causes: &[RingCause]) -> Result<CauseRow, RowFail> {
+    match causes.first() {
+        Some(cause) => Ok(row_of(*cause)),
+        None => Err(RowFail::Figures),
+    }
+}
+
 /// The cause of a hole among some flashes, for a required ring.
-fn cause_of(alloc: Global, copper: &Copper, hole: HoleRow, ring: i64) -> Result<CauseRow, RowFail> {
-    let rules = Rules::new(ring, 1)?;
+fn cause_of(
+    alloc: Global,
+    copper: &Copper,
+    hole: HoleRow,
+    ring: i64,
+    profile: Profile,
+) -> Result<CauseRow, RowFail> {
+    let rules = Rules::new(ring, 1)?.in_profile(profile);
     let holes = [drilled(hole).ok_or(RowFail::Figures)?];
     let known = CauseFinder::new(alloc, &copper.rows, &copper.pads, &holes)?;
-    Ok(row_of(known.cause(&copper.rows, &copper.pads, &holes, 0, rules)))
+    let mut causes = Vec::new(alloc);
+    add(
+        &mut causes,
+        known.cause(&copper.rows, &copper.pads, &holes, 0, rules),
+    )?;
+    first_row(&causes)
 }
 
 /// The cause of a hole among the flashes of some rows.
@@ -116,9 +141,10 @@ fn cause_in(
     rows: &[FlashRow],
     hole: HoleRow,
     ring: i64,
+    profile: Profile,
 ) -> Result<CauseRow, RowFail> {
     let copper = copper_of(alloc, rows)?;
-    cause_of(alloc, &copper, hole, ring)
+    cause_of(alloc, &copper, hole, ring, profile)
 }
 
 /// A square that is 1 nm off the origin.
@@ -232,7 +258,59 @@ const CAUSES: [(&[FlashRow], HoleRow, i64, CauseRow); 10] = [
 fn causes_of_holes(rt: HostRuntime) {
     for &(rows, hole, ring, cause) in &CAUSES {
         assert!(rt;
-            cause_in(rt.alloc(), rows, hole, ring) == Ok(cause),
+            cause_in(rt.alloc(), rows, hole, ring, Profile::Strict) == Ok(cause),
+            "{}",
+            cause.0
+        );
+    }
+}
+
+/// A slot of 0.1 mm from 0,0 to 4,3, of which 0.03,-0.04 is the radius to its right and 0.04,0.03 the radius on from its end.
+const OBLIQUE_SLOT: HoleRow = ((0, 0), (4_000_000_000, 3_000_000_000), 50_000_000);
+
+/// Flashes, and the cause of a slot at an angle among them, in the wide profile.
+const OBLIQUE_CAUSES: [(&[FlashRow], HoleRow, CauseRow); 4] = [
+    // A flash 0.57 mm beside the slot, in the box round it.
+    (
+        &[(Form::Other(Why::Polygon), 1_400_000_000, 600_000_000)],
+        ((0, 0), (2_000_000_000, 2_000_000_000), 50_000_000),
+        NO_CAUSE,
+    ),
+    // Flashes 1 pm outside the slot: beside it, past its end and before its start.
+    (
+        &[
+            (Form::Other(Why::Polygon), 2_030_000_000, 1_459_999_999),
+            (Form::Other(Why::Polygon), 4_040_000_001, 3_030_000_000),
+            (Form::Other(Why::Polygon), -40_000_000, -30_000_001),
+        ],
+        OBLIQUE_SLOT,
+        NO_CAUSE,
+    ),
+    // Flashes at the rim: beside it, and past its end.
+    (
+        &[
+            (Form::Other(Why::Polygon), 2_030_000_000, 1_459_999_999),
+            (Form::Other(Why::Macro), 2_030_000_000, 1_460_000_000),
+            (Form::Other(Why::Polygon), 4_040_000_000, 3_030_000_000),
+        ],
+        OBLIQUE_SLOT,
+        ("macro", 2, 0, 0),
+    ),
+    (
+        &[
+            (Form::Other(Why::Polygon), 4_040_000_001, 3_030_000_000),
+            (Form::Other(Why::Macro), 4_040_000_000, 3_030_000_000),
+        ],
+        OBLIQUE_SLOT,
+        ("macro", 2, 0, 0),
+    ),
+];
+
+#[test]
+fn causes_of_oblique_slots(rt: HostRuntime) {
+    for &(rows, slot, cause) in &OBLIQUE_CAUSES {
+        assert!(rt;
+            cause_in(rt.alloc(), rows, slot, 100_000_000, Profile::Wide) == Ok(cause),
             "{}",
             cause.0
         );
@@ -252,7 +330,7 @@ fn push_row_of_flashes(copper: &mut Copper) -> Result<(), RowFail> {
 fn cause_in_a_row(alloc: Global, hole: HoleRow) -> Result<CauseRow, RowFail> {
     let mut copper = Copper::new(alloc);
     push_row_of_flashes(&mut copper)?;
-    cause_of(alloc, &copper, hole, 100_000_000)
+    cause_of(alloc, &copper, hole, 100_000_000, Profile::Wide)
 }
 
 /// Holes over a row of flashes, and their causes. Those with one, some and all of the flashes in them, where the flashes from 30 mm to
@@ -273,6 +351,46 @@ fn holes_in_a_row_of_flashes(rt: HostRuntime) {
         assert!(rt;
             cause_in_a_row(rt.alloc(), hole) == Ok(cause),
             "{radius} at {x},{y}"
+        );
+    }
+}
+
+/// Slots at an angle over a row of flashes, and their causes. One that crosses the row between the flashes at 18 mm and 22 mm, one that
+/// holds all of the flashes, and one whose ends stand on both sides of the row, between two flashes.
+const SLOTS_IN_A_ROW: [(HoleRow, CauseRow); 3] = [
+    (
+        (
+            (0, -20_000_000_000),
+            (40_000_000_000, 20_000_000_000),
+            1_000_000_000,
+        ),
+        ("macro", 19, 0, 0),
+    ),
+    (
+        (
+            (-1_000_000_000, -1_000_000_000),
+            (40_000_000_000, 1_000_000_000),
+            5_000_000_000,
+        ),
+        ("macro", 1, 0, 0),
+    ),
+    (
+        (
+            (20_400_000_000, -1_000_000_000),
+            (20_600_000_000, 1_000_000_000),
+            100_000_000,
+        ),
+        NO_CAUSE,
+    ),
+];
+
+#[test]
+fn slots_in_a_row_of_flashes(rt: HostRuntime) {
+    for &(slot, cause) in &SLOTS_IN_A_ROW {
+        assert!(rt;
+            cause_in_a_row(rt.alloc(), slot) == Ok(cause),
+            "{}",
+            cause.0
         );
     }
 }
@@ -299,7 +417,9 @@ fn cause_by_pads(
 ) -> Result<CauseRow, RowFail> {
     let rules = Rules::new(125_000_000, 1)?;
     let known = known_by_bests(alloc, rows, pads, holes)?;
-    Ok(row_of(known.cause(rows, pads, holes, 0, rules)))
+    let mut causes = Vec::new(alloc);
+    add(&mut causes, known.cause(rows, pads, holes, 0, rules))?;
+    first_row(&causes)
 }
 
 /// The cause of a hole of 0.4 mm at the origin in a square 1 nm off it, by best pads that are given.

@@ -6,7 +6,7 @@ use grid_units::{Fault, Profile, Reason, Span};
 use layer_image::Why;
 use package_check::{Board, File, FileSum, Keep, Role, read_package};
 use print_json::*;
-use print_text::no_acceptances;
+use print_text::{Particulars, no_acceptances};
 use report::{Acceptances, BoardReport, LayerHead, Met};
 use std::alloc::{AllocError, Global};
 
@@ -39,36 +39,36 @@ const STOPS: [(InputError, &str); 6] = [
                 reason: Reason::BadWord,
             },
         },
-        "{\"format\":\"ringcheck\",\"version\":2,\"result\":\"refused\",\"file\":1,\"name\":\"top\",\"place\":11,\"byte\":100,\"reason\":\"BadWord\"}\n",
+        "{\"format\":\"ringcheck\",\"version\":3,\"result\":\"refused\",\"file\":1,\"name\":\"top\",\"place\":11,\"byte\":100,\"reason\":\"BadWord\"}\n",
     ),
     (
         InputError::RefusedManifest {
             place: 3,
             reason: Reason::BadRole,
         },
-        "{\"format\":\"ringcheck\",\"version\":2,\"result\":\"refused\",\"place\":3,\"reason\":\"BadRole\"}\n",
+        "{\"format\":\"ringcheck\",\"version\":3,\"result\":\"refused\",\"place\":3,\"reason\":\"BadRole\"}\n",
     ),
     (
         InputError::Device {
             index: 1,
             name: "pth",
         },
-        "{\"format\":\"ringcheck\",\"version\":2,\"result\":\"device\",\"file\":2,\"name\":\"pth\"}\n",
+        "{\"format\":\"ringcheck\",\"version\":3,\"result\":\"device\",\"file\":2,\"name\":\"pth\"}\n",
     ),
     (
         InputError::ManifestDevice,
-        "{\"format\":\"ringcheck\",\"version\":2,\"result\":\"device\"}\n",
+        "{\"format\":\"ringcheck\",\"version\":3,\"result\":\"device\"}\n",
     ),
     (
         InputError::RefusedWaivers {
             place: 2,
             reason: Reason::EmptyName,
         },
-        "{\"format\":\"ringcheck\",\"version\":2,\"result\":\"refused\",\"waivers\":true,\"place\":2,\"reason\":\"EmptyName\"}\n",
+        "{\"format\":\"ringcheck\",\"version\":3,\"result\":\"refused\",\"waivers\":true,\"place\":2,\"reason\":\"EmptyName\"}\n",
     ),
     (
         InputError::WaiversDevice,
-        "{\"format\":\"ringcheck\",\"version\":2,\"result\":\"device\",\"waivers\":true}\n",
+        "{\"format\":\"ringcheck\",\"version\":3,\"result\":\"device\",\"waivers\":true}\n",
     ),
 ];
 
@@ -89,7 +89,7 @@ fn names_are_escaped(rt: HostRuntime) {
         ("", ""),
     ] {
         let head =
-            "{\"format\":\"ringcheck\",\"version\":2,\"result\":\"device\",\"file\":1,\"name\":\"";
+            "{\"format\":\"ringcheck\",\"version\":3,\"result\":\"device\",\"file\":1,\"name\":\"";
         assert!(rt;
             is_made_of(rt, name, &[head, escaped, "\"}\n"]),
             "{escaped}"
@@ -127,9 +127,10 @@ fn file<'a>(role: Role, name: &'a str, bytes: &'a [u8]) -> File<'a> {
 /// What stands first in a measure: in the wide profile its name too.
 fn measured_start(profile: Profile) -> &'static str {
     match profile {
-        Profile::Strict => "{\"format\":\"ringcheck\",\"version\":2,\"result\":\"measured\",",
+        Profile::Strict =>
+            "{\"format\":\"ringcheck\",\"version\":3,\"profile\":\"strict\",\"result\":\"measured\",",
         Profile::Wide => {
-            "{\"format\":\"ringcheck\",\"version\":2,\"profile\":\"wide\",\"result\":\"measured\","
+            "{\"format\":\"ringcheck\",\"version\":3,\"profile\":\"wide\",\"result\":\"measured\","
         }
     }
 }
@@ -253,15 +254,23 @@ const NOTHING: ReportRow = ReportRow {
     rings: &[],
     gaps: &[],
     scales: &[],
+    conflicts: &[],
     meets: (Met::None, Met::UpTo(1_046_051_224), Met::UpTo(275_000_000)),
 };
 
 /// What stands before the result of a report.
-const START: &str = "{\"format\":\"ringcheck\",\"version\":2,\"result\":\"";
+const START: &str = "{\"format\":\"ringcheck\",\"version\":3,\"profile\":\"strict\",\"result\":\"";
 
 /// The head of such a report.
 const HEAD: &str =
-    "\"rules\":{\"ring_pm\":100000000,\"gap_pm\":250000000},\"meets\":{\"ring_pm\":\"none\",\"gap_pm\":1046051224,\"held_pm\":275000000},\"files\":[{\"number\":1,\"role\":\"copper\",\"name\":\"top_layer\",\"pads\":242,\"other\":3}],\"scales\":[],\"findings\":[";
+    "\"manifest\":\"a \\\"b\\\".csv\",\"program\":\"ringcheck 1.2.3\",\"rules\":{\"ring_pm\":100000000,\"gap_pm\":250000000},\"meets\":{\"ring_pm\":\"none\",\"gap_pm\":1046051224,\"held_pm\":275000000},\"fewer_in_wide\":4,\"files\":[{\"number\":1,\"role\":\"copper\",\"name\":\"top_layer\",\"pads\":242,\"other\":3}],\"scales\":[],\"findings\":[";
+
+/// The particulars of these reports.
+const ABOUT: Particulars<'static> = Particulars {
+    manifest: "a \"b\".csv",
+    program: "ringcheck 1.2.3",
+    fewer: 4,
+};
 
 /// The JSON of a report with waivers.
 fn json_of<'a>(
@@ -275,6 +284,7 @@ fn json_of<'a>(
         contours: 0,
     }];
     let json = ReportJson {
+        about: &ABOUT,
         names: &["top_layer"],
         files,
         report,
@@ -355,7 +365,7 @@ fn reports_are_printed(rt: HostRuntime) {
 
 /// The JSON of a report in the wide profile, where a copper file has its contours too.
 const WIDE: &str =
-    "{\"format\":\"ringcheck\",\"version\":2,\"profile\":\"wide\",\"result\":\"pass\",\"rules\":{\"ring_pm\":100000000,\"gap_pm\":250000000},\"meets\":{\"ring_pm\":\"none\",\"gap_pm\":1046051224,\"held_pm\":275000000},\"files\":[{\"number\":1,\"role\":\"copper\",\"name\":\"top_layer\",\"pads\":242,\"other\":3,\"contours\":0}],\"scales\":[],\"findings\":[]}\n";
+    "{\"format\":\"ringcheck\",\"version\":3,\"profile\":\"wide\",\"result\":\"pass\",\"manifest\":\"a \\\"b\\\".csv\",\"program\":\"ringcheck 1.2.3\",\"rules\":{\"ring_pm\":100000000,\"gap_pm\":250000000},\"meets\":{\"ring_pm\":\"none\",\"gap_pm\":1046051224,\"held_pm\":275000000},\"fewer_in_wide\":null,\"files\":[{\"number\":1,\"role\":\"copper\",\"name\":\"top_layer\",\"pads\":242,\"other\":3,\"contours\":0}],\"scales\":[],\"findings\":[]}\n";
 
 /// Whether a report without findings has this JSON in the wide profile.
 fn is_printed_in_wide(alloc: Global, text: &str) -> bool {
@@ -377,17 +387,12 @@ fn a_report_in_the_wide_profile_is_printed(rt: HostRuntime) {
     assert!(rt; is_printed_in_wide(rt.alloc(), WIDE));
 }
 
-/// Whether the JSON of a report on a drill file that goes from layer 2 to layer 3 has this part.
-fn has_part(alloc: Global, report: &BoardReport, part: &str) -> bool {
-    let files = &[FileSum::Drill {
-        plated: true,
-        span: Span::new(2, 3),
-        round: 1,
-        slots: 0,
-    }];
+/// Whether the JSON of a report on a file has this part.
+fn has_part(alloc: Global, report: &BoardReport, file: FileSum, part: &str) -> bool {
     let json = ReportJson {
+        about: &ABOUT,
         names: &["blind"],
-        files,
+        files: &[file],
         report,
         accepted: &no_acceptances(),
     };
@@ -397,19 +402,55 @@ fn has_part(alloc: Global, report: &BoardReport, part: &str) -> bool {
     }
 }
 
-/// Whether the JSON of a report without findings on such a file has this part.
-fn nothing_has_part(alloc: Global, part: &str) -> bool {
+/// Whether the JSON of a report without findings on a file has this part.
+fn nothing_has_part(alloc: Global, file: FileSum, part: &str) -> bool {
     match report_of(alloc, &NOTHING) {
-        Ok(report) => has_part(alloc, &report, part),
+        Ok(report) => has_part(alloc, &report, file, part),
         Err(_) => false,
     }
 }
 
+/// A drill file: whether its role calls its holes plated, the first and the last layer that they go through, and whether its comments contradict
+/// its role; and its object.
+const DRILLS: [(bool, Option<(u32, u32)>, bool, &str); 4] = [
+    (
+        true,
+        Some((2, 3)),
+        false,
+        "[{\"number\":1,\"role\":\"plated\",\"name\":\"blind\",\"round\":1,\"slots\":0,\"span\":[2,3]}]",
+    ),
+    (
+        true,
+        Some((2, 3)),
+        true,
+        "[{\"number\":1,\"role\":\"plated\",\"name\":\"blind\",\"round\":1,\"slots\":0,\"span\":[2,3],\"contradicted\":true}]",
+    ),
+    (
+        false,
+        None,
+        false,
+        "[{\"number\":1,\"role\":\"unplated\",\"name\":\"blind\",\"round\":1,\"slots\":0,\"span\":null}]",
+    ),
+    (
+        false,
+        None,
+        true,
+        "[{\"number\":1,\"role\":\"unplated\",\"name\":\"blind\",\"round\":1,\"slots\":0,\"span\":null,\"contradicted\":true}]",
+    ),
+];
+
 #[test]
-fn a_span_is_printed(rt: HostRuntime) {
-    let part =
-        "{\"number\":1,\"role\":\"plated\",\"name\":\"blind\",\"round\":1,\"slots\":0,\"span\":[2,3]}";
-    assert!(rt; nothing_has_part(rt.alloc(), part));
+fn drill_files_are_printed(rt: HostRuntime) {
+    for &(plated, layers, contradicted, part) in &DRILLS {
+        let file = FileSum::Drill {
+            plated,
+            span: layers.and_then(|(first, last)| Span::new(first, last)),
+            contradicted,
+            round: 1,
+            slots: 0,
+        };
+        assert!(rt; nothing_has_part(rt.alloc(), file, part), "{part}");
+    }
 }
 
 const ROUND: HoleRow = (1, 1, (0, 0), (0, 0), 400_000_000);

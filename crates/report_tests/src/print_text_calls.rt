@@ -19,6 +19,7 @@ const NOTHING: ReportRow = ReportRow {
     rings: &[],
     gaps: &[],
     scales: &[],
+    conflicts: &[],
     meets: (Met::UpTo(0), Met::UpTo(1), Met::UpTo(0)),
 };
 
@@ -181,7 +182,7 @@ fn a_limited_report_is_printed(rt: HostRuntime) {
         B_Cu, 0.3: 24 holes below the rule, smallest ring 0.099394596\n\
         48 off centre: the pad is large enough for a hole at its centre; drill files are rounded: see `ringcheck explain ring`\n\
         smallest ring 0.099394596 (rule 0.1)\n\
-        this board meets annular ring 0.099394596, hole to hole 0.3\n\
+        annular ring 0.099394596 is met; hole to hole 0.3 is met\n\
         FINDINGS 48\n";
     assert!(rt; is_limited_so(rt.alloc(), text));
 }
@@ -411,7 +412,7 @@ fn mixed_layers_are_printed_one_by_one(rt: HostRuntime) {
         and 1 more\n\
         hole to hole: 0 gaps too small\n\
         5 no pad at the hole: none was flashed here, or its copper is drawn or of a shape that is not judged, or origin or format differ: see `ringcheck explain none`\n\
-        this board meets annular ring 0, hole to hole 0.25\n\
+        annular ring 0 is met; hole to hole 0.25 is met\n\
         FINDINGS 5\n";
     assert!(rt; is_printed(rt.alloc(), &STICK, &MIXED, Some(4), text));
 }
@@ -441,7 +442,7 @@ fn a_hole_hit_twice_is_printed(rt: HostRuntime) {
         hole to hole: 1 gap too small\n  \
         #1 hole 1 of pth, 0.4 at 0,0, and hole 2 of pth, 0.4 at 0,0: gap -0.4 (rule 0.25)\n\
         smallest gap -0.4 (rule 0.25)\n\
-        this board meets annular ring 0.125, hole to hole -0.4\n\
+        annular ring 0.125 is met; hole to hole -0.4 is met\n\
         FINDINGS 1\n";
     assert!(rt; is_printed(rt.alloc(), &["top", "pth"], &HIT_TWICE, None, text));
 }
@@ -456,11 +457,11 @@ const ANY: ReportRow = ReportRow {
 const PASSES: [(Profile, &str); 2] = [
     (
         Profile::Strict,
-        "rules: annular ring 0 mm, hole to hole 0.000000001 mm\nhole to hole: 0 gaps too small\nthis board meets annular ring any, hole to hole any\nPASS\n",
+        "rules: annular ring 0 mm, hole to hole 0.000000001 mm\nhole to hole: 0 gaps too small\nany annular ring is met; any hole to hole gap is met\nPASS\n",
     ),
     (
         Profile::Wide,
-        "rules: annular ring 0 mm, hole to hole 0.000000001 mm, profile wide\nhole to hole: 0 gaps too small\nthis board meets annular ring any, hole to hole any\nPASS\n",
+        "rules: annular ring 0 mm, hole to hole 0.000000001 mm, profile wide\nhole to hole: 0 gaps too small\nany annular ring is met; any hole to hole gap is met\nPASS\n",
     ),
 ];
 
@@ -470,6 +471,61 @@ fn a_package_that_passes_is_printed(rt: HostRuntime) {
         let row = ReportRow { profile, ..ANY };
         assert!(rt; is_printed(rt.alloc(), &[], &row, Some(0), text), "{text}");
     }
+}
+
+/// A drill file whose role calls its holes plated.
+const PLATED: RoleConflict = RoleConflict {
+    drill: 1,
+    plated: true,
+};
+
+/// A drill file whose role calls its holes unplated.
+const UNPLATED: RoleConflict = RoleConflict {
+    drill: 2,
+    plated: false,
+};
+
+/// Drill files whose comments contradict their role, and what the report begins with.
+const CONFLICTS: [(&[RoleConflict], &str); 3] = [
+    (
+        &[UNPLATED],
+        "warning: board-NPTH.drl: its role is unplated, and it says that holes are plated\nrules: ",
+    ),
+    (
+        &[PLATED],
+        "warning: board-PTH.drl: its role is plated, and it says that holes are not plated\nrules: ",
+    ),
+    (
+        &[PLATED, UNPLATED],
+        "warning: board-PTH.drl: its role is plated, and it says that holes are not plated\n\
+        warning: board-NPTH.drl: its role is unplated, and it says that holes are plated\nrules: ",
+    ),
+];
+
+#[test]
+fn contradicted_roles_are_told_before_the_rules(rt: HostRuntime) {
+    let names = ["top", "board-PTH.drl", "board-NPTH.drl"];
+    for &(conflicts, text) in &CONFLICTS {
+        let row = ReportRow {
+            conflicts,
+            ..NOTHING
+        };
+        assert!(rt; begins_with(rt.alloc(), &names, &row, &[text]), "{text}");
+    }
+}
+
+#[test]
+fn contradicted_roles_are_told_after_the_scales(rt: HostRuntime) {
+    let row = ReportRow {
+        scales: &[TENTH],
+        conflicts: &[UNPLATED],
+        ..NOTHING
+    };
+    let text =
+        "pth: coordinates look 10 times too small: 3 holes have no pad; with coordinates times 10 it would be 0\n\
+        warning: npth: its role is unplated, and it says that holes are plated\n\
+        rules: ";
+    assert!(rt; begins_with(rt.alloc(), &["top", "pth", "npth"], &row, &[text]));
 }
 
 /// A hole that lacks its ring.
@@ -533,7 +589,7 @@ fn causes_and_scales_are_printed(rt: HostRuntime) {
         1 no pad at the hole: none was flashed here, or its copper is drawn or of a shape that is not judged, or origin or format differ: see `ringcheck explain none`\n\
         1 oblique slot: plated slots that lie along no axis are not judged\n\
         smallest ring 0.099394596 (rule 0.15)\n\
-        this board meets annular ring none, hole to hole 1.046051224; where a pad is, annular ring 0.275\n\
+        no annular ring is met: 10 findings are of holes with no pad that counts (without them: 0.275); hole to hole 1.046051224 is met\n\
         FINDINGS 13\n";
     assert!(rt; is_printed(rt.alloc(), &["top", "pth"], &EACH_CAUSE, None, text));
 }
@@ -551,7 +607,7 @@ fn macros_of_some_forms_are_judged_in_the_wide_profile(rt: HostRuntime) {
     let text = "rules: annular ring 0.15 mm, hole to hole 0.25 mm, profile wide\n\
         hole to hole: 0 gaps too small\n\
         1 only a macro flash: macros of this form are not judged: choose circle, oval or rectangle: see `ringcheck explain macro`\n\
-        this board meets annular ring any, hole to hole any\n\
+        any annular ring is met; any hole to hole gap is met\n\
         FINDINGS 1\n";
     assert!(rt; is_printed(rt.alloc(), &["top", "pth"], &WIDE_MACRO, None, text));
 }
@@ -620,8 +676,8 @@ const WAIVED: [WaivedRow; 4] = [
         #6 hole 3 of pth, 0.4 at 0,0, and hole 3 of pth, 0.4 at 0,0: gap -0.4 (rule 0.25), waived: y\n\
         3 no pad at the hole: none was flashed here, or its copper is drawn or of a shape that is not judged, or origin or format differ: see `ringcheck explain none`\n\
         smallest gap -0.4 (rule 0.25)\n\
-        this board meets annular ring 0.1, hole to hole -0.4\n\
-        waiver 8 waives nothing\n\
+        annular ring 0.1 is met; hole to hole -0.4 is met\n\
+        waiver 8 matches no finding\n\
         WAIVED 6\n",
     ),
     (
@@ -641,9 +697,9 @@ const WAIVED: [WaivedRow; 4] = [
         and 3 more\n\
         3 no pad at the hole: none was flashed here, or its copper is drawn or of a shape that is not judged, or origin or format differ: see `ringcheck explain none`\n\
         smallest gap -0.4 (rule 0.25)\n\
-        this board meets annular ring 0.1, hole to hole -0.4\n\
-        waiver 2 waives nothing\n\
-        waiver 9 waives nothing\n\
+        annular ring 0.1 is met; hole to hole -0.4 is met\n\
+        waiver 2 matches no finding\n\
+        waiver 9 matches no finding\n\
         FINDINGS 1\n",
     ),
     (
@@ -664,7 +720,7 @@ const WAIVED: [WaivedRow; 4] = [
         and 2 more\n\
         3 no pad at the hole: none was flashed here, or its copper is drawn or of a shape that is not judged, or origin or format differ: see `ringcheck explain none`\n\
         smallest gap -0.4 (rule 0.25)\n\
-        this board meets annular ring 0.1, hole to hole -0.4\n\
+        annular ring 0.1 is met; hole to hole -0.4 is met\n\
         FINDINGS 3\n",
     ),
     (
@@ -682,7 +738,7 @@ const WAIVED: [WaivedRow; 4] = [
         and 3 more\n\
         3 no pad at the hole: none was flashed here, or its copper is drawn or of a shape that is not judged, or origin or format differ: see `ringcheck explain none`\n\
         smallest gap -0.4 (rule 0.25)\n\
-        this board meets annular ring 0.1, hole to hole -0.4\n\
+        annular ring 0.1 is met; hole to hole -0.4 is met\n\
         FINDINGS 5\n",
     ),
 ];
@@ -719,12 +775,92 @@ const IDLE: WaivedRow = (
     },
     None,
     0,
-    "rules: annular ring 0 mm, hole to hole 0.000000001 mm\nhole to hole: 0 gaps too small\nthis board meets annular ring 0, hole to hole 0.000000001\nwaiver 2 waives nothing\nPASS\n",
+    "rules: annular ring 0 mm, hole to hole 0.000000001 mm\nhole to hole: 0 gaps too small\nannular ring 0 is met; hole to hole 0.000000001 is met\nwaiver 2 matches no finding\nPASS\n",
 );
 
 #[test]
 fn a_waiver_that_waives_nothing_leaves_a_pass(rt: HostRuntime) {
     assert!(rt; is_waived_so(rt.alloc(), &NOTHING, &IDLE));
+}
+
+/// A hole in a pad that is too small for it.
+const IN_PAD: RingRow = (0, FIRST_HOLE, CauseRow::Edge(1, 0, 100_000_000));
+
+/// What a package meets (ring, gap and ring of holes in pads), the rings that lack, and the line.
+type MetRow = ((Met, Met, Met), &'static [RingRow], &'static str);
+
+const MEETS: [MetRow; 7] = [
+    (
+        (Met::Any, Met::Any, Met::Any),
+        &[],
+        "\nany annular ring is met; any hole to hole gap is met\n",
+    ),
+    (
+        (
+            Met::UpTo(149_000_000),
+            Met::UpTo(-1),
+            Met::UpTo(149_000_000),
+        ),
+        &[],
+        "\nannular ring 0.149 is met; hole to hole -0.000000001 is met\n",
+    ),
+    (
+        (Met::None, Met::None, Met::None),
+        &[],
+        "\nno annular ring is met; no hole to hole gap is met\n",
+    ),
+    (
+        (Met::None, Met::Any, Met::None),
+        &[(0, FIRST_HOLE, CauseRow::NoFlash)],
+        "\nno annular ring is met: 1 finding is of a hole with no pad that counts; any hole to hole gap is met\n",
+    ),
+    (
+        (Met::None, Met::UpTo(200_000_000), Met::UpTo(149_000_000)),
+        &[(0, FIRST_HOLE, CauseRow::Oblique), IN_PAD],
+        "\nno annular ring is met: 1 finding is of a hole with no pad that counts (without it: 0.149); hole to hole 0.2 is met\n",
+    ),
+    (
+        (Met::None, Met::UpTo(200_000_000), Met::UpTo(-1_000_000)),
+        &[
+            (0, FIRST_HOLE, CauseRow::Clear(1)),
+            IN_PAD,
+            (0, SECOND_HOLE, CauseRow::Other(Why::Macro, 1)),
+        ],
+        "\nno annular ring is met: 2 findings are of holes with no pad that counts (without them: -0.001); hole to hole 0.2 is met\n",
+    ),
+    (
+        (Met::None, Met::Any, Met::Any),
+        &[
+            (0, FIRST_HOLE, CauseRow::Cleared(1)),
+            (0, SECOND_HOLE, CauseRow::NoFlash),
+        ],
+        "\nno annular ring is met: 2 findings are of holes with no pad that counts; any hole to hole gap is met\n",
+    ),
+];
+
+/// Whether this stands in the text of a report.
+fn has_line(alloc: Global, report: &BoardReport, line: &str) -> bool {
+    match ReportText::new(alloc, &HOLED, report, 0, None, &no_acceptances()) {
+        Ok(text) => match format!(in alloc; "{text}") {
+            Ok(written) => written.as_str().contains(line),
+            Err(_) => false,
+        },
+        Err(_) => false,
+    }
+}
+
+#[test]
+fn what_a_package_meets_is_said(rt: HostRuntime) -> Result<(), RowFail> {
+    for (meets, rings, line) in MEETS {
+        let row = ReportRow {
+            rings,
+            meets,
+            ..NOTHING
+        };
+        let report = report_of(rt.alloc(), &row)?;
+        assert!(rt; has_line(rt.alloc(), &report, line), "{line}");
+    }
+    Ok(())
 }
 
 /// A writer that fails at one call, and takes what comes before and after it.
@@ -780,11 +916,11 @@ const FEWER: [(u128, &str); 3] = [
     (0, "\nFINDINGS 6\n"),
     (
         1,
-        "\n1 of these is not there with --profile wide\nFINDINGS 6\n",
+        "\n1 of these 6 findings disappears with --profile wide, which counts pads with rounded corners\nFINDINGS 6\n",
     ),
     (
         4,
-        "\n4 of these are not there with --profile wide\nFINDINGS 6\n",
+        "\n4 of these 6 findings disappear with --profile wide, which counts pads with rounded corners\nFINDINGS 6\n",
     ),
 ];
 
@@ -812,5 +948,9 @@ fn findings_that_the_wide_profile_does_not_have_are_counted(
     for (fewer, end) in FEWER {
         assert!(rt; ends_with(rt.alloc(), &report, fewer, end), "{fewer}");
     }
+    let report = report_of(rt.alloc(), &HIT_TWICE)?;
+    let end =
+        "\nthis finding disappears with --profile wide, which counts pads with rounded corners\nFINDINGS 1\n";
+    assert!(rt; ends_with(rt.alloc(), &report, 1, end));
     Ok(())
 }

@@ -5,7 +5,7 @@ use layer_image::{What, Why};
 use pad_shapes::{Disc, Obround, Pad, Rect};
 use report::{
     BoardReport, GapLack, HolePlace, LayerHead, Meets, Met, PlacedHole, RingAtEdge, RingCause,
-    RingInPad, RingLack, UnitMistake,
+    RingInPad, RingLack, RoleConflict, UnitMistake,
 };
 use std::alloc::{AllocError, Global};
 
@@ -136,6 +136,7 @@ pub(crate) struct ReportRow<'a> {
     pub(crate) rings: &'a [RingRow],
     pub(crate) gaps: &'a [GapRow],
     pub(crate) scales: &'a [UnitMistake],
+    pub(crate) conflicts: &'a [RoleConflict],
     pub(crate) meets: (Met, Met, Met),
 }
 
@@ -147,6 +148,7 @@ fn report_under(alloc: Global, rules: Rules, (ring, gap, in_pads): (Met, Met, Me
         rings: Vec::new(alloc),
         gaps: Vec::new(alloc),
         scales: Vec::new(alloc),
+        conflicts: Vec::new(alloc),
         meets: Meets { ring, gap, in_pads },
     }
 }
@@ -182,6 +184,7 @@ fn add_findings(report: &mut BoardReport, row: &ReportRow) -> Result<(), RowFail
 fn fill(report: &mut BoardReport, row: &ReportRow) -> Result<(), RowFail> {
     report.layers.extend_from_slice(row.layers)?;
     report.scales.extend_from_slice(row.scales)?;
+    report.conflicts.extend_from_slice(row.conflicts)?;
     add_findings(report, row)
 }
 

@@ -337,6 +337,7 @@ const NOTHING: ReportRow = ReportRow {
     rings: &[],
     gaps: &[],
     scales: &[],
+    conflicts: &[],
     meets: (Met::None, Met::Any, Met::Any),
 };
 

@@ -29,8 +29,10 @@ reports_along later has to name rules limit form waivers outline before after pa
   drawn = r.drawn;
   as_check = r.as_check;
   sound = r.sound;
-  fewer = r.fewer;
-  is_fewer = fewer_along later has to name (asks_wide form rules r.report) rules r.report r.fewer r.is_fewer;
+  about = r.about;
+  manifest = r.manifest;
+  program = r.program;
+  is_fewer = fewer_along later has to name (asks_wide form rules r.report) rules r.report r.about.fewer r.is_fewer;
   accepted = r.accepted;
   judged = r.judged;
   written = r.written;

@@ -1,14 +1,16 @@
 -- Rewritten files say the same.
-use Rattle.std.proofs.Common.{◌≡◌, ◌↔◌, ℕ, Bool, true, false, List, [], ◌∷◌, Option, Result, Ok, Err, sym, ap, subst, ◌∙◌, inl, inr}
-use Rattle.grid_units.specs.Holes.{GridHole}
+use Rattle.std.proofs.Common.{◌≡◌, ◌↔◌, ℕ, Bool, true, false, List, [], ◌∷◌, Option, Result, Ok, Err, refl, sym, ap, subst, ◌∙◌, inl, inr}
+use Rattle.std.proofs.lemmas.Bool.{false≢true}
+use Rattle.std.specs.List.{list_any}
 use Rattle.grid_units.specs.Spans.{LayerSpan}
 use Rattle.grid_units.specs.declared.fault.Fault.{Fault}
 use Rattle.grid_units.specs.declared.profile.Profile.{Profile}
 use Rattle.grid_units.specs.declared.profile.Profile.TheVariants.{Strict, Wide}
 use Rattle.gerber_text.specs.Writing.{without_places}
 use Rattle.drill_lines.specs.declared.command.DrillCommand.{DrillCommand}
-use Rattle.drill_text.specs.Holes.{holes_of}
-use Rattle.drill_text.specs.Profiles.{ReadsIn}
+use Rattle.drill_text.specs.MixedLaws.{KindsReadTheSame, UncontradictedIsLegal}
+use Rattle.drill_text.specs.Plating.{calls_plated}
+use Rattle.drill_text.specs.Profiles.{Kind, ReadsBy, ReadsIn, unplated_in}
 use Rattle.drill_text.specs.Reading as drills
 use Rattle.drill_text.specs.Texts.{IsDrillText}
 use Rattle.layer_image.specs.Layers as layers
@@ -21,16 +23,17 @@ use Rattle.single_files.specs.Rewriting.{HaveSameCommands, KeepsCommands}
 use Rattle.package_check.specs.declared.contents.Content.{Content}
 use Rattle.package_check.specs.declared.contents.Content.TheVariants as content
 use Rattle.package_check.specs.LayerViews.{LayerView}
-use Rattle.package_check.specs.FileTexts.{HasLayerView, ReadsDrill, layer_view}
+use Rattle.package_check.specs.DrillViews.{DrillView}
+use Rattle.package_check.specs.FileTexts.{HasLayerView, ReadsDrill, drill_kind, drill_view, layer_view}
 use Rattle.package_check.specs.Package.{FileView, ReadsBytes, ReadsUnlessBadSpan, ReadsCopper, ReadsHoles, Setting, is_bad_span}
 use Rattle.package_check.specs.AlikePackages.{ReadAlike, AllReadAlike, SameAnswers}
 use Rattle.ringcheck.specs.RewrittenPackages.{is_mixed, kind_of, with_bytes, IsRewritten, AreRewritten, RewritingKeepsAnswers}
 
 module _ (layer_once : layers.ReadingIsUniqueIn) (layer_wide : layers.WideReadsMore) (equal : EqualCommands)
     (drill_once : (text : List ℕ) (a b : Result (List DrillCommand) Fault) → drills.Reads text a → drills.Reads text b → a ≡ b)
-    (drill_once_in : (profile : Profile) (text : List ℕ) (a b : Result (List DrillCommand) Fault) → ReadsIn profile text a → ReadsIn profile text b → a ≡ b)
+    (kinds_once : (kind : Kind) (text : List ℕ) (a b : Result (List DrillCommand) Fault) → ReadsBy kind text a → ReadsBy kind text b → a ≡ b)
     (drill_wide : (text : List ℕ) (commands : List DrillCommand) → drills.Reads text (Ok commands) → ReadsIn Wide text (Ok commands))
-    (texts : (text : List ℕ) (commands : List DrillCommand) → (drills.Reads text (Ok commands)) ↔ (IsDrillText text commands)) (keeps : KeepsCommands) where
+    (texts : (text : List ℕ) (commands : List DrillCommand) → (drills.Reads text (Ok commands)) ↔ (IsDrillText text commands)) (same_in : KindsReadTheSame) (legal : UncontradictedIsLegal) (keeps : KeepsCommands) where
   other_kind : (s t : List ℕ) → HaveSameCommands kind.Layer s t → HaveSameCommands kind.Layer t s
   other_kind s t h = (h.1, h.0, h.3, h.2, sym h.4)
 
@@ -59,7 +62,7 @@ module _ (layer_once : layers.ReadingIsUniqueIn) (layer_wide : layers.WideReadsM
 
   copper_same : (profile : Profile) (s t : List ℕ) → HaveSameCommands kind.Layer s t → (answer : Result Content Fault) → ReadsCopper profile s answer → ReadsCopper profile t answer
   copper_same profile s t h (Ok (content.Layer image)) k = (layer_same profile s t h image k.0, k.1)
-  copper_same profile s t h (Ok (content.Drill plated span holes)) k = absurd k
+  copper_same profile s t h (Ok (content.Drill plated span drill)) k = absurd k
   copper_same profile s t h (Ok (content.Mixed span holes)) k = absurd k
   copper_same profile s t h (Err f) (inl k) = absurd (no_fault profile s h.0 f h.2 k)
   copper_same profile s t h (Err f) (inr k) = inr (k.0, layer_same profile s t h k.0 k.1, k.2, k.3)
@@ -70,37 +73,52 @@ module _ (layer_once : layers.ReadingIsUniqueIn) (layer_wide : layers.WideReadsM
   same_commands : (s : List ℕ) (a b : List DrillCommand) → IsDrillText s a → IsDrillText s b → a ≡ b
   same_commands s a b h k = let e : (let x : Result (List DrillCommand) Fault = Ok a in let y : Result (List DrillCommand) Fault = Ok b in x ≡ y) = drill_once s (Ok a) (Ok b) ((texts s a).1 h) ((texts s b).1 k) in cc
 
+  -- where the role of a file of the wide profile calls it unplated, none of its commands says that holes are plated
+  IsSilent : Profile → Bool → List DrillCommand → Type 0
+  IsSilent profile plated commands = profile ≡ Wide → plated ≡ false → list_any calls_plated commands ≡ false
+
   -- a drill text of the strict profile is the same in the wide one
-  in_wide : (s : List ℕ) (a : List DrillCommand) → IsDrillText s a → ReadsIn Wide s (Ok a)
-  in_wide s a h = drill_wide s a ((texts s a).1 h)
+  in_wide : (plated : Bool) (s : List ℕ) (a : List DrillCommand) → IsSilent Wide plated a → IsDrillText s a → ReadsBy (drill_kind Wide plated) s (Ok a)
+  unfolding IsSilent
+  in_wide true s a silent h = drill_wide s a ((texts s a).1 h)
+  in_wide false s a silent h = (same_in (unplated_in Wide) s a).1 (drill_wide s a ((texts s a).1 h), (legal a).1 (silent refl refl))
 
-  same_wide : (s : List ℕ) (a b : List DrillCommand) → ReadsIn Wide s (Ok a) → IsDrillText s b → a ≡ b
-  same_wide s a b h k = let e : (let x : Result (List DrillCommand) Fault = Ok a in let y : Result (List DrillCommand) Fault = Ok b in x ≡ y) = drill_once_in Wide s (Ok a) (Ok b) h (in_wide s b k) in cc
+  same_wide : (plated : Bool) (s : List ℕ) (a b : List DrillCommand) → IsSilent Wide plated b → ReadsBy (drill_kind Wide plated) s (Ok a) → IsDrillText s b → a ≡ b
+  same_wide plated s a b silent h k = let e : (let x : Result (List DrillCommand) Fault = Ok a in let y : Result (List DrillCommand) Fault = Ok b in x ≡ y) = kinds_once (drill_kind Wide plated) s (Ok a) (Ok b) h (in_wide plated s b silent k) in cc
 
-  no_drill_fault : (profile : Profile) (s : List ℕ) (a : List DrillCommand) (f : Fault) → IsDrillText s a → ReadsDrill profile s (Err f) → ⊥
-  no_drill_fault Strict s a f h k = let e : (let x : Result (List DrillCommand) Fault = Ok a in let y : Result (List DrillCommand) Fault = Err f in x ≡ y) = drill_once s (Ok a) (Err f) ((texts s a).1 h) k in cc
-  no_drill_fault Wide s a f h k = let e : (let x : Result (List DrillCommand) Fault = Ok a in let y : Result (List DrillCommand) Fault = Err f in x ≡ y) = drill_once_in Wide s (Ok a) (Err f) (in_wide s a h) k in cc
+  no_drill_fault : (profile : Profile) (plated : Bool) (s : List ℕ) (a : List DrillCommand) (f : Fault) → IsSilent profile plated a → IsDrillText s a → ReadsDrill profile plated s (Err f) → ⊥
+  no_drill_fault Strict plated s a f silent h k = let e : (let x : Result (List DrillCommand) Fault = Ok a in let y : Result (List DrillCommand) Fault = Err f in x ≡ y) = drill_once s (Ok a) (Err f) ((texts s a).1 h) k in cc
+  no_drill_fault Wide plated s a f silent h k = let e : (let x : Result (List DrillCommand) Fault = Ok a in let y : Result (List DrillCommand) Fault = Err f in x ≡ y) = kinds_once (drill_kind Wide plated) s (Ok a) (Err f) (in_wide plated s a silent h) k in cc
 
-  drill_same : (profile : Profile) (s t : List ℕ) → HaveSameCommands kind.Drill s t → (holes : List GridHole) → ReadsDrill profile s (Ok holes) → ReadsDrill profile t (Ok holes)
-  drill_same Strict s t h holes k = (h.0, h.2, k.2 ∙ ap holes_of (same_commands s k.0 h.0 k.1 h.1))
-  drill_same Wide s t h holes k = (h.0, in_wide t h.0 h.2, k.2 ∙ ap holes_of (same_wide s k.0 h.0 k.1 h.1))
+  drill_same : (profile : Profile) (plated : Bool) (s t : List ℕ) (h : HaveSameCommands kind.Drill s t) → IsSilent profile plated h.0 → (drill : DrillView) → ReadsDrill profile plated s (Ok drill) → ReadsDrill profile plated t (Ok drill)
+  drill_same Strict plated s t h silent drill k = (h.0, h.2, k.2 ∙ ap (drill_view plated) (same_commands s k.0 h.0 k.1 h.1))
+  drill_same Wide plated s t h silent drill k = (h.0, in_wide plated t h.0 silent h.2, k.2 ∙ ap (drill_view plated) (same_wide plated s k.0 h.0 silent k.1 h.1))
 
-  holes_same : (profile : Profile) (plated : Bool) (span : Option LayerSpan) (s t : List ℕ) → HaveSameCommands kind.Drill s t → (answer : Result Content Fault) → ReadsHoles profile plated span s answer → ReadsHoles profile plated span t answer
-  holes_same profile plated span s t h (Ok (content.Layer image)) k = absurd k
-  holes_same profile plated span s t h (Ok (content.Mixed through holes)) k = absurd k
-  holes_same profile plated span s t h (Ok (content.Drill has through holes)) k = (drill_same profile s t h holes k.0, k.1, k.2)
-  holes_same profile plated span s t h (Err f) k = absurd (no_drill_fault profile s h.0 f h.1 k)
+  holes_same : (profile : Profile) (plated : Bool) (span : Option LayerSpan) (s t : List ℕ) (h : HaveSameCommands kind.Drill s t) → IsSilent profile plated h.0 → (answer : Result Content Fault) → ReadsHoles profile plated span s answer → ReadsHoles profile plated span t answer
+  holes_same profile plated span s t h silent (Ok (content.Layer image)) k = absurd k
+  holes_same profile plated span s t h silent (Ok (content.Mixed through holes)) k = absurd k
+  holes_same profile plated span s t h silent (Ok (content.Drill has through drill)) k = (drill_same profile plated s t h silent drill k.0, k.1, k.2)
+  holes_same profile plated span s t h silent (Err f) k = absurd (no_drill_fault profile plated s h.0 f silent h.1 k)
 
-  same_bytes : (r : Role) (name : List ℕ) (span : Option LayerSpan) (n : Setting) (s t : List ℕ) → is_mixed r ≡ false → HaveSameCommands (kind_of r) s t → (answer : Result Content Fault)
+  -- what is asked of a file that is rewritten
+  Uncontradicted : Role → Profile → List ℕ → Type 0
+  Uncontradicted r profile s = profile ≡ Wide → r ≡ role.Unplated → (commands : List DrillCommand) → IsDrillText s commands → list_any calls_plated commands ≡ false
+
+  same_bytes : (r : Role) (name : List ℕ) (span : Option LayerSpan) (n : Setting) (s t : List ℕ) → is_mixed r ≡ false → Uncontradicted r n.profile s → HaveSameCommands (kind_of r) s t → (answer : Result Content Fault)
       → ReadsBytes (record { role = r; name = name; span = span; bytes = s; setting = n }) answer ↔ ReadsBytes (record { role = r; name = name; span = span; bytes = t; setting = n }) answer
-  same_bytes role.Copper name span n s t other h answer = (copper_same n.profile s t h answer, copper_same n.profile t s (other_kind s t h) answer)
-  same_bytes role.Plated name span n s t other h answer = (holes_same n.profile true span s t h answer, holes_same n.profile true span t s (other_drill s t h) answer)
-  same_bytes role.Unplated name span n s t other h answer = (holes_same n.profile false span s t h answer, holes_same n.profile false span t s (other_drill s t h) answer)
-  same_bytes role.Mixed name span n s t other h answer = absurd cc
+  unfolding IsSilent Uncontradicted other_drill
+  same_bytes role.Copper name span n s t other silent h answer = (copper_same n.profile s t h answer, copper_same n.profile t s (other_kind s t h) answer)
+  same_bytes role.Plated name span n s t other silent h answer =
+      let plated : IsSilent n.profile true h.0 = λ wide unplated. absurd (false≢true (sym unplated)) in
+      (holes_same n.profile true span s t h plated answer, holes_same n.profile true span t s (other_drill s t h) plated answer)
+  same_bytes role.Unplated name span n s t other silent h answer =
+      let unplated : IsSilent n.profile false h.0 = λ wide is. silent wide refl h.0 h.1 in
+      (holes_same n.profile false span s t h unplated answer, holes_same n.profile false span t s (other_drill s t h) unplated answer)
+  same_bytes role.Mixed name span n s t other silent h answer = absurd cc
 
   -- a span that is refused is refused on both sides
-  same_text : (x : FileView) (text : List ℕ) → is_mixed x.role ≡ false → HaveSameCommands (kind_of x.role) x.bytes text → ReadAlike x (with_bytes x text)
-  same_text x text other h answer = by (is_bad_span x.role x.span x.setting.layers) (same_bytes x.role x.name x.span x.setting x.bytes text other h answer)
+  same_text : (x : FileView) (text : List ℕ) → is_mixed x.role ≡ false → Uncontradicted x.role x.setting.profile x.bytes → HaveSameCommands (kind_of x.role) x.bytes text → ReadAlike x (with_bytes x text)
+  same_text x text other silent h answer = by (is_bad_span x.role x.span x.setting.layers) (same_bytes x.role x.name x.span x.setting x.bytes text other silent h answer)
     where
       by : (t : Bool) → (ReadsBytes x answer ↔ ReadsBytes (with_bytes x text) answer)
           → ReadsUnlessBadSpan t x answer ↔ ReadsUnlessBadSpan t (with_bytes x text) answer
@@ -108,8 +126,9 @@ module _ (layer_once : layers.ReadingIsUniqueIn) (layer_wide : layers.WideReadsM
       by false same = same
 
   one_file : (x y : FileView) → IsRewritten x y → ReadAlike x y
+  unfolding Uncontradicted
   one_file x y (inl e) = subst (λ (z : FileView). ReadAlike x z) (sym e) (λ answer. (λ h. h, λ h. h))
-  one_file x y (inr h) = subst (λ (z : FileView). ReadAlike x z) (sym h.3) (same_text x h.0 h.1 (keeps (kind_of x.role) x.bytes h.0 h.2))
+  one_file x y (inr h) = subst (λ (z : FileView). ReadAlike x z) (sym h.4) (same_text x h.0 h.1 h.2 (keeps (kind_of x.role) x.bytes h.0 h.3))
 
   all_files : (xs ys : List FileView) → AreRewritten xs ys → AllReadAlike xs ys
   all_files [] [] h = tt

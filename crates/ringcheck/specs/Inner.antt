@@ -1,3 +1,4 @@
+pub mod Exits
 pub mod Halting
 pub mod Jobs
 pub mod Loading

@@ -1,6 +1,7 @@
 pub mod CheckStatus
 pub mod DrawStatus
 pub mod Inner
+pub mod ManifestStatus
 pub mod MeasureStatus
 pub mod Outlining
 pub mod ParsedWords

@@ -15,7 +15,9 @@ use Rattle.layer_image.specs.declared.keep.Keep.TheVariants as keep
 use Rattle.package_check.specs.Boards.{BoardView, IsDrawnBoard}
 use Rattle.print_json.specs.Packages.{waived_report_value}
 use Rattle.print_json.specs.Values.{json_text}
+use Rattle.command_line.specs.declared.commands.TheConstants.{PROGRAM}
 use Rattle.print_text.specs.Texts.{waived_report_text}
+use Rattle.print_text.specs.declared.particulars.Particulars.{Particulars}
 use Rattle.report.specs.declared.BoardReport.{BoardReport}
 use Rattle.report.specs.declared.Acceptances.{Acceptances}
 use Rattle.board_report.specs.BoardReport.{AgreesWithCheck, IsBoardReportOf}
@@ -38,21 +40,23 @@ use Rattle.waivers.specs.declared.Waiver.{Waiver}
 use Rattle.waivers.specs.declared.waiving.Waived.{Waived}
 
 -- the writer got just the page of the report on a board, with an outline of these parts
-abbrev pub PrintsPage : List (List ℕ) → BoardView → List Drawn → BoardReport → Acceptances → Option (List ℕ) → Option (List ℕ) → Type 0
-PrintsPage names board outline report accepted before after = (page : List ℕ) × IsHtmlPage names board outline report accepted page × Appends before after page
+abbrev pub PrintsPage : List (List ℕ) → Particulars → BoardView → List Drawn → BoardReport → Acceptances → Option (List ℕ) → Option (List ℕ) → Type 0
+PrintsPage names about board outline report accepted before after = (page : List ℕ) × IsHtmlPage names about board outline report accepted page × Appends before after page
 
--- the writer got just a report on a board with the reasons why findings are waived: its text with at most `limit` findings, and with how many of
--- them the wide profile does not have, or its page with an outline of these parts, its JSON or its file of waivers with all of them
-abbrev pub PrintsReport : ReportFormat → List (List ℕ) → BoardView → List Drawn → BoardReport → ℕ → Option ℕ → Acceptances → Option (List ℕ) → Option (List ℕ) → Type 0
-PrintsReport format.Text names board outline report fewer limit accepted before after = Appends before after (waived_report_text names report fewer limit accepted)
-PrintsReport format.Html names board outline report fewer limit accepted before after = PrintsPage names board outline report accepted before after
-PrintsReport format.Json names board outline report fewer limit accepted before after = Appends before after (json_text (waived_report_value names board.files report accepted))
-PrintsReport format.Waivers names board outline report fewer limit accepted before after = Appends before after (findings_text names report)
+-- the writer got just a report on a board with the reasons why findings are waived and with its particulars: its text with at most `limit` findings,
+-- or its page with an outline of these parts, its JSON or its file of waivers with all of them
+abbrev pub PrintsReport : ReportFormat → List (List ℕ) → BoardView → List Drawn → BoardReport → Particulars → Option ℕ → Acceptances → Option (List ℕ) → Option (List ℕ) → Type 0
+PrintsReport format.Text names board outline report about limit accepted before after = Appends before after (waived_report_text names report about.fewer limit accepted)
+PrintsReport format.Html names board outline report about limit accepted before after = PrintsPage names about board outline report accepted before after
+PrintsReport format.Json names board outline report about limit accepted before after = Appends before after (json_text (waived_report_value about names board.files report accepted))
+PrintsReport format.Waivers names board outline report about limit accepted before after = Appends before after (findings_text names report)
 
--- a report as a text in the strict profile
-abbrev pub is_strict_text : ReportFormat → Profile → Bool
-is_strict_text format.Text Strict = true
-is_strict_text _ _ = false
+-- a report in this format and profile says how many of its findings the wide profile does not have: each in the strict profile, but no file of waivers
+abbrev pub says_fewer : ReportFormat → Profile → Bool
+says_fewer format.Text Strict = true
+says_fewer format.Html Strict = true
+says_fewer format.Json Strict = true
+says_fewer _ _ = false
 
 -- whether a report has no finding
 abbrev pub has_none : BoardReport → Bool
@@ -66,9 +70,9 @@ finding_count report = length report.rings.items + length report.gaps.items
 abbrev pub in_wide : GridRules → GridRules
 in_wide rules = record { ring = rules.ring; gap = rules.gap; profile = Wide }
 
--- a report says how many of its findings the wide profile does not have: a text in the strict profile that has a finding
+-- a report has to ask how many of its findings the wide profile does not have: it says so, and has a finding
 abbrev pub asks_wide : ReportFormat → GridRules → BoardReport → Bool
-asks_wide form rules report = is_strict_text form rules.profile && not (has_none report)
+asks_wide form rules report = says_fewer form rules.profile && not (has_none report)
 
 -- how many findings of a report the wide profile does not have: those that a check of these files in that profile has fewer, or 0 where one of them
 -- is refused
@@ -98,18 +102,20 @@ kept_for format.Waivers = keep.Flashes
 
 -- the writer got just the report of the files under the rules, in a format, judged with the waivers of a file, if there is one; its findings
 -- are those of the check of them, one for one, and without a finding they are sound; a page shows what the copper files draw, and an outline
--- of these parts, and a text says how many of the findings the wide profile does not have
+-- of these parts; its particulars are the name of the manifest, the program, and how many of the findings the wide profile does not have
 pub record Reports (has : Relation) (name : List ℕ) (rules : GridRules) (limit : Option ℕ) (form : ReportFormat) (waivers : Option (List Waiver)) (outline : List Drawn) (before after : Option (List ℕ)) (passes : Bool) (all : List FileView) : Type 0 where
   pub report : BoardReport
   pub is : IsBoardReportOf all rules report
   pub drawn : form ≡ format.Html → IsDrawnBoard all is.board
   pub as_check : AgreesWithCheck all rules report
   pub sound : has_none report ≡ true → IsSound all rules
-  pub fewer : ℕ
-  pub is_fewer : IsFewer has name (asks_wide form rules report) rules report fewer
+  pub about : Particulars
+  pub manifest : about.manifest.now ≡ name
+  pub program : about.program.now ≡ PROGRAM.now
+  pub is_fewer : IsFewer has name (asks_wide form rules report) rules report about.fewer
   pub accepted : Acceptances
   pub judged : Judges waivers (map (λ source. source.name) all) report passes accepted
-  pub written : PrintsReport form (map (λ source. source.name) all) is.board outline report fewer limit accepted before after
+  pub written : PrintsReport form (map (λ source. source.name) all) is.board outline report about limit accepted before after
 
 -- how a refusal is printed in place of a report or a measure: by a line with its page, as JSON, or by a line alone
 abbrev pub report_style : ReportFormat → RefusalStyle

@@ -1,5 +1,5 @@
 -- What a status says of a request of the command line, and of any words (docs/FORMATS.md, The program).
-use Rattle.std.specs.Prelude.{⊤, ◌≡◌, ◌++◌, ◌⊎◌, ℕ, List, Option, Result, Ok, Err, codes, is_some, map, option_map}
+use Rattle.std.specs.Prelude.{⊤, ◌≡◌, ◌++◌, ◌⊎◌, ℕ, Bool, true, false, List, Option, Result, Ok, Err, codes, is_some, map, option_map}
 use Rattle.std.specs.Borrow.{Bor}
 use Rattle.std.specs.Io.KnownBytes.{Appends}
 use Rattle.std.specs.String.{string_bytes}
@@ -13,19 +13,27 @@ use Rattle.ringcheck_files.specs.declared.Status.{Status}
 use Rattle.ringcheck_files.specs.declared.Status.TheVariants as status
 use Rattle.ringcheck_files.specs.declared.file_jobs.FileJob.TheVariants as job
 use Rattle.ringcheck.specs.DrawStatus.{IsParsedDrawStatus}
-use Rattle.ringcheck_files.specs.ManifestStatus.{IsManifestStatus, IsExplainStatus}
+use Rattle.ringcheck_files.specs.ManifestStatus.{IsExplainStatus}
+use Rattle.ringcheck.specs.ManifestStatus.{IsParsedManifestStatus}
 use Rattle.ringcheck.specs.MeasureStatus.{IsParsedMeasureStatus}
 use Rattle.ringcheck.specs.ParsedWords.{parse_check, parse_draw, parse_measure, parse_report, profile_of}
 use Rattle.ringcheck_files.specs.FileStatus.{IsParsedFileStatus, parse_kind}
 use Rattle.ringcheck.specs.ReportStatus.{IsParsedReportStatus}
 use Rattle.ringcheck.specs.CheckStatus.{IsParsedCheckStatus, IsParsedLegalStatus}
-use Rattle.ringcheck.specs.Sentences.{below_measure, below_report, below_show}
+use Rattle.ringcheck.specs.Sentences.{below_measure, below_report, below_profile}
 use Rattle.ringcheck.specs.ShowStatus.{IsParsedShowStatus}
 use Rattle.ringcheck_files.specs.LoaderRelation.{Relation}
 
 -- the bytes of a word that may be left out
 abbrev pub word_bytes : Option (Bor (List ℕ)) → Option (List ℕ)
 word_bytes word = option_map (λ w. w.now) word
+
+-- what a status says with the flag `--exit-zero` or without it: with it Pass stands for findings too, and there is no other
+abbrev pub IsExitOf : Bool → (Status → Type 0) → Status → Type 0
+IsExitOf false Says s = Says s
+IsExitOf true Says status.Pass = Says status.Pass ⊎ Says status.Findings
+IsExitOf true Says status.Findings = ⊥
+IsExitOf true Says s = Says s
 
 -- what a status says of a request, command by command; `failed_before` and `failed_after` count the loader's failures
 abbrev pub IsRequestStatus : Request → Relation → ℕ → ℕ → Option (List ℕ) → Option (List ℕ) → Status → Type 0
@@ -34,17 +42,18 @@ IsRequestStatus (Check ring gap profile manifest) has failed_before failed_after
 IsRequestStatus (Measure profile format manifest) has failed_before failed_after before after s =
     IsParsedMeasureStatus has manifest.now (parse_measure (word_bytes profile) (word_bytes format)) (below_measure (word_bytes profile) (word_bytes format)) before after s
 IsRequestStatus (Report options manifest) has failed_before failed_after before after s =
-    IsParsedReportStatus has manifest.now
+    IsExitOf options.exit_zero
+    (IsParsedReportStatus has manifest.now
     (parse_report (word_bytes options.profile) options.ring.now options.gap.now (word_bytes options.limit) (word_bytes options.waive) (word_bytes options.outline) (word_bytes options.format))
     (below_report (word_bytes options.profile) options.ring.now options.gap.now (word_bytes options.limit) (is_some (word_bytes options.outline)) (word_bytes options.format))
-    (word_bytes options.waive) (word_bytes options.outline) before after s
+    (word_bytes options.waive) (word_bytes options.outline) before after) s
 IsRequestStatus (Draw options manifest) has failed_before failed_after before after s =
     IsParsedDrawStatus has manifest.now (parse_draw (word_bytes options.profile) (word_bytes options.ring) (word_bytes options.gap)) (word_bytes options.outline) before after s
 IsRequestStatus (Show kind profile file) has failed_before failed_after before after s =
-    IsParsedShowStatus (profile_of (word_bytes profile)) (below_show (word_bytes profile)) (parse_kind kind.now) has file.now before after s
+    IsParsedShowStatus (profile_of (word_bytes profile)) (below_profile (word_bytes profile)) (parse_kind kind.now) has file.now before after s
 IsRequestStatus (Rewrite kind file) has failed_before failed_after before after s = IsParsedFileStatus job.Rewrite (parse_kind kind.now) has file.now before after s
-IsRequestStatus (Manifest why files) has failed_before failed_after before after s =
-    IsManifestStatus why has failed_before failed_after (map (λ file. file.now) files.items) before after s
+IsRequestStatus (Manifest why profile files) has failed_before failed_after before after s =
+    IsParsedManifestStatus (profile_of (word_bytes profile)) (below_profile (word_bytes profile)) why has failed_before failed_after (map (λ file. file.now) files.items) before after s
 IsRequestStatus (Explain word) has failed_before failed_after before after s = IsExplainStatus (word_bytes word) before after s
 
 -- what a status says of the files of a request's package: of a check, that each is of the profile that it names

@@ -2,6 +2,7 @@
 use Rattle.std.specs.Prelude.{◌≡◌, ◌⊎◌, ◌↔◌, ℕ, Bool, true, false, List, [], ◌∷◌, Result, Ok, ⊤}
 use Rattle.grid_units.specs.Holes.{GridRules}
 use Rattle.grid_units.specs.declared.fault.Fault.{Fault}
+use Rattle.grid_units.specs.declared.profile.Profile.TheVariants.{Wide}
 use Rattle.manifest.specs.declared.Role.{Role}
 use Rattle.manifest.specs.declared.Role.TheVariants as role
 use Rattle.single_files.specs.declared.kind.Kind.{Kind}
@@ -9,6 +10,7 @@ use Rattle.single_files.specs.declared.kind.Kind.TheVariants as kind
 use Rattle.single_files.specs.Rewriting.{Rewrites}
 use Rattle.package_check.specs.Reports.{ReportView}
 use Rattle.package_check.specs.Package.{FileView, IsAnswer}
+use Rattle.package_check.specs.WiderProfile.{IsUncontradicted}
 
 -- the kind of text that a file of this role has: a layer, or a drill file
 abbrev pub kind_of : Role → Kind
@@ -26,10 +28,10 @@ abbrev pub is_mixed : Role → Bool
 is_mixed role.Mixed = true
 is_mixed _ = false
 
--- A file is left as it was, or its text is rewritten; a text that is rewritten is one of the strict profile. A mixed file is left as it was: the place where it is refused
--- for a plating may change.
+-- A file is left as it was, or its text is rewritten; a text that is rewritten is one of the strict profile. A mixed file is left as it was, and so is one of the wide profile
+-- that contradicts its role: the place where it is refused for what it says of its platings may change.
 abbrev pub IsRewritten : FileView → FileView → Type 0
-IsRewritten x y = (y ≡ x) ⊎ ((text : List ℕ) × (is_mixed x.role ≡ false) × Rewrites (kind_of x.role) x.bytes (Ok text) × (y ≡ with_bytes x text))
+IsRewritten x y = (y ≡ x) ⊎ ((text : List ℕ) × (is_mixed x.role ≡ false) × (x.setting.profile ≡ Wide → IsUncontradicted x) × Rewrites (kind_of x.role) x.bytes (Ok text) × (y ≡ with_bytes x text))
 
 -- two lists of files: of the first any files, all or none, are rewritten in the second
 abbrev pub AreRewritten : List FileView → List FileView → Type 0

@@ -18,11 +18,11 @@ use Rattle.ringcheck.specs.ParsedWords.{parse_length, parse_limit, parse_rules, 
 
 -- what a rule is, where a word is none for this reason
 abbrev pub rule_words : Reason → List ℕ
-rule_words reasons.TooFine = codes "a rule has at most eight decimals, as 0.125"
-rule_words reasons.TooFar = codes "a rule is millimetres, and at most 10000"
-rule_words other = codes "a rule is millimetres without a unit, as 0.127 (5 mil)"
+rule_words reasons.TooFine = codes "a rule has at most eight decimals, e.g. 0.125"
+rule_words reasons.TooFar = codes "a rule is in millimetres, at most 10000"
+rule_words other = codes "give millimetres without a unit, e.g. 0.127 for 5 mil"
 
--- what is said of the value of an option that is no length: `--ring 5mil: a rule is millimetres without a unit, as 0.127 (5 mil)`
+-- what is said of the value of an option that is no length: `--ring 5mil: give millimetres without a unit, e.g. 0.127 for 5 mil`
 abbrev pub length_sentence : List ℕ → List ℕ → Reason → List ℕ
 length_sentence option word why = option ++ (codes " " ++ (word ++ (codes ": " ++ rule_words why)))
 
@@ -42,8 +42,8 @@ rules_sentence ring gap =
 
 -- what is said of a word that is no number of findings
 abbrev pub count_sentence : Option (List ℕ) → List ℕ
-count_sentence None = codes "--max is one to nine digits, as 20"
-count_sentence (Some word) = codes "--max " ++ (word ++ codes ": a number of findings is one to nine digits, as 20")
+count_sentence None = codes "--max takes a number of one to nine digits, e.g. 20"
+count_sentence (Some word) = codes "--max " ++ (word ++ codes ": give a number of one to nine digits, e.g. 20")
 
 -- what is said of a word that is no format of a report: `--format is text, html, json or waivers, not sarif`
 abbrev pub report_format_sentence : Option (List ℕ) → List ℕ
@@ -57,7 +57,7 @@ measure_format_sentence (Some word) = codes "--format is text or json, not " ++ 
 
 -- what is said of an outline that is given to a report without a picture
 abbrev pub outline_sentence : List ℕ
-outline_sentence = codes "--outline belongs to the picture of --format html; draw has it too"
+outline_sentence = codes "--outline is for --format html and for draw"
 
 -- what is said of a word that names no profile
 abbrev pub profile_sentence : Option (List ℕ) → List ℕ
@@ -81,9 +81,9 @@ is_for_people (Some word) = not (bytes_eq word (codes "html")) && (not (bytes_eq
 abbrev pub below_report : Option (List ℕ) → List ℕ → List ℕ → Option (List ℕ) → Bool → Option (List ℕ) → List ℕ
 below_report profile ring gap limit outlined form = if is_for_people form then sentence_line (report_sentence profile ring gap limit outlined form) else []
 
--- what stands below the line of a table whose profile is refused
-abbrev pub below_show : Option (List ℕ) → List ℕ
-below_show profile = sentence_line (profile_sentence profile)
+-- what stands below the line of a table or a manifest whose profile is refused
+abbrev pub below_profile : Option (List ℕ) → List ℕ
+below_profile profile = sentence_line (profile_sentence profile)
 
 -- what is said of the words of a measure that are refused, by the first of them that is
 abbrev pub measure_sentence : Option (List ℕ) → Option (List ℕ) → List ℕ

@@ -8,7 +8,7 @@ ghost use Rattle.manifest.specs.Manifest.{manifest_in};
 ghost use Rattle.package_check.specs.declared.PackageFault.TheVariants as stop;
 ghost use Rattle.ringcheck.specs.CheckStatus.{HasTable};
 ghost use Rattle.ringcheck.specs.Inner.Reporting.{OfFewer, is_unread};
-ghost use Rattle.ringcheck.specs.ReportStatus.{FindsFewer, asks_wide, finding_count, in_wide, is_strict_text};
+ghost use Rattle.ringcheck.specs.ReportStatus.{FindsFewer, asks_wide, finding_count, in_wide, says_fewer};
 ghost use Rattle.ringcheck_files.specs.Outcomes.{HasRisen};
 
 use crate::jobs::Order;
@@ -23,21 +23,21 @@ use report::BoardReport;
 use ringcheck_files::Failure;
 use std::alloc::Global;
 
-/// Whether this is the format of a text, in the strict profile.
-fn is_strict_text(format: ReportFormat, profile: Profile) -> bool
-    ensures { result ≡ is_strict_text format profile }
+/// Whether a report in this format and profile says how many of its findings the wide profile does not have.
+fn says_fewer(format: ReportFormat, profile: Profile) -> bool
+    ensures { result ≡ says_fewer format profile }
 {
     match (format, profile) {
-        (ReportFormat::Text, Profile::Strict) => true,
+        (ReportFormat::Text | ReportFormat::Html | ReportFormat::Json, Profile::Strict) => true,
         _ => false,
     }
 }
 
-/// Whether a report says how many of its findings the wide profile does not have.
+/// Whether a report has to ask how many of its findings the wide profile does not have.
 fn asks_wide(options: &Order, report: &BoardReport) -> bool
     ensures { result ≡ asks_wide options.now.format options.now.rules report.now }
 {
-    is_strict_text(options.format, options.rules.profile()) && !has_none(report)
+    says_fewer(options.format, options.rules.profile()) && !has_none(report)
 }
 
 /// How many findings a report has.

@@ -27,4 +27,4 @@ pub use program::run;
 pub use ringcheck_files::{
     LoadFault, Loader, MAX_LIMIT, ReadFail, Sink, Status, read_all, read_into,
 };
-pub use single_files::{Kind, rewrite_bytes, show_drill, show_layer};
+pub use single_files::{Kind, rewrite_bytes, show_drill, show_drill_in, show_layer, show_layer_in};

@@ -8,6 +8,7 @@ ghost use Rattle.ringcheck.specs.DrawStatus.{IsDrawStatus, IsOutlinedDrawStatus,
 ghost use Rattle.ringcheck.specs.Inner.Halting.{IsUnreadAt, OfFiles};
 ghost use Rattle.ringcheck.specs.Inner.Jobs.{Holds, SaysJob, given, job_profile};
 ghost use Rattle.manifest.specs.Manifest.{manifest_in};
+ghost use Rattle.command_line.specs.declared.commands.TheConstants.{PROGRAM};
 ghost use Rattle.ringcheck.specs.declared.jobs.Job.TheVariants as jobs;
 ghost use Rattle.ringcheck.specs.MeasureStatus.{IsParsedMeasureStatus};
 ghost use Rattle.ringcheck.specs.ParsedWords as named;
@@ -25,9 +26,10 @@ use crate::refusals::{Halt, Subject, print_halt};
 use crate::reports::{Reported, print_judged, report_on_taken};
 use crate::sentences::{NoMeasure, NoReport, is_for_people};
 use crate::{Entry, Loader, checks, drawings, measures};
-use command_line::{PictureWords, ReportWords};
+use command_line::{PROGRAM, PictureWords, ReportWords};
 use grid_units::{Profile, Reason, Rules};
 use package_check::Keep;
+use print_text::Particulars;
 use ringcheck_files::{Failure, Status, refuse_word};
 use std::alloc::{AllocError, Global};
 use std::io::Write;
@@ -44,17 +46,32 @@ fn names_of<'a>(alloc: Global, entries: &'a [Entry]) -> Result<Vec<&'a str>, All
     Ok(names)
 }
 
-/// Loads the files of these entries, which have these names, prints the report on them, and returns whether it passes.
+/// The particulars of a report: its manifest, this program, and how many of its findings the wide profile does not have.
+fn particulars<'a>(manifest: &'a str, fewer: u128) -> Particulars<'a>
+    ensures manifest { result.manifest.now ≡ manifest.now }
+    ensures program { result.program.now ≡ PROGRAM.now }
+    ensures fewer { result.fewer ≡ fewer }
+{
+    Particulars {
+        manifest,
+        program: PROGRAM,
+        fewer,
+    }
+}
+
+/// Loads the files of these entries of the manifest under a name, which have these names, prints the report on them, and returns whether it
+/// passes.
 fn report_files<'a, L: Loader, W: Write>(
     alloc: Global,
     options: &Order,
+    name: &str,
     entries: &'a [Entry],
     names: &[&'a str],
     loader: &mut L,
     out: &mut W,
 ) -> Result<Result<bool, Halt<'a>>, Failure>
-    ensures answers { (name : List ℕ) → HasTable (manifest_in options.now.rules.profile) (L.has loader.old) name entries.now → map (λ name. name.now) names.now ≡ map (λ entry. entry.name) entries.now
-        → IfOk result (OfFiles (L.has loader.old) options.now.rules.profile entries.now (HasRisen (L.failed loader.old) (L.failed loader.new)) (Holds (jobs.Report options.now) (L.has loader.old) name (W.contents out.old) (W.contents out.new))) }
+    ensures answers { HasTable (manifest_in options.now.rules.profile) (L.has loader.old) name.now entries.now → map (λ name. name.now) names.now ≡ map (λ entry. entry.name) entries.now
+        → IfOk result (OfFiles (L.has loader.old) options.now.rules.profile entries.now (HasRisen (L.failed loader.old) (L.failed loader.new)) (Holds (jobs.Report options.now) (L.has loader.old) name.now (W.contents out.old) (W.contents out.new))) }
     ensures silent { IfOk result (λ done. IfErr done (λ halt. W.contents out.new ≡ W.contents out.old)) }
 {
     let keep = kept_for(options.format);
@@ -70,25 +87,27 @@ fn report_files<'a, L: Loader, W: Write>(
         Ok(fewer) => fewer,
         Err(halt) => return Ok(Err(halt)),
     };
+    let about = particulars(name, fewer);
     let reported = Reported {
         names,
         board: &board,
         report: &report,
-        fewer,
+        about: &about,
     };
     let passes = print_judged(alloc, &reported, options, out)?;
     Ok(Ok(passes))
 }
 
-/// Loads the files of these entries, does a job on them, and returns whether it passes.
+/// Loads the files of these entries of the manifest under a name, does a job on them, and returns whether it passes.
 fn answer<'a, L: Loader, W: Write>(
     alloc: Global,
     job: &Job,
+    name: &str,
     entries: &'a [Entry],
     loader: &mut L,
     out: &mut W,
 ) -> Result<Result<bool, Halt<'a>>, Failure>
-    ensures answers { (name : List ℕ) → HasTable (manifest_in (job_profile job.now)) (L.has loader.old) name entries.now → IfOk result (OfFiles (L.has loader.old) (job_profile job.now) entries.now (HasRisen (L.failed loader.old) (L.failed loader.new)) (Holds job.now (L.has loader.old) name (W.contents out.old) (W.contents out.new))) }
+    ensures answers { HasTable (manifest_in (job_profile job.now)) (L.has loader.old) name.now entries.now → IfOk result (OfFiles (L.has loader.old) (job_profile job.now) entries.now (HasRisen (L.failed loader.old) (L.failed loader.new)) (Holds job.now (L.has loader.old) name.now (W.contents out.old) (W.contents out.new))) }
     ensures silent { IfOk result (λ done. IfErr done (λ halt. W.contents out.new ≡ W.contents out.old)) }
 {
     let names = names_of(alloc, entries)?;
@@ -104,7 +123,7 @@ fn answer<'a, L: Loader, W: Write>(
                 Err(halt) => Ok(Err(halt)),
             }
         }
-        Job::Report(options) => report_files(alloc, options, entries, names, loader, out),
+        Job::Report(options) => report_files(alloc, options, name, entries, names, loader, out),
         Job::Draw(order) => {
             match take_files(alloc, order.profile, Keep::All, loader, entries)? {
                 Ok(reader) => drawings::draw(alloc, reader, names, order, out),
@@ -174,7 +193,7 @@ fn run_job<L: Loader, W: Write>(
             return print_halt(out, job.style(), halt, name, is_folder);
         }
     };
-    match answer(alloc, job, entries.as_slice(), loader, out)? {
+    match answer(alloc, job, name, entries.as_slice(), loader, out)? {
         Ok(passes) => Ok(status_of(passes)),
         Err(halt) => {
             let path = path_of(entries.as_slice(), halt);

@@ -3,27 +3,57 @@
 ghost use Rattle.std.specs.Prelude.{◌≡◌, ◌++◌, ◌∷◌, ◌⊎◌, [], map, true, ℕ, Bool, IfOk, IfSome, List, Option, Some, None, codes, is_some, option_map};
 ghost use Rattle.std.specs.Io.KnownBytes.{Appends};
 ghost use Rattle.command_line.specs.ProgramArgs.{are_plain_rules, are_plain_words, check_words, draw_words, explain_words, is_plain_if_some, is_plain_word, manifest_words, measure_words, report_words, rewrite_words, show_words};
-ghost use Rattle.ringcheck.specs.RequestStatus.{IsLegalRequest, IsProgramStatus, IsRequestStatus};
+ghost use Rattle.ringcheck.specs.Inner.Exits.{exit_of};
+ghost use Rattle.ringcheck.specs.RequestStatus.{IsExitOf, IsLegalRequest, IsProgramStatus, IsRequestStatus, word_bytes};
 ghost use Rattle.ringcheck.specs.DrawStatus.{IsParsedDrawStatus};
 ghost use Rattle.ringcheck_files.specs.Outcomes.{HasCause};
-ghost use Rattle.ringcheck_files.specs.ManifestStatus.{IsManifestStatus, IsExplainStatus, IsVersionStatus};
+ghost use Rattle.ringcheck_files.specs.ManifestStatus.{IsExplainStatus, IsVersionStatus};
+ghost use Rattle.ringcheck.specs.ManifestStatus.{IsParsedManifestStatus};
 ghost use Rattle.ringcheck.specs.MeasureStatus.{IsParsedMeasureStatus};
 ghost use Rattle.ringcheck.specs.ParsedWords as named;
 ghost use Rattle.ringcheck_files.specs.FileStatus.{IsParsedFileStatus, parse_kind};
 ghost use Rattle.ringcheck.specs.ReportStatus.{IsParsedReportStatus};
 ghost use Rattle.ringcheck.specs.CheckStatus.{IsParsedCheckStatus, IsParsedLegalStatus};
-ghost use Rattle.ringcheck.specs.Sentences.{below_measure, below_report, below_show};
+ghost use Rattle.ringcheck.specs.Sentences.{below_measure, below_report, below_profile};
 ghost use Rattle.ringcheck.specs.ShowStatus.{IsParsedShowStatus};
 
 use crate::Loader;
 use crate::packages::{check, draw, measure, report};
-use crate::tables::show;
-use command_line::{Refusal, Request, VERSION_LINE, parse};
-use ringcheck_files::{Failure, FileJob, Status, explain, print, print_manifest};
+use crate::tables::{manifest, show};
+use command_line::{Refusal, ReportWords, Request, VERSION_LINE, parse};
+use ringcheck_files::{Failure, FileJob, Status, explain, print};
 use std::alloc::Global;
 use std::fmt;
 use std::fmt::{Display, Formatter};
 use std::io::Write;
+
+/// The status of a report by its flag: with `--exit-zero` Pass in place of Findings.
+fn exit_of(exit_zero: bool, status: Status) -> Status
+    ensures { result ≡ exit_of exit_zero status }
+{
+    match status {
+        Status::Findings if exit_zero => Status::Pass,
+        status => status,
+    }
+}
+
+/// Prints the report that a request asks for, and returns its status by the flag `--exit-zero`.
+fn report_with_flag<L: Loader, W: Write>(
+    alloc: Global,
+    options: &ReportWords,
+    manifest: &str,
+    loader: &mut L,
+    out: &mut W,
+) -> Result<Status, Failure>
+    ensures says { IfOk result (IsExitOf options.now.exit_zero (IsParsedReportStatus (L.has loader.old) manifest.now
+        (named.parse_report (word_bytes options.now.profile) options.now.ring.now options.now.gap.now (word_bytes options.now.limit) (word_bytes options.now.waive) (word_bytes options.now.outline) (word_bytes options.now.format))
+        (below_report (word_bytes options.now.profile) options.now.ring.now options.now.gap.now (word_bytes options.now.limit) (is_some (word_bytes options.now.outline)) (word_bytes options.now.format))
+        (word_bytes options.now.waive) (word_bytes options.now.outline) (W.contents out.old) (W.contents out.new))) }
+    ensures cause { IfOk result (HasCause (L.failed loader.old) (L.failed loader.new)) }
+{
+    let status = report(alloc, options, manifest, loader, out)?;
+    Ok(exit_of(options.exit_zero, status))
+}
 
 /// Does what a request asks for.
 fn carry_out<L: Loader, W: Write>(
@@ -43,7 +73,9 @@ fn carry_out<L: Loader, W: Write>(
             profile,
             manifest,
         } => check(alloc, *profile, ring, gap, manifest, loader, out),
-        Request::Report { options, manifest } => report(alloc, options, manifest, loader, out),
+        Request::Report { options, manifest } => {
+            report_with_flag(alloc, options, manifest, loader, out)
+        }
         Request::Measure {
             profile,
             format,
@@ -56,7 +88,11 @@ fn carry_out<L: Loader, W: Write>(
             file,
         } => show(alloc, kind, *profile, file, loader, out),
         Request::Rewrite { kind, file } => print(alloc, FileJob::Rewrite, kind, file, loader, out),
-        Request::Manifest { why, files } => print_manifest(alloc, *why, files, loader, out),
+        Request::Manifest {
+            why,
+            profile,
+            files,
+        } => manifest(alloc, *profile, *why, files, loader, out),
         Request::Explain { word } => explain(*word, out),
     }
 }
@@ -112,19 +148,19 @@ pub fn run<L: Loader, W: Write>(
         → is_plain_if_some profile ≡ true → is_plain_word m ≡ true → IsParsedCheckStatus (L.has loader.old) m (named.parse_check profile r g) (W.contents out.old) (W.contents out.new) result }
     ensures legal { (r g : List ℕ) (profile : Option (List ℕ)) (m : List ℕ) → map (λ w. w.now) words.now ≡ check_words r g profile m → is_plain_word r ≡ true → is_plain_word g ≡ true
         → is_plain_if_some profile ≡ true → is_plain_word m ≡ true → IsParsedLegalStatus (L.has loader.old) m (named.profile_of profile) result }
-    ensures report { (r g : List ℕ) (profile limit waive outline format : Option (List ℕ)) (m : List ℕ) → map (λ w. w.now) words.now ≡ report_words r g profile limit waive outline format m → is_plain_word r ≡ true → is_plain_word g ≡ true
+    ensures report { (exit_zero : Bool) (r g : List ℕ) (profile limit waive outline format : Option (List ℕ)) (m : List ℕ) → map (λ w. w.now) words.now ≡ report_words exit_zero r g profile limit waive outline format m → is_plain_word r ≡ true → is_plain_word g ≡ true
         → is_plain_if_some profile ≡ true → is_plain_if_some limit ≡ true → is_plain_if_some waive ≡ true → is_plain_if_some outline ≡ true → is_plain_if_some format ≡ true → is_plain_word m ≡ true
-        → IsParsedReportStatus (L.has loader.old) m (named.parse_report profile r g limit waive outline format) (below_report profile r g limit (is_some outline) format) waive outline (W.contents out.old) (W.contents out.new) result }
+        → IsExitOf exit_zero (IsParsedReportStatus (L.has loader.old) m (named.parse_report profile r g limit waive outline format) (below_report profile r g limit (is_some outline) format) waive outline (W.contents out.old) (W.contents out.new)) result }
     ensures measure { (profile format : Option (List ℕ)) (m : List ℕ) → map (λ w. w.now) words.now ≡ measure_words profile format m → is_plain_if_some profile ≡ true → is_plain_if_some format ≡ true
         → is_plain_word m ≡ true → IsParsedMeasureStatus (L.has loader.old) m (named.parse_measure profile format) (below_measure profile format) (W.contents out.old) (W.contents out.new) result }
     ensures draw { (rules : Option (List ℕ × List ℕ)) (profile outline : Option (List ℕ)) (m : List ℕ) → map (λ w. w.now) words.now ≡ draw_words rules profile outline m → are_plain_rules rules ≡ true → is_plain_if_some profile ≡ true
         → is_plain_if_some outline ≡ true → is_plain_word m ≡ true → IsParsedDrawStatus (L.has loader.old) m (named.parse_draw profile (option_map (λ both. both.0) rules) (option_map (λ both. both.1) rules)) outline (W.contents out.old) (W.contents out.new) result }
     ensures show { (k : List ℕ) (profile : Option (List ℕ)) (f : List ℕ) → map (λ w. w.now) words.now ≡ show_words k profile f → is_plain_word k ≡ true → is_plain_if_some profile ≡ true
-        → is_plain_word f ≡ true → IsParsedShowStatus (named.profile_of profile) (below_show profile) (parse_kind k) (L.has loader.old) f (W.contents out.old) (W.contents out.new) result }
+        → is_plain_word f ≡ true → IsParsedShowStatus (named.profile_of profile) (below_profile profile) (parse_kind k) (L.has loader.old) f (W.contents out.old) (W.contents out.new) result }
     ensures rewrite { (k f : List ℕ) → map (λ w. w.now) words.now ≡ rewrite_words k f → is_plain_word k ≡ true → is_plain_word f ≡ true
         → IsParsedFileStatus FileJob.Rewrite (parse_kind k) (L.has loader.old) f (W.contents out.old) (W.contents out.new) result }
-    ensures manifest { (why : Bool) (fs : List (List ℕ)) → map (λ w. w.now) words.now ≡ manifest_words why fs → are_plain_words fs ≡ true
-        → IsManifestStatus why (L.has loader.old) (L.failed loader.old) (L.failed loader.new) fs (W.contents out.old) (W.contents out.new) result }
+    ensures manifest { (why : Bool) (profile : Option (List ℕ)) (fs : List (List ℕ)) → map (λ w. w.now) words.now ≡ manifest_words why profile fs → is_plain_if_some profile ≡ true → are_plain_words fs ≡ true
+        → IsParsedManifestStatus (named.profile_of profile) (below_profile profile) why (L.has loader.old) (L.failed loader.old) (L.failed loader.new) fs (W.contents out.old) (W.contents out.new) result }
     ensures list { map (λ w. w.now) words.now ≡ explain_words None → IsExplainStatus None (W.contents out.old) (W.contents out.new) result }
     ensures explain { (w : List ℕ) → map (λ w. w.now) words.now ≡ explain_words (Some w) → is_plain_word w ≡ true
         → IsExplainStatus (Some w) (W.contents out.old) (W.contents out.new) result }

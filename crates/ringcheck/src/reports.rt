@@ -18,7 +18,7 @@ use board_report::report_on;
 use layer_image::Drawn;
 use package_check::Board;
 use print_json::ReportJson;
-use print_text::ReportText;
+use print_text::{Particulars, ReportText};
 use report::{Acceptances, BoardReport};
 use report_page::HtmlReport;
 use ringcheck_files::Failure;
@@ -26,14 +26,13 @@ use std::alloc::Global;
 use std::io::Write;
 use waivers::{Waiver, WaiverText, idle, reasons, waive};
 
-/// What is printed of a package: the names of its files, its board, the report on it, and how many of the findings the wide profile does not
-/// have.
+/// What is printed of a package: the names of its files, its board, the report on it, and the particulars of that.
 #[derive(Clone, Copy)]
 pub(crate) struct Reported<'a> {
     pub(crate) names: &'a [&'a str],
     pub(crate) board: &'a Board,
     pub(crate) report: &'a BoardReport,
-    pub(crate) fewer: u128,
+    pub(crate) about: &'a Particulars<'a>,
 }
 
 /// Prints the page of a report on a board, with its outline and the reasons why findings are waived.
@@ -44,15 +43,15 @@ fn print_page<W: Write>(
     accepted: &Acceptances,
     out: &mut W,
 ) -> Result<(), Failure>
-    ensures { OnOk result (PrintsPage (map (λ name. name.now) reported.now.names.now) reported.now.board.now outline.now reported.now.report.now accepted.now (W.contents out.old) (W.contents out.new)) }
+    ensures { OnOk result (PrintsPage (map (λ name. name.now) reported.now.names.now) reported.now.about.now reported.now.board.now outline.now reported.now.report.now accepted.now (W.contents out.old) (W.contents out.new)) }
 {
     let Reported {
         names,
         board,
         report,
-        ..
+        about,
     } = *reported;
-    let page = HtmlReport::new(alloc, names, board, outline, report, accepted)?;
+    let page = HtmlReport::new(alloc, names, about, board, outline, report, accepted)?;
     write!(out, "{page}")?;
     Ok(())
 }
@@ -65,17 +64,17 @@ fn print<W: Write>(
     accepted: &Acceptances,
     out: &mut W,
 ) -> Result<(), Failure>
-    ensures { OnOk result (PrintsReport options.now.format (map (λ name. name.now) reported.now.names.now) reported.now.board.now options.now.outline.items reported.now.report.now reported.now.fewer options.now.limit accepted.now (W.contents out.old) (W.contents out.new)) }
+    ensures { OnOk result (PrintsReport options.now.format (map (λ name. name.now) reported.now.names.now) reported.now.board.now options.now.outline.items reported.now.report.now reported.now.about.now options.now.limit accepted.now (W.contents out.old) (W.contents out.new)) }
 {
     let Reported {
         names,
         board,
         report,
-        fewer,
+        about,
     } = *reported;
     match options.format {
         ReportFormat::Text => {
-            let text = ReportText::new(alloc, names, report, fewer, options.limit, accepted)?;
+            let text = ReportText::new(alloc, names, report, about.fewer, options.limit, accepted)?;
             write!(out, "{text}")?;
         }
         ReportFormat::Html => {
@@ -84,6 +83,7 @@ fn print<W: Write>(
         }
         ReportFormat::Json => {
             let json = ReportJson {
+                about,
                 names,
                 files: board.files(),
                 report,
@@ -112,7 +112,7 @@ fn print_waived<W: Write>(
     out: &mut W,
 ) -> Result<bool, Failure>
     ensures { IfOk result (λ passes. (accepted : TheAcceptances) × Judges (Some waivers.now) (map (λ name. name.now) reported.now.names.now) reported.now.report.now passes accepted
-        × PrintsReport options.now.format (map (λ name. name.now) reported.now.names.now) reported.now.board.now options.now.outline.items reported.now.report.now reported.now.fewer options.now.limit accepted (W.contents out.old) (W.contents out.new)) }
+        × PrintsReport options.now.format (map (λ name. name.now) reported.now.names.now) reported.now.board.now options.now.outline.items reported.now.report.now reported.now.about.now options.now.limit accepted (W.contents out.old) (W.contents out.new)) }
 {
     let waived = waive(alloc, reported.names, reported.report, waivers)?;
     let rings = reasons(alloc, waivers, waived.rings.as_slice())?;
@@ -135,7 +135,7 @@ pub(crate) fn print_judged<W: Write>(
     out: &mut W,
 ) -> Result<bool, Failure>
     ensures { IfOk result (λ passes. (accepted : TheAcceptances) × Judges (given options.now.waivers) (map (λ name. name.now) reported.now.names.now) reported.now.report.now passes accepted
-        × PrintsReport options.now.format (map (λ name. name.now) reported.now.names.now) reported.now.board.now options.now.outline.items reported.now.report.now reported.now.fewer options.now.limit accepted (W.contents out.old) (W.contents out.new)) }
+        × PrintsReport options.now.format (map (λ name. name.now) reported.now.names.now) reported.now.board.now options.now.outline.items reported.now.report.now reported.now.about.now options.now.limit accepted (W.contents out.old) (W.contents out.new)) }
 {
     match &options.waivers {
         Some(waivers) => print_waived(alloc, reported, options, waivers.as_slice(), out),

@@ -14,9 +14,9 @@ fn rule_words(reason: Reason) -> &'static str
     ensures { result.now ≡ sentences.rule_words reason }
 {
     match reason {
-        Reason::TooFine => "a rule has at most eight decimals, as 0.125",
-        Reason::TooFar => "a rule is millimetres, and at most 10000",
-        _ => "a rule is millimetres without a unit, as 0.127 (5 mil)",
+        Reason::TooFine => "a rule has at most eight decimals, e.g. 0.125",
+        Reason::TooFar => "a rule is in millimetres, at most 10000",
+        _ => "give millimetres without a unit, e.g. 0.127 for 5 mil",
     }
 }
 
@@ -86,9 +86,9 @@ impl Display for NoCount<'_> {
         match self.0 {
             Some(word) => write!(
                 f,
-                "--max {word}: a number of findings is one to nine digits, as 20"
+                "--max {word}: give a number of one to nine digits, e.g. 20"
             ),
-            None => f.write_str("--max is one to nine digits, as 20"),
+            None => f.write_str("--max takes a number of one to nine digits, e.g. 20"),
         }
     }
 }
@@ -173,7 +173,7 @@ impl Display for NoReport<'_> {
         } else if parse_limit(words.limit).is_err() {
             write!(f, "{}", NoCount(words.limit))
         } else if words.outline.is_some() {
-            f.write_str("--outline belongs to the picture of --format html; draw has it too")
+            f.write_str("--outline is for --format html and for draw")
         } else {
             write!(f, "{}", NoReportFormat(words.format))
         }

@@ -5,6 +5,7 @@ use Rattle.std.specs.Prelude.{slice_get}
 use Rattle.std.specs.List.{list_all}
 use Rattle.std.proofs.lemmas.Bool.{false≢true}
 use Rattle.std.proofs.lemmas.List.Sums.{sum_by_push}
+use Rattle.grid_units.specs.declared.profile.Profile.{Profile}
 use Rattle.proposals.specs.ProposalList.{name_of}
 use Rattle.proposals.specs.declared.model.InputFile.{InputFile}
 use Rattle.ringcheck_files.specs.declared.Status.{Status}
@@ -88,10 +89,10 @@ all_of_map [] = refl
 all_of_map (x ∷ xs) = ap (λ b. is_entry_name x.now && b) (all_of_map xs)
 
 -- a manifest or a table of files that are at hand was printed
-pub proposed : (why : Bool) (has : List ℕ → List ℕ → Type 0) (failed_before failed_after : ℕ) (names : List (Bor (List ℕ))) (all : List LoadedFile) (before after : Option (List ℕ)) (files : List InputFile) (text : List ℕ)
+pub proposed : (profile : Profile) (why : Bool) (has : List ℕ → List ℕ → Type 0) (failed_before failed_after : ℕ) (names : List (Bor (List ℕ))) (all : List LoadedFile) (before after : Option (List ℕ)) (files : List InputFile) (text : List ℕ)
     → are_containers (loaded_files names all) ≡ false → length names ≡ length all → map loaded_file files ≡ loaded_files names all → HasAllLoaded has (loaded_files names all) → HasRisenBy (count_unread (loaded_files names all)) failed_before failed_after
-    → IsProposalText why files text → Appends before after text → PrintsProposal why has failed_before failed_after (texts names) before after
-proposed why has failed_before failed_after names all before after files text some many same loaded rose is written = record {
+    → IsProposalText profile why files text → Appends before after text → PrintsProposal profile why has failed_before failed_after (texts names) before after
+proposed profile why has failed_before failed_after names all before after files text some many same loaded rose is written = record {
   files = files;
   named = sym (names_of_files files) ∙ ap (map (λ (p : List ℕ × LoadedView). p.0)) same ∙ names_of_loaded names all many;
   loaded = subst (λ ps. HasAllLoaded has ps) (sym same) loaded;
@@ -165,10 +166,10 @@ said_first (y ∷ ys) (x ∷ xs) name one at at2 =
     rw (same_name, same) refl
 
 -- what a status says of files that are at hand it says of files that were loaded
-module _ (why : Bool) (has : List ℕ → List ℕ → Type 0) (failed_before failed_after : ℕ) (names : List (Bor (List ℕ))) (all : List LoadedFile) (before after : Option (List ℕ)) where
+module _ (profile : Profile) (why : Bool) (has : List ℕ → List ℕ → Type 0) (failed_before failed_after : ℕ) (names : List (Bor (List ℕ))) (all : List LoadedFile) (before after : Option (List ℕ)) where
   pub held_status : length names ≡ length all → list_all is_entry_name (texts names) ≡ true → HasAllLoaded has (loaded_files names all) → HasRisenBy (count_unread (loaded_files names all)) failed_before failed_after
-      → (s : Status) → IsHeldStatus why (loaded_files names all) before after s → IsManifestStatus why has failed_before failed_after (texts names) before after s
-  held_status many entries loaded rose status.Pass (some, (held, same, text, is, written)) = (entries, proposed why has failed_before failed_after names all before after held text some many same loaded rose is written)
+      → (s : Status) → IsHeldStatus profile why (loaded_files names all) before after s → IsManifestStatus profile why has failed_before failed_after (texts names) before after s
+  held_status many entries loaded rose status.Pass (some, (held, same, text, is, written)) = (entries, proposed profile why has failed_before failed_after names all before after held text some many same loaded rose is written)
   held_status many entries loaded rose status.Findings h = absurd h
   held_status many entries loaded rose status.Refused h = absurd h
   held_status many entries loaded rose status.Usage (hold, written) = inr (record {

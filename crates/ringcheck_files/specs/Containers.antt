@@ -8,14 +8,14 @@ use Rattle.ringcheck_files.specs.declared.containers.Container.TheVariants as co
 abbrev pub slash_after : List ℕ → List ℕ
 slash_after path = if ends_with nat_eq path (codes "/") then [] else codes "/"
 
--- what is said of a folder: `boards is a folder: ringcheck reads files; name its files, as ringcheck manifest boards/*`
+-- what is said of a folder: `boards is a folder, but ringcheck reads files: name the files in it, as in ringcheck manifest boards/*`
 abbrev pub folder_sentence : List ℕ → List ℕ
 folder_sentence path =
-    path ++ (codes " is a folder: ringcheck reads files; name its files, as ringcheck manifest " ++ (path ++ (slash_after path ++ codes "*")))
+    path ++ (codes " is a folder, but ringcheck reads files: name the files in it, as in ringcheck manifest " ++ (path ++ (slash_after path ++ codes "*")))
 
--- what is said of a zip archive: `package.zip is a zip archive: unpack it and name its files`
+-- what is said of a zip archive: `package.zip is a zip archive: unpack it, and name the files in it`
 abbrev pub archive_sentence : List ℕ → List ℕ
-archive_sentence path = path ++ codes " is a zip archive: unpack it and name its files"
+archive_sentence path = path ++ codes " is a zip archive: unpack it, and name the files in it"
 
 -- what is said of a folder or a zip archive
 abbrev pub container_sentence : Container → List ℕ

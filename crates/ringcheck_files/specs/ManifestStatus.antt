@@ -5,6 +5,7 @@ use Rattle.std.specs.List.{count_by, list_all, list_any}
 use Rattle.std.specs.Io.KnownBytes.{Appends}
 use Rattle.command_line.specs.declared.commands.TheConstants.{VERSION_LINE}
 use Rattle.grid_units.specs.declared.fault.Reason.TheVariants.{BadManifest, BadRole}
+use Rattle.grid_units.specs.declared.profile.Profile.{Profile}
 use Rattle.manifest.specs.Manifest.{is_control}
 use Rattle.explanations.specs.KnownWords.{IsPageOf, known_word}
 use Rattle.explanations.specs.Words.{ListsWords}
@@ -89,10 +90,10 @@ loaded_files (name ∷ names) (one ∷ all) = (name.now, loaded_view one) ∷ lo
 abbrev pub is_entry_name : List ℕ → Bool
 is_entry_name name = not (length name == 0) && not (list_any is_control name)
 
--- with `why` the table of what each file is and why, else a manifest of the files (docs/FORMATS.md, Proposals)
-abbrev pub IsProposalText : Bool → List InputFile → List ℕ → Type 0
-IsProposalText true files text = text ≡ reasons_text (proposals files)
-IsProposalText false files text = IsManifestOf (proposals files) text
+-- with `why` the table of what each file is in a profile and why, else a manifest of the files for it (docs/FORMATS.md, Proposals)
+abbrev pub IsProposalText : Profile → Bool → List InputFile → List ℕ → Type 0
+IsProposalText profile true files text = text ≡ reasons_text (proposals profile files)
+IsProposalText profile false files text = IsManifestOf (proposals profile files) text
 
 -- whether a file is a folder, as its loader says, or a zip archive by its bytes
 abbrev pub is_container : LoadedView → Bool
@@ -108,14 +109,14 @@ are_containers (file ∷ files) = is_container file.1 && list_all (λ p. is_cont
 
 -- the writer got just the manifest or the table of files with these names, as the loader has them, of which not all are folders or zip
 -- archives; a load failed for each that cannot be read
-pub record PrintsProposal (why : Bool) (has : Relation) (failed_before failed_after : ℕ) (names : List (List ℕ)) (before after : Option (List ℕ)) : Type 0 where
+pub record PrintsProposal (profile : Profile) (why : Bool) (has : Relation) (failed_before failed_after : ℕ) (names : List (List ℕ)) (before after : Option (List ℕ)) : Type 0 where
   pub files : List InputFile
   pub named : map name_of files ≡ names
   pub loaded : HasAllLoaded has (map loaded_file files)
   pub failed : HasRisenBy (count_unread (map loaded_file files)) failed_before failed_after
   pub proposes : are_containers (map loaded_file files) ≡ false
   pub text : List ℕ
-  pub is : IsProposalText why files text
+  pub is : IsProposalText profile why files text
   pub written : Appends before after text
 
 -- what is said of a file that is a zip archive or a folder
@@ -140,24 +141,24 @@ pub record PrintsContainers (has : Relation) (failed_before failed_after : ℕ) 
   pub hold : are_containers all ≡ true
   pub written : Appends before after (usage_line BadManifest ++ sentence_line (first_said all))
 
--- what a status says of a manifest of files with these names; `failed_before` and `failed_after` count the loader's failures
-abbrev pub IsManifestStatus : Bool → Relation → ℕ → ℕ → List (List ℕ) → Option (List ℕ) → Option (List ℕ) → Status → Type 0
-IsManifestStatus why has failed_before failed_after names before after status.Pass = (list_all is_entry_name names ≡ true) × PrintsProposal why has failed_before failed_after names before after
-IsManifestStatus why has failed_before failed_after names before after status.Findings = ⊥
-IsManifestStatus why has failed_before failed_after names before after status.Refused = ⊥
-IsManifestStatus why has failed_before failed_after names before after status.Usage =
+-- what a status says of a manifest of files with these names, for a profile; `failed_before` and `failed_after` count the loader's failures
+abbrev pub IsManifestStatus : Profile → Bool → Relation → ℕ → ℕ → List (List ℕ) → Option (List ℕ) → Option (List ℕ) → Status → Type 0
+IsManifestStatus profile why has failed_before failed_after names before after status.Pass = (list_all is_entry_name names ≡ true) × PrintsProposal profile why has failed_before failed_after names before after
+IsManifestStatus profile why has failed_before failed_after names before after status.Findings = ⊥
+IsManifestStatus profile why has failed_before failed_after names before after status.Refused = ⊥
+IsManifestStatus profile why has failed_before failed_after names before after status.Usage =
     ((list_all is_entry_name names ≡ false) × Appends before after (usage_line BadManifest ++ sentence_line name_sentence)) ⊎ PrintsContainers has failed_before failed_after names before after
-IsManifestStatus why has failed_before failed_after names before after status.Device = ⊤
+IsManifestStatus profile why has failed_before failed_after names before after status.Device = ⊤
 
 -- ---- files that are at hand
 
 -- what a status says of the manifest or the table of files that are at hand: it was written, or there are some and each is a folder or a zip archive
-abbrev pub IsHeldStatus : Bool → List (List ℕ × LoadedView) → Option (List ℕ) → Option (List ℕ) → Status → Type 0
-IsHeldStatus why all before after status.Pass = (are_containers all ≡ false) × ((files : List InputFile) × (map loaded_file files ≡ all) × (text : List ℕ) × IsProposalText why files text × Appends before after text)
-IsHeldStatus why all before after status.Findings = ⊥
-IsHeldStatus why all before after status.Refused = ⊥
-IsHeldStatus why all before after status.Usage = (are_containers all ≡ true) × Appends before after (usage_line BadManifest ++ sentence_line (first_said all))
-IsHeldStatus why all before after status.Device = ⊥
+abbrev pub IsHeldStatus : Profile → Bool → List (List ℕ × LoadedView) → Option (List ℕ) → Option (List ℕ) → Status → Type 0
+IsHeldStatus profile why all before after status.Pass = (are_containers all ≡ false) × ((files : List InputFile) × (map loaded_file files ≡ all) × (text : List ℕ) × IsProposalText profile why files text × Appends before after text)
+IsHeldStatus profile why all before after status.Findings = ⊥
+IsHeldStatus profile why all before after status.Refused = ⊥
+IsHeldStatus profile why all before after status.Usage = (are_containers all ≡ true) × Appends before after (usage_line BadManifest ++ sentence_line (first_said all))
+IsHeldStatus profile why all before after status.Device = ⊥
 
 -- ---- explanations
 

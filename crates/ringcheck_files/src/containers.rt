@@ -36,12 +36,12 @@ impl Display for Container<'_> {
                 let slash = slash_after(path);
                 write!(
                     f,
-                    "{path} is a folder: ringcheck reads files; name its files, as ringcheck manifest {path}{slash}*"
+                    "{path} is a folder, but ringcheck reads files: name the files in it, as in ringcheck manifest {path}{slash}*"
                 )
             }
             Container::Archive(path) => write!(
                 f,
-                "{path} is a zip archive: unpack it and name its files"
+                "{path} is a zip archive: unpack it, and name the files in it"
             ),
         }
     }

@@ -13,7 +13,7 @@ use std::fmt;
 use std::fmt::{Display, Formatter};
 use std::io::Write;
 
-/// What is said of a word without a page: `no page smal; did you mean small?`
+/// What is said of a word without a page: `no page for smal; did you mean small?`
 #[derive(Clone, Copy)]
 struct NoPage<'a>(&'a str);
 
@@ -23,10 +23,10 @@ impl Display for NoPage<'_> {
     fn fmt<W: fmt::Write>(&self, f: &mut Formatter<W>) -> fmt::Result {
         let word = self.0;
         match near_word(word) {
-            Some(near) => write!(f, "no page {word}; did you mean {near}?"),
+            Some(near) => write!(f, "no page for {word}; did you mean {near}?"),
             None => write!(
                 f,
-                "no page {word}; ringcheck explain lists the words that have one"
+                "no page for {word}; ringcheck explain lists the words that have one"
             ),
         }
     }

@@ -11,7 +11,7 @@ use crate::limits::{ABOVE_LIMIT, FILE_LIMIT};
 use crate::outcomes::{Failure, refuse_word};
 use crate::{LoadFault, Loader, Status};
 use grid_units::{Fail, Fault, Profile, Reason};
-use single_files::{Kind, rewrite_bytes, show_drill, show_layer};
+use single_files::{Kind, rewrite_bytes, show_drill_in, show_layer_in};
 use std::alloc::Global;
 use std::io::Write;
 
@@ -40,8 +40,8 @@ fn show(alloc: Global, profile: Profile, kind: Kind, bytes: &[u8]) -> Result<Vec
     ensures { Answers (λ text. text.items) (Shows profile kind bytes.now) result }
 {
     match kind {
-        Kind::Layer => show_layer(alloc, profile, bytes),
-        Kind::Drill => show_drill(alloc, profile, bytes),
+        Kind::Layer => show_layer_in(alloc, profile, bytes),
+        Kind::Drill => show_drill_in(alloc, profile, bytes),
     }
 }
 

@@ -1,4 +1,4 @@
-//! Prints a manifest of files from a loader, or what each of them is, and why.
+//! Prints a manifest of files from a loader for a profile, or what each of them is, and why.
 
 ghost use Rattle.std.specs.Prelude.{◌≡◌, ◌≤◌, ◌↔◌, ℕ, List, None, IfOk, IfSome, length, map, true, false};
 ghost use Rattle.std.specs.List.{list_all, list_any};
@@ -13,7 +13,7 @@ use crate::containers::Container;
 use crate::limits::FILE_LIMIT;
 use crate::outcomes::{Failure, refuse_word};
 use crate::{LoadFault, Loader, Status};
-use grid_units::Reason;
+use grid_units::{Profile, Reason};
 use proposals::{FileContent, InputFile, is_archive, propose, write_proposal, write_reasons};
 use std::alloc::{AllocError, Global};
 use std::io::Write;
@@ -30,7 +30,7 @@ pub enum LoadedFile {
 
 /// What is said of a name that may not stand in a manifest.
 const NAME_SENTENCE: &str =
-    "a file name is not empty, and has no line end, tab or other control character";
+    "a file name must not be empty, or contain a line end, a tab or another control character";
 
 /// Whether a name has a control byte: one below 0x20, or 0x7F.
 fn has_control(name: &[u8]) -> bool
@@ -118,11 +118,16 @@ fn files_of<'a>(
     Ok(files)
 }
 
-/// The manifest of these files, or the table of what each of them is, and why.
-fn text_of(alloc: Global, why: bool, files: &[InputFile<'_>]) -> Result<Vec<u8>, AllocError>
-    ensures { IfOk result (λ text. IsProposalText why files.now text.items) }
+/// The manifest of these files for a profile, or the table of what each of them is, and why.
+fn text_of(
+    alloc: Global,
+    profile: Profile,
+    why: bool,
+    files: &[InputFile<'_>],
+) -> Result<Vec<u8>, AllocError>
+    ensures { IfOk result (λ text. IsProposalText profile why files.now text.items) }
 {
-    let list = propose(alloc, files)?;
+    let list = propose(alloc, profile, files)?;
     if why {
         write_reasons(alloc, list.as_slice())
     } else {
@@ -133,15 +138,16 @@ fn text_of(alloc: Global, why: bool, files: &[InputFile<'_>]) -> Result<Vec<u8>,
 /// The manifest or the table of files that are at hand.
 fn text_of_held(
     alloc: Global,
+    profile: Profile,
     why: bool,
     names: &[&str],
     loaded: &[LoadedFile],
 ) -> Result<Vec<u8>, AllocError>
     requires { length names.now ≡ length loaded.now }
-    ensures { IfOk result (λ text. (files : List TheNamed) × (map loaded_file files ≡ loaded_files names.now loaded.now) × IsProposalText why files text.items) }
+    ensures { IfOk result (λ text. (files : List TheNamed) × (map loaded_file files ≡ loaded_files names.now loaded.now) × IsProposalText profile why files text.items) }
 {
     let files = files_of(alloc, names, loaded)?;
-    text_of(alloc, why, files.as_slice())
+    text_of(alloc, profile, why, files.as_slice())
 }
 
 /// Whether this is a folder or a zip archive.
@@ -191,17 +197,18 @@ fn first_container<'a>(names: &[&'a str], loaded: &[LoadedFile]) -> Option<Conta
 /// archive, there is nothing to propose, and the words are refused.
 fn print_held<W: Write>(
     alloc: Global,
+    profile: Profile,
     why: bool,
     names: &[&str],
     loaded: &[LoadedFile],
     out: &mut W,
 ) -> Result<Status, Failure>
     requires { length names.now ≡ length loaded.now }
-    ensures says { IfOk result (IsHeldStatus why (loaded_files names.now loaded.now) (W.contents out.old) (W.contents out.new)) }
+    ensures says { IfOk result (IsHeldStatus profile why (loaded_files names.now loaded.now) (W.contents out.old) (W.contents out.new)) }
     ensures cause { (before after : ℕ) → IfOk result (HasCause before after) }
 {
     let Some(first) = first_container(names, loaded) else {
-        let text = text_of_held(alloc, why, names, loaded)?;
+        let text = text_of_held(alloc, profile, why, names, loaded)?;
         out.write_all(text.as_slice())?;
         return Ok(Status::Pass);
     };
@@ -210,7 +217,7 @@ fn print_held<W: Write>(
     Ok(Status::Usage)
 }
 
-/// Loads files and prints a manifest of them, or the table of what each of them is, and why. Words of which each names a folder or a zip
+/// Loads files and prints a manifest of them for a profile, or the table of what each of them is, and why. Words of which each names a folder or a zip
 /// archive are refused.
 ///
 /// # Errors
@@ -218,12 +225,13 @@ fn print_held<W: Write>(
 /// [`Failure::Memory`] where memory runs out, and [`Failure::Writer`] where the writer fails.
 pub fn print_manifest<L: Loader, W: Write>(
     alloc: Global,
+    profile: Profile,
     why: bool,
     names: &[&str],
     loader: &mut L,
     out: &mut W,
 ) -> Result<Status, Failure>
-    ensures says { IfOk result (λ status. IsManifestStatus why (L.has loader.old) (L.failed loader.old) (L.failed loader.new) (map (λ name. name.now) names.now) (W.contents out.old) (W.contents out.new) status) }
+    ensures says { IfOk result (λ status. IsManifestStatus profile why (L.has loader.old) (L.failed loader.old) (L.failed loader.new) (map (λ name. name.now) names.now) (W.contents out.old) (W.contents out.new) status) }
     ensures cause { (before after : ℕ) → IfOk result (HasCause before after) }
 {
     if !are_entry_names(names) {
@@ -232,5 +240,5 @@ pub fn print_manifest<L: Loader, W: Write>(
         return Ok(Status::Usage);
     }
     let loaded = load_files(alloc, loader, names)?;
-    print_held(alloc, why, names, loaded.as_slice(), out)
+    print_held(alloc, profile, why, names, loaded.as_slice(), out)
 }

@@ -6,10 +6,15 @@ ghost use Rattle.ringcheck_files.specs.Inner.{IsNextRead, IsFresh};
 use crate::ReadFail;
 use std::io::{ErrorKind, Read};
 
-/// The reads of a reader so far: how many there were, and whether one of them failed.
+/// How many reads in a row may be interrupted. One more in a row counts as a failed read, so that a reader which is interrupted each
+/// time is left soon, however large the limit is.
+const MAX_INTERRUPTIONS: u32 = 65_535;
+
+/// The reads of a reader so far: how many there were, how many of the last ones were interrupted, and whether one of them failed.
 #[derive(Drop)]
 pub(crate) struct ReadCounter {
     made: u64,
+    interrupted: u32,
     has_failed: bool,
 }
 
@@ -20,6 +25,7 @@ impl ReadCounter {
     {
         ReadCounter {
             made: 0,
+            interrupted: 0,
             has_failed: false,
         }
     }
@@ -46,8 +52,16 @@ impl ReadCounter {
     {
         self.made += 1;
         match reader.read(block) {
-            Ok(count) => Ok(Some(count)),
-            Err(error) if error.kind() == ErrorKind::Interrupted => Ok(None),
+            Ok(count) => {
+                self.interrupted = 0;
+                Ok(Some(count))
+            }
+            Err(error)
+                if error.kind() == ErrorKind::Interrupted && self.interrupted < MAX_INTERRUPTIONS =>
+                {
+                    self.interrupted += 1;
+                    Ok(None)
+                }
             Err(_) => {
                 self.has_failed = true;
                 Err(ReadFail::ReadFault)

@@ -48,8 +48,8 @@ const BLOCK: usize = 65_536;
 ///
 /// # Errors
 ///
-/// [`ReadFail::TooLong`] where more than `limit` bytes come; [`ReadFail::ReadFault`] where a read fails, or has been called
-/// `limit + 65,536` times; [`ReadFail::Memory`] where there is no memory.
+/// [`ReadFail::TooLong`] where more than `limit` bytes come; [`ReadFail::ReadFault`] where a read fails, was interrupted 65,536 times
+/// in a row, or has been called `limit + 65,536` times; [`ReadFail::Memory`] where there is no memory.
 pub fn read_all<R: Read>(alloc: Global, reader: &mut R, limit: u64) -> Result<Vec<u8>, ReadFail>
     requires limit { limit ≤ max_limit }
     ensures exact { ReadsAll (R.remaining reader.old) limit result }

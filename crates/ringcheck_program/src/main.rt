@@ -63,10 +63,15 @@ impl<R: Files> Loader for Disk<'_, R> {
 /// The most bytes that are held back for one write.
 const BUFFER: usize = 65_536;
 
-/// A device that is no longer written to after the first write that failed. A write that was interrupted is tried again.
+/// How many writes in a row may be interrupted. One more in a row counts as a failed write, so that the program ends.
+const MAX_INTERRUPTIONS: u32 = 65_535;
+
+/// A device that is no longer written to after the first write that failed. A write that was interrupted is tried again, unless as many
+/// in a row were.
 #[derive(Drop)]
 struct Device<W> {
     to: W,
+    interrupted: u32,
     has_failed: bool,
 }
 
@@ -75,12 +80,23 @@ impl<W: Write> Write for Device<W> {
         if self.has_failed {
             return Err(io::Error::from(io::ErrorKind::BrokenPipe));
         }
-        let written = self.to.write(bytes);
-        self.has_failed = match &written {
-            Ok(count) => *count == 0,
-            Err(error) => error.kind() != io::ErrorKind::Interrupted,
-        };
-        written
+        match self.to.write(bytes) {
+            Ok(count) => {
+                self.interrupted = 0;
+                self.has_failed = count == 0;
+                Ok(count)
+            }
+            Err(error)
+                if error.kind() == io::ErrorKind::Interrupted
+                    && self.interrupted < MAX_INTERRUPTIONS => {
+                self.interrupted += 1;
+                Err(error)
+            }
+            Err(_) => {
+                self.has_failed = true;
+                Err(io::Error::from(io::ErrorKind::BrokenPipe))
+            }
+        }
     }
 
     fn flush(&mut self) -> io::Result<()> {
@@ -143,6 +159,7 @@ fn run_words(rt: &HostRuntime) -> io::Result<Status> {
     let words = words_of(alloc, arguments.as_slice())?;
     let device = Device {
         to: io::writer(rt),
+        interrupted: 0,
         has_failed: false,
     };
     let mut out = BufWriter::with_capacity(alloc, BUFFER, device)?;

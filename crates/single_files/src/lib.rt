@@ -13,4 +13,4 @@ mod table;
 
 pub use kind::Kind;
 pub use rewrite::rewrite_bytes;
-pub use show::{show_drill, show_layer};
+pub use show::{show_drill, show_drill_in, show_layer, show_layer_in};

@@ -153,13 +153,35 @@ fn show_wide_layer(alloc: Global, bytes: &[u8]) -> Result<Vec<u8>, Fail>
     }
 }
 
+/// The table of a layer that is read in the strict profile, as [`show_layer_in`] has it.
+///
+/// # Errors
+///
+/// The first fault of the text; `Memory` where an allocation failed.
+pub fn show_layer(alloc: Global, bytes: &[u8]) -> Result<Vec<u8>, Fail>
+    ensures exact { Answers (λ text. text.items) (ShowsLayer Strict bytes.now) result }
+{
+    show_layer_in(alloc, Profile::Strict, bytes)
+}
+
+/// The table of the holes of a drill file that is read in the strict profile, as [`show_drill_in`] has it.
+///
+/// # Errors
+///
+/// The first fault of the text; `Memory` where an allocation failed.
+pub fn show_drill(alloc: Global, bytes: &[u8]) -> Result<Vec<u8>, Fail>
+    ensures exact { Answers (λ text. text.items) (ShowsDrill Strict bytes.now) result }
+{
+    show_drill_in(alloc, Profile::Strict, bytes)
+}
+
 /// The table of a layer that is read in a profile: a row for each flash, numbered from 1, with what it leaves, its point, and the
 /// width and height of a pad, in millimetres with nine decimals. In the wide profile contours have rows too, where their region ends.
 ///
 /// # Errors
 ///
 /// The first fault of the text; `Memory` where an allocation failed.
-pub fn show_layer(alloc: Global, profile: Profile, bytes: &[u8]) -> Result<Vec<u8>, Fail>
+pub fn show_layer_in(alloc: Global, profile: Profile, bytes: &[u8]) -> Result<Vec<u8>, Fail>
     ensures exact { Answers (λ text. text.items) (ShowsLayer profile bytes.now) result }
 {
     match profile {
@@ -174,7 +196,7 @@ pub fn show_layer(alloc: Global, profile: Profile, bytes: &[u8]) -> Result<Vec<u
 /// # Errors
 ///
 /// The first fault of the text; `Memory` where an allocation failed.
-pub fn show_drill(alloc: Global, profile: Profile, bytes: &[u8]) -> Result<Vec<u8>, Fail>
+pub fn show_drill_in(alloc: Global, profile: Profile, bytes: &[u8]) -> Result<Vec<u8>, Fail>
     ensures exact { Answers (λ text. text.items) (ShowsDrill profile bytes.now) result }
 {
     let drill = read_drill(alloc, profile, bytes)?;

@@ -7,13 +7,13 @@ use Rattle.pad_shapes.specs.declared.pad.Pad.{Pad}
 use Rattle.wide_pads.specs.declared.wide_pad.WidePad.TheVariants.{Plain}
 use Rattle.gerber_text.specs.Writing.{without_places}
 use Rattle.gerber_commands.specs.declared.command.Command.{Command}
-use Rattle.layer_image.specs.Drawn.{drawn_of}
 use Rattle.layer_image.specs.FileFunction.{file_function_of}
 use Rattle.layer_image.specs.Layers.{LayerImage, ReadsLayer, ReadsLayerIn}
 use Rattle.layer_image.specs.declared.drawn.Drawn.{Drawn}
 use Rattle.further_copper.specs.declared.feature.Feature.{Feature}
 use Rattle.further_copper.specs.declared.feature.FeatureKind.{FeatureKind}
 use Rattle.further_copper.specs.declared.feature.FeatureKind.TheVariants as kind
+use Rattle.further_copper.specs.DrawnCopper.{uncleared_drawn}
 use Rattle.further_copper.specs.Features.{features_of, is_contour, is_flashed_pad, is_other}
 use Rattle.further_copper.specs.Holding.{with_next}
 use Rattle.wide_layers.specs.declared.counts.FeatureCounts.{FeatureCounts}
@@ -33,9 +33,9 @@ abbrev pub ReadsWideLayer : List ℕ → Result WideImage Fault → Type 0
 ReadsWideLayer text (Ok image) = (layer : LayerImage) × ReadsLayerIn Wide text (Ok layer) × (image ≡ wide_image_of (without_places layer.commands))
 ReadsWideLayer text (Err f) = ReadsLayerIn Wide text (Err f)
 
--- in the wide profile a text is that of a layer whose commands draw this
+-- in the wide profile a text is that of a layer whose commands draw this, and clear polarity does not take it away
 abbrev pub DrawsWidely : List ℕ → List Drawn → Type 0
-DrawsWidely text drawn = (layer : LayerImage) × ReadsLayerIn Wide text (Ok layer) × (drawn ≡ drawn_of (without_places layer.commands))
+DrawsWidely text drawn = (layer : LayerImage) × ReadsLayerIn Wide text (Ok layer) × (drawn ≡ uncleared_drawn (without_places layer.commands))
 
 -- the text after `.FileFunction,`, where just the rest of a layer is left
 abbrev pub rest_function : WideRest → Option (List ℕ)

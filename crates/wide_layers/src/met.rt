@@ -6,9 +6,9 @@ ghost use Rattle.gerber_text.specs.FastPath.{text_command};
 ghost use Rattle.gerber_text.specs.Reading.{Entries, placed};
 ghost use Rattle.gerber_text.specs.Holding.{passed_entries};
 ghost use Rattle.gerber_text.specs.Writing.{without_places};
-ghost use Rattle.layer_image.specs.Drawn.{drawn_of};
 ghost use Rattle.layer_image.specs.Faults.{IsFirstFault};
 ghost use Rattle.layer_image.specs.FileFunction.{file_function_of};
+ghost use Rattle.further_copper.specs.DrawnCopper.{uncleared_drawn};
 ghost use Rattle.further_copper.specs.Features.{features_of};
 ghost use Rattle.further_copper.specs.Holding.{with_next};
 ghost use Rattle.further_copper.specs.declared.feature.Feature.{Feature as TheFeature};
@@ -123,10 +123,10 @@ impl Met {
         Ok((next, scan.into_file_function()))
     }
 
-    /// The layer of these commands. What they draw is put into `drawn`, where that was asked for.
+    /// The layer of these commands. What they draw that clear polarity does not take away is put into `drawn`, where that was asked for.
     pub(crate) fn finish(self, drawn: &mut Vec<Drawn>) -> Result<WideLayer, AllocError>
         ensures layer { (draws : Bool) (entries : Entries) → HasMetLegal draws [] self entries → IfOk result (λ layer. layer ≡ wide_image_of (without_places entries)) }
-        ensures drawn { (entries : Entries) → HasMetLegal true [] self entries → OnOk result (drawn.new.items ≡ drawn_of (without_places entries)) }
+        ensures drawn { (entries : Entries) → HasMetLegal true [] self entries → OnOk result (drawn.new.items ≡ uncleared_drawn (without_places entries)) }
     {
         let Met { scan, copper, .. } = self;
         let features = copper.finish(drawn)?;

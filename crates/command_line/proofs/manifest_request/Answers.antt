@@ -7,4 +7,4 @@ pub returns : goal.returns
 returns c =
     let rows = raw_values-rows (found_of c.args.values.now) (codes "file") in
     let row_of_value = ap (λ (xs : List (Bor (List ℕ))). Some (map (λ (file : Bor (List ℕ)). file.now) xs)) (sym c.in-Ok.ensures.items) in
-    (refl, c.is_flag_set.ensures, sym (c.in_ok-row_of_value.ensures ∙ rows) ∙ row_of_value)
+    (refl, c.is_flag_set-why.ensures, sym c.value-profile.ensures, sym (c.in_ok-row_of_value.ensures ∙ rows) ∙ row_of_value)

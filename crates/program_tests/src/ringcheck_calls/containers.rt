@@ -57,17 +57,17 @@ const ANSWERS: [(&[&str], Status, &str); 17] = [
     (
         &["report", "--ring", "0.125", "--gap", "0.25", "boards"],
         Status::Device,
-        "device\n  boards is a folder: ringcheck reads files; name its files, as ringcheck manifest boards/*\n",
+        "device\n  boards is a folder, but ringcheck reads files: name the files in it, as in ringcheck manifest boards/*\n",
     ),
     (
         &["measure", "boards/"],
         Status::Device,
-        "device\n  boards/ is a folder: ringcheck reads files; name its files, as ringcheck manifest boards/*\n",
+        "device\n  boards/ is a folder, but ringcheck reads files: name the files in it, as in ringcheck manifest boards/*\n",
     ),
     (
         &["measure", "--format", "json", "boards"],
         Status::Device,
-        "{\"format\":\"ringcheck\",\"version\":2,\"result\":\"device\"}\n",
+        "{\"format\":\"ringcheck\",\"version\":3,\"result\":\"device\"}\n",
     ),
     (
         &["check", "--ring", "0.125", "--gap", "0.25", "boards"],
@@ -105,22 +105,22 @@ const ANSWERS: [(&[&str], Status, &str); 17] = [
     (
         &["measure", "--format", "json", "a.zip"],
         Status::Refused,
-        "{\"format\":\"ringcheck\",\"version\":2,\"result\":\"refused\",\"place\":1,\"reason\":\"BadManifest\"}\n",
+        "{\"format\":\"ringcheck\",\"version\":3,\"result\":\"refused\",\"place\":1,\"reason\":\"BadManifest\"}\n",
     ),
     (
         &["manifest", "boards"],
         Status::Usage,
-        "usage reason=BadManifest\n  boards is a folder: ringcheck reads files; name its files, as ringcheck manifest boards/*\n",
+        "usage reason=BadManifest\n  boards is a folder, but ringcheck reads files: name the files in it, as in ringcheck manifest boards/*\n",
     ),
     (
         &["manifest", "a.zip"],
         Status::Usage,
-        "usage reason=BadManifest\n  a.zip is a zip archive: unpack it and name its files\n",
+        "usage reason=BadManifest\n  a.zip is a zip archive: unpack it, and name the files in it\n",
     ),
     (
         &["manifest", "--why", "a.zip", "boards"],
         Status::Usage,
-        "usage reason=BadManifest\n  a.zip is a zip archive: unpack it and name its files\n",
+        "usage reason=BadManifest\n  a.zip is a zip archive: unpack it, and name the files in it\n",
     ),
     (
         &["manifest", "boards", "top.gbr", "a.zip"],
@@ -178,7 +178,7 @@ fn with_archive(alloc: Global, line: &str, page: &str) -> Result<String, AllocEr
     let mut text = String::from_str(alloc, line)?;
     push_indented(
         &mut text,
-        "a.zip is a zip archive: unpack it and name its files",
+        "a.zip is a zip archive: unpack it, and name the files in it",
     )?;
     for row in page.lines() {
         push_indented(&mut text, row)?;

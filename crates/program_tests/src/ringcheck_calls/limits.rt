@@ -30,10 +30,10 @@ const LONG_DRILL: &str = "refused file=2 place=0 byte=0 reason=TooLong name=pth\
 const MEASURE_AS_JSON: [&str; 4] = ["measure", "--format", "json", "m.csv"];
 
 const LONG_MANIFEST_AS_JSON: &str =
-    "{\"format\":\"ringcheck\",\"version\":2,\"result\":\"refused\",\"place\":0,\"reason\":\"TooLong\"}\n";
+    "{\"format\":\"ringcheck\",\"version\":3,\"result\":\"refused\",\"place\":0,\"reason\":\"TooLong\"}\n";
 
 const LONG_DRILL_AS_JSON: &str =
-    "{\"format\":\"ringcheck\",\"version\":2,\"result\":\"refused\",\"file\":2,\"name\":\"pth\",\"place\":0,\"byte\":0,\"reason\":\"TooLong\"}\n";
+    "{\"format\":\"ringcheck\",\"version\":3,\"result\":\"refused\",\"file\":2,\"name\":\"pth\",\"place\":0,\"byte\":0,\"reason\":\"TooLong\"}\n";
 
 /// The words of a run, a file, its length, the status of the run and what it prints.
 type LengthRow<'x> = (&'x [&'x str], &'x str, u64, Status, &'x str);

@@ -9,7 +9,7 @@ const NO_NAMES: [&str; 5] = ["a\tb.gbr", "a\u{7F}", "\n", "", "top\u{1F}"];
 #[test]
 fn words_that_name_no_file_are_told(rt: HostRuntime) {
     let refusal =
-        "usage reason=BadManifest\n  a file name is not empty, and has no line end, tab or other control character\n";
+        "usage reason=BadManifest\n  a file name must not be empty, or contain a line end, a tab or another control character\n";
     for &word in &NO_NAMES {
         let words = ["manifest", "top.gbr", word];
         let mut shelf = Shelf::new(&[("top.gbr", LAYER)]);
@@ -150,6 +150,64 @@ fn the_profile_of_a_table_is_read_before_its_kind(rt: HostRuntime) -> Result<(),
     }
     assert!(rt; refuses_table(rt.alloc(), "wide", "usage reason=BadRole\n"));
     Ok(())
+}
+
+/// Whether a manifest in the profile of a word, of a name that no file may have, prints just this as usage, and loads no file.
+fn refuses_manifest(alloc: Global, word: &str, text: &str) -> bool {
+    let mut shelf = Shelf::new(&[("top.gbr", LAYER)]);
+    let words = ["manifest", "--profile", word, "top.gbr", ""];
+    prints(alloc, &mut shelf, &words, Status::Usage, text) && shelf.calls == 0
+}
+
+#[test]
+fn the_profile_of_a_manifest_is_read_before_its_names(rt: HostRuntime) -> Result<(), Failure> {
+    for &word in &NO_PROFILES {
+        let text = profile_refusal(rt.alloc(), word)?;
+        assert!(rt; refuses_manifest(rt.alloc(), word, text.as_str()), "{word}");
+    }
+    let names =
+        "usage reason=BadManifest\n  a file name must not be empty, or contain a line end, a tab or another control character\n";
+    assert!(rt; refuses_manifest(rt.alloc(), "wide", names));
+    Ok(())
+}
+
+/// A drill file that says of each tool whether its holes are plated.
+const MERGED: &str =
+    "M48\nMETRIC\n;TYPE=PLATED\nT1C0.4\n;TYPE=NON_PLATED\nT2C1.0\n%\nT1\nX0.0Y0.0\nT2\nX3.0Y0.0\nM30\n";
+
+/// Words of which each asks for a manifest of a layer and a merged drill file, and what is printed.
+const MANIFESTS: [(&[&str], &str); 5] = [
+    (
+        &["manifest", "top.gbr", "all.drl"],
+        "role,name,file\ncopper,top.gbr,top.gbr\n?,all.drl,all.drl\n",
+    ),
+    (
+        &["manifest", "--profile", "strict", "top.gbr", "all.drl"],
+        "role,name,file\ncopper,top.gbr,top.gbr\n?,all.drl,all.drl\n",
+    ),
+    (
+        &["manifest", "--profile", "wide", "all.drl", "top.gbr"],
+        "role,name,file\ncopper,top.gbr,top.gbr\nmixed,all.drl,all.drl\n",
+    ),
+    (
+        &["manifest", "--why", "--profile=wide", "all.drl"],
+        "file,role,because\nall.drl,mixed,its comments say which holes are plated\n",
+    ),
+    (
+        &["manifest", "--why", "all.drl"],
+        "file,role,because\nall.drl,?,\"mixed: role mixed with --profile wide, or export two files\"\n",
+    ),
+];
+
+#[test]
+fn a_manifest_is_proposed_in_the_profile_that_is_named(rt: HostRuntime) {
+    for &(words, text) in &MANIFESTS {
+        let mut shelf = Shelf::new(&[("top.gbr", LAYER), ("all.drl", MERGED)]);
+        assert!(rt;
+            prints(rt.alloc(), &mut shelf, words, Status::Pass, text),
+            "{words:?}"
+        );
+    }
 }
 
 /// Whether a run asks once for its file, which is not there, and says so.

@@ -20,5 +20,6 @@ returns c =
       measure = c.in_ok-measure.measure;
       measured = subst (λ (p : Profile). IsMeasure p board c.in_ok-measure.measure) c.profile.ensures c.in_ok-measure.ensures.exact;
       scales = refl;
+      conflicts = c.in_ok-role_conflicts.ensures;
       meets = refl;
     }

@@ -6,4 +6,5 @@ use Rattle.command_line.proofs.commands.manifest.Goals as goal
 pub returns : goal.returns
 returns c =
     let why = c.in_ok-arg.ensures.shape c.flag_arg.ensures.global ∙ ap₂ with_rule c.new_command.ensures c.flag_arg.ensures.rule in
-    IfOk-weaker c.arg-2.result _ _ (λ x h. h.shape c.repeated_arg.ensures.global ∙ ap₂ with_rule why c.repeated_arg.ensures.rule) c.arg-2.ensures
+    let profile = c.in_ok-arg-2.ensures.shape c.optional_option_arg.ensures.global ∙ ap₂ with_rule why c.optional_option_arg.ensures.rule in
+    IfOk-weaker c.arg-3.result _ _ (λ x h. h.shape c.repeated_arg.ensures.global ∙ ap₂ with_rule profile c.repeated_arg.ensures.rule) c.arg-3.ensures

@@ -9,4 +9,5 @@ returns c =
     let waive = c.in_ok-arg-2.ensures.shape c.optional_option_arg-2.ensures.global ∙ ap₂ with_rule limit c.optional_option_arg-2.ensures.rule in
     let outline = c.in_ok-arg-3.ensures.shape c.optional_option_arg-3.ensures.global ∙ ap₂ with_rule waive c.optional_option_arg-3.ensures.rule in
     let format = c.in_ok-arg-4.ensures.shape c.optional_option_arg-4.ensures.global ∙ ap₂ with_rule outline c.optional_option_arg-4.ensures.rule in
-    IfOk-weaker c.arg-5.result _ _ (λ x h. h.shape c.required_arg.ensures.global ∙ ap₂ with_rule format c.required_arg.ensures.rule) c.arg-5.ensures
+    let exit_zero = c.in_ok-arg-5.ensures.shape c.flag_arg.ensures.global ∙ ap₂ with_rule format c.flag_arg.ensures.rule in
+    IfOk-weaker c.arg-6.result _ _ (λ x h. h.shape c.required_arg.ensures.global ∙ ap₂ with_rule exit_zero c.required_arg.ensures.rule) c.arg-6.ensures

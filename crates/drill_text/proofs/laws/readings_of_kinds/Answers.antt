@@ -1,5 +1,6 @@
 use Rattle.drill_text.proofs.FaultsStay.{shown_is_read_in}
 use Rattle.drill_text.proofs.FirstFaults.{each_read_in}
+use Rattle.drill_text.proofs.KindLemmas.{kinds_read_the_same}
 use Rattle.drill_text.proofs.UniqueReading.{one_shown_in, one_read_in}
 use Rattle.drill_text.proofs.laws.readings_of_kinds.Goals as goal
 
@@ -14,3 +15,6 @@ returns-clause-stays c = shown_is_read_in
 
 pub returns-clause-some : goal.returns-clause-some
 returns-clause-some c = each_read_in
+
+pub returns-clause-same : goal.returns-clause-same
+returns-clause-same c = kinds_read_the_same

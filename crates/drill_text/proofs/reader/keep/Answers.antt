@@ -8,14 +8,14 @@ use Rattle.drill_text.proofs.SpelledLemmas.{checked_kept, checked_broken}
 use Rattle.drill_text.proofs.reader.keep.Goals as goal
 
 pub returns-in-Ok : goal.returns-in-Ok
-returns-in-Ok c mixed keep before has_read =
-    let k = c.in-Ok.ensures mixed before has_read.is_judge in (
+returns-in-Ok c plating keep before has_read =
+    let k = c.in-Ok.ensures plating before has_read.is_judge in (
       before ++ c.args.command ∷ [],
-      checked_kept mixed before c.args.place c.args.byte c.args.command k.0,
+      checked_kept plating before c.args.place c.args.byte c.args.command k.0,
       record { is_judge = k.1; keeps = c.in_ok-add-in-Ok.ensures keep before has_read.keeps },
     )
 
 pub returns : goal.returns
-returns c mixed keep before has_read =
-    subst (IfFault (λ f. with_place c.args.place c.args.byte (checked_by (rule_in mixed) before (Some c.args.command)) ≡ Err f)) (sym c.refusal.ensures)
-    (checked_broken mixed before c.args.place c.args.byte c.args.command c.in-Err-Refused.reason (subst (λ (e : ItemFail). JudgesOrRefuses mixed before c.args.command c.step.new.self (Err e)) c.in-Err-Refused.field-0-is (c.in-Err-Refused.ensures mixed before has_read.is_judge)))
+returns c plating keep before has_read =
+    subst (IfFault (λ f. with_place c.args.place c.args.byte (checked_by (rule_in plating) before (Some c.args.command)) ≡ Err f)) (sym c.refusal.ensures)
+    (checked_broken plating before c.args.place c.args.byte c.args.command c.in-Err-Refused.reason (subst (λ (e : ItemFail). JudgesOrRefuses plating before c.args.command c.step.new.self (Err e)) c.in-Err-Refused.field-0-is (c.in-Err-Refused.ensures plating before has_read.is_judge)))

@@ -35,8 +35,8 @@ returns-in-Ok-Some c p keep earlier before place byte h =
     let read = c.in-Ok-Some.ensures p.profile (map trimmed earlier) (subst (λ (x : Settings). HasReadLines c.args.reader.now p.profile x (map trimmed earlier)) (sym same) h.lines) in
     let some = subst (λ (o : Option DrillCommand). ReadsLine (Ok o) c.read.new.self p.profile c.settings.result (map trimmed earlier) (trimmed line)) c.in-Ok-Some.field-0-is read in
     let spells = spelled_in_is p earlier line before (Ok (Some command)) c.requires.short (ap (λ (x : Settings). meaning_in p.profile (map trimmed earlier) x (trimmed line)) (sym same) ∙ some.0) in
-    line_results c.keep.result c.read.new.self c.keep.new.judge c.keep.new.kept p keep earlier line (with_place c.args.place c.args.byte (checked_by (rule_in p.mixed) before (Some command))) (spelled_in p earlier line before)
-    (spells ∙ (λ i. with_place (sym place i) (sym byte i) (checked_by (rule_in p.mixed) before (Some command)))) (λ after. lines_more c.read.new.self p.profile (settings_after after) earlier line (some.1 (settings_after after) tt)) (c.keep.ensures p.mixed keep before h.has_read)
+    line_results c.keep.result c.read.new.self c.keep.new.judge c.keep.new.kept p keep earlier line (with_place c.args.place c.args.byte (checked_by (rule_in p.plating) before (Some command))) (spelled_in p earlier line before)
+    (spells ∙ (λ i. with_place (sym place i) (sym byte i) (checked_by (rule_in p.plating) before (Some command)))) (λ after. lines_more c.read.new.self p.profile (settings_after after) earlier line (some.1 (settings_after after) tt)) (c.keep.ensures p.plating keep before h.has_read)
 
 pub returns-in-Err-Refused : goal.returns-in-Err-Refused
 returns-in-Err-Refused c p keep earlier before place byte h =

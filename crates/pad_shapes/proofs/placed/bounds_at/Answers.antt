@@ -1,4 +1,4 @@
-use Rattle.std.proofs.Common.{◌≡◌, ◌≤◌, ◌∙◌, ℤ, arith}
+use Rattle.std.proofs.Common.{◌≤◌, ◌∙◌, ap, arith}
 use Rattle.std.proofs.lemmas.Int.{ints}
 use Rattle.grid_units.specs.Points.{GridPoint}
 use Rattle.pad_shapes.specs.Placed.{moved_shape}
@@ -14,10 +14,10 @@ returns-clause-is c =
     let range = c.radius-radius.ensures.in_range in
     let radius = c.radius-radius.ensures.value in
     record {
-      left = moved_least c.args.x c.least_x.result _ c.radius-radius.result _ c.requires.x c.least_x.ensures.in_range range c.least_x.ensures.value radius ∙ left-moved o s;
-      right = moved_greatest c.args.x c.greatest_x.result _ c.radius-radius.result _ c.requires.x c.greatest_x.ensures.in_range range c.greatest_x.ensures.value radius ∙ right-moved o s;
-      bottom = moved_least c.args.y c.least_y.result _ c.radius-radius.result _ c.requires.y c.least_y.ensures.in_range range c.least_y.ensures.value radius ∙ bottom-moved o s;
-      top = moved_greatest c.args.y c.greatest_y.result _ c.radius-radius.result _ c.requires.y c.greatest_y.ensures.in_range range c.greatest_y.ensures.value radius ∙ top-moved o s;
+      left = moved_least c.args.x c.x.result _ c.radius-radius.result _ c.requires.x c.x.ensures.in_range range (c.x.ensures.value ∙ ap (λ v. v.x) c.low-low.ensures) radius ∙ left-moved o s;
+      right = moved_greatest c.args.x c.x-2.result _ c.radius-radius.result _ c.requires.x c.x-2.ensures.in_range range (c.x-2.ensures.value ∙ ap (λ v. v.x) c.high-high.ensures) radius ∙ right-moved o s;
+      bottom = moved_least c.args.y c.y.result _ c.radius-radius.result _ c.requires.y c.y.ensures.in_range range (c.y.ensures.value ∙ ap (λ v. v.y) c.low-low.ensures) radius ∙ bottom-moved o s;
+      top = moved_greatest c.args.y c.y-2.result _ c.radius-radius.result _ c.requires.y c.y-2.ensures.in_range range (c.y-2.ensures.value ∙ ap (λ v. v.y) c.high-high.ensures) radius ∙ top-moved o s;
     }
 
 pub returns-clause-in_range : goal.returns-clause-in_range

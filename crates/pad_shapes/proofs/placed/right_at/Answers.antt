@@ -1,9 +1,9 @@
-use Rattle.std.proofs.Common.{◌≡◌, ◌∙◌, ℤ, ◌+ℤ◌, ◌-ℤ◌, pos, ap}
+use Rattle.std.proofs.Common.{◌∙◌, ap}
 use Rattle.pad_shapes.proofs.EdgesLemmas.{moved_greatest}
 use Rattle.pad_shapes.proofs.MovedShapes.{right-moved}
 use Rattle.pad_shapes.proofs.placed.right_at.Goals as goal
 
 pub returns : goal.returns
 returns c y =
-    moved_greatest c.args.x c.greatest_x.result _ c.radius.result _ c.requires c.greatest_x.ensures.in_range c.radius.ensures.in_range c.greatest_x.ensures.value c.radius.ensures.value
+    moved_greatest c.args.x c.x.result _ c.radius.result _ c.requires c.x.ensures.in_range c.radius.ensures.in_range (c.x.ensures.value ∙ ap (λ v. v.x) c.high.ensures) c.radius.ensures.value
     ∙ right-moved (record { x = c.args.x; y = y }) c.args.shape.now

@@ -5,4 +5,4 @@ use Rattle.proposals.proofs.StackLemmas.{all_among}
 use Rattle.proposals.proofs.laws.reads_back.Goals as goal
 
 pub returns : goal.returns
-returns c = λ files entries in_manifest_order decision_for. reads_back entries (names_once files entries in_manifest_order.permutation) (shorts files entries in_manifest_order.permutation) (all_among files entries in_manifest_order.permutation) decision_for
+returns c = λ profile files entries in_manifest_order decision_for. reads_back profile entries (names_once profile files entries in_manifest_order.permutation) (shorts profile files entries in_manifest_order.permutation) (all_among profile files entries in_manifest_order.permutation) decision_for

@@ -2,7 +2,6 @@ use Rattle.std.proofs.Common.{◌≡◌, ◌∙◌, rules, tests, ap, not}
 use Rattle.std.specs.List.{list_any}
 use Rattle.std.proofs.lemmas.Iterator.{YieldsList-from_slice}
 use Rattle.std.proofs.lemmas.Iterator.Search.{any_from_yields_List}
-use Rattle.proposals.specs.declared.model.Proposal.{Proposal}
 use Rattle.proposals.specs.Stack.{hints_at_missing}
 use Rattle.proposals.proofs.stack.is_copper_complete.Goals as goal
 

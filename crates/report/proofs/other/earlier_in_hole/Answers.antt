@@ -1,8 +1,11 @@
 use Rattle.std.proofs.Common.{◌++◌, ◌∷◌, [], Some, subst, sym, ◌∙◌}
 use Rattle.report.specs.Inner.FirstInHole.{IsFirstIn}
 use Rattle.report.specs.declared.other.Other.{Other}
-use Rattle.report.proofs.FirstInHole.{lesser_is}
+use Rattle.report.proofs.FirstInHole.{lesser_is, passed_by}
 use Rattle.report.proofs.other.earlier_in_hole.Goals as goal
+
+pub returns-then-not-is_in_hole : goal.returns-then-not-is_in_hole
+returns-then-not-is_in_hole c = λ seen is. passed_by c.args.hole.now seen c.args.first c.args.other (sym c.is_in_hole.ensures ∙ c.if-not-is_in_hole.true) is
 
 pub returns : goal.returns
 returns c = λ seen is.

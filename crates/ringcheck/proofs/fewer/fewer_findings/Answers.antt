@@ -8,7 +8,7 @@ use Rattle.ringcheck.specs.CheckStatus.{HasTable, IsPackageRefusal, RefusedFile,
 use Rattle.ringcheck.specs.Inner.Halting.{Halts, refusal}
 use Rattle.ringcheck.specs.Inner.Reporting.{is_unread}
 use Rattle.ringcheck.specs.Refusals.{Refusal, of_archive}
-use Rattle.ringcheck.specs.ReportStatus.{IsFewer, has_none, is_strict_text}
+use Rattle.ringcheck.specs.ReportStatus.{IsFewer, has_none, says_fewer}
 use Rattle.ringcheck.specs.declared.parsed_words.ReportFormat.{ReportFormat}
 use Rattle.ringcheck.specs.declared.parsed_words.ReportFormat.TheVariants as format
 use Rattle.ringcheck.specs.declared.refusals.Halt.{Halt}
@@ -16,11 +16,13 @@ use Rattle.ringcheck.specs.declared.refusals.Halt.TheVariants as halt
 use Rattle.ringcheck.proofs.fewer.fewer_findings.Goals as goal
 
 -- a report asks in the strict profile alone
-of_strict : (form : ReportFormat) (profile : Profile) (b : Bool) → (is_strict_text form profile && b) ≡ true → profile ≡ Strict
+of_strict : (form : ReportFormat) (profile : Profile) (b : Bool) → (says_fewer form profile && b) ≡ true → profile ≡ Strict
 of_strict format.Text Strict b h = refl
 of_strict format.Text Wide b h = absurd cc
-of_strict format.Html profile b h = absurd cc
-of_strict format.Json profile b h = absurd cc
+of_strict format.Html Strict b h = refl
+of_strict format.Html Wide b h = absurd cc
+of_strict format.Json Strict b h = refl
+of_strict format.Json Wide b h = absurd cc
 of_strict format.Waivers profile b h = absurd cc
 
 -- a manifest of the strict profile is the same in the wide one

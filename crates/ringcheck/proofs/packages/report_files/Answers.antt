@@ -1,15 +1,16 @@
-use Rattle.std.proofs.Common.{List, ℕ, refl, subst}
+use Rattle.std.proofs.Common.{List, ℕ, subst, sym}
 use Rattle.ringcheck_files.specs.LoaderRelation.{file_limit, within}
 use Rattle.ringcheck_files.specs.Outcomes.{HasRisen}
 use Rattle.ringcheck.specs.CheckStatus.{RefusedFile, sources}
 use Rattle.ringcheck.specs.Inner.Jobs.{given}
-use Rattle.ringcheck.specs.ReportStatus.{Judges, PrintsReport, asks_wide}
+use Rattle.ringcheck.specs.ReportStatus.{IsFewer, Judges, PrintsReport, asks_wide}
 use Rattle.ringcheck.proofs.Outcomes.{listed_along, named, refused_among, unread_since}
 use Rattle.ringcheck.proofs.OutlinedReports.{fewer_along}
 use Rattle.ringcheck.proofs.packages.report_files.Goals as goal
 
 pub returns-clause-answers : goal.returns-clause-answers
-returns-clause-answers g c name listed names =
+returns-clause-answers g c listed names =
+    let name = c.args.name.now in
     let had = g.L.Loader.has c.args.loader.now in
     let options = c.args.options.now in
     let profile = options.rules.profile in
@@ -23,6 +24,7 @@ returns-clause-answers g c name listed names =
     let later = g.L.Loader.has c.take_files.new.loader in
     let again = listed_along had later c.in_ok-reader.ensures.kept profile name entries listed in
     let fewer = fewer_along later had c.in_ok-reader.ensures.keeps name (asks_wide options.format options.rules report) options.rules report c.in-Ok-3.fewer (rw c.in-Ok-3.is at c.in_ok-fewer.ensures name again) in
+    let about = c.particulars-about.result in
     let (accepted, judged, written) = c.in_ok-passes.ensures in
     let (board, report) = c.in-Ok-2.found in (
       files,
@@ -33,16 +35,18 @@ returns-clause-answers g c name listed names =
         drawn = on.drawn;
         as_check = on.as_check;
         sound = on.sound;
-        fewer = c.in-Ok-3.fewer;
-        is_fewer = fewer;
+        about = about;
+        manifest = c.particulars-about.ensures.manifest;
+        program = c.particulars-about.ensures.program;
+        is_fewer = subst (λ (n : ℕ). IsFewer had name (asks_wide options.format options.rules report) options.rules report n) (sym c.particulars-about.ensures.fewer) fewer;
         accepted = accepted;
         judged = subst (λ (ns : List (List ℕ)). Judges (given options.waivers) ns report c.in_ok-passes.passes accepted) same judged;
-        written = subst (λ (ns : List (List ℕ)). PrintsReport options.format ns board options.outline.items report c.in-Ok-3.fewer options.limit accepted (contents c.args.out.now) (contents c.print_judged.new.out)) same written;
+        written = subst (λ (ns : List (List ℕ)). PrintsReport options.format ns board options.outline.items report about options.limit accepted (contents c.args.out.now) (contents c.print_judged.new.out)) same written;
       },
     )
 
 pub returns-in-Err-2-clause-answers : goal.returns-in-Err-2-clause-answers
-returns-in-Err-2-clause-answers g c name listed names =
+returns-in-Err-2-clause-answers g c listed names =
     let had = g.L.Loader.has c.args.loader.now in
     let profile = c.args.options.now.rules.profile in
     let entries = c.args.entries.now in
@@ -52,7 +56,8 @@ returns-in-Err-2-clause-answers g c name listed names =
     refused_among had profile entries (HasRisen (failed c.args.loader.now) (failed c.take_files.new.loader)) files held c.in-Err-2.halt (rw c.in-Err-2.is at c.in_ok-found.ensures (sources profile entries files) same stood)
 
 pub returns-in-Err-3-clause-answers : goal.returns-in-Err-3-clause-answers
-returns-in-Err-3-clause-answers g c name listed names =
+returns-in-Err-3-clause-answers g c listed names =
+    let name = c.args.name.now in
     let had = g.L.Loader.has c.args.loader.now in
     let later = g.L.Loader.has c.take_files.new.loader in
     let failed = g.L.Loader.failed in

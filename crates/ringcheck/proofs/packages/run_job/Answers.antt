@@ -30,7 +30,7 @@ returns-in-Ok-2-clause-says g c =
     let entries = c.in-Ok.entries.items in
     let listed = rw (c.in-Ok.is, c.profile.ensures) at c.in_ok-entries.ensures.loaded in
     let known = listed_along has later c.in_ok-entries.ensures.kept (job_profile job) c.args.name.now entries listed in
-    let (files, held, holds) = rw (c.in-Ok-2.is, c.as_slice.ensures.value) at c.in_ok-passes.ensures.answers c.args.name.now known in
+    let (files, held, holds) = rw (c.in-Ok-2.is, c.as_slice.ensures.value) at c.in_ok-passes.ensures.answers known in
     let has_files_along = files_along later has c.in_ok-entries.ensures.keeps entries files held in
     rw c.status_of.ensures (worked has (job_profile job) c.args.name.now (Holds job has c.args.name.now before after) (job_style job) before after entries files listed has_files_along c.in-Ok-2.passes
     (holds_along later has c.in_ok-entries.ensures.keeps c.args.name.now job before after c.in-Ok-2.passes (sources (job_profile job) entries files) holds))
@@ -49,7 +49,7 @@ returns-clause-says g c =
     halted (RefusedFile later (job_profile job) entries) (HasRisen (failed c.load_table.new.loader) (failed c.answer.new.loader)) (job_style job) c.path_of-path.result.now c.is_unread_folder-is_folder-in-Err-2.result before after
     (SaysJob job has c.args.name.now before after) (λ risen. tt)
     (λ why is printed. record { why = why; refused = refused_file entries listed (file_along later has c.in_ok-entries.ensures.keeps (job_profile job) entries why is); printed = printed })
-    c.in-Err-2.halt (rw (c.in-Err-2.is, c.as_slice.ensures.value) at c.in_ok-passes.ensures.answers c.args.name.now (listed_along has later c.in_ok-entries.ensures.kept (job_profile job) c.args.name.now entries listed)) c.print_halt-in-Err-2.result (rw (c.style-in-Err-2.ensures, silent) at c.print_halt-in-Err-2.ensures)
+    c.in-Err-2.halt (rw (c.in-Err-2.is, c.as_slice.ensures.value) at c.in_ok-passes.ensures.answers (listed_along has later c.in_ok-entries.ensures.kept (job_profile job) c.args.name.now entries listed)) c.print_halt-in-Err-2.result (rw (c.style-in-Err-2.ensures, silent) at c.print_halt-in-Err-2.ensures)
 
 pub returns-clause-cause : goal.returns-clause-cause
 returns-clause-cause g c =
@@ -65,4 +65,4 @@ returns-clause-cause g c =
     halted (RefusedFile later (job_profile job) entries) (HasRisen (failed c.load_table.new.loader) (failed c.answer.new.loader)) (job_style job) c.path_of-path.result.now c.is_unread_folder-is_folder-in-Err-2.result before after
     (HasCause (failed c.args.loader.now) (failed c.answer.new.loader))
     (risen_since (failed c.args.loader.now) (failed c.load_table.new.loader) (failed c.answer.new.loader) c.in_ok-entries.ensures.counts) (λ why is printed. tt)
-    c.in-Err-2.halt (rw (c.in-Err-2.is, c.as_slice.ensures.value) at c.in_ok-passes.ensures.answers c.args.name.now (listed_along has later c.in_ok-entries.ensures.kept (job_profile job) c.args.name.now entries listed)) c.print_halt-in-Err-2.result (rw (c.style-in-Err-2.ensures, silent) at c.print_halt-in-Err-2.ensures)
+    c.in-Err-2.halt (rw (c.in-Err-2.is, c.as_slice.ensures.value) at c.in_ok-passes.ensures.answers (listed_along has later c.in_ok-entries.ensures.kept (job_profile job) c.args.name.now entries listed)) c.print_halt-in-Err-2.result (rw (c.style-in-Err-2.ensures, silent) at c.print_halt-in-Err-2.ensures)

@@ -2,9 +2,9 @@ use Rattle.ringcheck.proofs.RequestLemmas.{check_status, draw_status, legal_stat
 use Rattle.ringcheck.proofs.program.run.Goals as goal
 
 pub returns-in-Ok-clause-report : goal.returns-in-Ok-clause-report
-returns-in-Ok-clause-report g c r gap profile limit waive outline format m words plain_r plain_gap plain_profile plain_limit plain_waive plain_outline plain_format plain_m =
-    report_status _ r gap profile limit waive outline format m c.in-Ok.request _ _ _ _ _
-    (c.in-Ok.ensures.report r gap profile limit waive outline format m words plain_r plain_gap plain_profile plain_limit plain_waive plain_outline plain_format plain_m) c.answer.ensures.says
+returns-in-Ok-clause-report g c zero r gap profile limit waive outline format m words plain_r plain_gap plain_profile plain_limit plain_waive plain_outline plain_format plain_m =
+    report_status _ zero r gap profile limit waive outline format m c.in-Ok.request _ _ _ _ _
+    (c.in-Ok.ensures.report zero r gap profile limit waive outline format m words plain_r plain_gap plain_profile plain_limit plain_waive plain_outline plain_format plain_m) c.answer.ensures.says
 
 pub returns-in-Ok-clause-draw : goal.returns-in-Ok-clause-draw
 returns-in-Ok-clause-draw g c rules profile outline m words plain_rules plain_profile plain_outline plain_m =

@@ -18,8 +18,8 @@ returns-clause-says g c =
     let before = g.W.Write.contents c.args.out.now in
     let after = g.W.Write.contents c.print_held.new.out in
     let loaded = c.in_ok-loaded.ensures in
-    IfOk-weaker c.print_held.result (IsHeldStatus c.args.why (loaded_files names all) before after) (IsManifestStatus c.args.why has failed_before failed_after (texts names) before after)
-    (held_status c.args.why has failed_before failed_after names all before after loaded.1 (all_of_map names ∙ sym c.if-not-are_entry_names.ensures) loaded.0 loaded.2)
+    IfOk-weaker c.print_held.result (IsHeldStatus c.args.profile c.args.why (loaded_files names all) before after) (IsManifestStatus c.args.profile c.args.why has failed_before failed_after (texts names) before after)
+    (held_status c.args.profile c.args.why has failed_before failed_after names all before after loaded.1 (all_of_map names ∙ sym c.if-not-are_entry_names.ensures) loaded.0 loaded.2)
     (rw c.as_slice.ensures.value at c.print_held.ensures.says)
 
 pub returns-clause-cause : goal.returns-clause-cause

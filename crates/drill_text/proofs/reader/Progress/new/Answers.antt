@@ -11,7 +11,7 @@ returns c =
       lines = [];
       commands = [];
       splits = subst (λ (x : List ℕ). Splits [] [] x) (sym none) (record { whole = refl; each = tt; partial = tt });
-      spelled = ap (shown_by (record { profile = c.args.profile; mixed = c.args.mixed }) []) none;
+      spelled = ap (shown_by (record { profile = c.args.profile; plating = c.args.plating }) []) none;
       has_read = record { lines = c.new.ensures (settings_after []); has_read = record { is_judge = c.new-2.ensures; keeps = c.new-3.ensures } };
       count = refl;
       start = refl;

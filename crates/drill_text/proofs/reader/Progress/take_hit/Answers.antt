@@ -42,12 +42,12 @@ reads_hit old point len bytes leads p keep text h body drilling =
 
 -- it is judged as the hit
 judged : (old : Progress) (point : Coordinates) (len : ℕ) (bytes : List ℕ) (leads : HasLeadingHit point len bytes) (p : Kind) (keep : Keep) (text : List ℕ) (h : Holds old p keep text) → old.judge.state.settings.part ≡ part.Body → old.reader.route ≡ route.Free false
-    → spelled_in p h.lines leads.line h.commands ≡ with_place (old.lines + 1) old.start (checked_by (rule_in p.mixed) h.commands (Some (Hit point)))
+    → spelled_in p h.lines leads.line h.commands ≡ with_place (old.lines + 1) old.start (checked_by (rule_in p.plating) h.commands (Some (Hit point)))
 judged old point len bytes leads p keep text h body drilling =
     let short : length leads.line ≤ 1048576 = omega (arith, leads.count, leads.short) in
     let place : suc (length h.lines) ≡ old.lines + 1 = omega (arith, h.count) in
     spelled_in_is p h.lines leads.line h.commands (Ok (Some (Hit point))) short (reads_hit old point len bytes leads p keep text h body drilling).0
-    ∙ (ap (λ n. with_place n (length (bytes_of h.lines)) (checked_by (rule_in p.mixed) h.commands (Some (Hit point)))) place ∙ ap (λ b. with_place (old.lines + 1) b (checked_by (rule_in p.mixed) h.commands (Some (Hit point)))) (sym h.start))
+    ∙ (ap (λ n. with_place n (length (bytes_of h.lines)) (checked_by (rule_in p.plating) h.commands (Some (Hit point)))) place ∙ ap (λ b. with_place (old.lines + 1) b (checked_by (rule_in p.plating) h.commands (Some (Hit point)))) (sym h.start))
 
 pub returns-clause-ok : goal.returns-clause-ok
 returns-clause-ok c p keep text h =
@@ -56,7 +56,7 @@ returns-clause-ok c p keep text h =
     let point = c.args.point in
     let bytes = c.args.bytes.now in
     let read = reads_hit old point c.args.len bytes leads p keep text h c.requires.body c.requires.drilling in
-    let k = c.in_ok-keep.ensures p.mixed keep h.commands h.has_read.has_read in
+    let k = c.in_ok-keep.ensures p.plating keep h.commands h.has_read.has_read in
     whole_taken old _ text leads.line _ k.0 h (prefix point c.args.len bytes leads) c.requires.empty (no_break leads.line leads.inside) refl (judged old point c.args.len bytes leads p keep text h c.requires.body c.requires.drilling ∙ k.1)
     (record { lines = lines_more old.reader p.profile (settings_after k.0) h.lines leads.line (read.1 (settings_after k.0) tt); has_read = k.2 }) refl refl (ap (λ n. old.offset + (n + 1)) (sym leads.count))
 
@@ -70,4 +70,4 @@ returns-in_err-keep-clause-err c =
     let p = err_from_is_err_and c.from_residual.result c.from_residual.ensures.1 in
     rw (p.1, p.2) (Refuses-prefix old bytes (c.args.len + 1) e (subst (λ (x : List ℕ). Refuses old x e) (prefix point c.args.len bytes leads)
     (whole_refused old leads.line e c.requires.empty (no_break leads.line leads.inside) (λ q keep text h.
-    subst (λ r. IfFault (λ f. r ≡ Err f) e) (sym (judged old point c.args.len bytes leads q keep text h c.requires.body c.requires.drilling)) (c.in_err-keep.ensures q.mixed keep h.commands h.has_read.has_read)))))
+    subst (λ r. IfFault (λ f. r ≡ Err f) e) (sym (judged old point c.args.len bytes leads q keep text h c.requires.body c.requires.drilling)) (c.in_err-keep.ensures q.plating keep h.commands h.has_read.has_read)))))

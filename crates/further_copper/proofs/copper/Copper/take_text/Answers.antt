@@ -7,5 +7,6 @@ returns c draws given commands kind text met = text_more draws given c.args.self
   cleared = c.clear_by_copies.ensures.cleared;
   features = c.clear_by_copies.ensures.features;
   state = c.clear_by_copies.ensures.state;
-  drawing = c.clear_by_copies.ensures.drawing;
+  parts = c.clear_by_copies.ensures.parts;
+  asked = c.clear_by_copies.ensures.asked;
 })

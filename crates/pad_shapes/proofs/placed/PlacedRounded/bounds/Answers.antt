@@ -1,4 +1,4 @@
-use Rattle.std.proofs.Common.{◌≡◌, ◌∙◌, FitsSigned, w64, arith, subst}
+use Rattle.std.proofs.Common.{◌∙◌, FitsSigned, w64, arith, subst}
 use Rattle.std.proofs.lemmas.Int.{ints, to_z-of_z}
 use Rattle.pad_shapes.specs.Placed.{moved_shape}
 use Rattle.pad_shapes.specs.Rounded.{GridRounded}

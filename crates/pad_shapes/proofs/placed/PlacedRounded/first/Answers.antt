@@ -1,9 +1,7 @@
-use Rattle.std.proofs.Common.{◌≡◌, ◌∙◌, FitsSigned, w64, arith, true, ap, subst}
-use Rattle.std.specs.List.{list_all}
+use Rattle.std.proofs.Common.{◌∙◌, FitsSigned, w64, arith, ap}
 use Rattle.std.proofs.lemmas.Int.{ints, to_z-of_z}
-use Rattle.grid_units.specs.Points.{GridPoint}
-use Rattle.pad_shapes.specs.Placed.{is_near, moved_point, moved_shape}
-use Rattle.pad_shapes.specs.Rounded.{GridRounded, corners}
+use Rattle.pad_shapes.specs.Placed.{moved_point}
+use Rattle.pad_shapes.specs.Rounded.{GridRounded}
 use Rattle.pad_shapes.proofs.placed.PlacedRounded.first.Goals as goal
 
 pub returns : goal.returns

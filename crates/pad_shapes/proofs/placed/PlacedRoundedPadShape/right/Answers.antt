@@ -1,7 +1,7 @@
-use Rattle.std.proofs.Common.{rules, ◌≡◌, ◌∙◌, FitsSigned, w64, arith, ap, subst}
+use Rattle.std.proofs.Common.{rules, ◌∙◌, FitsSigned, w64, arith, ap}
 use Rattle.std.proofs.lemmas.Int.{ints, to_z-of_z}
 use Rattle.pad_shapes.specs.Placed.{moved_shape}
-use Rattle.pad_shapes.specs.Rounded.{GridRounded, rounded_right}
+use Rattle.pad_shapes.specs.Rounded.{rounded_right}
 use Rattle.pad_shapes.proofs.placed.PlacedRoundedPadShape.right.Goals as goal
 
 pub returns : goal.returns

@@ -11,6 +11,6 @@ returns-clause-writes g c = λ plain ok.
     let names = map (λ name. name.now) json.names.now in
     let reasons = json.accepted.now in
     has_written_of_eq _ _ _ _ _
-    (ap (λ profile. value_text (report_value profile names json.files.now json.report.now reasons.rings.now reasons.gaps.now) ++ 10 ∷ []) c.profile.ensures
-    ∙ line_text (waived_report_value names json.files.now json.report.now reasons))
+    (ap (λ profile. value_text (report_value profile json.about.now names json.files.now json.report.now reasons.rings.now reasons.gaps.now) ++ 10 ∷ []) c.profile.ensures
+    ∙ line_text (waived_report_value json.about.now names json.files.now json.report.now reasons))
     (c.write.ensures.writes plain ok)

@@ -1,8 +1,9 @@
-use Rattle.std.proofs.Common.{◌++◌, ℕ, List, ap, map}
+use Rattle.std.proofs.Common.{◌++◌, ℕ, List, ap₂, map}
 use Rattle.std.specs.List.{flat_map}
 use Rattle.std.proofs.Output.{has_written_of_eq}
+use Rattle.report.specs.declared.RoleConflict.{RoleConflict}
 use Rattle.report.specs.declared.UnitMistake.{UnitMistake}
-use Rattle.print_text.specs.Texts.{head_text, rules_line, scale_line}
+use Rattle.print_text.specs.Texts.{conflict_line, head_text, rules_line, scale_line}
 use Rattle.print_text.proofs.report_text.HeadTextDisplay.fmt.Goals as goal
 
 pub returns-clause-writes : goal.returns-clause-writes
@@ -10,4 +11,6 @@ unfolding head_text
 returns-clause-writes g c = λ plain ok.
     let text = c.args.self.now in
     let names : List (List ℕ) = map (λ name. name.now) text.names.now in
-    has_written_of_eq _ _ _ _ _ (ap (λ (lines : List UnitMistake). flat_map (scale_line names) lines ++ rules_line text.report.now.rules) c.deref.ensures.value) (c.write.ensures.writes plain ok)
+    has_written_of_eq _ _ _ _ _
+    (ap₂ (λ (scales : List UnitMistake) (conflicts : List RoleConflict). flat_map (scale_line names) scales ++ (flat_map (conflict_line names) conflicts ++ rules_line text.report.now.rules)) c.deref.ensures.value c.deref-2.ensures.value)
+    (c.write.ensures.writes plain ok)

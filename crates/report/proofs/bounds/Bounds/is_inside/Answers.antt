@@ -1,12 +1,14 @@
-use Rattle.std.proofs.Common.{◌+◌, ap₂, sym, ◌∙◌}
-use Rattle.std.specs.Prelude.{ℕ, nat_le}
-use Rattle.grid_units.specs.Points.{square}
-use Rattle.report.proofs.FirstInHole.{corner_distance, inside_in, within_of}
+use Rattle.std.proofs.Common.{sym, ap, ◌∙◌}
+use Rattle.grid_units.specs.Points.{GridPoint}
+use Rattle.pad_shapes.specs.Rounded.{rounded_covers}
+use Rattle.pad_shapes.specs.Shapes.{covers_both_ends}
+use Rattle.report.proofs.FirstInHole.{inside_in}
 use Rattle.report.proofs.bounds.Bounds.is_inside.Goals as goal
 
-pub returns : goal.returns
-returns c = λ e held w.
+pub returns-then-covers_slot : goal.returns-then-covers_slot
+returns-then-covers_slot c = λ e held w.
     let h = c.args.hole.now in
     let b = c.args.self.now in
-    let is = c.is_within.ensures ∙ ap₂ (λ (m n : ℕ). nat_le (square m + square n) (square h.radius)) c.furthest_x.ensures.value c.furthest_y.ensures.value in
-    inside_in h b held (within_of (corner_distance h b) (square h.radius) (sym is ∙ e)) w
+    let below = ap (λ (to : GridPoint). covers_both_ends rounded_covers h b.least to 0) (sym c.corner.ensures) ∙ sym c.covers_slot.ensures ∙ c.if-covers_slot.true in
+    let above = ap (λ (from : GridPoint). covers_both_ends rounded_covers h from b.greatest 0) (sym c.corner-then-covers_slot.ensures) ∙ sym c.covers_slot-then-covers_slot.ensures ∙ e in
+    inside_in h c.requires b held below above w

@@ -3,7 +3,7 @@ use Rattle.report.specs.Inner.FirstInHole.{IsFirstIn}
 use Rattle.report.specs.declared.other.Other.{Other}
 use Rattle.std.specs.List.{slice_range}
 use Rattle.std.proofs.lemmas.List.Elements.{All-weaker}
-use Rattle.report.specs.Causes.{IsWithin, is_in_hole}
+use Rattle.report.specs.Causes.{IsWithin, is_in_shape}
 use Rattle.std.proofs.Common.{◌≡◌, false}
 use Rattle.report.proofs.FirstInHole.{has_passed, joined_to, passed_inside, passed_later, passed_out}
 use Rattle.report.proofs.groups.Search.after_group.Goals as goal
@@ -27,7 +27,7 @@ returns-then-not-may_touch-clause-passed c =
     let g = c.args.group.now in
     let s = c.args.self.now in
     let next = c.is_next.ensures c.if-not-is_next.false in
-    let out = All-weaker (IsWithin g.bounds) (λ other. is_in_hole h other.at ≡ false) (c.may_touch.ensures c.if-not-may_touch.true) (slice_range all g.start g.end) c.requires.group.bounds.within in
+    let out = All-weaker (IsWithin g.bounds) (λ other. is_in_shape h other.at ≡ false) (c.may_touch.ensures c.if-not-may_touch.true) (slice_range all g.start g.end) c.requires.group.bounds.within in
     has_passed all h g.end s.first c.by-then-not-may_touch.result c.by-then-not-may_touch.ensures.passed c.by-then-not-may_touch.ensures.first c.requires.group.inside
     (passed_out all h g c.requires.group s.passed next.0 next.1 s.first out c.requires.passed.first)
 

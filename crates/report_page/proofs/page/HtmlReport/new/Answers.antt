@@ -1,6 +1,15 @@
-use Rattle.std.proofs.Common.{refl}
+use Rattle.std.proofs.Common.{List, ap, map}
 use Rattle.drawing.specs.Drawings.{svg_text}
+use Rattle.package_check.specs.declared.FileSum.{FileSum}
+use Rattle.report_page.specs.Pages.{html_text}
 use Rattle.report_page.proofs.page.HtmlReport.new.Goals as goal
 
+-- the files of the page are those of the board
 pub returns : goal.returns
-returns c = record { svg = svg_text c.in_ok-drawing.drawing; drawn = c.in_ok-drawing.ensures; is = refl }
+returns c =
+    let svg = svg_text c.in_ok-drawing.drawing in
+    record {
+      svg = svg;
+      drawn = c.in_ok-drawing.ensures;
+      is = ap (λ (files : List FileSum). html_text (map (λ name. name.now) c.args.names.now) c.args.about.now files c.args.report.now c.args.accepted.now svg) c.files-files.ensures.sums;
+    }

@@ -15,6 +15,6 @@ returns-clause-writes g c = λ plain ok.
     let head = c.in_ok-write_head.ensures plain refl in
     let picture = c.in_ok-write_picture.ensures head.plain refl in
     has_written_of_eq _ _ _ _ _
-    (ap (λ (layers : List LayerHead). head_text report.rules c.finding_count.result c.count_waived.result ++ (picture_text names layers (svg_text page.drawing) ++ table)) c.deref.ensures.value
-    ∙ ap₂ (λ (findings waived : ℕ). head_text report.rules findings waived ++ rest) c.finding_count.ensures c.count_waived.ensures.value)
+    (ap (λ (layers : List LayerHead). head_text names page.about.now page.files.now report.conflicts.items report.rules c.finding_count.result c.count_waived.result ++ (picture_text names layers (svg_text page.drawing) ++ table)) c.deref.ensures.value
+    ∙ ap₂ (λ (findings waived : ℕ). head_text names page.about.now page.files.now report.conflicts.items report.rules findings waived ++ rest) c.finding_count.ensures c.count_waived.ensures.value)
     (has_written_append _ _ _ _ _ _ head (has_written_append _ _ _ _ _ _ picture (c.write_table.ensures picture.plain ok)))

@@ -1,0 +1,240 @@
+-- A file of each kind is read as one of the same commands whose role is believed, but for the rule that the kind has beside the others.
+use Rattle.std.proofs.Common.{◌≡◌, ℕ, suc, Bool, true, false, cond, ltb, ◌||◌, List, [], ◌∷◌, ◌++◌, length, map, Option, None, Some, Result, Ok, Err, refl, sym, ap, subst, ◌∙◌, append_assoc}
+use Rattle.std.specs.List.{cons_option, filter_map, list_any}
+use Rattle.std.specs.Option.{option_map, option_or, option_to_list}
+use Rattle.std.proofs.lemmas.List.{append-nil}
+use Rattle.grid_units.specs.Limits.{line_limit, text_limit}
+use Rattle.grid_units.specs.Lists.{IsLegal, violation_at, with_prefixes_from}
+use Rattle.grid_units.specs.Results.{◌>>=◌, fault, with_place}
+use Rattle.grid_units.specs.declared.fault.Fault.{Fault}
+use Rattle.grid_units.specs.declared.fault.Reason.{Reason}
+use Rattle.grid_units.specs.declared.fault.Reason.TheVariants.{PlatingConflict, TooLong, Truncated}
+use Rattle.grid_units.proofs.LookbackLemmas.{violations-more}
+use Rattle.grid_units.proofs.ResultLemmas.{bind_ok}
+use Rattle.drill_lines.specs.Lines.{trimmed}
+use Rattle.drill_lines.specs.Routes.{meaning_in}
+use Rattle.drill_lines.specs.declared.command.DrillCommand.{DrillCommand}
+use Rattle.drill_text.specs.Lines.{bytes_of}
+use Rattle.drill_text.specs.Lookback.{settings_after}
+use Rattle.drill_text.specs.MixedLaws.{KindsReadTheSame, UncontradictedIsLegal}
+use Rattle.drill_text.specs.Plating.{calls_plated, contradiction_rule, own_rule, rule_in}
+use Rattle.drill_text.specs.declared.platings.PlatingKind.{PlatingKind}
+use Rattle.drill_text.specs.Profiles.{Kind, ReadsBy, ReadsIn, commands_by, plain, shown_by, spelled_in, step_in, with_rest}
+use Rattle.drill_text.specs.Reading.{add_unless, checked, checked_by, ended, is_finish, place_after}
+use Rattle.drill_text.specs.Rules.{broken_rule}
+use Rattle.drill_text.proofs.PlatingLemmas.{rules_are}
+use Rattle.drill_text.proofs.ProfileLemmas.{show_by_ok, shown_by_ok}
+use Rattle.drill_text.proofs.SpellsTextLemmas.{at_ok, judged_ok, last_keeps, legal_start, with_end}
+use Rattle.drill_text.proofs.WideLemmas.{guarded}
+
+-- ---- one command
+
+-- what a command leaves, where it breaks no rule of its kind of file
+judged_same : (plating : PlatingKind) (before : List DrillCommand) (command : Option DrillCommand) (new : List DrillCommand) → checked_by (rule_in plating) before command ≡ Ok new
+    → (checked before command ≡ Ok new) × (IsLegal (own_rule plating) before → IsLegal (own_rule plating) new)
+judged_same plating before None new e = let same : before ≡ new = cc in (e, λ legal. subst (IsLegal (own_rule plating)) same legal)
+judged_same plating before (Some c) new e = by (broken_rule before c) (own_rule plating before c) refl refl (sym (ap (λ o. add_unless o before c) (rules_are plating before c)) ∙ e)
+  where
+    by : (o p : Option Reason) → broken_rule before c ≡ o → own_rule plating before c ≡ p → add_unless (option_or o p) before c ≡ Ok new → (add_unless (broken_rule before c) before c ≡ Ok new) × (IsLegal (own_rule plating) before → IsLegal (own_rule plating) new)
+    by None None is own k =
+        let same : before ++ c ∷ [] ≡ new = cc in
+        (ap (λ o. add_unless o before c) is ∙ k, λ legal. subst (IsLegal (own_rule plating)) same (violations-more (own_rule plating) before c legal own))
+    by None (Some r) is own k = absurd cc
+    by (Some r) p is own k = absurd cc
+
+-- a command of a file whose role is believed leaves the same in another kind, if it breaks no rule of that
+judged_back : (plating : PlatingKind) (before : List DrillCommand) (command : Option DrillCommand) (new : List DrillCommand) → checked before command ≡ Ok new → IsLegal (own_rule plating) new → checked_by (rule_in plating) before command ≡ Ok new
+judged_back plating before None new e legal = e
+judged_back plating before (Some c) new e legal = by (broken_rule before c) refl e
+  where
+    by : (o : Option Reason) → broken_rule before c ≡ o → add_unless o before c ≡ Ok new → add_unless (rule_in plating before c) before c ≡ Ok new
+    by None is k =
+        let same : before ++ c ∷ [] ≡ new = cc in
+        let own : own_rule plating before c ≡ None = last_keeps (own_rule plating) before c (subst (IsLegal (own_rule plating)) (sym same) legal) in
+        ap (λ o. add_unless o before c) (rules_are plating before c ∙ (λ i. option_or (is i) (own i))) ∙ k
+    by (Some r) is k = absurd cc
+
+module _ (kind : Kind) where
+  abbrev own : List DrillCommand → DrillCommand → Option Reason
+  own = own_rule kind.plating
+
+  -- ---- one line
+
+  step_same : (earlier : List (List ℕ)) (line : List ℕ) (before new : List DrillCommand) → step_in kind earlier before line ≡ Ok new → (step_in (plain kind.profile) earlier before line ≡ Ok new) × (IsLegal own before → IsLegal own new)
+  unfolding step_in
+  step_same earlier line before new e =
+      let spelt = meaning_in kind.profile (map trimmed earlier) (settings_after before) (trimmed line) in
+      let g = guarded (ltb line_limit (length line)) TooLong (spelt >>= checked_by (rule_in kind.plating) before) new e in
+      let b = bind_ok spelt (checked_by (rule_in kind.plating) before) new g.1 in
+      let j = judged_same kind.plating before b.0 new b.2 in
+      (ap (λ t. cond t (Err TooLong) (spelt >>= checked before)) g.0 ∙ (ap (λ m. m >>= checked before) b.1 ∙ j.0), j.1)
+
+  step_back : (earlier : List (List ℕ)) (line : List ℕ) (before new : List DrillCommand) → step_in (plain kind.profile) earlier before line ≡ Ok new → IsLegal own new → step_in kind earlier before line ≡ Ok new
+  unfolding step_in
+  step_back earlier line before new e legal =
+      let spelt = meaning_in kind.profile (map trimmed earlier) (settings_after before) (trimmed line) in
+      let g = guarded (ltb line_limit (length line)) TooLong (spelt >>= checked before) new e in
+      let b = bind_ok spelt (checked before) new g.1 in
+      ap (λ t. cond t (Err TooLong) (spelt >>= checked_by (rule_in kind.plating) before)) g.0 ∙ (ap (λ m. m >>= checked_by (rule_in kind.plating) before) b.1 ∙ judged_back kind.plating before b.0 new b.2 legal)
+
+  -- what a line leaves begins with what stood before it
+  step_more : (earlier : List (List ℕ)) (line : List ℕ) (before new : List DrillCommand) → step_in (plain kind.profile) earlier before line ≡ Ok new → (more : List DrillCommand) × (before ++ more ≡ new)
+  unfolding step_in
+  step_more earlier line before new e =
+      let spelt = meaning_in kind.profile (map trimmed earlier) (settings_after before) (trimmed line) in
+      let g = guarded (ltb line_limit (length line)) TooLong (spelt >>= checked before) new e in
+      let b = bind_ok spelt (checked before) new g.1 in
+      (option_to_list b.0, (judged_ok before b.0 new b.2).0)
+
+  line_same : (earlier : List (List ℕ)) (line : List ℕ) (before new : List DrillCommand) → spelled_in kind earlier line before ≡ Ok new → (spelled_in (plain kind.profile) earlier line before ≡ Ok new) × (IsLegal own before → IsLegal own new)
+  line_same earlier line before new e =
+      let k = step_same earlier line before new (at_ok (suc (length earlier)) (length (bytes_of earlier)) (step_in kind earlier before line) new e) in
+      (ap (with_place (suc (length earlier)) (length (bytes_of earlier))) k.0, k.1)
+
+  line_back : (earlier : List (List ℕ)) (line : List ℕ) (before new : List DrillCommand) → spelled_in (plain kind.profile) earlier line before ≡ Ok new → IsLegal own new → spelled_in kind earlier line before ≡ Ok new
+  line_back earlier line before new e legal =
+      ap (with_place (suc (length earlier)) (length (bytes_of earlier))) (step_back earlier line before new (at_ok (suc (length earlier)) (length (bytes_of earlier)) (step_in (plain kind.profile) earlier before line) new e) legal)
+
+  -- ---- lines
+
+  lines_same : (earlier lines : List (List ℕ)) (before new : List DrillCommand) → commands_by kind earlier lines before ≡ Ok new → (commands_by (plain kind.profile) earlier lines before ≡ Ok new) × (IsLegal own before → IsLegal own new)
+  lines_same earlier [] before new e = let same : before ≡ new = cc in (e, λ legal. subst (IsLegal own) same legal)
+  lines_same earlier (line ∷ lines) before new e =
+      let next : List (List ℕ) = earlier ++ line ∷ [] in
+      let b = bind_ok (spelled_in kind earlier line before) (commands_by kind next lines) new e in
+      let first = line_same earlier line before b.0 b.1 in
+      let rest = lines_same next lines b.0 new b.2 in
+      (ap (λ r. r >>= commands_by (plain kind.profile) next lines) first.0 ∙ rest.0, λ legal. rest.1 (first.1 legal))
+
+  lines_more : (earlier lines : List (List ℕ)) (before new : List DrillCommand) → commands_by (plain kind.profile) earlier lines before ≡ Ok new → (more : List DrillCommand) × (before ++ more ≡ new)
+  lines_more earlier [] before new e = let same : before ≡ new = cc in ([], append-nil before ∙ same)
+  lines_more earlier (line ∷ lines) before new e =
+      let next : List (List ℕ) = earlier ++ line ∷ [] in
+      let b = bind_ok (spelled_in (plain kind.profile) earlier line before) (commands_by (plain kind.profile) next lines) new e in
+      let first = step_more earlier line before b.0 (at_ok (suc (length earlier)) (length (bytes_of earlier)) (step_in (plain kind.profile) earlier before line) b.0 b.1) in
+      let rest = lines_more next lines b.0 new b.2 in
+      (first.0 ++ rest.0, sym (append_assoc before first.0 rest.0) ∙ (ap (λ (l : List DrillCommand). l ++ rest.0) first.1 ∙ rest.1))
+
+  lines_back : (earlier lines : List (List ℕ)) (before new : List DrillCommand) → commands_by (plain kind.profile) earlier lines before ≡ Ok new → IsLegal own new → commands_by kind earlier lines before ≡ Ok new
+  lines_back earlier [] before new e legal = e
+  lines_back earlier (line ∷ lines) before new e legal =
+      let next : List (List ℕ) = earlier ++ line ∷ [] in
+      let b = bind_ok (spelled_in (plain kind.profile) earlier line before) (commands_by (plain kind.profile) next lines) new e in
+      let more = lines_more next lines b.0 new b.2 in
+      let now : IsLegal own b.0 = legal_start own b.0 more.0 (subst (IsLegal own) (sym more.1) legal) in
+      ap (λ r. r >>= commands_by kind next lines) (line_back earlier line before b.0 b.1 now) ∙ lines_back next lines b.0 new b.2 legal
+
+  rest_same : (lines : List (List ℕ)) (rest : List ℕ) (before new : List DrillCommand) → with_rest kind lines rest before ≡ Ok new → (with_rest (plain kind.profile) lines rest before ≡ Ok new) × (IsLegal own before → IsLegal own new)
+  rest_same lines [] before new e = let same : before ≡ new = cc in (e, λ legal. subst (IsLegal own) same legal)
+  rest_same lines (b ∷ bs) before new e = line_same lines (b ∷ bs) before new e
+
+  rest_more : (lines : List (List ℕ)) (rest : List ℕ) (before new : List DrillCommand) → with_rest (plain kind.profile) lines rest before ≡ Ok new → (more : List DrillCommand) × (before ++ more ≡ new)
+  rest_more lines [] before new e = let same : before ≡ new = cc in ([], append-nil before ∙ same)
+  rest_more lines (b ∷ bs) before new e = step_more lines (b ∷ bs) before new (at_ok (suc (length lines)) (length (bytes_of lines)) (step_in (plain kind.profile) lines before (b ∷ bs)) new e)
+
+  rest_back : (lines : List (List ℕ)) (rest : List ℕ) (before new : List DrillCommand) → with_rest (plain kind.profile) lines rest before ≡ Ok new → IsLegal own new → with_rest kind lines rest before ≡ Ok new
+  rest_back lines [] before new e legal = e
+  rest_back lines (b ∷ bs) before new e legal = line_back lines (b ∷ bs) before new e legal
+
+-- ---- texts
+
+ends_by : Kind → ℕ → List (List ℕ) → List ℕ → List DrillCommand → Result (List DrillCommand) Fault
+ends_by kind len lines rest cs = cond (ltb text_limit len) (Err (fault (suc (length lines)) text_limit TooLong)) (with_rest kind lines rest cs >>= ended len lines rest)
+
+-- how a text that is read ends
+record Ending (kind : Kind) (text : List ℕ) (lines : List (List ℕ)) (rest : List ℕ) (cs : List DrillCommand) : Type 0 where
+  first : List DrillCommand
+  shown : commands_by kind [] lines [] ≡ Ok first
+  short : shown_by kind lines rest ≡ Ok first
+  within : ltb text_limit (length text) ≡ false
+  last : with_rest kind lines rest first ≡ Ok cs
+  ends : list_any is_finish cs ≡ true
+
+ending : (kind : Kind) (text : List ℕ) (cs : List DrillCommand) (r : ReadsBy kind text (Ok cs)) → Ending kind text r.lines r.rest cs
+unfolding ends_by
+ending kind text cs r =
+    let lines = r.lines in
+    let rest = r.rest in
+    let len = length text in
+    let b = bind_ok (shown_by kind lines rest) (ends_by kind len lines rest) cs (sym r.answer_is) in
+    let g = guarded (ltb text_limit len) (fault (suc (length lines)) text_limit TooLong) (with_rest kind lines rest b.0 >>= ended len lines rest) cs b.2 in
+    let c = bind_ok (with_rest kind lines rest b.0) (ended len lines rest) cs g.1 in
+    let e = with_end (list_any is_finish c.0) (fault (place_after lines rest) len Truncated) c.0 cs c.2 in
+    record {
+      first = b.0;
+      shown = (shown_by_ok kind lines rest b.0 b.1).0;
+      short = b.1;
+      within = g.0;
+      last = c.1 ∙ ap (λ (l : List DrillCommand). Ok l) e.1;
+      ends = sym (ap (list_any is_finish) e.1) ∙ e.0;
+    }
+
+-- a text that ends so in another kind is read in it
+ended_by : (from to : Kind) (text : List ℕ) (cs : List DrillCommand) (r : ReadsBy from text (Ok cs)) (e : Ending from text r.lines r.rest cs) → commands_by to [] r.lines [] ≡ Ok e.first → with_rest to r.lines r.rest e.first ≡ Ok cs → ReadsBy to text (Ok cs)
+unfolding ends_by
+ended_by from to text cs r e first last =
+    let lines = r.lines in
+    let rest = r.rest in
+    let len = length text in
+    record {
+      lines = lines;
+      rest = rest;
+      splits = r.splits;
+      answer_is = sym (ap (λ s. s >>= ends_by to len lines rest) (show_by_ok to lines rest e.first first (shown_by_ok from lines rest e.first e.short).1)
+          ∙ (ap (λ t. cond t (Err (fault (suc (length lines)) text_limit TooLong)) (with_rest to lines rest e.first >>= ended len lines rest)) e.within
+          ∙ (ap (λ s. s >>= ended len lines rest) last ∙ ap (λ t. cond t (Ok cs) (Err (fault (place_after lines rest) len Truncated))) e.ends)));
+    }
+
+kind_is_read : (kind : Kind) (text : List ℕ) (cs : List DrillCommand) → ReadsBy kind text (Ok cs) → ReadsIn kind.profile text (Ok cs) × IsLegal (own_rule kind.plating) cs
+kind_is_read kind text cs r =
+    let e = ending kind text cs r in
+    let all = lines_same kind [] r.lines [] e.first e.shown in
+    let last = rest_same kind r.lines r.rest e.first cs e.last in
+    (ended_by kind (plain kind.profile) text cs r e all.0 last.0, last.1 (all.1 refl))
+
+read_is_kind : (kind : Kind) (text : List ℕ) (cs : List DrillCommand) → ReadsIn kind.profile text (Ok cs) × IsLegal (own_rule kind.plating) cs → ReadsBy kind text (Ok cs)
+read_is_kind kind text cs (r, legal) =
+    let rule = own_rule kind.plating in
+    let e = ending (plain kind.profile) text cs r in
+    let more = rest_more kind r.lines r.rest e.first cs e.last in
+    let now : IsLegal rule e.first = legal_start rule e.first more.0 (subst (IsLegal rule) (sym more.1) legal) in
+    ended_by (plain kind.profile) kind text cs r e (lines_back kind [] r.lines [] e.first e.shown now) (rest_back kind r.lines r.rest e.first cs e.last legal)
+
+pub kinds_read_the_same : KindsReadTheSame
+kinds_read_the_same kind text cs = (kind_is_read kind text cs, read_is_kind kind text cs)
+
+-- ---- unplated files
+
+-- where the last command breaks a rule, the list is not legal
+broken_parts : (n : ℕ) (o : Option Reason) (rest : List (ℕ × Reason)) → cons_option (option_map (λ (r : Reason). (n, r)) o) rest ≡ [] → (o ≡ None) × (rest ≡ [])
+broken_parts n None rest e = (refl, e)
+broken_parts n (Some r) rest e = absurd cc
+
+-- the rule is kept by commands, whatever stands before them
+AreUncalled : List DrillCommand → List DrillCommand → Type 0
+AreUncalled before cs = filter_map (violation_at contradiction_rule) (with_prefixes_from before cs) ≡ []
+
+uncalled : (before cs : List DrillCommand) → AreUncalled before cs → list_any calls_plated cs ≡ false
+unfolding AreUncalled
+uncalled before [] e = refl
+uncalled before (c ∷ cs) e =
+    let parts = broken_parts (length before) (contradiction_rule before c) (filter_map (violation_at contradiction_rule) (with_prefixes_from (before ++ c ∷ []) cs)) e in
+    by (calls_plated c) parts.0 (uncalled (before ++ c ∷ []) cs parts.1)
+  where
+    by : (t : Bool) → cond t (Some PlatingConflict) None ≡ None → list_any calls_plated cs ≡ false → (t || list_any calls_plated cs) ≡ false
+    by true e rest = absurd cc
+    by false e rest = rest
+
+legally : (before cs : List DrillCommand) → list_any calls_plated cs ≡ false → AreUncalled before cs
+unfolding AreUncalled
+legally before [] e = refl
+legally before (c ∷ cs) e = by (calls_plated c) e (legally (before ++ c ∷ []) cs)
+  where
+    by : (t : Bool) → (t || list_any calls_plated cs) ≡ false → (list_any calls_plated cs ≡ false → AreUncalled (before ++ c ∷ []) cs)
+        → cons_option (option_map (λ (r : Reason). (length before, r)) (cond t (Some PlatingConflict) None)) (filter_map (violation_at contradiction_rule) (with_prefixes_from (before ++ c ∷ []) cs)) ≡ []
+    by true e rest = absurd cc
+    by false e rest = rest e
+
+pub uncontradicted_is_legal : UncontradictedIsLegal
+unfolding AreUncalled
+uncontradicted_is_legal commands = (uncalled [] commands, legally [] commands)

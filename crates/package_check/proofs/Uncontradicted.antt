@@ -1,0 +1,42 @@
+-- A file that the wide profile reads does not contradict its role.
+use Rattle.std.proofs.Common.{◌≡◌, ◌↔◌, ℕ, false, List, Option, Result, Ok, ap, ◌∙◌}
+use Rattle.std.specs.List.{list_any}
+use Rattle.grid_units.specs.Spans.{LayerSpan}
+use Rattle.grid_units.specs.declared.fault.Fault.{Fault}
+use Rattle.grid_units.specs.declared.profile.Profile.{Profile}
+use Rattle.grid_units.specs.declared.profile.Profile.TheVariants.{Wide}
+use Rattle.drill_lines.specs.declared.command.DrillCommand.{DrillCommand}
+use Rattle.drill_text.specs.MixedLaws.{KindsReadTheSame, UncontradictedIsLegal}
+use Rattle.drill_text.specs.Plating.{calls_plated}
+use Rattle.drill_text.specs.Profiles.{ReadsIn, unplated_in}
+use Rattle.drill_text.specs.Reading as drills
+use Rattle.drill_text.specs.Texts.{IsDrillText}
+use Rattle.manifest.specs.declared.Role.{Role}
+use Rattle.manifest.specs.declared.Role.TheVariants as role
+use Rattle.package_check.specs.Package.{BytesHaveContent}
+use Rattle.package_check.specs.WiderProfile.{ReadIsUncontradicted}
+use Rattle.package_check.specs.declared.contents.Content.{Content}
+use Rattle.package_check.specs.declared.contents.Content.TheVariants as content
+
+same_list : {A : Type 0} {x y : A} → (let a : Result A Fault = Ok x in let b : Result A Fault = Ok y in a ≡ b) → x ≡ y
+same_list e = cc
+
+module _ (texts : (text : List ℕ) (commands : List DrillCommand) → (drills.Reads text (Ok commands)) ↔ (IsDrillText text commands))
+    (drills_too : (text : List ℕ) (commands : List DrillCommand) → drills.Reads text (Ok commands) → ReadsIn Wide text (Ok commands))
+    (once : (profile : Profile) (text : List ℕ) (a b : Result (List DrillCommand) Fault) → ReadsIn profile text a → ReadsIn profile text b → a ≡ b)
+    (same : KindsReadTheSame) (legal : UncontradictedIsLegal) where
+  -- the commands of its drill text are those that the wide profile reads, and these break no rule of unplated files
+  silent : (q : Role) (name : List ℕ) (span : Option LayerSpan) (bytes : List ℕ) (n : ℕ) (c : Content) → BytesHaveContent (record { role = q; name = name; span = span; bytes = bytes; setting = record { layers = n; profile = Wide } }) c
+      → q ≡ role.Unplated → (commands : List DrillCommand) → IsDrillText bytes commands → list_any calls_plated commands ≡ false
+  silent role.Unplated name span bytes n (content.Drill p v d) h is commands text =
+      let read = (same (unplated_in Wide) bytes h.0.0).0 h.0.1 in
+      let equal : commands ≡ h.0.0 = same_list (once Wide bytes (Ok commands) (Ok h.0.0) (drills_too bytes commands ((texts bytes commands).1 text)) read.0) in
+      ap (list_any calls_plated) equal ∙ (legal h.0.0).0 read.1
+  silent role.Unplated name span bytes n (content.Layer a) h is commands text = absurd h
+  silent role.Unplated name span bytes n (content.Mixed v d) h is commands text = absurd h
+  silent role.Copper name span bytes n c h is commands text = absurd cc
+  silent role.Plated name span bytes n c h is commands text = absurd cc
+  silent role.Mixed name span bytes n c h is commands text = absurd cc
+
+  pub read_is_uncontradicted : ReadIsUncontradicted
+  read_is_uncontradicted source c h is commands text = silent source.role source.name source.span source.bytes source.setting.layers c h.1 is commands text

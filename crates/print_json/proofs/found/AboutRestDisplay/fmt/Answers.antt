@@ -1,0 +1,10 @@
+use Rattle.std.proofs.Common.{append_assoc}
+use Rattle.std.proofs.Output.{has_written_of_eq}
+use Rattle.json.specs.Print.{escape, escape_byte}
+use Rattle.print_json.proofs.found.AboutRestDisplay.fmt.Goals as goal
+
+pub returns-clause-writes : goal.returns-clause-writes
+unfolding escape_byte
+returns-clause-writes g c = λ plain ok.
+    let about = c.args.self.now.json.now.about.now in
+    has_written_of_eq _ _ _ _ _ (simp (append_assoc, append_assoc (escape about.manifest.now), append_assoc (escape about.program.now))) (c.write.ensures.writes plain ok)

@@ -1,0 +1,100 @@
+//! The particulars of a report: the findings that disappear in the wide profile, the manifest, the rules, the program.
+
+ghost use Rattle.std.specs.Prelude.{◌≡◌, pos, Some};
+ghost use Rattle.print_text.specs.Texts.{rule_words};
+ghost use Rattle.report_page.specs.Pages.{fewer_note, particulars_text, profile_words, rules_words};
+
+use grid_units::{Profile, Rules};
+use picture::Escaped;
+use print_text::{FewerWords, Particulars};
+use printing::ShortMillimetres;
+use std::fmt;
+use std::fmt::{Display, Formatter};
+
+/// A rule, in pm, after its words: `rules: annular ring 0.15 mm`.
+#[derive(Clone, Copy)]
+struct RuleWords {
+    words: &'static str,
+    rule: i64,
+}
+
+impl Display for RuleWords {
+    ghost output = { λ it. Some (rule_words it.words.now it.rule) };
+
+    #[tactic(auto, unfolding(print_text::specs::Texts::rule_words))]
+    fn fmt<W: fmt::Write>(&self, f: &mut Formatter<W>) -> fmt::Result {
+        write!(f, "{}{} mm", self.words, ShortMillimetres(self.rule))
+    }
+}
+
+/// The profile at the end of the rules: `, profile strict`.
+fn profile_words(profile: Profile) -> &'static str
+    ensures { result.now ≡ profile_words profile }
+{
+    match profile {
+        Profile::Strict => ", profile strict",
+        Profile::Wide => ", profile wide",
+    }
+}
+
+/// The rules and the profile: `rules: annular ring 0.15 mm, hole to hole 0.25 mm, profile strict`.
+#[derive(Clone, Copy)]
+struct RulesWords<'a>(&'a Rules);
+
+impl Display for RulesWords<'_> {
+    ghost output = { λ rules. Some (rules_words rules.0.now) };
+
+    fn fmt<W: fmt::Write>(&self, f: &mut Formatter<W>) -> fmt::Result {
+        let ring = RuleWords {
+            words: "rules: annular ring ",
+            rule: self.0.ring(),
+        };
+        let gap = RuleWords {
+            words: ", hole to hole ",
+            rule: self.0.gap(),
+        };
+        let profile = profile_words(self.0.profile());
+        write!(f, "{ring}{gap}{profile}")
+    }
+}
+
+/// How many findings disappear in the wide profile, and what comes before the next paragraph; nothing for none.
+#[derive(Clone, Copy)]
+struct FewerNote(FewerWords);
+
+impl Display for FewerNote {
+    ghost output = { λ note. Some (fewer_note note.0.findings note.0.fewer) };
+
+    fn fmt<W: fmt::Write>(&self, f: &mut Formatter<W>) -> fmt::Result {
+        if self.0.fewer == 0 {
+            return Ok(());
+        }
+        write!(f, "{}</p>\n<p>", self.0)
+    }
+}
+
+/// The particulars of a report under these rules, with this number of findings.
+#[derive(Clone, Copy)]
+pub(crate) struct ParticularsText<'a> {
+    pub(crate) about: &'a Particulars<'a>,
+    pub(crate) rules: &'a Rules,
+    pub(crate) findings: u128,
+}
+
+impl Display for ParticularsText<'_> {
+    ghost output = { λ it. Some (particulars_text it.about.now it.rules.now it.findings) };
+
+    #[tactic(auto, unfolding(crate::specs::Pages::board_words, crate::specs::Pages::program_words))]
+    fn fmt<W: fmt::Write>(&self, f: &mut Formatter<W>) -> fmt::Result {
+        let note = FewerNote(FewerWords {
+            findings: self.findings,
+            fewer: self.about.fewer,
+        });
+        let (manifest, program) = (Escaped(self.about.manifest), Escaped(self.about.program));
+        let rules = RulesWords(self.rules);
+        write!(
+            f,
+            "{note}board: {manifest}</p>\n<p>{rules}</p>\n<p>program: {program}"
+        )
+    }
+}
