@@ -1,7 +1,7 @@
 # ringcheck report --profile wide --ring MM --gap MM --format json MANIFEST > FILE.json
 # jq -r --arg file MANIFEST -f github.jq FILE.json: the annotations of a GitHub job. Of a report one for each finding, a notice where it is
-# waived; of a measure or of a report without findings one notice; of a refusal one error. Each stands at a file of the repository, the
-# manifest: a finding at the row of its layer, or of the drill file of its first hole. Without `--arg file` they stand at no file. GitHub shows
+# waived; of a measure or of a report without findings one notice; of a refusal one error. Each points to a file of the repository, the
+# manifest: a finding to the row of its layer, or of the drill file of its first hole. Without `--arg file` they point to no file. GitHub shows
 # ten annotations of a step: of more findings these are the first ten, the waived ones last, below a line that counts all. Without
 # `--profile wide` the report is of the profile strict, which takes least on trust: only flashed discs, rectangles and obrounds are pads there.
 # text as a command of the service has it. Its log shows that on lines of its own, where `##[` is a command in an older form: so a name neither
@@ -21,13 +21,13 @@ def measured($rules):
   elif .has_pm != null then "annular ring \(.has_pm | mm) mm (rule \($rules.ring_pm | mm) mm), \(.cause)"
   elif .cause == "none" then "no pad at the hole"
   else "annular ring not judged, \(.cause)" end;
-# what a refusal is of: the file by its name, the file of waivers, or the manifest, by its name where that is given
+# what is refused: the file by its name, the file of waivers, or the manifest, by its name if that is given
 def refused: if .waivers then "waivers" elif .name then .name else $ARGS.named.file // "manifest" end;
-# why a refusal is, and where: only what it says
+# why it is refused, and where: only what the report says
 def stopped:
   refused + if .result == "device" then " cannot be read" elif .reason then ": \(.reason)" else "" end
   + if .place then " at place \(.place)" else "" end + if .byte then ", byte \(.byte)" else "" end;
-# where an annotation stands: its row of the manifest, below the header
+# where an annotation points: its row of the manifest, below the header
 def at($row): if $ARGS.named.file then "file=\($ARGS.named.file | title),line=\($row + 1)," else "" end;
 def notice($row; $heading; $text): "::notice \(at($row))title=\($heading | title)::\($text | data)";
 def error($row; $heading; $text): "::error \(at($row))title=\($heading | title)::\($text | data)";

@@ -1,5 +1,5 @@
 # ringcheck report --profile wide --ring MM --gap MM --format json MANIFEST > FILE.json
-# jq --arg file MANIFEST -f gitlab.jq FILE.json: the findings as GitLab's code quality reports have them. Each stands at the manifest, at the
+# jq --arg file MANIFEST -f gitlab.jq FILE.json: the findings as GitLab's code quality reports have them. Each points to the manifest, to the
 # row of its layer, or of the drill file of its first hole. Its fingerprint says which hole and layer it is, or which holes, and has no number
 # of the finding: so a finding stays the same one while others come and go. A waived one is of the severity `info`. A measure and a report
 # without findings give an empty list, a refusal one entry. Without `--profile wide` the report is of the profile strict, which takes least on
@@ -17,12 +17,12 @@ def measured($rules):
   elif .has_pm != null then "annular ring \(.has_pm | mm) mm (rule \($rules.ring_pm | mm) mm), \(.cause)"
   elif .cause == "none" then "no pad at the hole"
   else "annular ring not judged, \(.cause)" end;
-# what a refusal is of: the file by its name, the file of waivers, or the manifest, by its name where that is given
+# what is refused: the file by its name, the file of waivers, or the manifest, by its name if that is given
 def refused: if .waivers then "waivers" elif .name then .name else $ARGS.named.file // "manifest" end;
 def stopped:
   refused + if .result == "device" then " cannot be read" else ": \(.result)" end + if .reason then " \(.reason)" else "" end
   + if .place then " at place \(.place)" else "" end + if .byte then ", byte \(.byte)" else "" end;
-# where an entry stands: its row of the manifest, below the header
+# where an entry points: its row of the manifest, below the header
 def entry($row; $name; $severity; $print; $text):
   {description: $text, check_name: $name, fingerprint: $print, severity: $severity,
    location: {path: ($ARGS.named.file // "manifest"), lines: {begin: ($row + 1)}}};

@@ -2,7 +2,7 @@
 # jq -r --arg file MANIFEST -f junit.jq FILE.json: the XML of JUnit. Of a report it has a case for each finding, skipped where it is waived; of
 # a measure or of a report without findings one case that passes; of a refusal one that fails. `--arg file` gives the manifest its name. Without
 # `--profile wide` the report is of the profile strict, which takes least on trust: only flashed discs, rectangles and obrounds are pads there.
-# text as XML has it: control bytes as blanks, and U+FFFE and U+FFFF, which XML has not, as U+FFFD
+# text as XML has it: control bytes as blanks, and U+FFFE and U+FFFF, which XML forbids, as U+FFFD
 def xml:
   gsub("[[:cntrl:]]"; " ") | explode | map(if . == 65534 or . == 65535 then 65533 else . end) | implode
   | gsub("&"; "&amp;") | gsub("<"; "&lt;") | gsub(">"; "&gt;") | gsub("\""; "&quot;");
@@ -19,9 +19,9 @@ def measured($rules):
   elif .has_pm != null then "annular ring \(.has_pm | mm) mm (rule \($rules.ring_pm | mm) mm), \(.cause)"
   elif .cause == "none" then "no pad at the hole"
   else "annular ring not judged, \(.cause)" end;
-# what a refusal is of: the file by its name, the file of waivers, or the manifest, by its name where that is given
+# what is refused: the file by its name, the file of waivers, or the manifest, by its name if that is given
 def refused: if .waivers then "waivers" elif .name then .name else $ARGS.named.file // "manifest" end;
-# why a refusal is, and where: only what it says
+# why it is refused, and where: only what the report says
 def stopped:
   if .result == "device" then "cannot be read" else .result end + if .reason then " \(.reason)" else "" end
   + if .place then " at place \(.place)" else "" end + if .byte then ", byte \(.byte)" else "" end;

@@ -8,11 +8,12 @@
     scripts/check_planted --gate-passed             which libraries that gate has left
 
 Status 0 of ./try_planted: every body of the repository is remembered as refused, also those of crates that it was not asked for. Status 0 of
-check_planted: there is nothing to mend; with --afresh: each body that was tried is refused. Else 1, and 2 for words that are not understood.
+check_planted: there is nothing to fix; with --afresh: each body that was tried is refused. Else 1, and 2 for words that are not understood.
 
-A body is a file planted/CRATE/NAME.edit (or crates/CRATE/must-fail/NAME.edit, which `rt ci` tries too): lines `file: src/X.rt`, then
-pairs `old: TEXT` and `new: TEXT`, each TEXT one line that stands just once in that file. A line `# SENTENCE` says what the body turns;
-`# caller: PATH` names the function that must be refused where the text is in no function, or in a contract that another one needs.
+The bodies of a crate stand in planted/CRATE.txt, each after a line `body: NAME` (those that `rt ci` tries too are files of their own,
+crates/CRATE/must-fail/NAME.edit): lines `file: src/X.rt`, then pairs `old: TEXT` and `new: TEXT`, each TEXT one line that stands just once in
+that file. A line `# SENTENCE` says what the body turns; `# caller: PATH` names the function that must be refused where the text is in no
+function, or in a contract that another one needs.
 
 What counts as refused. The prover prints of each function whether it is proved, and if not which of its goals it did not prove. A body
 is refused only by an unproved goal of the function that it edits (or of its caller): not by a function that "calls .., which is not
@@ -65,8 +66,8 @@ REFUSED, MISSED, BAD, UNKNOWN = "refused", "not refused", "BAD", "not tried"
 AFRESH_CRATES, AFRESH_BODIES, AFRESH_JOBS = 3, 8, 2
 # How often those of which a check names no goal are tried again together.
 ROUNDS = 3
-# The most bodies in must-fail/, and the most crates that have some.
-GATE_BODIES, GATE_CRATES = 12, 5
+# The most bodies in must-fail/, and the crates that have some: the gate proves such a crate once more, and checks it for each body.
+GATE_BODIES, GATE_CRATES = 7, {"pad_shapes", "ring_rules"}
 
 
 class BadEdit(Exception):
@@ -76,11 +77,11 @@ class BadEdit(Exception):
 class Body:
     """A wrong body: its crate, its name, what it turns, who must be refused, and its changes as (file, old, new)."""
 
-    def __init__(self, path):
-        parts = path.split("/")
-        self.path, self.crate, self.name = path, parts[1], parts[-1][: -len(".edit")]
+    def __init__(self, path, name, text):
+        self.path, self.name = f"{path}: {name}", name
+        self.crate = re.sub(r"\.txt$", "", path.split("/")[1])
         self.turns, self.callers, self.changes, file, old = "", [], [], "", None
-        for line in text_of(os.path.join(TOP, path)).split("\n"):
+        for line in text.split("\n"):
             key, _, rest = line.partition(" ")
             if line.startswith("# caller: "):
                 self.callers.append(line[len("# caller: ") :].strip())
@@ -104,8 +105,13 @@ class Body:
 
 def bodies_of(crate=None):
     """The wrong bodies of a crate or of all, in order."""
-    found = glob.glob(os.path.join(TOP, f"planted/{crate or '*'}/*.edit")) + glob.glob(os.path.join(TOP, f"crates/{crate or '*'}/must-fail/*.edit"))
-    return sorted((Body(os.path.relpath(it, TOP)) for it in found), key=Body.key)
+    bodies = []
+    for path in glob.glob(os.path.join(TOP, f"planted/{crate or '*'}.txt")):
+        _, *blocks = re.split(r"^body: ", text_of(path), flags=re.M)
+        bodies += [Body(os.path.relpath(path, TOP), *block.split("\n", 1)) for block in blocks]
+    for path in glob.glob(os.path.join(TOP, f"crates/{crate or '*'}/must-fail/*.edit")):
+        bodies.append(Body(os.path.relpath(path, TOP), os.path.basename(path)[: -len(".edit")], text_of(path)))
+    return sorted(bodies, key=Body.key)
 
 
 # What was refused.
@@ -480,7 +486,7 @@ def try_afresh(crates):
             for name, (kind, function, goal) in ((it.body.name, found[it.body.key()]) for it in trials):
                 if kind != REFUSED:
                     wrong += 1
-                    print(f"mend: {crate}/{name}: {kind}{f' ({function})' if function else ''}: {goal}", flush=True)
+                    print(f"fix: {crate}/{name}: {kind}{f' ({function})' if function else ''}: {goal}", flush=True)
             print(f"planted: of {crate} from nothing: {', '.join(it.body.name for it in trials)}", flush=True)
     return 1 if wrong else 0
 
@@ -508,8 +514,10 @@ def check_bodies(bodies):
         except BadEdit as why:
             wrong.append(str(why))
     gate = [it for it in bodies if it.path.startswith("crates/")]
-    if len(gate) > GATE_BODIES or len({it.crate for it in gate}) > GATE_CRATES:
-        wrong.append(f"must-fail/ has more than {GATE_BODIES} bodies, or in more than {GATE_CRATES} crates, each of which the gate proves once more: move some to planted/")
+    if len(gate) > GATE_BODIES:
+        wrong.append(f"must-fail/ has more than {GATE_BODIES} bodies, for each of which the gate checks a crate: move some to planted/")
+    for it in sorted({it.crate for it in gate} - GATE_CRATES):
+        wrong.append(f"crates/{it}/must-fail has bodies, so the gate proves that crate once more: move them to planted/{it}")
     return wrong
 
 
@@ -518,8 +526,8 @@ def check_form():
     bodies = bodies_of()
     wrong = check_bodies(bodies)
     for it in wrong:
-        print(f"mend: {it}")
-    print(f"planted: {len(bodies)} wrong bodies, {len(wrong)} places to mend")
+        print(f"fix: {it}")
+    print(f"planted: {len(bodies)} wrong bodies, {len(wrong)} places to fix")
     return 1 if wrong else 0
 
 

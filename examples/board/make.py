@@ -28,7 +28,7 @@ def grid(columns, rows, x, y, step_x, step_y):
     return [(x + i * step_x, y + j * step_y) for i in range(columns) for j in range(rows)]
 
 
-# Vias in rows below the sockets; the last two stand too near to each other.
+# Vias in rows below the sockets; the last two are too close to each other.
 VIAS = grid(20, 6, 6 * MM, 5 * MM, 4_500_000, 2 * MM)
 VIAS[60] = (VIAS[59][0] + 500_000, VIAS[59][1])
 SOCKETS = [
@@ -50,7 +50,7 @@ MACRO = [
     "1,1,$3+$3,$1/2-$3,$3-$2/2",
     "1,1,$3+$3,$3-$1/2,$3-$2/2",
 ]
-# Number, definition, and how the table of `show` tells of a flash.
+# Number, definition, and how the table of `show` lists a flash.
 APERTURES = {
     "trace": (10, "C,0.25", None),
     "via": (11, "C,0.6", ("disc", 600_000, 600_000)),

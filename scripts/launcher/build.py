@@ -118,6 +118,10 @@ class Build:
         versions = {NAME: libraries.load(MADE).get("toolchain"), **{it: record.get("toolchain") for it, record in self.shelf.records.items()}}
         self.with_work = {it for it in self.crates if os.path.isdir(f"crates/{it}/out/incremental")}
         self.kept = {it for it in self.with_work if versions[it] == self.toolchain.version}
+        # Where nothing lies there of any library that this toolchain proved, statements are enough. What is proved later keeps its work, for the next edit.
+        tells_stamps = os.path.isfile(f"{os.path.dirname(os.path.realpath(self.toolchain.rt))}/rtlib.py")
+        lies_there = lambda it: versions[it] == self.toolchain.version if self.shelf.records[it] else os.path.isdir(f"crates/{it}/out/rlib")
+        self.is_first = tells_stamps and not self.with_work - {NAME} and not any(map(lies_there, self.shelf.names))
 
     def make_plan(self, processors):
         figures = progress.figures(self.crates)
@@ -169,6 +173,41 @@ class Build:
         finally:
             for name in list(at_work):
                 self.take_away(name, at_work, is_proved=False)
+
+    def prove_first(self):
+        """Proves all libraries by `rt ci` in one room, from nothing and keeping nothing. What it proved before it was stopped is left where its crate is."""
+        room, proved = rooms.FirstRoom(progress.lowest_first({it: self.crates[it] for it in self.libraries}), self.shelf), []
+        stamps = room.stamps(self.toolchain.rt)
+        if not stamps:
+            self.is_first = False
+            return
+        if not room.is_faithful():
+            raise proof.Refused("a source was changed during the build, so it was broken off: run this again")
+        call, has_ended = Call(self, ["ci"], room.top, LOG), False
+        try:
+            while not has_ended:
+                time.sleep(0.1)
+                has_ended = call.has_ended()
+                for name in progress.done_by_gate(call.said)[len(proved) :]:
+                    proved.append(name)
+                    self.progress.finish(name, time.monotonic() - self.start)
+                    self.tell(f"proved {name}: {self.proved()}, {self.left()} left")
+                self.fail_where_gate_refused(call.said)
+                self.tell_progress("proving libraries", [call])
+            if call.rt.returncode:
+                self.refuse(call)
+        finally:
+            call.has_ended()
+            call.end()
+            taken = room.leave(progress.done_by_gate(call.said), stamps)
+        lacking = [it for it in self.libraries if it not in taken]
+        if lacking:
+            raise proof.Refused(f"not proved: rt ended with status 0 and left no library of {lacking[0]}: the log is {LOG}")
+
+    def fail_where_gate_refused(self, said):
+        refused = progress.refusal_by_gate(said)
+        if refused:
+            raise proof.Refused(f"not proved: crate {refused[0]}: {refused[1]}: the log is {LOG}")
 
     def enter(self, kind, name):
         """A room for a crate, with its sources as they were when the build began."""
@@ -272,7 +311,8 @@ class Build:
 
     def begin(self):
         """Says what is to be done, unless there is no room for it."""
-        needed, free = progress.disk_needed([*self.libraries, NAME], self.with_work, self.plan.processors), shutil.disk_usage(index.OUT).free
+        needed = progress.disk_needed([*self.libraries, NAME], self.with_work, self.plan.processors, self.is_first)
+        free = shutil.disk_usage(index.OUT).free
         if free < needed:
             raise proof.Refused(
                 f"no program is proved from these sources, and nothing was begun: the proof takes {needed / 1e9:.1f} GB of disk, and {free / 1e9:.1f} GB are free below {index.TOP}"
@@ -297,7 +337,10 @@ class Build:
         if self.libraries or not self.digest_of_what_is_made():
             self.begin()
         try:
-            self.prove()
+            if self.is_first:
+                self.prove_first()
+            if not self.is_first:
+                self.prove()
             digest = self.digest_of_what_is_made()
             if not digest:
                 if self.libraries:

@@ -19,6 +19,9 @@ A library that comes out the same ends the proving. Why what is then called prov
 - What a record says holds of files that have the state that they had then; else they are read. Where they are others than it says, the rlib is
   taken away and the crate proved again. A library without a record is left to rt, which goes by its own stamp.
 
+- In a first run `rt ci` proves the libraries and leaves their statements, and writes no stamp. Theirs is what rt's own module reckons over the same
+  sources, in the room in which they were proved. Were it another than rt asks for, rt would build such a library anew, which is told and thrown away.
+
 The record is taken away before what it speaks of is exchanged, and written after it: a launcher that is killed meanwhile leaves none.
 """
 import contextlib

@@ -15,12 +15,13 @@ TABLE = f"{index.TOP}/scripts/crate_seconds.txt"
 MEASURED = f"{index.OUT}/seconds"
 # What a crate is taken to need that is not in the table yet.
 USUAL = (120, 30, 2000)
-# MB of disk that a crate's library and kept work take on average, and that a proof over kept work takes until the old library goes.
-DISK, DISK_AGAIN = 500, 250
-# More jobs than this gain a crate nothing. Each takes about as much memory as the first.
-MOST_JOBS = 4
-# The part of its seconds that a crate takes with one job, with two, and so on.
-PART_BY_JOBS = (1, 0.75, 0.65, 0.6)
+# MB of disk that a crate's library and kept work take on average, and that a proof over kept work takes until the old library goes; and what is asked
+# for a crate in a first run, which leaves statements alone: reckoned from small crates, which take 35, until a whole run is measured.
+DISK, DISK_AGAIN, DISK_FIRST = 500, 250, 120
+# More jobs than this take a processor for longer than they save of the clock. Each takes about as much memory as the first.
+MOST_JOBS = 2
+# The part of its seconds that a crate takes with one job, and with two.
+PART_BY_JOBS = (1, 0.75)
 # So many seconds at the table's own pace count beside the machine's, so that the first steps alone do not decide.
 TRUST_IN_TABLE = 300
 
@@ -67,8 +68,10 @@ def figures(crates):
     return found
 
 
-def disk_needed(crates, with_work, processors):
-    """The bytes of disk to have free before these crates are proved, of which those with kept work take less."""
+def disk_needed(crates, with_work, processors, is_first=False):
+    """The bytes of disk to have free before these crates are proved, of which those with kept work take less, and all in a first run."""
+    if is_first:
+        return 1_000_000 * DISK_FIRST * len(crates)
     new = sum(it not in with_work for it in crates)
     return 1_000_000 * (DISK * new + DISK_AGAIN * min(len(crates) - new, processors))
 
@@ -99,8 +102,9 @@ def with_those_above(crates, changed):
 
 
 class Plan:
-    """In which order crates are proved: each once those below it are, and first the one with the most to be proved above it. It gets more
-    jobs where processors and memory, in MB, would lie idle. `seconds` has what is to be proved, the program too."""
+    """In which order crates are proved: each once those below it are, and first the one with the most to be proved above it. Each gets one job,
+    since with two it takes half as much again of the processors. Only that for which the clock waits, as nothing that waits or is at work has more
+    above it, gets a second one, where a processor and the memory, in MB, would lie idle. `seconds` has what is to be proved, the program too."""
 
     def __init__(self, crates, seconds, memory, processors, free):
         self.below, self.seconds, self.memory, self.processors, self.free = all_below(crates), seconds, memory, processors, free
@@ -121,7 +125,8 @@ class Plan:
         name, left = max(ready, key=self.chain.get), self.free - sum(self.memory_of(*it) for it in running.items())
         if running and self.memory_of(name, 1) > left:
             return None
-        most = max(1, min(MOST_JOBS, idle // len(ready)))
+        is_waited_for = all(self.chain[it] <= self.chain[name] for it in [*waiting, *running])
+        most = max(1, min(MOST_JOBS, idle + 1 - len(ready))) if is_waited_for else 1
         return name, max(it for it in range(1, most + 1) if it == 1 or self.memory_of(name, it) <= left)
 
     def steps(self, libraries, program):
@@ -186,6 +191,20 @@ def refusal(said):
 
 def is_proved(name, said):
     return (name, "proved") in VERDICT.findall(said)
+
+
+def done_by_gate(said):
+    """Of what `rt ci` has said so far: the crates that it proved, or took as it had kept them from an earlier run, in their order."""
+    return re.findall(r"^rt: (\w+) (?:proved$|is kept: )", said, re.M)
+
+
+def refusal_by_gate(said):
+    """Of what `rt ci` has said: the first crate that it refused, and why; or None."""
+    found = re.search(r"^rt: (\w+) NOT PROVED$", said, re.M)
+    if not found:
+        return None
+    begin = said.rfind(f"== {found[1]}\n", 0, found.start())
+    return found[1], reason(said[max(begin, 0) : found.start()], found[1])
 
 
 def was_not_saved(said):

@@ -8,6 +8,8 @@ crate is put back where the crate is.
 import contextlib
 import os
 import shutil
+import subprocess
+import sys
 
 import index
 import libraries
@@ -31,6 +33,24 @@ def move(old, new):
         os.rename(old, new)
 
 
+def copy_sources(name, top):
+    """Copies a crate's sources as they stand to a room."""
+    os.makedirs(f"{top}/crates/{name}")
+    for part in proof.PARTS:
+        if os.path.isdir(f"crates/{name}/{part}"):
+            shutil.copytree(f"crates/{name}/{part}", f"{top}/crates/{name}/{part}")
+
+
+def are_as_looked_at(name, top, look):
+    """Whether a crate's sources in a room are, byte for byte, those that were looked at."""
+    found = {}
+    for part in filter(os.path.isdir, (f"{top}/crates/{name}/{it}" for it in proof.PARTS)):
+        found[os.path.relpath(part, top)] = "folder"
+        for path, (_, digest) in libraries.files_of(part).items():
+            found[os.path.relpath(f"{part}/{path}", top)] = digest
+    return found == {it: digest for it, digest in look.digests.items() if it.startswith(f"crates/{name}/")}
+
+
 def remove_all():
     """Takes the rooms away. What a launcher that was killed left in them is put back first: the rlib of before, and the work that was kept."""
     with contextlib.suppress(OSError):
@@ -50,12 +70,9 @@ class Room:
         self.folder, self.before = f"{self.top}/crates/{name}", f"{self.top}/before"
         # A killed check is begun again in a new room.
         shutil.rmtree(self.top, ignore_errors=True)
-        os.makedirs(self.folder)
+        copy_sources(name, self.top)
         with contextlib.suppress(FileNotFoundError):
             shutil.copy2("HANDLES", self.top)
-        for part in proof.PARTS:
-            if os.path.isdir(f"crates/{name}/{part}"):
-                shutil.copytree(f"crates/{name}/{part}", f"{self.folder}/{part}")
         self.shown = {it: self.show(it) for it in below}
         with open(f"{self.top}/crates.txt", "w", encoding="utf-8") as it:
             it.writelines([shelf.lines[name], *(shelf.records[other]["line"] for other in below)])
@@ -73,12 +90,7 @@ class Room:
 
     def is_faithful(self):
         """Whether the crate's sources here are, byte for byte, those that were looked at."""
-        found = {}
-        for part in filter(os.path.isdir, (f"{self.folder}/{it}" for it in proof.PARTS)):
-            found[os.path.relpath(part, self.top)] = "folder"
-            for path, (_, digest) in libraries.files_of(part).items():
-                found[os.path.relpath(f"{part}/{path}", self.top)] = digest
-        return found == {it: digest for it, digest in self.shelf.look.digests.items() if it.startswith(f"crates/{self.name}/")}
+        return are_as_looked_at(self.name, self.top, self.shelf.look)
 
     def built_anew(self):
         """The libraries below that rt did not take as they were shown to it, but proved and built from the sources shown: None should be."""
@@ -119,3 +131,45 @@ class ProgramRoom(Room):
         if is_proved:
             move(f"{self.top}/{proof.PROGRAM}", proof.PROGRAM)
         shutil.rmtree(self.top, ignore_errors=True)
+
+
+class FirstRoom:
+    """The room of a first run, in which `rt ci` proves all libraries by one call. It leaves the statements of each, a tenth of what it leaves with kept
+    work, and begins with nothing that lies there."""
+
+    def __init__(self, names, shelf):
+        self.names, self.shelf, self.top = names, shelf, f"{FOLDER}/first"
+        shutil.rmtree(self.top, ignore_errors=True)
+        for it in names:
+            copy_sources(it, self.top)
+        with contextlib.suppress(FileNotFoundError):
+            shutil.copy2("HANDLES", self.top)
+        with open(f"{self.top}/crates.txt", "w", encoding="utf-8") as it:
+            it.writelines(shelf.lines[name] for name in names)
+
+    def stamps(self, rt):
+        """By its name the stamp by which rt knows each library as built from the sources here, or nothing where the toolchain does not tell."""
+        kit = os.path.dirname(os.path.dirname(os.path.realpath(rt)))
+        how = {"stdin": subprocess.DEVNULL, "stdout": subprocess.PIPE, "stderr": subprocess.DEVNULL, "text": True, "env": proof.environment(self.shelf.look.path)}
+        asked = subprocess.run([sys.executable, "-I", "-S", f"{os.path.dirname(os.path.realpath(__file__))}/stamps.py", kit, self.top], **how)
+        lines = [it.split() for it in asked.stdout.splitlines()]
+        found = {it[0]: it[1] for it in lines if len(it) == 2} if not asked.returncode else {}
+        return found if found.keys() == {*self.names} else {}
+
+    def is_faithful(self):
+        return all(are_as_looked_at(it, self.top, self.shelf.look) for it in self.names)
+
+    def leave(self, proved, stamps):
+        """Puts each library where its crate is that was proved, those below it too, with the stamp by which rt knows it. `names` has the lowest first."""
+        taken = set()
+        for name in self.names:
+            rlib = f"{self.top}/crates/{name}/out/rlib"
+            if name in proved and self.shelf.below[name] <= taken and os.path.isfile(f"{rlib}/{name}.rlib/format"):
+                with open(f"{rlib}/{libraries.STAMP}", "w", encoding="utf-8") as it:
+                    it.write(stamps[name])
+                self.shelf.take_in(name, rlib, f"{self.top}/crates/{name}")
+                move(rlib, f"crates/{name}/out/rlib")
+                self.shelf.save(name)
+                taken.add(name)
+        shutil.rmtree(self.top, ignore_errors=True)
+        return taken

@@ -5,7 +5,7 @@ use Rattle.std.specs.List.{slice_range}
 use Rattle.std.proofs.lemmas.Bool.{cases_lt, false≢true}
 use Rattle.std.proofs.lemmas.List.{append-nil, get_or_append_left, get_or_default, get_or-append_right, length-append}
 use Rattle.std.proofs.lemmas.List.Elements.{Contains-append_left, Contains-append_right}
-use Rattle.wide_pads.specs.declared.wide_pad.WidePad.{WidePad}
+use Rattle.pad_shapes.specs.declared.wide_pad.WidePad.{WidePad}
 use Rattle.ring_rules.specs.declared.finding.Drilled.{Drilled}
 use Rattle.report.specs.declared.UnitMistake.{UnitMistake}
 use Rattle.report.specs.UnitMistakes.{AreFileRanges, IsUnitMistake, IsUnitMistakeOrNone, bare_count}

@@ -3,7 +3,7 @@ use Rattle.std.specs.Prelude.{◌≡◌, ◌↔◌, ℕ, ◌<◌, Option, List, 
 use Rattle.grid_units.specs.Holes.{GridRules}
 use Rattle.grid_units.specs.declared.fault.Fault.{Fault}
 use Rattle.grid_units.specs.declared.profile.Profile.{Profile}
-use Rattle.wide_pads.specs.WidePads.{wide_pad_covers}
+use Rattle.pad_shapes.specs.WidePads.{wide_pad_covers}
 use Rattle.margins.specs.BestPads.{AreBestPads}
 use Rattle.margins.specs.Meets.{MeetsRings, MeetsRingsInPads, MeetsGaps, allows}
 use Rattle.margins.specs.declared.best.BestPad.{BestPad}

@@ -1,7 +1,7 @@
 -- The lines of a measure for rings and for the least gap. Lengths are whole pm. The places of holes in the list of all holes count from 0.
 use Rattle.std.specs.Prelude.{◌≡◌, ◌⊎◌, ◌&&◌, ◌==◌, ℕ, pos, ◌+◌, ◌-◌, ◌*◌, ◌<◌, Bool, Option, Some, None, List, [], length, get_or, ⊤}
 use Rattle.std.specs.List.{All, AllPairs, Contains, filter, range_with_len}
-use Rattle.wide_pads.specs.WidePads.{wide_pad_covers}
+use Rattle.pad_shapes.specs.WidePads.{wide_pad_covers}
 use Rattle.ring_rules.specs.Places.{hole_at, default_hole}
 use Rattle.margins.specs.BestPads.{AreBestPads}
 use Rattle.margins.specs.Meets.{needs_ring}

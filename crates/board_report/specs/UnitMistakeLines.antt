@@ -1,7 +1,7 @@
 -- The lines of a measure for drill files whose coordinates seem to be off by a factor.
 use Rattle.std.specs.Prelude.{◌≡◌, ℕ, ◌+◌, ◌<◌, Bool, true, false, List, [], length, get_or}
 use Rattle.std.specs.List.{All, AllPairs, Contains, slice_range}
-use Rattle.wide_pads.specs.declared.wide_pad.WidePad.{WidePad}
+use Rattle.pad_shapes.specs.declared.wide_pad.WidePad.{WidePad}
 use Rattle.ring_rules.specs.declared.finding.Drilled.{Drilled}
 use Rattle.report.specs.declared.UnitMistake.{UnitMistake}
 use Rattle.report.specs.UnitMistakes.{IsUnitMistake}

@@ -16,11 +16,11 @@ use crate::{files_with_holes, measure_with_bests};
 use grid_units::Rules;
 use margins::{BestPad, ring_findings_from_bests};
 use package_check::{Board, File, Keep, PackageFault, read_package};
+use pad_shapes::WidePad;
 use report::BoardReport;
 use ring_rules::laws::findings_name_places;
 use ring_rules::{Finding, gap_findings};
 use std::alloc::{AllocError, Global};
-use wide_pads::WidePad;
 
 /// The findings of a board: those of rings, by the best pads of its layers, then those of gaps.
 fn rings_and_gaps(

@@ -4,7 +4,7 @@ ghost use Rattle.board_report.specs.Measures.{MeasuredPasses};
 
 use margins::laws::{gaps_pass, rings_pass};
 use package_check::laws::unique_answer;
-use wide_pads::WidePad;
+use pad_shapes::WidePad;
 
 /// In each profile a package whose files can all be read passes under just the rules that it meets.
 pub fn measured_passes()

@@ -3,7 +3,7 @@
 ghost use Rattle.std.specs.Prelude.{◌≡◌, ◌++◌, ◌∷◌, [], ℕ, Result, IfOk, OnOk, false, true, length, map};
 ghost use Rattle.grid_units.specs.Holes.{GridRules};
 ghost use Rattle.grid_units.specs.declared.fault.Fault.{Fault as TheFault};
-ghost use Rattle.wide_pads.specs.WidePads.{wide_pad_covers};
+ghost use Rattle.pad_shapes.specs.WidePads.{wide_pad_covers};
 ghost use Rattle.margins.specs.Meets.{MeetsOnLayers};
 ghost use Rattle.package_check.specs.Package.{IsAnswer, file_views_in};
 ghost use Rattle.package_check.specs.Reports.{ReportView};
@@ -23,9 +23,9 @@ use margins::{
 };
 use package_check::laws::unique_answer;
 use package_check::{Board, File, Keep, PackageFault, read_package};
+use pad_shapes::WidePad;
 use report::{GapLine, Measure, Meets, RingLine, UnitMistake};
 use std::alloc::{AllocError, Global};
-use wide_pads::WidePad;
 
 /// The greatest rings that a board meets, the lines of its rings and scales, and the best pads of its layers if they are kept.
 #[derive(Drop)]

@@ -14,10 +14,10 @@ use further_copper::FeatureRow;
 use grid_units::Rules;
 use margins::BestPad;
 use package_check::Board;
+use pad_shapes::WidePad;
 use report::{CauseFinder, RingLack};
 use ring_rules::Finding;
 use std::alloc::{AllocError, Global};
-use wide_pads::WidePad;
 
 /// The data made once for a board, for all entries of its rings.
 #[derive(Drop)]

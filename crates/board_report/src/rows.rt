@@ -2,7 +2,7 @@
 
 ghost use Rattle.std.specs.Prelude.{◌≡◌, ◌==◌, ◌&&◌, ◌||◌, ◌++◌, ◌∷◌, ◌+◌, ◌<◌, ◌≤◌, [], ℕ, length, get_or, IfOk, OnOk, if◌then◌else◌};
 ghost use Rattle.std.specs.List.{All};
-ghost use Rattle.wide_pads.specs.WidePads.{wide_pad_covers};
+ghost use Rattle.pad_shapes.specs.WidePads.{wide_pad_covers};
 ghost use Rattle.margins.specs.BestPads.{AreBestPads};
 ghost use Rattle.margins.specs.Meets.{needs_ring};
 ghost use Rattle.board_report.specs.Rows.{AreFilesWithHoles, AreRowLines, IsRowLine, places_of};

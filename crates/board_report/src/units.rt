@@ -1,7 +1,7 @@
 //! The lines of drill files whose coordinates seem to be off by a factor.
 
 ghost use Rattle.std.specs.Prelude.{◌≡◌, ◌++◌, ◌<◌, length, IfOk, OnOk};
-ghost use Rattle.wide_pads.specs.WidePads.{wide_pad_covers};
+ghost use Rattle.pad_shapes.specs.WidePads.{wide_pad_covers};
 ghost use Rattle.margins.specs.BestPads.{AreBestPads};
 ghost use Rattle.board_report.specs.UnitMistakeLines.{AreUnitMistakes, first_pads, is_plated};
 ghost use Rattle.board_report.specs.Inner.Tables.{AreSearched, AreFoundMistakes, IsSearched, IsLayerFileHoles, listed};
@@ -10,9 +10,9 @@ use crate::places::end_of;
 use crate::rows::LayerFileHoles;
 use margins::BestPad;
 use package_check::{Board, FileSum};
+use pad_shapes::WidePad;
 use report::{FileRange, UnitMistake};
 use std::alloc::{AllocError, Global};
-use wide_pads::WidePad;
 
 /// Whether a file is a drill file of plated holes.
 fn is_plated(file: &FileSum) -> bool

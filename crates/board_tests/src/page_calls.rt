@@ -21,6 +21,12 @@ const SAID_UNPLATED: &[u8] = b"M48\nMETRIC\n;TYPE=NON_PLATED\nT1C0.4\n%\nT1\nX0.
 const THREE: &[u8] =
     b"M48\nMETRIC\nT1C0.4\nT2C0.5\n%\nT1\nX0.0Y0.0\nX2.0Y0.0\nT2\nX2.0Y0.65\nM30\n";
 
+/// That hole, and one 0.1 mm beside it, whose ring is 0.325 - 0.2 - 0.1 = 0.025 mm.
+const OFF: &[u8] = b"M48\nMETRIC\nT1C0.4\n%\nT1\nX0.0Y0.0\nX0.1Y0.0\nM30\n";
+
+/// A hole of 0.7 mm at the origin, wider than the disc by 0.025 mm on each side.
+const WIDER: &[u8] = b"M48\nMETRIC\nT1C0.7\n%\nT1\nX0.0Y0.0\nM30\n";
+
 /// A drill file, the ring in pm, how many findings the wide profile does not have, the reasons of the rings and of the gaps, and what stands in the
 /// page.
 type PageRow = (
@@ -32,7 +38,7 @@ type PageRow = (
     &'static [&'static str],
 );
 
-const PAGES: [PageRow; 4] = [
+const PAGES: [PageRow; 7] = [
     (
         ONE,
         125_000_000,
@@ -44,6 +50,7 @@ const PAGES: [PageRow; 4] = [
             "<h1>PASS: 0 findings</h1>\n<p>board: b&lt;1&gt;.csv</p>\n<p>rules: annular ring 0.125 mm, hole to hole 0.25 mm, profile strict</p>\n<p>program: ringcheck 1.2.3</p>\n<details open>\n<summary>files, and what PASS promises</summary>\n<ul>\n<li>copper a&lt;b: 1 pad, 0 other flashes</li>\n<li>plated c&amp;d: 1 round hole, 0 slots</li>\n</ul>\n<p>In the profile strict PASS promises that ",
             "<button type=\"button\" aria-pressed=\"true\" data-file=\"1\">a&lt;b</button>\n</div>",
             "<tbody>\n</tbody>",
+            "<tbody>\n<tr><th scope=\"row\">a&lt;b</th><td>c&amp;d</td><td>0.4</td><td>1</td><td>0</td><td>0.125</td><td>0.125</td><td></td></tr>\n</tbody>",
         ],
     ),
     (
@@ -66,6 +73,7 @@ const PAGES: [PageRow; 4] = [
             "<h1>WAIVED: 1 finding, 1 waived</h1>\n<p>this finding disappears with --profile wide, which counts pads with rounded corners</p>\n<p>board: ",
             "<g class=\"finding\" id=\"f1\">",
             "<tbody>\n<tr><th scope=\"row\"><a href=\"#f1\">1</a></th><td>annular ring</td><td>a&lt;b</td><td>hole 1 of c&amp;d at 0,0</td><td>0.4</td><td>0.125</td><td>0.15</td><td>pad too small: flash 1</td><td>seen &amp; kept</td></tr>\n</tbody>",
+            "<td>0.4</td><td>1</td><td>0</td><td>0.125</td><td>0.15</td><td>below the rule</td></tr>\n</tbody>",
         ],
     ),
     (
@@ -79,6 +87,40 @@ const PAGES: [PageRow; 4] = [
             "<li>plated c&amp;d: 3 round holes, 0 slots</li>\n</ul>\n",
             "<a href=\"#f1\">1</a></th><td>annular ring</td><td>a&lt;b</td><td>hole 2 of c&amp;d at 2,0</td><td>0.4</td><td>no pad</td><td>0.125</td><td>no pad at the hole</td><td></td></tr>\n",
             "<a href=\"#f3\">3</a></th><td>hole to hole</td><td>all</td><td>hole 2 of c&amp;d at 2,0, and hole 3 of c&amp;d at 2,0.65</td><td>0.4, 0.5</td><td>0.2</td><td>0.25</td><td></td><td></td></tr>\n</tbody>",
+            "<td>c&amp;d</td><td>0.4</td><td>2</td><td>1</td><td>0.125</td><td>0.125</td><td>below the rule</td></tr>\n<tr><th scope=\"row\">a&lt;b</th><td>c&amp;d</td><td>0.5</td><td>1</td><td>1</td><td>none</td><td>0.125</td><td>below the rule</td></tr>\n</tbody>",
+        ],
+    ),
+    (
+        OFF,
+        25_000_000,
+        0,
+        &[],
+        &[],
+        &[
+            "<h1>1 finding</h1>",
+            "<td>c&amp;d</td><td>0.4</td><td>2</td><td>0</td><td>0.025</td><td>0.025</td><td></td></tr>\n</tbody>",
+        ],
+    ),
+    (
+        OFF,
+        26_000_000,
+        0,
+        &[],
+        &[],
+        &[
+            "<h1>2 findings</h1>",
+            "<td>c&amp;d</td><td>0.4</td><td>2</td><td>0</td><td>0.025</td><td>0.026</td><td>below the rule</td></tr>\n</tbody>",
+        ],
+    ),
+    (
+        WIDER,
+        0,
+        0,
+        &[],
+        &[],
+        &[
+            "<h1>1 finding</h1>",
+            "<td>c&amp;d</td><td>0.7</td><td>1</td><td>0</td><td>-0.025</td><td>0</td><td>below the rule</td></tr>\n</tbody>",
         ],
     ),
 ];
@@ -174,25 +216,29 @@ const SLOT: &[u8] = b"M48\nMETRIC\nT1C0.4\n%\nT1\nX0.0Y0.0\nX5.0Y0.0\nX9.0Y0.0G8
 const BOTH: &[u8] =
     b"M48\nMETRIC\n;TYPE=PLATED\nT1C0.4\n;TYPE=NON_PLATED\nT2C0.5\n%\nT1\nX0.0Y0.0\nT2\nX5.0Y0.0\nM30\n";
 
-/// A drill file, its role and the layers that its holes go through, and how it and a copper file stand on a page of the wide profile.
-const WIDE_FILES: [(&[u8], Role, Option<(u32, u32)>, &str); 3] = [
+/// A drill file, its role and the layers that its holes go through, how it and a copper file stand on a page of the wide profile, and the rows of the
+/// tool table there.
+const WIDE_FILES: [(&[u8], Role, Option<(u32, u32)>, &str, &str); 3] = [
     (
         SLOT,
         Role::Plated,
         Some((1, 1)),
         "<li>copper a&lt;b: 1 pad, 0 other flashes, 0 contours</li>\n<li>plated c&amp;d: 2 round holes, 1 slot, from layer 1 to layer 1</li>\n</ul>\n<p>In the profile wide PASS promises that ",
+        "<th scope=\"col\">mark</th></tr>\n</thead>\n<tbody>\n<tr><th scope=\"row\">a&lt;b</th><td>c&amp;d</td><td>0.4</td><td>3</td><td>2</td><td>0.125</td><td>0.125</td><td>below the rule</td></tr>\n</tbody>",
     ),
     (
         SLOT,
         Role::Unplated,
         None,
         "0 contours</li>\n<li>unplated c&amp;d: 2 round holes, 1 slot</li>\n</ul>\n",
+        "<th scope=\"col\">mark</th></tr>\n</thead>\n<tbody>\n</tbody>",
     ),
     (
         BOTH,
         Role::Mixed,
         None,
         "0 contours</li>\n<li>mixed c&amp;d: 2 round holes, 0 slots, unplated: 1</li>\n</ul>\n",
+        "<th scope=\"col\">mark</th></tr>\n</thead>\n<tbody>\n<tr><th scope=\"row\">a&lt;b</th><td>c&amp;d</td><td>0.4</td><td>1</td><td>0</td><td>0.125</td><td>0.125</td><td></td></tr>\n</tbody>",
     ),
 ];
 
@@ -228,9 +274,10 @@ fn span_of(layers: Option<(u32, u32)>) -> Option<Span> {
 
 #[test]
 fn pages_name_each_file(rt: HostRuntime) -> Result<(), Fail> {
-    for (bytes, role, span, words) in WIDE_FILES {
+    for (bytes, role, span, files, tools) in WIDE_FILES {
         let page = wide_page(rt, bytes, role, span)?;
-        assert!(rt; page.contains(words), "{words}");
+        assert!(rt; page.contains(files), "{files}");
+        assert!(rt; page.contains(tools), "{tools}");
     }
     Ok(())
 }

@@ -10,8 +10,8 @@ use Rattle.further_copper.specs.declared.feature.FeatureRow.{FeatureRow}
 use Rattle.pad_shapes.specs.declared.pad.Pad.{Pad}
 use Rattle.pad_shapes.specs.declared.pad.Pad.TheVariants as pads
 use Rattle.pad_shapes.specs.Rounded.{GridRounded, rounded_bottom, rounded_left, rounded_right, rounded_top}
-use Rattle.wide_pads.specs.declared.wide_pad.WidePad.{WidePad}
-use Rattle.wide_pads.specs.declared.wide_pad.WidePad.TheVariants as wide
+use Rattle.pad_shapes.specs.declared.wide_pad.WidePad.{WidePad}
+use Rattle.pad_shapes.specs.declared.wide_pad.WidePad.TheVariants as wide
 use Rattle.ring_rules.specs.declared.finding.Drilled.{Drilled}
 use Rattle.package_check.specs.Boards.{BoardView}
 use Rattle.picture.specs.Outlines.{long_radius}

@@ -3,7 +3,7 @@ use Rattle.std.specs.Prelude.{◌≡◌, ◌==◌, ◌+◌, ◌-◌, ◌^◌, �
 use Rattle.std.specs.List.{AllZip, enumerate_from}
 use Rattle.grid_units.specs.Holes.{GridRules}
 use Rattle.layer_image.specs.declared.drawn.Drawn.{Drawn}
-use Rattle.wide_pads.specs.declared.wide_pad.WidePad.{WidePad}
+use Rattle.pad_shapes.specs.declared.wide_pad.WidePad.{WidePad}
 use Rattle.further_copper.specs.declared.feature.FeatureRow.{FeatureRow}
 use Rattle.ring_rules.specs.declared.finding.Drilled.{Drilled}
 use Rattle.ring_rules.specs.declared.finding.Finding.{Finding}

@@ -1,4 +1,4 @@
--- Where the panels of a board stand on a page (docs/FORMATS.md, Pictures). Lengths are whole picometres.
+-- Where the panels of a board are on a page (docs/FORMATS.md, Pictures). Lengths are whole picometres.
 use Rattle.std.specs.Prelude.{◌≡◌, ◌≤◌, ◌<◌, ◌+◌, ◌*◌, ◌/◌, ◌%◌, ◌^◌, ◌⊎◌, ℕ, min, max, unsigned_abs, Option, None, Some, is_some}
 use Rattle.std.specs.Int.{abs_diff, div_ceil}
 use Rattle.grid_units.specs.Holes.{GridRules}
@@ -24,7 +24,7 @@ height_of f = unsigned_abs f.height
 abbrev pub boxes_width : Frame → ℕ → ℕ
 boxes_width f columns = capped_times (width_of f) columns
 
--- the height of `count` boxes that stand in this many columns
+-- the height of `count` boxes in this many columns
 abbrev pub boxes_height : Frame → ℕ → ℕ → ℕ
 boxes_height f count columns = capped_times (height_of f) (div_ceil count columns)
 

@@ -4,7 +4,7 @@ use Rattle.std.specs.List.{flat_map}
 use Rattle.grid_units.specs.Holes.{GridRules}
 use Rattle.grid_units.specs.declared.profile.Profile.{Profile}
 use Rattle.grid_units.specs.declared.profile.Profile.TheVariants.{Strict, Wide}
-use Rattle.printing.specs.Lengths.{short_millimetres}
+use Rattle.grid_units.specs.LengthWords.{short_millimetres}
 use Rattle.picture.specs.Panels.{panel_text}
 use Rattle.drawing.specs.declared.layout.Layout.{Layout}
 use Rattle.drawing.specs.declared.panels.Panel.{Panel}

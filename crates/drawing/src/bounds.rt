@@ -7,8 +7,8 @@ ghost use Rattle.drawing.specs.Boxes.{cross_extent, cross_extents, extents, hole
 use crate::extent::{Extent, hole_extent, joined_to, pad_extent, point_extent};
 use further_copper::FeatureRow;
 use package_check::Board;
+use pad_shapes::WidePad;
 use ring_rules::Drilled;
-use wide_pads::WidePad;
 
 /// The extent so far, joined with those of some pads.
 fn with_pads(before: Option<Extent>, pads: &[WidePad]) -> Option<Extent>

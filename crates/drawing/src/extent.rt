@@ -5,9 +5,8 @@ ghost use Rattle.std.specs.Int.{int_min, int_max};
 ghost use Rattle.drawing.specs.Boxes.{extent_round, hole_extent, joined, joined_to, pad_extent, plain_extent, rounded_extent};
 
 use grid_units::{Hole, Point};
-use pad_shapes::{Pad, PlacedRounded};
+use pad_shapes::{Pad, PlacedRounded, WidePad};
 use std::marker::Model;
-use wide_pads::WidePad;
 
 /// Half a millimetre in pm.
 const HALF_MILLIMETRE: u64 = 500_000_000;

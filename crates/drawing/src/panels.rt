@@ -7,16 +7,16 @@ ghost use Rattle.drawing.specs.Layouts.{box_left, box_top};
 ghost use Rattle.drawing.specs.Pages.{text_of_panel};
 
 use crate::layout::Layout;
+use grid_units::Line;
 use layer_image::Drawn;
 use package_check::Board;
 use picture::{LayerCopper, Place, Scene, scene_of};
-use printing::Line;
 use ring_rules::{Drilled, Finding};
 use std::alloc::{AllocError, Global};
 use std::fmt;
 use std::fmt::Formatter;
 
-/// A panel: where it stands on the page, and its contents.
+/// A panel: where it is on the page, and its contents.
 #[derive(Drop)]
 pub(crate) struct Panel<'a> {
     /// Its place on the page, and the number and name of its file.

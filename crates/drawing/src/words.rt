@@ -4,8 +4,7 @@ ghost use Rattle.std.specs.Prelude.{◌≡◌, ◌<◌, ◌^◌, Some, pos};
 ghost use Rattle.std.specs.Fmt.{DisplaysOnOk};
 ghost use Rattle.drawing.specs.Pages.{bar_at, found_words, legend_start, legend_words, length_at, profile_words, rules_words, sizes_words, style_words, text_start, view_words};
 
-use grid_units::Profile;
-use printing::ShortMillimetres;
+use grid_units::{Profile, ShortMillimetres};
 use std::fmt;
 use std::fmt::Formatter;
 

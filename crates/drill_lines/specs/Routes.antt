@@ -117,7 +117,7 @@ wide_meaning earlier settings line =
     else if cuts (last_line earlier) then fourth_line earlier settings line
     else other_line (is_routing earlier) settings line
 
--- what a line spells in a profile after these lines; in the strict one it stands for itself
+-- what a line spells in a profile after these lines; in the strict one it is read by itself
 abbrev pub meaning_in : Profile → List (List ℕ) → Settings → List ℕ → Meaning
 meaning_in Strict earlier settings line = meaning settings line
 meaning_in Wide earlier settings line = wide_meaning earlier settings line

@@ -7,7 +7,7 @@ use std::fmt;
 use std::marker::Model;
 
 /// How many digits a coordinate without a point has before its point and after it: 1 to 6 each.
-#[derive(Clone, Copy, Debug, PartialEq, Eq)]
+#[derive(Clone, Copy, PartialEq, Eq)]
 pub struct DrillFormat {
     whole: u8,
     decimals: u8,
@@ -62,7 +62,7 @@ const OMITTED: i64 = 100_000_000_000_000;
 
 /// A coordinate of a line, or that it is left out. It takes eight bytes, since a file has many; contracts see
 /// the optional decimal.
-#[derive(Clone, Copy, Debug, PartialEq, Eq)]
+#[derive(Clone, Copy, PartialEq, Eq)]
 pub struct OptionalDec {
     units: i64,
 }
@@ -111,7 +111,7 @@ impl OptionalDec {
 }
 
 /// The coordinates that a line names for a point, in the unit of its file. Each may be left out.
-#[derive(Clone, Copy, Debug, PartialEq, Eq)]
+#[derive(Clone, Copy, PartialEq, Eq)]
 pub struct Coordinates {
     pub x: OptionalDec,
     pub y: OptionalDec,
@@ -173,7 +173,7 @@ impl fmt::Debug for DrillCommand {
 }
 
 /// The part of a file in which a line stands.
-#[derive(Clone, Copy, Debug, PartialEq, Eq)]
+#[derive(Clone, Copy, PartialEq, Eq)]
 pub enum Part {
     /// Before `M48`.
     Before,
@@ -184,7 +184,7 @@ pub enum Part {
 }
 
 /// By what a line is read: the part of the file in which it stands, and what the whole header gives.
-#[derive(Clone, Copy, Debug)]
+#[derive(Clone, Copy)]
 pub struct Settings {
     pub part: Part,
     pub unit: Option<Unit>,

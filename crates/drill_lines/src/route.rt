@@ -13,7 +13,7 @@ use grid_units::{ItemFail, Reason};
 use std::alloc::Global;
 
 /// How far a route has come.
-#[derive(Clone, Copy, Debug)]
+#[derive(Clone, Copy)]
 pub(crate) enum Route {
     /// No line of a route is due. Whether the machine routes: since an `M16`, up to the next `G05`.
     Free(bool),

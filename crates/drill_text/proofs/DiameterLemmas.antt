@@ -1,5 +1,6 @@
 -- Lengths of a drill file in pm.
-use Rattle.std.proofs.Common.{◌≡◌, ℤ, pos, ◌≤ℤ◌, ◌≤◌, unsigned_abs, refl, sym, subst, arith, Result, Ok, Err, IfOk}
+use Rattle.std.proofs.Common.{◌≡◌, ℤ, pos, ◌≤ℤ◌, ◌≤◌, ◌||◌, ◌↔◌, Bool, true, false, cond, unsigned_abs, refl, sym, ap, subst, ◌∙◌, arith, Option, Some, None, Result, Ok, Err, IfOk, IsSome, IfSome}
+use Rattle.std.specs.Option.{ok_or}
 use Rattle.std.proofs.lemmas.Int.{ints}
 use Rattle.std.proofs.lemmas.Bool.{ltb-false}
 use Rattle.grid_units.specs.declared.lengths.Unit.{Unit as Units}
@@ -7,7 +8,7 @@ use Rattle.grid_units.specs.declared.lengths.Unit.TheVariants.{Inch, Millimetre}
 use Rattle.grid_units.specs.declared.fault.Reason.{Reason}
 use Rattle.grid_units.specs.declared.fault.Reason.TheVariants.{TooFar}
 use Rattle.grid_units.specs.Numbers.{picometres, is_too_far, within_limit}
-use Rattle.grid_units.specs.Points.{max_coordinate}
+use Rattle.grid_units.specs.Points.{GridPoint, IsCoordinate, max_coordinate}
 use Rattle.grid_units.proofs.ResultLemmas.{guard_ok}
 use Rattle.drill_text.specs.Inner.StateSteps.{IsWidth}
 
@@ -30,3 +31,27 @@ width_range Millimetre v w some e = near (picometres Millimetre 8 v) w (omega (a
 pub width_ok : (unit : Units) (v : ℤ) (r : Result ℤ Reason) → pos 1 ≤ℤ v → r ≡ within_limit (picometres unit 8 v) → IfOk r IsWidth
 width_ok unit v (Ok w) some e = width_range unit v w some (sym e)
 width_ok unit v (Err reason) some e = tt
+
+-- a length that is within the limit, and is a coordinate
+pub within : (a x : ℤ) → Ok x ≡ within_limit a → (is_too_far a ≡ false) × (x ≡ a) × IsCoordinate x
+unfolding within_limit
+within a x e =
+    let g = guard_ok (is_too_far a) TooFar a x (sym e) in
+    let near : IsCoordinate a = ltb-false _ _ g.0 in
+    (g.0, sym g.1, subst IsCoordinate g.1 near)
+
+-- neither of two tests
+neither : {A : Type 0} (t u : Bool) (x y : A) → t ≡ false → u ≡ false → y ≡ cond (t || u) x y
+neither false false x y e f = refl
+neither false true x y e f = absurd cc
+neither true u x y e f = absurd cc
+
+-- the point of two lengths that are both within the limit
+pub point_within : (a b x y : ℤ) (point : Option GridPoint) → Ok x ≡ within_limit a → Ok y ≡ within_limit b → (IsSome point ↔ (IsCoordinate x × IsCoordinate y))
+    → IfSome point (λ p. p ≡ record { x = x; y = y }) → ok_or point TooFar ≡ cond (is_too_far a || is_too_far b) (Err TooFar) (Ok (record { x = a; y = b }))
+point_within a b x y None ea eb valid value = let some = valid.1 ((within a x ea).2, (within b y eb).2) in absurd cc
+point_within a b x y (Some p) ea eb valid value =
+    let u = within a x ea in
+    let v = within b y eb in
+    let same : p ≡ record { x = a; y = b } = value ∙ (λ i. record { x = u.1 i; y = v.1 i }) in
+    ap (λ (q : GridPoint). Ok q) same ∙ neither (is_too_far a) (is_too_far b) (Err TooFar) (Ok (record { x = a; y = b })) u.0 v.0

@@ -12,7 +12,7 @@ use indexmap::IndexMap;
 use std::alloc::{AllocError, Global};
 
 /// By what it is known which holes of a drill file are plated.
-#[derive(Clone, Copy, Debug, PartialEq, Eq)]
+#[derive(Clone, Copy, PartialEq, Eq)]
 pub enum PlatingKind {
     /// By its role alone: what the file itself says of that is passed over.
     Stated,

@@ -4,7 +4,7 @@ ghost use Rattle.std.specs.Prelude.{◌≡◌};
 ghost use Rattle.explanations.specs.Words.{topic_word};
 
 /// A finding, a cause of one or the wide profile: what has a page besides the reasons.
-#[derive(Clone, Copy, Debug, PartialEq, Eq)]
+#[derive(Clone, Copy, PartialEq, Eq)]
 pub(crate) enum Topic {
     /// A line `RING` of the report.
     RingLine,

@@ -4,8 +4,8 @@ use Rattle.std.specs.Option.{option_map_or}
 use Rattle.std.specs.List.{filter_map, flat_map}
 use Rattle.grid_units.specs.Points.{GridPoint}
 use Rattle.pad_shapes.specs.Rounded.{GridRounded}
-use Rattle.wide_pads.specs.declared.wide_pad.WidePad.{WidePad}
-use Rattle.wide_pads.specs.declared.wide_pad.WidePad.TheVariants.{Plain, Rounded}
+use Rattle.pad_shapes.specs.declared.wide_pad.WidePad.{WidePad}
+use Rattle.pad_shapes.specs.declared.wide_pad.WidePad.TheVariants.{Plain, Rounded}
 use Rattle.gerber_commands.specs.declared.command.Command.{Command}
 use Rattle.layer_image.specs.declared.flash.Flash.{Flash}
 use Rattle.layer_image.specs.declared.flash.What.{What}

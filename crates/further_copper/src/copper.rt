@@ -28,9 +28,8 @@ use crate::part::{Part, add_operation, add_parts};
 use gerber_text::{Command, Interpolation, LeadingOperation, StepRepeat};
 use grid_units::Point;
 use layer_image::{Drawn, Flash, Pencil, What, Why};
-use pad_shapes::{PlacedRounded, SharedRounded};
+use pad_shapes::{PlacedRounded, SharedRounded, WidePad};
 use std::alloc::{AllocError, Global};
-use wide_pads::WidePad;
 
 /// One, in units of 10^-8.
 const ONE: i64 = 100_000_000;

@@ -5,9 +5,8 @@ ghost use Rattle.further_copper.specs.Features.{feature_row, is_contour, is_flas
 
 use grid_units::Point;
 use layer_image::{Flash, What, Why};
-use pad_shapes::PlacedRounded;
+use pad_shapes::{PlacedRounded, WidePad};
 use std::alloc::{AllocError, Global};
-use wide_pads::WidePad;
 
 /// What a flash or a contour is once the whole layer is drawn.
 #[derive(Debug, Drop)]

@@ -354,7 +354,7 @@ pieces text =
 abbrev pub has_several_pieces : List ℕ → Bool
 has_several_pieces text = list_any (λ b. b == ascii.asterisk) text && not (is_some (strip_prefix (codes "AM") text))
 
--- What stands in an item without its last `*`: one piece, or a macro with its pieces.
+-- The contents of an item without its last `*`: one piece, or a macro with its pieces.
 unfoldable pub piece : List ℕ → Meaning
 piece text = if has_several_pieces text then Err SeveralInOne else first_match (pieces text)
 

@@ -1,8 +1,10 @@
-//! Tests of the crates that read and write Gerber texts.
+//! Tests of the crates that read and write Gerber texts and layers, in both profiles.
 #![tactic(auto)]
 
 #[cfg(test)]
 mod drawn_calls;
+#[cfg(test)]
+mod further_pads_calls;
 #[cfg(test)]
 mod gerber_profiles;
 #[cfg(test)]
@@ -19,3 +21,5 @@ mod plain_commands;
 mod sayable_lists;
 #[cfg(test)]
 mod texts;
+#[cfg(test)]
+mod wide_layers_calls;

@@ -12,7 +12,7 @@ use gerber_commands::{Action, Coordinate, Interpolation, first_digits, signed};
 use grid_units::numbers::{is_negative, without_sign};
 
 /// An operation, the interpolation before it, if there is one, and how many bytes its item takes.
-#[derive(Clone, Copy, Debug, PartialEq, Eq)]
+#[derive(Clone, Copy, PartialEq, Eq)]
 pub struct LeadingOperation {
     pub mode: Option<Interpolation>,
     pub action: Action,

@@ -1,13 +1,14 @@
 //! The fields of commands: the ranges of numbers, and the bytes of texts.
 
-ghost use Rattle.std.specs.Prelude.{◌≡◌};
+ghost use Rattle.std.specs.Prelude.{◌≡◌, ◌&&◌, not};
 ghost use Rattle.std.specs.List.{list_all};
 ghost use Rattle.std.specs.Option.{option_copied};
+ghost use Rattle.gerber_commands.specs.Negative.{is_negative_comment};
 ghost use Rattle.gerber_text.specs.Sayable.{is_text_byte, is_text, is_optional_text, is_nat, is_int, is_optional_int, is_dec, is_format, is_aperture_number, is_macro_name, are_parameters, is_template, is_operation, is_block, is_attribute};
 
 use crate::{
-    Action, AttributeKind, Format, Sizes, Standard, StepRepeat, Template, is_name,
-    is_negative_image, is_plot, max_sizes, min_sizes, standard_template,
+    Action, AttributeKind, Boxed, Format, Pieces, Sizes, Standard, StepRepeat, Template, is_name,
+    is_negative_comment, is_negative_image, is_plot, max_sizes, min_sizes, standard_template,
 };
 use grid_units::{Dec, Text};
 
@@ -25,10 +26,17 @@ pub(crate) fn is_text(text: &[u8]) -> bool
 }
 
 /// Whether an item can hold each of these texts.
-pub(crate) fn are_texts(texts: &[Text]) -> bool
+fn are_texts(texts: &[Text]) -> bool
     ensures { result ≡ list_all is_text texts.now }
 {
     texts.iter().all(|text| is_text(text.bytes()))
+}
+
+/// Whether this can be the text of a comment: it does not make the image negative.
+pub(crate) fn is_comment(text: &Text) -> bool
+    ensures { result ≡ (is_text text.now && not (is_negative_comment text.now)) }
+{
+    is_text(text.bytes()) && !is_negative_comment(text.bytes())
 }
 
 fn is_optional_text(text: &Option<Text>) -> bool
@@ -81,10 +89,17 @@ pub(crate) fn is_aperture_number(number: u32) -> bool
 }
 
 /// Whether this can be the name of a macro: a name other than `C`, `R`, `O` and `P`.
-pub(crate) fn is_macro_name(name: &[u8]) -> bool
+fn is_macro_name(name: &[u8]) -> bool
     ensures { result ≡ is_macro_name name.now }
 {
     is_name(name) && standard_template(name).is_none()
+}
+
+/// Whether this can be a macro: its name, and its pieces.
+pub(crate) fn is_macro(name: &Text, pieces: &Boxed<Pieces>) -> bool
+    ensures { result ≡ (is_macro_name name.now && list_all is_text pieces.now) }
+{
+    is_macro_name(name.bytes()) && are_texts(pieces.get().texts())
 }
 
 fn are_decs(sizes: &[Dec]) -> bool
@@ -100,7 +115,7 @@ fn are_parameters(aperture: Standard, sizes: &Sizes) -> bool
     are_decs(sizes) && min_sizes(aperture) <= sizes.len() && sizes.len() <= max_sizes(aperture)
 }
 
-pub(crate) fn is_template(template: &Template) -> bool
+fn is_template(template: &Template) -> bool
     ensures { result ≡ is_template template.now }
 {
     match template {
@@ -109,6 +124,13 @@ pub(crate) fn is_template(template: &Template) -> bool
             is_macro_name(name.bytes()) && is_optional_text(parameters)
         }
     }
+}
+
+/// Whether this can be the definition of an aperture.
+pub(crate) fn is_definition(number: u32, template: &Boxed<Template>) -> bool
+    ensures { result ≡ (is_aperture_number number && is_template template.now) }
+{
+    is_aperture_number(number) && is_template(template.get())
 }
 
 pub(crate) fn is_operation(

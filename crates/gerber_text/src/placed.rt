@@ -7,7 +7,7 @@ use crate::fast_path::LeadingOperation;
 use crate::text_items::LeadingText;
 
 /// A command, with the number of its item, from 1, and the offset of that item's first byte.
-#[derive(Debug, Drop)]
+#[derive(Drop)]
 pub struct Placed<T> {
     pub place: u64,
     pub byte: u64,
@@ -16,7 +16,7 @@ pub struct Placed<T> {
 
 /// An operation whose commands a reader does not hold, with the number of its item, from 1, the offset of that item's
 /// first byte, and how many bytes the reader passed.
-#[derive(Clone, Copy, Debug)]
+#[derive(Clone, Copy)]
 pub struct PassedOperation {
     pub operation: LeadingOperation,
     pub place: u64,
@@ -26,7 +26,7 @@ pub struct PassedOperation {
 
 /// A comment or an attribute whose command a reader does not hold, with the number of its item, from 1, the offset of that
 /// item's first byte, and how many bytes the reader passed.
-#[derive(Clone, Copy, Debug)]
+#[derive(Clone, Copy)]
 pub struct PassedText {
     pub item: LeadingText,
     pub place: u64,

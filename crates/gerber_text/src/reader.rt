@@ -27,7 +27,7 @@ use std::mem::replace;
 const TEXT_LIMIT: u64 = grid_units::TEXT_LIMIT as u64;
 
 /// The commands that were read so far, and the item that has not ended.
-#[derive(Debug, Drop)]
+#[derive(Drop)]
 pub(crate) struct Progress {
     alloc: Global,
     profile: Profile,
@@ -210,7 +210,20 @@ fn add_mode_and_command(
         byte,
         what: Command::Mode(mode),
     })?;
-    let outcome = commands.push(Placed { place, byte, what });
+    add_or_cut(len, Placed { place, byte, what }, commands)
+}
+
+/// Adds a command, or leaves only so many of those before it.
+fn add_or_cut(
+    len: usize,
+    command: Placed<Command>,
+    commands: &mut Vec<Placed<Command>>,
+) -> Result<(), AllocError>
+    requires { len ≤ vec_len commands.old }
+    ensures added { OnOk result (commands.new.items ≡ commands.old.items ++ command ∷ []) }
+    ensures err { OnErr result (commands.new.items ≡ take len commands.old.items) }
+{
+    let outcome = commands.push(command);
     if outcome.is_err() {
         commands.truncate(len);
     }
@@ -695,7 +708,7 @@ impl Progress {
 
 /// A reader of a Gerber text that comes in pieces. It keeps the commands so far and the unfinished item,
 /// and not the text.
-#[derive(Debug, Drop)]
+#[derive(Drop)]
 pub struct WordReader {
     progress: Progress,
     failed: Option<Fail>,
@@ -896,7 +909,7 @@ impl WordReader {
 }
 
 /// The commands of a text, or the fault and the commands before it.
-#[derive(Debug, Drop)]
+#[derive(Drop)]
 pub struct Kept {
     pub commands: Vec<Placed<Command>>,
     pub outcome: Result<(), Fail>,

@@ -8,10 +8,10 @@ ghost use Rattle.grid_units.specs.Limits.{item_limit};
 ghost use Rattle.gerber_text.specs.Sayable.{has_valid_fields, is_short, is_sayable};
 
 use crate::operation_fields::{
-    are_texts, is_aperture_number, is_attribute, is_block, is_dec, is_format, is_macro_name,
-    is_operation, is_template, is_text,
+    is_aperture_number, is_attribute, is_block, is_comment, is_dec, is_definition, is_format,
+    is_macro, is_operation, is_text,
 };
-use crate::{Command, Template, is_negative_comment};
+use crate::{Command, Template};
 use grid_units::{ITEM_LIMIT, Text};
 use itoa::Buffer;
 
@@ -21,14 +21,10 @@ fn has_valid_fields(command: &Command) -> bool
     ensures { result ≡ has_valid_fields command.now }
 {
     match command {
-        Command::Comment(text) => is_text(text.bytes()) && !is_negative_comment(text.bytes()),
+        Command::Comment(text) => is_comment(text),
         Command::FormatIs(format) => is_format(*format),
-        Command::Define { number, template } => {
-            is_aperture_number(*number) && is_template(template.get())
-        }
-        Command::Macro(name, pieces) => {
-            is_macro_name(name.bytes()) && are_texts(pieces.get().texts())
-        }
+        Command::Define { number, template } => is_definition(*number, template),
+        Command::Macro(name, pieces) => is_macro(name, pieces),
         Command::Select(number) => is_aperture_number(*number),
         Command::Operate { action, x, y, i, j } => is_operation(
             *action,

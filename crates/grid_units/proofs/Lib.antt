@@ -10,3 +10,4 @@ pub mod SpellingsLemmas
 pub mod ZeroFillingLemmas
 pub mod ReadPrefix
 mod NumberReasons
+pub mod Spelled

@@ -11,3 +11,5 @@ pub mod Rows
 pub mod Spellings
 pub mod ReadPrefix
 pub mod Laws
+pub mod HoleWords
+pub mod LengthWords

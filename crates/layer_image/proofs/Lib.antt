@@ -1,4 +1,5 @@
 pub mod CopyGrids
+pub mod SumLemmas
 pub mod KeptFlashesLemmas
 pub mod StateLemmas
 pub mod RulesLemmas

@@ -46,7 +46,7 @@ copy_in unit format s x y u v = record {
 abbrev pub copies_in : Units → Format → GraphicsState → Option ℤ → Option ℤ → List GridPoint
 copies_in unit format s x y = flat_map (λ u. map (copy_in unit format s x y u) (numbers_below s.block.rows)) (numbers_below s.block.columns)
 
--- a flash may stand in this state: outside of regions, with a unit, a format and an aperture (Gerber format, Operations D01, D02, D03)
+-- a flash is allowed in this state: outside of regions, with a unit, a format and an aperture (Gerber format, Operations D01, D02, D03)
 pub record MayFlash (s : GraphicsState) (unit : Units) (format : Format) (shape : Aperture) : Type 0 where
   pub outside : s.in_region ≡ false
   pub in_unit : s.unit ≡ Some unit

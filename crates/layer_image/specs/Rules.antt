@@ -24,7 +24,7 @@ use Rattle.layer_image.specs.Flashes.{current_unit, current_decimals, copies_at,
 
 -- ---- what the rules judge by
 
--- what may stand in a region: its contour, its end, and what has no effect on it (Gerber format, Region statement G36/G37)
+-- what is allowed in a region: its contour, its end, and what has no effect on it (Gerber format, Region statement G36/G37)
 abbrev pub is_allowed_in_region : Command → Bool
 is_allowed_in_region (command.Comment text) = true
 is_allowed_in_region (command.Mode mode) = true

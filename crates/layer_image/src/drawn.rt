@@ -13,7 +13,7 @@ use pad_shapes::SharedRounded;
 use std::alloc::{AllocError, Global};
 
 /// A part of what a layer draws with `D01`, or a flash of a macro. Points and widths are in pm.
-#[derive(Debug, Drop)]
+#[derive(Drop)]
 pub enum Drawn {
     /// A straight line with round ends, drawn by a round aperture.
     Line {

@@ -18,7 +18,7 @@ use std::marker::Model;
 
 /// A layer, or what a reader kept of it: a list that was not asked for is empty, and the pads are those that the reader
 /// has not dropped. Contracts see commands, flashes, pads and file function as lists.
-#[derive(Debug, Drop)]
+#[derive(Drop)]
 pub struct Layer {
     pub(crate) commands: Vec<Placed<Command>>,
     pub(crate) flashes: Vec<Flash>,

@@ -380,11 +380,19 @@ impl Pencil {
     }
 }
 
+/// The sum of two coordinates. It may lie beyond every `i64`.
+fn sum(a: i64, b: i64) -> i128
+    ensures value { result ≡ a +ℤ b }
+    ensures in_range { unsigned_abs result ≤ 2 ^ 64 }
+{
+    i128::from(a) + i128::from(b)
+}
+
 /// Whether the sum of two coordinates is at most 10 m in absolute value.
 fn is_near_sum(a: i64, b: i64) -> bool
     ensures { result ≡ not (is_too_far (a +ℤ b)) }
 {
-    !is_too_far(i128::from(a) + i128::from(b))
+    !is_too_far(sum(a, b))
 }
 
 /// Whether a corner about the point of a flash lies at most 10 m from zero along each axis.
@@ -429,12 +437,12 @@ fn flashed(at: Option<Point>, shape: Option<&SharedRounded>) -> Result<Option<Dr
     }
 }
 
-/// A coordinate moved by an offset, 0 where it is left out. It may lie beyond every `i64`.
+/// A coordinate moved by an offset, 0 where it is left out.
 fn moved(n: i64, offset: Option<i64>) -> i128
     ensures value { result ≡ moved n offset }
     ensures in_range { unsigned_abs result ≤ 2 ^ 64 }
 {
-    i128::from(n) + i128::from(offset.unwrap_or(0))
+    sum(n, offset.unwrap_or(0))
 }
 
 /// A coordinate in steps of the format, in pm, unless it is beyond 10 m.

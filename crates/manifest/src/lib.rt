@@ -20,7 +20,7 @@ pub use names::Name;
 use std::alloc::Global;
 
 /// What kind of file a file of a package is.
-#[derive(Clone, Copy, Debug, PartialEq, Eq)]
+#[derive(Clone, Copy, PartialEq, Eq)]
 pub enum Role {
     /// A copper layer, a Gerber file.
     Copper,
@@ -33,7 +33,7 @@ pub enum Role {
 }
 
 /// A file of a package, as the manifest names it.
-#[derive(Debug, Drop)]
+#[derive(Drop)]
 pub struct Entry {
     pub role: Role,
     /// The name that reports print.

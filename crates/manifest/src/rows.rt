@@ -1,14 +1,25 @@
 //! The records of a text, and their fields.
 
-ghost use Rattle.std.specs.Prelude.{◌≡◌, ◌<◌, length, map, true, false, IfOk, MatchOption};
+ghost use Rattle.std.specs.Prelude.{◌≡◌, ◌<◌, ◌++◌, ◌∷◌, [], length, map, true, false, Ok, IfOk, OnOk, MatchOption};
 ghost use Rattle.std.specs.List.{list_any};
 ghost use Rattle.std.specs.Str.{bytes_eq};
-ghost use Rattle.csv.specs.Records.{fields_of};
+ghost use Rattle.csv.specs.Records.{Row, fields_of};
 ghost use Rattle.manifest.specs.Manifest.{field, is_control, is_plain_text, csv_records};
 
-use csv::{ByteRecord, ReaderBuilder};
+use csv::{ByteRecord, Error, ReaderBuilder};
 use std::alloc::{AllocError, Global};
 use std::str;
+
+/// Adds a record to those read before it.
+fn add_record(rows: &mut Vec<ByteRecord>, read: Result<ByteRecord, Error>) -> Result<(), AllocError>
+    ensures { OnOk result ((row : Row) × (read ≡ Ok row) × (rows.new.items ≡ rows.old.items ++ row ∷ [])) }
+{
+    let Ok(row) = read else {
+        return Err(AllocError);
+    };
+    rows.push(row)?;
+    Ok(())
+}
 
 /// Every record of a text, with any number of fields; the first is read as the others. A byte order mark before the text
 /// is dropped.
@@ -27,10 +38,7 @@ pub fn read_records(alloc: Global, text: &[u8]) -> Result<Vec<ByteRecord>, Alloc
         .from_reader(alloc, text);
     let mut rows = Vec::new(alloc);
     for row in reader.into_byte_records() {
-        match row {
-            Ok(row) => rows.push(row)?,
-            Err(_) => return Err(AllocError),
-        }
+        add_record(&mut rows, row)?;
     }
     Ok(rows)
 }

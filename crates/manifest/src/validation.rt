@@ -1,7 +1,7 @@
 //! Which records name files, and by which rule the first wrong one is refused.
 
-ghost use Rattle.std.specs.Prelude.{◌≡◌, ◌≤◌, map, true, false, MatchOption, IfSome};
-ghost use Rattle.std.specs.List.{count_by};
+ghost use Rattle.std.specs.Prelude.{◌≡◌, ◌≤◌, map, not, true, false, MatchOption, IfSome};
+ghost use Rattle.std.specs.List.{count_by, list_any};
 ghost use Rattle.csv.specs.Records.{fields_of};
 ghost use Rattle.grid_units.specs.Results.{Answers, with_place, fault};
 ghost use Rattle.manifest.specs.Manifest as naming;
@@ -240,14 +240,28 @@ fn is_copper(entry: &Entry) -> bool
     is_copper_role(entry.role)
 }
 
+/// Whether one of the files is a copper layer.
+fn has_copper(entries: &[Entry]) -> bool
+    ensures { result ≡ list_any naming.is_copper entries.now }
+{
+    entries.iter().any(|entry| is_copper(entry))
+}
+
+/// Whether one of the files is a drill file.
+fn has_drill(entries: &[Entry]) -> bool
+    ensures { result ≡ list_any (λ entry. not (naming.is_copper entry)) entries.now }
+{
+    entries.iter().any(|entry| !is_copper(entry))
+}
+
 /// The role that a package needs and that these files lack.
 fn missing_role(entries: &[Entry]) -> Option<Reason>
     ensures { result ≡ naming.missing_role entries.now }
 {
-    if !entries.iter().any(|entry| is_copper(entry)) {
+    if !has_copper(entries) {
         return Some(Reason::NoCopper);
     }
-    if !entries.iter().any(|entry| !is_copper(entry)) {
+    if !has_drill(entries) {
         return Some(Reason::NoDrill);
     }
     None

@@ -11,7 +11,7 @@ use Rattle.std.proofs.lemmas.List.Folds.{list_any_at}
 use Rattle.grid_units.specs.Points.{GridPoint, square}
 use Rattle.grid_units.specs.Holes.{GridHole}
 use Rattle.grid_units.specs.declared.profile.Profile.{Profile}
-use Rattle.wide_pads.specs.Holding.{covers_hole}
+use Rattle.pad_shapes.specs.Holding.{covers_hole}
 use Rattle.ring_rules.specs.Cores.{square_of_cores, are_clear}
 use Rattle.ring_rules.specs.Places.{default_hole, hole_at}
 use Rattle.ring_rules.specs.Findings.{is_refused_slot, lacks_ring, is_ring_finding, finding_of, layer_findings, ring_findings, hole_findings, gap_findings}

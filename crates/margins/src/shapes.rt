@@ -8,8 +8,7 @@ use crate::deep::DepthShape;
 use crate::hull::Hull;
 use crate::roots::{length_rounded_up, less};
 use grid_units::Point;
-use pad_shapes::{Disc, Obround, Pad, PlacedRounded, Rect};
-use wide_pads::WidePad;
+use pad_shapes::{Disc, Obround, Pad, PlacedRounded, Rect, WidePad};
 
 impl DepthShape for Disc {
     ghost middle = { λ d. d.centre };

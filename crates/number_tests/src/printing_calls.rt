@@ -2,7 +2,7 @@
 
 ghost use Rattle.std.specs.Prelude.{◌++◌, ◌∷◌, []};
 
-use printing::*;
+use grid_units::*;
 use std::alloc::AllocError;
 use std::fmt;
 use std::fmt::{Formatter, Write};

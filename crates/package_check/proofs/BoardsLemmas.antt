@@ -14,7 +14,7 @@ use Rattle.ring_rules.specs.declared.finding.Drilled.{Drilled}
 use Rattle.package_check.specs.declared.Numbered.{Numbered}
 use Rattle.package_check.specs.declared.contents.Content.{Content}
 use Rattle.package_check.specs.declared.contents.Content.TheVariants as content
-use Rattle.wide_pads.specs.WidePads.{wide_pad_covers}
+use Rattle.pad_shapes.specs.WidePads.{wide_pad_covers}
 use Rattle.ring_rules.specs.Findings.{gap_findings, ring_findings}
 use Rattle.package_check.specs.Boards.{FileCountsAddUp, BoardView, IsBoard, board_findings, board_of, hole_count, numbered_from, numbered_in, reported}
 use Rattle.package_check.specs.Package.{FileView, IsReport, drilled, findings, holes_of, layer_indexes, layers, report_on, sum_of}

@@ -4,7 +4,7 @@ use Rattle.std.specs.List.{All, flat_map, enumerate_from}
 use Rattle.std.proofs.lemmas.List.{length-map}
 use Rattle.std.proofs.lemmas.List.Elements.{All-append}
 use Rattle.std.proofs.lemmas.List.Concat.{flat_map-cons}
-use Rattle.wide_pads.specs.WidePads.{wide_pad_covers}
+use Rattle.pad_shapes.specs.WidePads.{wide_pad_covers}
 use Rattle.ring_rules.specs.WithoutFindings.{NamesPlaces, RingsNamePlaces, GapsNamePlaces}
 use Rattle.ring_rules.specs.Findings.{ring_findings, gap_findings}
 use Rattle.package_check.specs.declared.contents.Content.{Content}

@@ -1,5 +1,5 @@
 -- Copper files that are read with their flashes.
-use Rattle.std.proofs.Common.{◌≡◌, ◌++◌, ◌∷◌, [], ◌+◌, ◌<◌, ℕ, Bool, true, List, Result, Ok, Err, OnOk, length, take, get_or, ap, sym, ◌∙◌}
+use Rattle.std.proofs.Common.{◌≡◌, ◌++◌, ◌∷◌, [], ◌+◌, ◌<◌, ℕ, Bool, true, List, Result, Ok, Err, OnOk, length, map, take, get_or, ap, sym, ◌∙◌}
 use Rattle.std.specs.Prelude.{if◌then◌else◌}
 use Rattle.std.proofs.lemmas.List.{take_more}
 use Rattle.std.proofs.lemmas.List.Elements.{filter_map-append}
@@ -9,6 +9,9 @@ use Rattle.layer_image.specs.Layers.{LayerImage, ReadsLayer, image_of, kept_of}
 use Rattle.gerber_text.specs.Reading.{Entries}
 use Rattle.layer_image.specs.declared.flash.Flash.{Flash}
 use Rattle.layer_image.specs.declared.keep.Keep.{Keep}
+use Rattle.package_check.specs.FileTexts.{is_copper_function, layer_view}
+use Rattle.package_check.specs.Inner.ShownLayers.{flashed_view}
+use Rattle.package_check.specs.LayerViews.{plain}
 
 -- the pads of flashes and of more flashes
 pads_append : (xs ys : List Flash) → pads_of (xs ++ ys) ≡ pads_of xs ++ pads_of ys
@@ -38,3 +41,15 @@ commands_kept keep image kept keeps is = ap (λ (i : LayerImage). i.commands) is
 pub held : {T E : Type 0} (r : Result T E) (X : Type 0) → X → OnOk r X
 held (Ok t) X h = h
 held (Err e) X h = tt
+
+-- what the check keeps of a layer by its flashes, where these are kept of it, is what it keeps of the layer
+pub flashed_view_is : (keep : Keep) (text : List ℕ) (image kept : LayerImage) → keeps_flashes keep ≡ true → ReadsLayer text (Ok image) → kept ≡ kept_of keep image → flashed_view kept ≡ layer_view image
+flashed_view_is keep text image kept keeps reads is =
+    let pads : pads_of kept.flashes ≡ image.pads = ap pads_of (flashes_kept keep image kept keeps is) ∙ pads_are text image reads in
+    λ i. record {
+      pads = ap (map plain) pads i;
+      flashed = (ap (λ (l : LayerImage). l.pad_count) is ∙ counted image _ reads.1) i;
+      contours = 0;
+      other = ap (λ (l : LayerImage). l.other) is i;
+      is_copper = ap (λ (l : LayerImage). is_copper_function l.file_function) is i;
+    }

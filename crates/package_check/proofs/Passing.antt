@@ -6,8 +6,8 @@ use Rattle.std.proofs.lemmas.List.Concat.{flat_map-cons}
 use Rattle.grid_units.specs.Holes.{GridHole}
 use Rattle.grid_units.specs.declared.profile.Profile.{Profile}
 use Rattle.grid_units.specs.declared.profile.Profile.TheVariants.{Strict, Wide}
-use Rattle.wide_pads.specs.WidePads.{IsInWidePad, wide_pad_covers}
-use Rattle.wide_pads.specs.declared.wide_pad.WidePad.{WidePad}
+use Rattle.pad_shapes.specs.WidePads.{IsInWidePad, wide_pad_covers}
+use Rattle.pad_shapes.specs.declared.wide_pad.WidePad.{WidePad}
 use Rattle.ring_rules.specs.WithoutFindings.{HolesHoldWithoutFindings, StraightWithoutFindings, ApartWithoutFindings, AreAllApart, IsHoleHeld}
 use Rattle.grid_units.specs.Spans.{LayerSpan, is_in_span}
 use Rattle.std.specs.Prelude.{Option}

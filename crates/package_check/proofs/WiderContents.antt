@@ -16,10 +16,10 @@ use Rattle.further_copper.specs.declared.feature.Feature.{Feature}
 use Rattle.further_copper.specs.declared.feature.FeatureKind.{FeatureKind}
 use Rattle.further_copper.specs.declared.feature.FeatureKind.TheVariants as kind
 use Rattle.further_copper.specs.Features.{pad_in, pads_of as feature_pads}
-use Rattle.wide_pads.specs.WidePads.{wide_pad_covers}
+use Rattle.pad_shapes.specs.WidePads.{wide_pad_covers}
 use Rattle.pad_shapes.specs.declared.pad.Pad.{Pad}
-use Rattle.wide_pads.specs.declared.wide_pad.WidePad.{WidePad}
-use Rattle.wide_pads.specs.declared.wide_pad.WidePad.TheVariants.{Plain, Rounded}
+use Rattle.pad_shapes.specs.declared.wide_pad.WidePad.{WidePad}
+use Rattle.pad_shapes.specs.declared.wide_pad.WidePad.TheVariants.{Plain, Rounded}
 use Rattle.manifest.specs.declared.Role.{Role}
 use Rattle.manifest.specs.declared.Role.TheVariants as role
 use Rattle.ring_rules.specs.Findings.{gap_findings, ring_findings}

@@ -10,7 +10,7 @@ use Rattle.grid_units.specs.Spans.{LayerSpan, is_in_span}
 use Rattle.grid_units.specs.Lists.{last_set}
 use Rattle.grid_units.specs.declared.profile.Profile.{Profile}
 use Rattle.grid_units.specs.declared.profile.Profile.TheVariants.{Strict, Wide}
-use Rattle.wide_pads.specs.declared.wide_pad.WidePad.{WidePad}
+use Rattle.pad_shapes.specs.declared.wide_pad.WidePad.{WidePad}
 use Rattle.ring_rules.specs.declared.finding.Drilled.{Drilled}
 use Rattle.ring_rules.specs.WithoutFindings.{AreAllApart}
 use Rattle.gerber_commands.specs.declared.command.Command.{Command}

@@ -7,8 +7,8 @@ use Rattle.layer_image.specs.Layers.{LayerImage, ReadsLayerIn}
 use Rattle.layer_image.specs.declared.drawn.Drawn.{Drawn}
 use Rattle.further_copper.specs.DrawnCopper.{drawn_in}
 use Rattle.further_copper.specs.declared.feature.FeatureRow.{FeatureRow}
-use Rattle.wide_pads.specs.WidePads.{wide_pad_covers}
-use Rattle.wide_pads.specs.declared.wide_pad.WidePad.{WidePad}
+use Rattle.pad_shapes.specs.WidePads.{wide_pad_covers}
+use Rattle.pad_shapes.specs.declared.wide_pad.WidePad.{WidePad}
 use Rattle.ring_rules.specs.Findings.{gap_findings, ring_findings}
 use Rattle.ring_rules.specs.declared.finding.Drilled.{Drilled}
 use Rattle.ring_rules.specs.declared.finding.Finding.{Finding}

@@ -1,2 +1,3 @@
 pub mod FileStarts
 pub mod Leftovers
+pub mod ShownLayers

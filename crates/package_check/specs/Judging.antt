@@ -10,8 +10,8 @@ use Rattle.further_copper.specs.declared.feature.Feature.{Feature}
 use Rattle.pad_shapes.specs.declared.pad.Pad.{Pad}
 use Rattle.wide_layers.specs.Holding.{WideStandsSince}
 use Rattle.wide_layers.specs.declared.reader.WideReader.{WideReader}
-use Rattle.wide_pads.specs.WidePads.{wide_pad_covers}
-use Rattle.wide_pads.specs.declared.wide_pad.WidePad.{WidePad}
+use Rattle.pad_shapes.specs.WidePads.{wide_pad_covers}
+use Rattle.pad_shapes.specs.declared.wide_pad.WidePad.{WidePad}
 use Rattle.ring_rules.specs.Findings.{layer_findings}
 use Rattle.ring_rules.specs.Search.{HasTried}
 use Rattle.ring_rules.specs.declared.finding.Drilled.{Drilled}

@@ -1,8 +1,8 @@
 -- What the check keeps of a copper file.
 use Rattle.std.specs.Prelude.{ℕ, Bool, List}
 use Rattle.pad_shapes.specs.declared.pad.Pad.{Pad}
-use Rattle.wide_pads.specs.declared.wide_pad.WidePad.{WidePad}
-use Rattle.wide_pads.specs.declared.wide_pad.WidePad.TheVariants.{Plain}
+use Rattle.pad_shapes.specs.declared.wide_pad.WidePad.{WidePad}
+use Rattle.pad_shapes.specs.declared.wide_pad.WidePad.TheVariants.{Plain}
 
 -- a layer: its pads in the order of the text; how many of them are flashes and how many contours, of which the strict profile has none; how
 -- many flashes are no pads; and whether it is copper: it has no file function, or that of copper

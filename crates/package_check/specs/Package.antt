@@ -4,8 +4,8 @@ use Rattle.std.specs.List.{All, flat_map, enumerate_from}
 use Rattle.grid_units.specs.Holes.{GridHole, GridRules}
 use Rattle.grid_units.specs.declared.profile.Profile.{Profile}
 use Rattle.grid_units.specs.declared.profile.Profile.TheVariants.{Strict}
-use Rattle.wide_pads.specs.WidePads.{wide_pad_covers}
-use Rattle.wide_pads.specs.declared.wide_pad.WidePad.{WidePad}
+use Rattle.pad_shapes.specs.WidePads.{wide_pad_covers}
+use Rattle.pad_shapes.specs.declared.wide_pad.WidePad.{WidePad}
 use Rattle.grid_units.specs.Holes.{is_round}
 use Rattle.ring_rules.specs.Findings.{ring_findings, gap_findings}
 use Rattle.grid_units.specs.Spans.{LayerSpan}

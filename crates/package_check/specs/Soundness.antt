@@ -8,8 +8,8 @@ use Rattle.grid_units.specs.declared.profile.Profile.{Profile}
 use Rattle.grid_units.specs.declared.profile.Profile.TheVariants.{Strict, Wide}
 use Rattle.pad_shapes.specs.declared.pad.Pad.{Pad}
 use Rattle.pad_shapes.specs.Shapes.{IsAxisAligned}
-use Rattle.wide_pads.specs.WidePads.{IsInWidePad}
-use Rattle.wide_pads.specs.declared.wide_pad.WidePad.{WidePad}
+use Rattle.pad_shapes.specs.WidePads.{IsInWidePad}
+use Rattle.pad_shapes.specs.declared.wide_pad.WidePad.{WidePad}
 use Rattle.further_copper.specs.Features.{features_of, pads_of}
 use Rattle.ring_rules.specs.declared.finding.Drilled.{Drilled}
 use Rattle.ring_rules.specs.WithoutFindings.{IsHoleHeld}

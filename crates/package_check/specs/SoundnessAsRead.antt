@@ -2,7 +2,7 @@
 use Rattle.std.specs.Prelude.{◌≡◌, ◌<◌, ℕ, List, [], true, map, length, get_or}
 use Rattle.std.specs.List.{Contains, flat_map}
 use Rattle.grid_units.specs.Holes.{GridHole, GridRules}
-use Rattle.wide_pads.specs.WidePads.{IsInWidePad}
+use Rattle.pad_shapes.specs.WidePads.{IsInWidePad}
 use Rattle.ring_rules.specs.WithoutFindings.{IsHoleHeld, AreAllApart}
 use Rattle.grid_units.specs.Spans.{is_in_span}
 use Rattle.ring_rules.specs.declared.finding.Drilled.{Drilled}

@@ -15,7 +15,7 @@ use Rattle.package_check.specs.Reports.{ReportView}
 use Rattle.package_check.specs.Package.{FileView}
 use Rattle.grid_units.specs.Ascii as ascii
 
--- the profile as it stands at the end of the first line: ` profile=wide`, and nothing of the strict one
+-- the profile as it is written at the end of the first line: ` profile=wide`, and nothing of the strict one
 abbrev pub profile_words : Profile → List ℕ
 profile_words Strict = []
 profile_words Wide = codes " profile=wide"

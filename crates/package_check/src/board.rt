@@ -15,10 +15,10 @@ use crate::readers::Shown;
 use further_copper::FeatureRow;
 use grid_units::{Hole, Rules};
 use layer_image::Drawn;
+use pad_shapes::WidePad;
 use ring_rules::{Drilled, Finding, Span, gap_findings, ring_findings};
 use std::alloc::{AllocError, Global};
 use std::marker::Model;
-use wide_pads::WidePad;
 
 /// The board of a package: the counts of each file, the pads of each copper file, and the holes of all drill files; also the rows
 /// of each file and what it draws, where they are kept.

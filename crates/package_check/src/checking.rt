@@ -19,6 +19,7 @@ ghost use Rattle.package_check.specs.Soundness.{IsSound};
 ghost use Rattle.package_check.specs.SoundnessAsRead.{AreLegal};
 ghost use Rattle.package_check.specs.declared.PackageFault.TheVariants as stop;
 ghost use Rattle.package_check.specs.declared.judged.Judged.{Judged as TheJudged};
+ghost use Rattle.ring_rules.specs.Findings.{gap_findings};
 
 use crate::board::{len_of, push_holes, sum_of};
 use crate::indexed_holes::IndexedHoles;
@@ -254,6 +255,8 @@ impl PackageCheck {
     {
         let index = file.index;
         if !is_wanted(self.stopped, index) {
+            // A call of `drop`: the proof need not go through the parts of the file's reader.
+            drop(file);
             return outcome(self.stopped);
         }
         let read = self.put_file(file);
@@ -362,8 +365,40 @@ fn layer_indexes(alloc: Global, files: &[FileSum]) -> Result<Vec<usize>, AllocEr
     Ok(indexes)
 }
 
-/// The report on the files in the slots: their counts, the findings of rings layer by layer, and then those of gaps.
+/// The counts of the files in the slots, and the findings of rings layer by layer, with these of gaps after them.
+fn left_with_gaps(
+    alloc: Global,
+    slots: Vec<Option<Judged>>,
+    gaps: Vec<Finding>,
+) -> Result<(Vec<FileSum>, Vec<Finding>), AllocError>
+    ensures files { IfOk result (λ left. left.0.items ≡ flat_map sums_in slots.items) }
+    ensures findings { IfOk result (λ left. left.1.items ≡ flat_map rings_in slots.items ++ gaps.items) }
+{
+    let mut files = Vec::with_capacity(alloc, slots.len())?;
+    let mut findings = Vec::new(alloc);
+    add_all_left(&mut files, &mut findings, slots)?;
+    findings.extend_from_slice(&gaps)?;
+    Ok((files, findings))
+}
+
+/// The report on the files in the slots: their counts, the findings of rings layer by layer, and then these of gaps between the holes.
 #[tactic(auto, using(crate::proofs::JudgedLayers::sums_counted))]
+fn report_with_gaps(
+    alloc: Global,
+    rules: Rules,
+    holes: Vec<Drilled>,
+    slots: Vec<Option<Judged>>,
+    gaps: Vec<Finding>,
+) -> Result<Report, AllocError>
+    requires { sum_by holes_in_slot slots.items ≡ length holes.items }
+    ensures { gaps.items ≡ gap_findings rules.gap holes.items → IfOk result (λ report. report ≡ left_report rules holes.items slots.items) }
+{
+    let (files, findings) = left_with_gaps(alloc, slots, gaps)?;
+    let layers = layer_indexes(alloc, &files)?;
+    report_of(alloc, rules, files, layers, holes, findings)
+}
+
+/// The report on the files in the slots: their counts, the findings of rings layer by layer, and then those of gaps.
 fn report_on_slots(
     alloc: Global,
     holes: IndexedHoles,
@@ -372,12 +407,6 @@ fn report_on_slots(
     requires { sum_by holes_in_slot slots.items ≡ length holes.holes }
     ensures { IfOk result (λ report. report ≡ left_report holes.rules holes.holes slots.items) }
 {
-    let mut files = Vec::with_capacity(alloc, slots.len())?;
-    let mut findings = Vec::new(alloc);
-    add_all_left(&mut files, &mut findings, slots)?;
-    let gaps = holes.gap_findings(alloc)?;
-    findings.extend_from_slice(&gaps)?;
-    let layers = layer_indexes(alloc, &files)?;
-    let rules = holes.rules();
-    report_of(alloc, rules, files, layers, holes.into_holes(), findings)
+    let (rules, gaps) = (holes.rules(), holes.gap_findings(alloc));
+    report_with_gaps(alloc, rules, holes.into_holes(), slots, gaps?)
 }

@@ -1,11 +1,14 @@
 //! The holes of a package, with an index to look them up.
 
-ghost use Rattle.std.specs.Prelude.{◌≡◌, ◌+◌, ◌++◌, ◌∷◌, ℕ, List, [], IfErr, IfOk, IfSome, None, OnOk, false, length, map};
+ghost use Rattle.std.specs.Prelude.{◌≡◌, ◌+◌, ◌++◌, ◌∷◌, ℕ, List, [], IfErr, IfOk, IfSome, None, Ok, OnOk, false, length, map};
 ghost use Rattle.grid_units.specs.Results.{Answers, IfFault};
 ghost use Rattle.grid_units.specs.declared.profile.Profile.TheVariants.{Strict, Wide};
 ghost use Rattle.layer_image.specs.Holding.{ShowsLayerFault, ShowsLayerFaultIn};
-ghost use Rattle.wide_pads.specs.WidePads.{wide_pad_covers};
-ghost use Rattle.wide_pads.specs.declared.wide_pad.WidePad.{WidePad as ThePad};
+ghost use Rattle.layer_image.specs.Layers.{ReadsWithoutPads};
+ghost use Rattle.layer_image.specs.declared.keep.Keep.TheVariants as keep;
+ghost use Rattle.pad_shapes.specs.declared.pad.Pad.{Pad as ThePlain};
+ghost use Rattle.pad_shapes.specs.WidePads.{wide_pad_covers};
+ghost use Rattle.pad_shapes.specs.declared.wide_pad.WidePad.{WidePad as ThePad};
 ghost use Rattle.further_copper.specs.Features.{pads_of};
 ghost use Rattle.further_copper.specs.Holding.{with_next};
 ghost use Rattle.further_copper.specs.declared.feature.Feature.{Feature as TheFeature};
@@ -24,13 +27,12 @@ use crate::pad_size::{PadSize, are_unlike, likely_size, mean_size};
 use crate::readers::is_copper_function;
 use further_copper::{NextFeatures, into_pads};
 use grid_units::{Fail, Rules};
-use layer_image::{LayerReader, readings_in_profiles, shown_faults};
-use pad_shapes::{Pad, PadShape};
+use layer_image::{Layer, LayerReader, readings_in_profiles, shown_faults};
+use pad_shapes::{Pad, PadShape, WidePad};
 use ring_rules::{Drilled, Finding, LayerSearch, RingIndex};
 use std::alloc::{AllocError, Global};
 use std::marker::Model;
 use wide_layers::WideReader;
-use wide_pads::WidePad;
 
 /// The holes of all drill files of a package, file by file, with an index of them, by which rings and gaps are judged.
 #[derive(Drop)]
@@ -350,6 +352,18 @@ impl IndexedHoles {
         ensures rules { self.new.rules ≡ self.old.rules }
     {
         let rest = reader.finish()?;
+        let judged = self.judge_rest(alloc, layer, &rest);
+        drop(rest);
+        judged
+    }
+
+    /// What is left of a layer of which this is the rest, whose pads are tried. It has this number.
+    fn judge_rest(&mut self, alloc: Global, layer: usize, rest: &Layer) -> Result<Judged, Fail>
+        ensures layer { IfOk result (λ one. is_drill_sum one.sum ≡ false) }
+        ensures judged { self.old.rules.profile ≡ Strict → (text : List ℕ) (dropped : List ThePlain) → ReadsWithoutPads keep.Pads dropped text (Ok rest.now) → HasTriedIn self.old.holes self.old.index layer (map plain dropped) self.old.search → Answers (λ x. x) (JudgesCopper self.old.rules self.old.holes layer text) result }
+        ensures holes { self.new.holes ≡ self.old.holes }
+        ensures rules { self.new.rules ≡ self.old.rules }
+    {
         self.try_pads(alloc, layer, rest.pads())?;
         let rings = self.rings(alloc, layer)?;
         if !is_copper_function(rest.file_function()) {

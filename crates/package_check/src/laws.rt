@@ -6,8 +6,8 @@ ghost use Rattle.package_check.specs.Soundness.{HolesAreSaidOnce, PadsAreSaidOnc
 ghost use Rattle.package_check.specs.SoundnessAsRead.{PassingIsSoundAsRead, SoundAsReadIsSound};
 ghost use Rattle.package_check.specs.WiderProfile.{ReadIsUncontradicted, WideFindsNoMore};
 
+use pad_shapes::WidePad;
 use ring_rules::laws::{findings_name_places, gaps_hold, holes_hold, rings_hold};
-use wide_pads::WidePad;
 
 /// A package whose report has no finding is sound by what is read of it.
 pub fn passing_is_sound_as_read()

@@ -5,8 +5,7 @@ ghost use Rattle.std.specs.Fmt.{DisplaysOnOk};
 ghost use Rattle.package_check.specs.Texts.{contour_words, yes_or_no, file_line, file_lines, finding_line, gap_line, hole_line, last_line, lengths_of, line_if_found, profile_words, rules_line, span_words};
 
 use crate::{FileSum, Numbered, Report};
-use grid_units::{Hole, Profile, Rules, write_mm};
-use printing::Line;
+use grid_units::{Hole, Line, Profile, Rules, write_mm};
 use ring_rules::{Finding, Span};
 use std::fmt;
 use std::fmt::{Display, Formatter};

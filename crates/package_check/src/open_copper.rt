@@ -18,6 +18,7 @@ use grid_units::{Fail, Profile};
 use layer_image::{Keep, readings_in_profiles};
 use ring_rules::Span;
 use std::alloc::Global;
+use std::mem;
 
 /// What is being read of a copper file, or why nothing more of it is.
 #[derive(Drop)]
@@ -100,7 +101,8 @@ impl OpenCopper {
         ensures rules { holes.new.rules ≡ holes.old.rules }
     {
         if let Err(fail) = self.reading.feed(alloc, holes, self.layer, piece) {
-            self.reading = CopperReading::Failed(fail);
+            // A call of `drop`: the proof need not go through the parts of the reader that was there.
+            drop(mem::replace(&mut self.reading, CopperReading::Failed(fail)));
         }
     }
 

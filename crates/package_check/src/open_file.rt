@@ -25,6 +25,7 @@ use grid_units::{Fail, Profile};
 use layer_image::Keep;
 use ring_rules::Span;
 use std::alloc::{AllocError, Global};
+use std::mem;
 
 /// What is being read of a file, or why nothing more of it is.
 #[derive(Drop)]
@@ -171,7 +172,8 @@ impl OpenFile {
         ensures { (reader : TheReader) (index : ℕ) (of : TheRole) (span : Option LayerSpan) (text : List ℕ) → HasOpened reader index of span self.old text → HasOpened reader index of span self.new (text ++ piece.now) }
     {
         if let Err(fail) = self.reading.feed(piece) {
-            self.reading = Reading::Failed(fail);
+            // A call of `drop`: the proof need not go through the parts of the reader that was there.
+            drop(mem::replace(&mut self.reading, Reading::Failed(fail)));
         }
     }
 

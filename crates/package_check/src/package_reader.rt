@@ -135,6 +135,8 @@ impl PackageReader {
     {
         let index = file.index;
         if !is_wanted(self.stopped, index) {
+            // A call of `drop`: the proof need not go through the parts of the file's reader.
+            drop(file);
             return outcome(self.stopped);
         }
         let read = self.put_file(file);

@@ -6,6 +6,8 @@ ghost use Rattle.grid_units.specs.declared.profile.Profile.TheVariants.{Strict, 
 ghost use Rattle.std.specs.List.{take_while};
 ghost use Rattle.std.specs.Option.{option_copied};
 ghost use Rattle.grid_units.specs.Results.{Answers};
+ghost use Rattle.gerber_text.specs.Writing.{without_places};
+ghost use Rattle.layer_image.specs.Drawn.{drawn_of};
 ghost use Rattle.layer_image.specs.Flashes.{pads_of};
 ghost use Rattle.drill_text.specs.Holding.{StandsBy};
 ghost use Rattle.drill_text.specs.Profiles.{mixed_in};
@@ -17,6 +19,7 @@ ghost use Rattle.layer_image.specs.declared.keep.Keep.TheVariants as keep;
 ghost use Rattle.further_copper.specs.Features.{rows_of, strict_row};
 ghost use Rattle.wide_layers.specs.Holding.{WideStandsAfter};
 ghost use Rattle.package_check.specs.FileTexts.{Draws, HasRows, ReadsLayer, ReadsDrill, ReadsMixed, drill_kind, is_copper_function, marked, wide_view};
+ghost use Rattle.package_check.specs.Inner.ShownLayers.{flashed_view};
 ghost use Rattle.package_check.specs.LayerViews.{plain};
 ghost use Rattle.package_check.specs.OpenFiles.{CopperStandsIn};
 
@@ -26,12 +29,11 @@ use further_copper::FeatureRow;
 use grid_units::numbers::len_before;
 use grid_units::{Fail, Hole};
 use layer_image::{Drawn, Flash, Keep, LayerReader, What};
-use pad_shapes::Pad;
+use pad_shapes::{Pad, WidePad};
 use ring_rules::{Drilled, Span};
 use std::alloc::{AllocError, Global};
 use std::marker::Model;
 use wide_layers::{WideLayer, WideReader};
-use wide_pads::WidePad;
 
 /// What the check keeps of a copper file.
 #[derive(Drop)]
@@ -248,6 +250,38 @@ fn strict_rows(alloc: Global, flashes: &[Flash]) -> Result<Vec<FeatureRow>, Allo
         .collect(alloc)
 }
 
+/// What the check keeps of a layer of the strict profile.
+fn strict_view(alloc: Global, image: &layer_image::Layer) -> Result<Layer, AllocError>
+    ensures { IfOk result (λ view. view ≡ flashed_view image.now) }
+{
+    let flashed = image.pad_count();
+    let pads = pads_among(alloc, image.flashes(), flashed)?;
+    let is_copper = is_copper_function(image.file_function());
+    Ok(Layer {
+        pads: plain_pads(alloc, pads)?,
+        flashed,
+        contours: 0,
+        other: image.other(),
+        is_copper,
+    })
+}
+
+/// What the check keeps of a layer of the strict profile. Its rows, and what it draws, are put into `shown`.
+fn show_strict(
+    alloc: Global,
+    shown: &mut Shown,
+    image: &layer_image::Layer,
+) -> Result<Layer, AllocError>
+    ensures view { IfOk result (λ view. view ≡ flashed_view image.now) }
+    ensures rows { OnOk result (shown.new.rows.items ≡ map strict_row image.now.flashes) }
+    ensures drawn { OnOk result (shown.new.drawn.items ≡ drawn_of (without_places image.now.commands)) }
+{
+    let view = strict_view(alloc, image)?;
+    shown.drawn = image.drawn(alloc)?;
+    shown.rows = strict_rows(alloc, image.flashes())?;
+    Ok(view)
+}
+
 /// What [`read_pads`] gives of a copper file, and its rows; also what its commands draw, where these are kept. The commands are
 /// dropped then.
 fn read_shown(alloc: Global, shown: &mut Shown, reader: LayerReader) -> Result<Layer, Fail>
@@ -255,20 +289,10 @@ fn read_shown(alloc: Global, shown: &mut Shown, reader: LayerReader) -> Result<L
     ensures flashes { (keep : TheKeep) (text : List ℕ) → LayerStandsAfter reader keep text → keeps_flashes keep ≡ true → OnOk result (HasRows Strict text shown.new.rows.items) }
     ensures drawn { (keep : TheKeep) (text : List ℕ) → LayerStandsAfter reader keep text → keeps_commands keep ≡ true → OnOk result (Draws Strict text shown.new.drawn.items) }
 {
-    let layer = reader.finish()?;
-    let (flashed, other) = (layer.pad_count(), layer.other());
-    let own = pads_among(alloc, layer.flashes(), flashed)?;
-    let pads = plain_pads(alloc, own)?;
-    let is_copper = is_copper_function(layer.file_function());
-    shown.drawn = layer.drawn(alloc)?;
-    shown.rows = strict_rows(alloc, layer.flashes())?;
-    Ok(Layer {
-        pads,
-        flashed,
-        contours: 0,
-        other,
-        is_copper,
-    })
+    let image = reader.finish()?;
+    let layer = show_strict(alloc, shown, &image);
+    drop(image);
+    Ok(layer?)
 }
 
 /// What the check keeps of the copper file whose text the reader has read in the strict profile, or its fault. What is kept to be shown is

@@ -7,7 +7,7 @@ ghost use Rattle.package_check.specs.Texts.{report_text, text_of};
 
 use crate::lines::{LastLine, RulesLine};
 use crate::{File, FileLines, Report};
-use printing::Lines;
+use grid_units::Lines;
 use std::alloc::{AllocError, Global};
 use std::fmt;
 use std::fmt::{Display, Formatter};

@@ -4,3 +4,4 @@ pub mod PartsLemmas
 pub mod MovedShapes
 pub mod PlacedLemmas
 pub mod FrameLemmas
+pub mod HoleLawsLemmas

@@ -5,3 +5,5 @@ pub mod Fan
 pub mod RoundedLaws
 pub mod RoundedSets
 pub mod Frames
+pub mod HoldingLaws
+pub mod WidePadLaws

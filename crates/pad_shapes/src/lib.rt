@@ -1,11 +1,14 @@
 //! Shapes of pads: discs, rectangles, obrounds, and rounded polygons.
 //!
 //! A shape is a set of points of the grid of whole picometres (pm). Whether it covers a centre with a reach is a
-//! test of distances; where it does, each point within the reach is a point of the shape.
+//! test of distances; where it does, each point within the reach is a point of the shape. So a pad that covers both ends of a hole holds each
+//! point of the hole and of the ring round it, whatever the hole's angle.
 #![tactic(auto)]
 
 mod disc;
 mod edges;
+mod holding;
+pub mod hole_laws;
 pub mod laws;
 mod obround;
 mod pad;
@@ -16,9 +19,11 @@ mod relative;
 mod rounded;
 mod shape;
 mod shared;
+mod wide_pad;
 mod zone;
 
 pub use disc::Disc;
+pub use holding::{SlotShape, covers_hole};
 pub use obround::Obround;
 pub use pad::Pad;
 pub use placed::PlacedRounded;
@@ -26,4 +31,5 @@ pub use rect::Rect;
 pub use rounded::{MAX_CORNERS, Rounded};
 pub use shape::{MAX_HALF_SIDE, PadShape};
 pub use shared::SharedRounded;
+pub use wide_pad::WidePad;
 pub use zone::Zone;

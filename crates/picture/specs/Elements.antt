@@ -6,8 +6,8 @@ use Rattle.grid_units.specs.Points.{GridPoint}
 use Rattle.pad_shapes.specs.Shapes.{GridRect, GridObround}
 use Rattle.pad_shapes.specs.declared.pad.Pad.{Pad}
 use Rattle.pad_shapes.specs.declared.pad.Pad.TheVariants as pads
-use Rattle.printing.specs.Holes.{drilled_words}
-use Rattle.printing.specs.Lengths.{short_millimetres}
+use Rattle.grid_units.specs.HoleWords.{drilled_words}
+use Rattle.grid_units.specs.LengthWords.{short_millimetres}
 use Rattle.ring_rules.specs.declared.finding.Drilled.{Drilled}
 use Rattle.picture.specs.Escapes.{escaped}
 use Rattle.picture.specs.declared.pen.Pen.{Pen}
@@ -313,7 +313,7 @@ lack_words pen place (Gap n a b) = gap_words a b
 unfoldable pub finding_words : Pen → Place → DrawnFinding → List ℕ
 finding_words pen place found = codes "#" ++ (decimal (number_of found) ++ (codes " " ++ lack_words pen place found))
 
--- the attribute by which a finding is named: `id`, which no two elements of a page share. A ring stands in one panel. A gap stands in each,
+-- the attribute by which a finding is named: `id`, which no two elements of a page share. A ring is in one panel. A gap is in each,
 -- and its `id` is in the first one
 abbrev pub naming : Place → DrawnFinding → List ℕ
 naming place (Ring n h) = codes "id"

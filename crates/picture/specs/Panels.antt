@@ -94,11 +94,11 @@ marks_text pen place lacks = flat_map (mark pen place) lacks ++ flat_map (number
 abbrev pub lacks_text : Pen → Place → List DrawnFinding → List ℕ
 lacks_text pen place lacks = flat_map (finding_text pen place) lacks ++ marks_text pen place (marked lacks)
 
--- what stands below the pads: what is drawn, cut at the box, and the outline of the board
+-- what is below the pads: what is drawn, clipped to the box, and the outline of the board
 unfoldable pub ground_text : Pen → Frame → List Drawn → List Drawn → List ℕ
 ground_text pen frame drawn outline = copper frame drawn ++ outline_text pen outline
 
--- the contents of a panel: what stands below the pads, then pads, crosses, holes and findings
+-- the contents of a panel: what is below the pads, then pads, crosses, holes and findings
 abbrev pub scene_text : Pen → Place → Frame → List Drawn → List Drawn → List Pad → List GridRounded → List GridPoint → List Drilled → List DrawnFinding → List ℕ
 scene_text pen place frame drawn outline pads rounded points holes lacks =
     (((ground_text pen frame drawn outline ++ pads_text pads rounded) ++ crosses pen points) ++ hole_paths pen holes) ++ lacks_text pen place lacks

@@ -14,8 +14,8 @@ use Rattle.pad_shapes.specs.declared.pad.Pad.TheVariants as pads
 use Rattle.ring_rules.specs.declared.finding.Drilled.{Drilled}
 use Rattle.ring_rules.specs.declared.finding.Finding.{Finding}
 use Rattle.ring_rules.specs.declared.finding.Finding.TheVariants as finding
-use Rattle.wide_pads.specs.declared.wide_pad.WidePad.{WidePad}
-use Rattle.wide_pads.specs.declared.wide_pad.WidePad.TheVariants.{Plain, Rounded}
+use Rattle.pad_shapes.specs.declared.wide_pad.WidePad.{WidePad}
+use Rattle.pad_shapes.specs.declared.wide_pad.WidePad.TheVariants.{Plain, Rounded}
 use Rattle.picture.specs.Elements.{are_alike}
 use Rattle.picture.specs.declared.scene.DrawnFinding.{DrawnFinding}
 use Rattle.picture.specs.declared.scene.DrawnFinding.TheVariants.{Ring, Gap}

@@ -9,10 +9,9 @@ ghost use Rattle.picture.specs.Copper.{arc_radius, arc_to, arc_way, copper, corn
 use crate::cut::Cut;
 use crate::elements::down;
 use crate::frame::Frame;
-use grid_units::{Point, square_length};
+use grid_units::{Line, Lines, Point, ShortMillimetres, square_length};
 use layer_image::Drawn;
 use pad_shapes::Rounded;
-use printing::{Line, Lines, ShortMillimetres};
 use std::fmt;
 use std::fmt::{Display, Formatter};
 

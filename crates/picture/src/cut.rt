@@ -5,7 +5,7 @@ ghost use Rattle.picture.specs.Copper.{cut_at, cut_start, view_box};
 
 use crate::elements::down;
 use crate::frame::Frame;
-use printing::ShortMillimetres;
+use grid_units::ShortMillimetres;
 use std::fmt;
 use std::fmt::{Display, Formatter};
 

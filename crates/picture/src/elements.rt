@@ -5,7 +5,7 @@ ghost use Rattle.picture.specs.Elements.{box, circle, half_circle, horizontal_li
 
 use crate::pen::Pen;
 use crate::widths::unit;
-use printing::ShortMillimetres;
+use grid_units::ShortMillimetres;
 use std::fmt;
 use std::fmt::{Display, Formatter};
 

@@ -12,8 +12,7 @@ use crate::pen::Pen;
 use crate::scene::DrawnFinding;
 use crate::titles::{FindingPage, FindingWords, number_of, write_finding_start};
 use crate::widths::{gap_width, mark_line_width, ring_rim};
-use grid_units::Hole;
-use printing::{Line, Lines};
+use grid_units::{Hole, Line, Lines};
 use std::fmt;
 use std::fmt::{Display, Formatter};
 

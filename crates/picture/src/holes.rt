@@ -7,8 +7,7 @@ ghost use Rattle.picture.specs.Elements.{are_alike_holes, arm, begins_holes, cro
 use crate::elements::{Across, Along, RoundPart, StraightLine, down};
 use crate::pen::Pen;
 use crate::widths::{arm, mark_line_width, rim};
-use grid_units::{Hole, Point};
-use printing::{Line, Lines, ShortMillimetres};
+use grid_units::{Hole, Line, Lines, Point, ShortMillimetres};
 use ring_rules::Drilled;
 use std::fmt;
 use std::fmt::{Display, Formatter};

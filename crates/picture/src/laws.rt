@@ -11,7 +11,7 @@ ghost use Rattle.picture.specs.Escapes.{IsEscaped, escaped};
 ghost use Rattle.picture.specs.RoundedPads.{pads_text};
 ghost use Rattle.picture.specs.Scenes.{AreSortedBySize, IsOnePathPerSize, crosses_of, is_crowded, plain_pads, rounded_pads};
 ghost use Rattle.ring_rules.specs.declared.finding.Drilled.{Drilled};
-ghost use Rattle.wide_pads.specs.declared.wide_pad.WidePad.TheVariants.{Plain};
+ghost use Rattle.pad_shapes.specs.declared.wide_pad.WidePad.TheVariants.{Plain};
 
 /// An escaped name has no `<`, no U+FFFE and no U+FFFF, and `&` only where an entity begins.
 pub fn escaped_names()

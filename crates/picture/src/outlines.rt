@@ -10,9 +10,8 @@ use crate::elements::down;
 use crate::pen::Pen;
 use crate::scene::shown_copper;
 use crate::widths::outline_width;
-use grid_units::Point;
+use grid_units::{Line, Lines, Point, ShortMillimetres};
 use layer_image::Drawn;
-use printing::{Line, Lines, ShortMillimetres};
 use std::fmt;
 use std::fmt::{Display, Formatter};
 

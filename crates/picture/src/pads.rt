@@ -5,8 +5,8 @@ ghost use Rattle.std.specs.Fmt.{DisplaysOnOk};
 ghost use Rattle.picture.specs.Elements.{are_alike, begins_pads, box, ends_pads, lines_start, obround_line, outline, pad_paths, pad_words, pads_end_at, pads_start, pads_start_at, rect_box, sized_words};
 
 use crate::elements::{Across, Along, Rectangle, down};
+use grid_units::ShortMillimetres;
 use pad_shapes::{Obround, Pad, Rect};
-use printing::ShortMillimetres;
 use std::fmt;
 use std::fmt::{Display, Formatter};
 

@@ -17,7 +17,7 @@ use crate::place::Place;
 use crate::rounded_pads::PanelPads;
 use crate::scene::{DrawnFinding, Scene};
 use crate::titles::FindingPage;
-use printing::ShortMillimetres;
+use grid_units::ShortMillimetres;
 use std::fmt;
 use std::fmt::{Display, Formatter};
 

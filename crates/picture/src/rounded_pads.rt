@@ -7,9 +7,8 @@ ghost use Rattle.picture.specs.RoundedPads.{origin, pad_dot, pad_ink, pads_text,
 use crate::copper::{flash_width, path_of};
 use crate::elements::{StraightLine, down};
 use crate::pads::Paths;
-use grid_units::Point;
+use grid_units::{Line, Lines, Point};
 use pad_shapes::{Pad, Rounded};
-use printing::{Line, Lines};
 use std::fmt;
 use std::fmt::{Display, Formatter};
 

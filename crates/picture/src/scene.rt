@@ -6,10 +6,9 @@ ghost use Rattle.picture.specs.Scenes.{AreSortedBySize, cross_of, crosses_of, dr
 use further_copper::FeatureRow;
 use grid_units::{Hole, Point};
 use layer_image::Drawn;
-use pad_shapes::{Pad, Rounded};
+use pad_shapes::{Pad, Rounded, WidePad};
 use ring_rules::{Drilled, Finding};
 use std::alloc::{AllocError, Global};
-use wide_pads::WidePad;
 
 /// The most rows and holes that a panel draws, and the most parts of what its layer draws.
 const DRAWN_LIMIT: usize = 100_000;

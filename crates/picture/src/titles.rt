@@ -9,8 +9,7 @@ use crate::names::Escaped;
 use crate::pen::Pen;
 use crate::place::Place;
 use crate::scene::DrawnFinding;
-use grid_units::Hole;
-use printing::{DrilledWords, ShortMillimetres};
+use grid_units::{DrilledWords, Hole, ShortMillimetres};
 use std::fmt;
 use std::fmt::{Display, Formatter};
 

@@ -11,7 +11,7 @@ use Rattle.std.proofs.lemmas.List.FromFn.{get_or-enumerate_from, length-enumerat
 use Rattle.json.specs.Json.{Json, null}
 use Rattle.json.specs.Tree.{HasNumbers, ItemsHaveNumbers}
 use Rattle.package_check.specs.declared.FileSum.{FileSum}
-use Rattle.printing.specs.Holes.{name_of}
+use Rattle.grid_units.specs.HoleWords.{name_of}
 use Rattle.report.specs.Acceptances.{acceptance_at}
 use Rattle.report.specs.declared.GapLack.{GapLack}
 use Rattle.report.specs.declared.LayerHead.{LayerHead}

@@ -11,7 +11,7 @@ use Rattle.grid_units.specs.declared.fault.Reason.{Reason}
 use Rattle.report.specs.declared.Measure.{Measure}
 use Rattle.package_check.specs.Boards.{BoardView}
 use Rattle.package_check.specs.declared.FileSum.{FileSum}
-use Rattle.printing.specs.Holes.{name_of}
+use Rattle.grid_units.specs.HoleWords.{name_of}
 use Rattle.report.specs.Acceptances.{acceptance_at, waived_in}
 use Rattle.report.specs.declared.GapLack.{GapLack}
 use Rattle.report.specs.declared.LayerHead.{LayerHead}

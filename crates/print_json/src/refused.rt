@@ -17,7 +17,7 @@ use std::fmt;
 use std::fmt::{Display, Formatter};
 
 /// Why there is neither a report nor a measure.
-#[derive(Clone, Copy, Debug, PartialEq, Eq)]
+#[derive(Clone, Copy, PartialEq, Eq)]
 pub enum InputError<'a> {
     /// The manifest is refused.
     RefusedManifest {

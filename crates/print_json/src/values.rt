@@ -1,6 +1,7 @@
 //! The values of holes, files, scales and rows.
 
 ghost use Rattle.std.specs.Prelude.{◌≡◌, pos, Some, option_map};
+ghost use Rattle.std.specs.Fmt.{DisplaysOnOk};
 ghost use Rattle.print_json.specs.Inner.Texts.{more_members, value_text};
 ghost use Rattle.print_json.specs.Packages.{profile_value};
 ghost use Rattle.print_json.specs.Values.{contradicted_member, diameter_of, drill_role, drill_value, copper_value, file_value, hole_value, or_null, meets_value, members_of, met_value, mixed_value, picometres, point_value, row_value, rules_value, scale_value, span_value, whole};
@@ -255,6 +256,49 @@ pub(crate) struct FileJson<'a> {
     pub(crate) sum: FileSum,
 }
 
+/// Writes a copper file.
+fn write_layer<W: fmt::Write>(
+    f: &mut Formatter<W>,
+    file: &FileJson,
+    pads: usize,
+    other: usize,
+    contours: usize,
+) -> fmt::Result
+    ensures { DisplaysOnOk W.write_str_gives f.old result (Some (value_text (copper_value file.now.profile file.now.number file.now.name.now pads other contours))) f.new }
+{
+    let layer = LayerJson {
+        profile: file.profile,
+        number: file.number,
+        name: file.name,
+        pads,
+        other,
+        contours,
+    };
+    write!(f, "{layer}")
+}
+
+/// Writes a mixed drill file.
+fn write_mixed<W: fmt::Write>(
+    f: &mut Formatter<W>,
+    file: &FileJson,
+    span: Option<Span>,
+    round: usize,
+    slots: usize,
+    unplated: usize,
+) -> fmt::Result
+    ensures { DisplaysOnOk W.write_str_gives f.old result (Some (value_text (mixed_value file.now.number file.now.name.now span round slots unplated))) f.new }
+{
+    let mixed = MixedJson {
+        number: file.number,
+        name: file.name,
+        span,
+        round,
+        slots,
+        unplated,
+    };
+    write!(f, "{mixed}")
+}
+
 impl Display for FileJson<'_> {
     ghost output = { λ json. Some (value_text (file_value json.profile json.number json.name.now json.sum)) };
 
@@ -264,17 +308,7 @@ impl Display for FileJson<'_> {
                 pads,
                 other,
                 contours,
-            } => {
-                let layer = LayerJson {
-                    profile: self.profile,
-                    number: self.number,
-                    name: self.name,
-                    pads,
-                    other,
-                    contours,
-                };
-                write!(f, "{layer}")
-            }
+            } => write_layer(f, self, pads, other, contours),
             FileSum::Drill {
                 plated,
                 span,
@@ -298,17 +332,7 @@ impl Display for FileJson<'_> {
                 round,
                 slots,
                 unplated,
-            } => {
-                let file = MixedJson {
-                    number: self.number,
-                    name: self.name,
-                    span,
-                    round,
-                    slots,
-                    unplated,
-                };
-                write!(f, "{file}")
-            }
+            } => write_mixed(f, self, span, round, slots, unplated),
         }
     }
 }

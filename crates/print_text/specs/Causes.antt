@@ -75,14 +75,14 @@ macro_hint Wide = codes "macros of this form are not judged: choose circle, oval
 
 -- the hint that a report in a profile prints for a kind
 abbrev pub hint : Profile → CauseKind → List ℕ
-hint profile kinds.TooSmall = codes "the pad's own radius or half side is less than the hole's radius and the ring"
+hint profile kinds.TooSmall = codes "the pad's own radius or half side is less than the hole's radius plus the ring"
 hint profile kinds.OffCentre = codes "the pad is large enough for a hole at its centre; drill files are rounded: see `ringcheck explain ring`"
 hint profile kinds.Edge = codes "move the hole or enlarge the pad: rings in rounded pads and contours are measured to their edge"
 hint profile kinds.Macro = macro_hint profile
 hint profile kinds.Polygon = codes "polygon flashes are not judged"
 hint profile kinds.Holed = codes "flashes with a hole are not judged"
 hint profile kinds.Scaled = codes "scaled flashes are not judged"
-hint profile kinds.Turned = codes "flashes turned by other than quarters are not judged"
+hint profile kinds.Turned = codes "flashes turned by anything but quarter turns are not judged"
 hint profile kinds.Clear = codes "a flash in clear polarity takes copper away"
 hint profile kinds.Cleared = codes "copper drawn before a clear object does not count"
 hint profile kinds.Bare = codes "none was flashed here, or its copper is drawn or of a shape that is not judged, or origin or format differ: see `ringcheck explain none`"

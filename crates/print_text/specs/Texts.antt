@@ -21,8 +21,8 @@ use Rattle.report.specs.declared.UnitMistake.{UnitMistake}
 use Rattle.report.specs.UnitMistakes.{factor_word}
 use Rattle.report.specs.declared.UnitFactor.{UnitFactor}
 use Rattle.report.specs.declared.UnitFactor.TheVariants as factors
-use Rattle.printing.specs.Holes.{drilled_words, name_of, two_lengths}
-use Rattle.printing.specs.Lengths.{short_millimetres}
+use Rattle.grid_units.specs.HoleWords.{drilled_words, name_of, two_lengths}
+use Rattle.grid_units.specs.LengthWords.{short_millimetres}
 use Rattle.report.specs.Acceptances.{acceptance_at, count_waived_first, is_waived, waived_in}
 use Rattle.report.specs.declared.GapLack.{GapLack}
 use Rattle.report.specs.declared.PlacedHole.{PlacedHole}
@@ -269,13 +269,13 @@ scale_words name size bare factor still =
 abbrev pub scale_line : List (List ℕ) → UnitMistake → List ℕ
 scale_line names line = scale_words (name_of names line.drill) (size_words line.factor) line.bare (factor_word line.factor) line.then
 
--- a warning of a drill file by its name: `warning: npth: its role is unplated, and it says that holes are plated`
-unfoldable pub warning_words : List ℕ → List ℕ → List ℕ
-warning_words name says = codes "warning: " ++ (name ++ (codes ": " ++ (says ++ ascii.line_feed ∷ [])))
+-- a warning of a drill file by its name, and what comes after it: `warning: npth: its role is unplated, and it says that holes are plated`
+unfoldable pub warning_words : List ℕ → List ℕ → List ℕ → List ℕ
+warning_words name says after = codes "warning: " ++ (name ++ (codes ": " ++ (says ++ after)))
 
 -- the line of a drill file whose own comments contradict its role
 abbrev pub conflict_line : List (List ℕ) → RoleConflict → List ℕ
-conflict_line names line = warning_words (name_of names line.drill) (conflict_words line.plated)
+conflict_line names line = warning_words (name_of names line.drill) (conflict_words line.plated) (ascii.line_feed ∷ [])
 
 -- a hole has no pad that counts, so that its ring is not measured: it lies in no pad, or is an oblique slot, for which no pad counts
 abbrev pub has_no_pad : RingCause → Bool

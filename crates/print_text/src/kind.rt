@@ -8,7 +8,7 @@ use layer_image::Why;
 use report::RingCause;
 
 /// The kind of a cause, by which a report counts causes.
-#[derive(Clone, Copy, Debug, PartialEq, Eq)]
+#[derive(Clone, Copy, PartialEq, Eq)]
 pub(crate) enum CauseKind {
     TooSmall,
     OffCentre,
@@ -96,6 +96,13 @@ pub(crate) fn kind_words(kind: CauseKind) -> &'static str
     }
 }
 
+/// The words for the kind of a cause: `off centre`.
+pub fn words_for_cause(cause: &RingCause) -> &'static str
+    ensures { result.now ≡ kind_words (kind_of cause.now) }
+{
+    kind_words(kind_of(cause))
+}
+
 /// The hint for flashes by a macro: in the wide profile those of some forms are judged.
 fn macro_hint(profile: Profile) -> &'static str
     ensures { result.now ≡ macro_hint profile }
@@ -116,7 +123,7 @@ pub(crate) fn hint(profile: Profile, kind: CauseKind) -> &'static str
 {
     match kind {
         CauseKind::TooSmall => {
-            "the pad's own radius or half side is less than the hole's radius and the ring"
+            "the pad's own radius or half side is less than the hole's radius plus the ring"
         }
         CauseKind::OffCentre => {
             "the pad is large enough for a hole at its centre; drill files are rounded: see `ringcheck explain ring`"
@@ -128,7 +135,7 @@ pub(crate) fn hint(profile: Profile, kind: CauseKind) -> &'static str
         CauseKind::Polygon => "polygon flashes are not judged",
         CauseKind::Holed => "flashes with a hole are not judged",
         CauseKind::Scaled => "scaled flashes are not judged",
-        CauseKind::Turned => "flashes turned by other than quarters are not judged",
+        CauseKind::Turned => "flashes turned by anything but quarter turns are not judged",
         CauseKind::Clear => "a flash in clear polarity takes copper away",
         CauseKind::Cleared => "copper drawn before a clear object does not count",
         CauseKind::Bare => {

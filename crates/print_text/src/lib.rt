@@ -18,6 +18,8 @@ mod waived;
 mod words;
 
 pub use fewer::FewerWords;
+pub use kind::words_for_cause;
+pub use lines::RuleWords;
 pub use measures::MeasureText;
 pub use particulars::Particulars;
 pub use report_text::ReportText;

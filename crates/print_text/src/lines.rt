@@ -6,8 +6,7 @@ ghost use Rattle.print_text.specs.Texts.{conflict_line, gap_line, gaps_line, pro
 use crate::kind::{CauseKind, hint, kind_words};
 use crate::tallies::rings_of_kind;
 use crate::words::{CauseWords, HoleWords, MeasuredWords};
-use grid_units::{Profile, Rules};
-use printing::{Line, ShortMillimetres, name_of};
+use grid_units::{Line, Profile, Rules, ShortMillimetres, name_of};
 use report::{
     GapLack, PlacedHole, RingLack, RoleConflict, UnitFactor, UnitMistake, conflict_words,
     factor_word,
@@ -19,13 +18,13 @@ use std::fmt::{Display, Formatter};
 #[derive(Clone, Copy)]
 pub(crate) struct FileNames<'a>(pub(crate) &'a [&'a str]);
 
-/// A rule: `rules: annular ring 0.15 mm`.
+/// A rule, in pm, after its words: `rules: annular ring 0.15 mm`.
 #[derive(Clone, Copy)]
-struct RuleWords<'a> {
+pub struct RuleWords<'a> {
     /// The words before it.
-    words: &'a str,
+    pub words: &'a str,
     /// The rule in pm.
-    rule: i64,
+    pub rule: i64,
 }
 
 impl Display for RuleWords<'_> {

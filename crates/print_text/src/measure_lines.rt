@@ -3,7 +3,7 @@
 ghost use Rattle.std.specs.Prelude.{◌≡◌, Some};
 ghost use Rattle.print_text.specs.MeasureLines.{gap_line, hole_words, least_ring_words, meets_line, met_words, ring_line, scale_line};
 
-use printing::{Line, Millimetres};
+use grid_units::{Line, Millimetres};
 use report::{GapLine, HolePlace, LeastRing, Meets, Met, RingLine, UnitMistake, factor_word};
 use std::fmt;
 use std::fmt::{Display, Formatter};

@@ -4,7 +4,7 @@ ghost use Rattle.std.specs.Prelude.{Some};
 ghost use Rattle.print_text.specs.MeasureLines.{measure_text};
 
 use crate::measure_lines::{GapLineText, MeasurePage, MeetsText};
-use printing::Lines;
+use grid_units::Lines;
 use report::{GapLine, Meets, RingLine, UnitMistake};
 use std::fmt;
 use std::fmt::{Display, Formatter};

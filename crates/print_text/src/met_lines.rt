@@ -3,7 +3,7 @@
 ghost use Rattle.std.specs.Prelude.{◌≡◌, Some};
 ghost use Rattle.print_text.specs.Texts.{gap_met_words, meets_line, no_pad_words, ring_met_words, without_start, without_words};
 
-use printing::ShortMillimetres;
+use grid_units::ShortMillimetres;
 use report::{Meets, Met};
 use std::fmt;
 use std::fmt::{Display, Formatter};

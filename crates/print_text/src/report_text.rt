@@ -20,8 +20,7 @@ use crate::tallies::{
     smallest_gap, smallest_ring,
 };
 use crate::waived::waived_on;
-use grid_units::Rules;
-use printing::{Lines, name_of};
+use grid_units::{Lines, Rules, name_of};
 use report::{
     Acceptances, BoardReport, GapLack, LayerHead, RingLack, acceptance_of, count_waived,
     count_waived_first,

@@ -8,7 +8,7 @@ ghost use Rattle.print_text.specs.Texts.{group_line, holes_words, is_alike, is_f
 
 use crate::runs::Run;
 use crate::tallies::{ring_of, smaller};
-use printing::ShortMillimetres;
+use grid_units::ShortMillimetres;
 use report::RingLack;
 use std::fmt;
 use std::fmt::{Display, Formatter};

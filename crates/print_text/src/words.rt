@@ -6,10 +6,9 @@ ghost use Rattle.print_text.specs.Causes.{kind_words};
 ghost use Rattle.print_text.specs.Texts.{at_edge_words, cause_words, halfway, height_of, hole_middle, hole_words, in_pad_words, measured_words, other_words, pad_words, place_words, shape_word, width_of};
 
 use crate::kind::{CauseKind, flash_kind, kind_words};
-use grid_units::{Hole, Point};
+use grid_units::{DrilledWords, Hole, Point, ShortMillimetres, name_of};
 use margins::DepthShape;
 use pad_shapes::Pad;
-use printing::{DrilledWords, ShortMillimetres, name_of};
 use report::{PlacedHole, RingAtEdge, RingCause, RingInPad};
 use std::fmt;
 use std::fmt::{Display, Formatter};
@@ -77,7 +76,7 @@ struct PadWords<'a>(&'a Pad);
 impl Display for PadWords<'_> {
     ghost output = { λ words. Some (pad_words words.0.now) };
 
-    #[tactic(auto, unfolding(printing::specs::Holes::two_lengths))]
+    #[tactic(auto, unfolding(grid_units::specs::HoleWords::two_lengths))]
     fn fmt<W: fmt::Write>(&self, f: &mut Formatter<W>) -> fmt::Result {
         let width = ShortMillimetres(width_of(self.0));
         let height = ShortMillimetres(height_of(self.0));
@@ -127,7 +126,7 @@ struct PlaceWords<'a> {
 impl Display for PlaceWords<'_> {
     ghost output = { λ words. Some (place_words words.hole.now words.pad.now) };
 
-    #[tactic(auto, unfolding(printing::specs::Holes::two_lengths))]
+    #[tactic(auto, unfolding(grid_units::specs::HoleWords::two_lengths))]
     fn fmt<W: fmt::Write>(&self, f: &mut Formatter<W>) -> fmt::Result {
         let (at, middle) = (hole_middle(self.hole), self.pad.middle());
         let x = ShortMillimetres(off_x(at, middle));

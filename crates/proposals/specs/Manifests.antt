@@ -131,7 +131,7 @@ rank (Mixed span) = 4294967300
 rank Undecided = 4294967301
 rank LeftOut = 4294967302
 
--- a file of this role stands in the manifest
+-- a file of this role is listed in the manifest
 abbrev pub is_listed_role : ProposedRole → Bool
 is_listed_role (Copper place) = true
 is_listed_role (Plated span) = true
@@ -140,7 +140,7 @@ is_listed_role (Mixed span) = true
 is_listed_role Undecided = true
 is_listed_role LeftOut = false
 
--- a file that stands in the manifest
+-- a file that is listed in the manifest
 abbrev pub is_listed : Proposal → Bool
 is_listed p = is_listed_role p.role
 

@@ -128,7 +128,7 @@ inner_extensions = codes "g" ∷ codes "gl" ∷ codes "ly" ∷ []
 abbrev pub copper_words : List (List ℕ)
 copper_words = codes "cu" ∷ codes "copper" ∷ codes "layer" ∷ []
 
--- the parts of words that stand in the names of layers without copper: `mask` in `soldermask_top.gbr`
+-- the parts of words that occur in the names of layers without copper: `mask` in `soldermask_top.gbr`
 abbrev pub other_parts : List (List ℕ)
 other_parts = codes "mask" ∷ codes "paste" ∷ codes "silk" ∷ codes "legend" ∷ codes "overlay" ∷ codes "outline" ∷ codes "contour" ∷ codes "courtyard"
     ∷ codes "crtyd" ∷ codes "adhes" ∷ codes "keepout" ∷ codes "stencil" ∷ codes "stiffen" ∷ codes "mechanic" ∷ codes "dimension" ∷ codes "document"
@@ -194,7 +194,7 @@ says_plated words = has_plated false words
 
 -- ---- what a word says of a layer
 
--- one of these parts stands in the word
+-- the word contains one of these parts
 abbrev pub has_part : List ℕ → List (List ℕ) → Bool
 has_part word parts = list_any (λ part. contains word part) parts
 

@@ -42,7 +42,7 @@ is_decided Wide (Mixed span) = true
 is_decided profile Undecided = false
 is_decided profile LeftOut = false
 
--- a name that may stand in a manifest: UTF-8 without control bytes, and not empty
+-- a name that a manifest may have: UTF-8 without control bytes, and not empty
 abbrev pub is_valid_name : List ℕ → Bool
 is_valid_name name = is_plain_text name && not (length name == 0)
 

@@ -74,7 +74,7 @@ layer_of_role here count LeftOut = 0
 abbrev pub copper_layers : List Proposal → List ℕ
 copper_layers ps = map (λ p. layer_of_role (is_copper_complete ps) (count_by is_copper ps) p.role) (filter is_copper ps)
 
--- n is from 1 to the length of the list, and stands in it once
+-- n is from 1 to the length of the list, and occurs in it once
 abbrev pub occurs_once_in_range : List ℕ → ℕ → Bool
 occurs_once_in_range ns n = nat_le 1 n && (nat_le n (length ns) && (count_by (λ m. m == n) ns == 1))
 

@@ -8,11 +8,11 @@ use Rattle.std.proofs.lemmas.List.Folds.{list_any_at, list_any_none}
 use Rattle.std.proofs.lemmas.List.Sums.{count_by_more_yes, count_by_more_no}
 use Rattle.grid_units.specs.Points.{GridPoint}
 use Rattle.grid_units.specs.Holes.{GridHole, is_round}
-use Rattle.wide_pads.specs.WidePads.{wide_pad_covers}
+use Rattle.pad_shapes.specs.WidePads.{wide_pad_covers}
 use Rattle.pad_shapes.specs.Shapes.{covers_both_ends}
-use Rattle.wide_pads.specs.declared.wide_pad.WidePad.{WidePad}
+use Rattle.pad_shapes.specs.declared.wide_pad.WidePad.{WidePad}
 use Rattle.pad_shapes.specs.declared.pad.Pad.TheVariants.{Disc}
-use Rattle.wide_pads.specs.declared.wide_pad.WidePad.TheVariants.{Plain}
+use Rattle.pad_shapes.specs.declared.wide_pad.WidePad.TheVariants.{Plain}
 use Rattle.ring_rules.specs.Findings.{is_oblique}
 use Rattle.ring_rules.specs.Places.{hole_at, default_hole}
 use Rattle.ring_rules.specs.declared.finding.Drilled.{Drilled}

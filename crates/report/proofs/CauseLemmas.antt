@@ -4,7 +4,7 @@ use Rattle.std.specs.Prelude.{if◌then◌else◌}
 use Rattle.std.proofs.lemmas.Bool.{false≢true}
 use Rattle.grid_units.specs.Holes.{GridHole}
 use Rattle.grid_units.specs.declared.profile.Profile.{Profile}
-use Rattle.wide_pads.specs.declared.wide_pad.WidePad.{WidePad}
+use Rattle.pad_shapes.specs.declared.wide_pad.WidePad.{WidePad}
 use Rattle.ring_rules.specs.Findings.{is_refused_slot}
 use Rattle.further_copper.specs.Features.{is_pad_row}
 use Rattle.further_copper.specs.declared.feature.FeatureRow.{FeatureRow}

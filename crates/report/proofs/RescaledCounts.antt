@@ -9,7 +9,7 @@ use Rattle.std.proofs.lemmas.List.Sums.{sum_by-append, sum_by-cons, sum_by_more}
 use Rattle.grid_units.specs.Points.{GridPoint, IsCoordinate, max_coordinate}
 use Rattle.margins.specs.Inner.DepthLaws.{both_le, le_both}
 use Rattle.grid_units.specs.Holes.{GridHole, is_round}
-use Rattle.wide_pads.specs.declared.wide_pad.WidePad.{WidePad}
+use Rattle.pad_shapes.specs.declared.wide_pad.WidePad.{WidePad}
 use Rattle.ring_rules.specs.declared.finding.Drilled.{Drilled}
 use Rattle.report.specs.declared.UnitFactor.{UnitFactor}
 use Rattle.report.specs.UnitMistakes.{bare_count, bare_count_with, is_bare, is_bare_with, is_on_grid, is_uncovered, round_count, scaled, scaled_point}

@@ -11,9 +11,9 @@ use Rattle.pad_shapes.specs.Pads.{pad_covers}
 use Rattle.pad_shapes.specs.Rounded.{GridRounded, IsInSlot, rounded_covers}
 use Rattle.pad_shapes.specs.Shapes.{covers_both_ends}
 use Rattle.pad_shapes.specs.declared.pad.Pad.{Pad}
-use Rattle.wide_pads.specs.WidePads.{wide_pad_covers}
-use Rattle.wide_pads.specs.declared.wide_pad.WidePad.{WidePad}
-use Rattle.wide_pads.specs.declared.wide_pad.WidePad.TheVariants.{Plain, Rounded}
+use Rattle.pad_shapes.specs.WidePads.{wide_pad_covers}
+use Rattle.pad_shapes.specs.declared.wide_pad.WidePad.{WidePad}
+use Rattle.pad_shapes.specs.declared.wide_pad.WidePad.TheVariants.{Plain, Rounded}
 use Rattle.ring_rules.specs.Findings.{is_refused_slot}
 use Rattle.ring_rules.specs.declared.finding.Drilled.{Drilled}
 use Rattle.further_copper.specs.Features.{is_pad_row}
@@ -76,12 +76,12 @@ other_in rows h = find (λ other. is_in_hole h other.at) (others rows)
 abbrev pub half_apart : ℤ → ℤ → ℕ
 half_apart a b = div_ceil (abs_diff a b) 2
 
--- the lower end of a hole along each axis if its middle stood at a point: half its length below, for a round hole the point itself; for a slot
+-- the lower end of a hole along each axis if its middle were at a point: half its length below, for a round hole the point itself; for a slot
 -- at an angle the lower left corner of its box, which a plain pad covers just where it covers the other corners
 abbrev pub lower_end_at : GridHole → GridPoint → GridPoint
 lower_end_at h at = record { x = at.x -ℤ pos (half_apart h.from.x h.to.x); y = at.y -ℤ pos (half_apart h.from.y h.to.y) }
 
--- the upper end of a hole along each axis if its middle stood at a point; for a slot at an angle the upper right corner of its box
+-- the upper end of a hole along each axis if its middle were at a point; for a slot at an angle the upper right corner of its box
 abbrev pub upper_end_at : GridHole → GridPoint → GridPoint
 upper_end_at h at = record { x = at.x +ℤ pos (half_apart h.from.x h.to.x); y = at.y +ℤ pos (half_apart h.from.y h.to.y) }
 

@@ -6,7 +6,7 @@ use Rattle.grid_units.specs.Holes.{GridHole}
 use Rattle.grid_units.specs.declared.profile.Profile.TheVariants.{Strict}
 use Rattle.pad_shapes.specs.Pads.{pad_covers}
 use Rattle.pad_shapes.specs.declared.pad.Pad.{Pad}
-use Rattle.wide_pads.specs.declared.wide_pad.WidePad.TheVariants.{Plain}
+use Rattle.pad_shapes.specs.declared.wide_pad.WidePad.TheVariants.{Plain}
 use Rattle.ring_rules.specs.Findings.{is_oblique}
 use Rattle.layer_image.specs.Flashes.{is_other, pads_of}
 use Rattle.layer_image.specs.declared.flash.Flash.{Flash}

@@ -4,8 +4,8 @@ use Rattle.std.specs.Int.{int_div_euclid}
 use Rattle.std.specs.List.{All, list_any, slice_range}
 use Rattle.grid_units.specs.Points.{GridPoint, max_coordinate}
 use Rattle.grid_units.specs.Holes.{GridHole, is_round}
-use Rattle.wide_pads.specs.WidePads.{wide_pad_covers}
-use Rattle.wide_pads.specs.declared.wide_pad.WidePad.{WidePad}
+use Rattle.pad_shapes.specs.WidePads.{wide_pad_covers}
+use Rattle.pad_shapes.specs.declared.wide_pad.WidePad.{WidePad}
 use Rattle.ring_rules.specs.declared.finding.Drilled.{Drilled}
 use Rattle.margins.specs.BestPads.{IsBare}
 use Rattle.report.specs.declared.UnitFactor.{UnitFactor}

@@ -2,8 +2,8 @@
 
 ghost use Rattle.std.specs.Prelude.{◌≡◌, ◌&&◌, ◌≤◌, length, List, IfOk};
 ghost use Rattle.grid_units.specs.Holes.{is_round};
-ghost use Rattle.wide_pads.specs.WidePads.{wide_pad_covers};
-ghost use Rattle.wide_pads.specs.declared.wide_pad.WidePad.{WidePad as ThePad};
+ghost use Rattle.pad_shapes.specs.WidePads.{wide_pad_covers};
+ghost use Rattle.pad_shapes.specs.declared.wide_pad.WidePad.{WidePad as ThePad};
 ghost use Rattle.margins.specs.BestPads.{AreBestPads, AreBare};
 ghost use Rattle.margins.specs.Rows.{has_no_best_pad};
 ghost use Rattle.report.specs.UnitMistakes.{bare_count, round_count};

@@ -2,8 +2,8 @@
 
 ghost use Rattle.std.specs.Prelude.{◌≡◌, ◌++◌, ◌∷◌, [], ◌≤◌, ℕ, List, length, IfOk, OnOk};
 ghost use Rattle.std.specs.List.{slice_range};
-ghost use Rattle.wide_pads.specs.WidePads.{wide_pad_covers};
-ghost use Rattle.wide_pads.specs.declared.wide_pad.WidePad.{WidePad as ThePad};
+ghost use Rattle.pad_shapes.specs.WidePads.{wide_pad_covers};
+ghost use Rattle.pad_shapes.specs.declared.wide_pad.WidePad.{WidePad as ThePad};
 ghost use Rattle.margins.specs.BestPads.{AreBare};
 ghost use Rattle.report.specs.declared.UnitFactor.{UnitFactor as TheFactor};
 ghost use Rattle.report.specs.UnitMistakes.{bare_count_with, round_count};
@@ -12,9 +12,9 @@ ghost use Rattle.report.specs.Inner.RescaledCounts.{AreCounted, AreRescaled, Are
 use crate::UnitFactor;
 use crate::bare::{all_rescaled, round_among, round_bare_count};
 use margins::bare_holes;
+use pad_shapes::WidePad;
 use ring_rules::Drilled;
 use std::alloc::{AllocError, Global};
-use wide_pads::WidePad;
 
 /// Some consecutive holes of a list.
 #[derive(Clone, Copy)]

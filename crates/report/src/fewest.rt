@@ -1,7 +1,7 @@
 //! The factor by which the fewest holes would be bare.
 
 ghost use Rattle.std.specs.Prelude.{◌≡◌, ◌++◌, ◌∷◌, [], ◌⊎◌, ℕ, List, length, map, IfOk};
-ghost use Rattle.wide_pads.specs.declared.wide_pad.WidePad.{WidePad as ThePad};
+ghost use Rattle.pad_shapes.specs.declared.wide_pad.WidePad.{WidePad as ThePad};
 ghost use Rattle.ring_rules.specs.declared.finding.Drilled.{Drilled as TheDrilled};
 ghost use Rattle.report.specs.declared.UnitFactor.{UnitFactor as TheFactor};
 ghost use Rattle.report.specs.UnitMistakes.{factors};
@@ -10,9 +10,9 @@ ghost use Rattle.report.specs.declared.counts.HoleRange.{HoleRange as TheRange};
 
 use crate::UnitFactor;
 use crate::counts::{HoleRange, counts_by};
+use pad_shapes::WidePad;
 use ring_rules::Drilled;
 use std::alloc::{AllocError, Global};
-use wide_pads::WidePad;
 
 /// A factor, and how many holes would be bare by it.
 #[derive(Clone, Copy)]

@@ -2,8 +2,8 @@
 
 ghost use Rattle.std.specs.Prelude.{◌≡◌, ◌<◌, ◌+◌, ◌-ℤ◌, ◌≤ℤ◌, ℕ, List, pos, neg_ℤ, false, IfOk, length, get_or};
 ghost use Rattle.grid_units.specs.declared.profile.Profile.{Profile as TheProfile};
-ghost use Rattle.wide_pads.specs.WidePads.{wide_pad_covers};
-ghost use Rattle.wide_pads.specs.declared.wide_pad.WidePad.{WidePad as TheWidePad};
+ghost use Rattle.pad_shapes.specs.WidePads.{wide_pad_covers};
+ghost use Rattle.pad_shapes.specs.declared.wide_pad.WidePad.{WidePad as TheWidePad};
 ghost use Rattle.ring_rules.specs.Findings.{is_refused_slot};
 ghost use Rattle.ring_rules.specs.Places.{hole_at};
 ghost use Rattle.ring_rules.specs.declared.finding.Drilled.{Drilled as TheDrilled};
@@ -20,9 +20,9 @@ use crate::{RingAtEdge, RingCause, RingInPad};
 use further_copper::{FeatureRow, RowKind};
 use grid_units::{Hole, Rules};
 use margins::{BestPad, best_pads};
+use pad_shapes::WidePad;
 use ring_rules::{Drilled, is_refused_slot};
 use std::alloc::{AllocError, Global};
-use wide_pads::WidePad;
 
 /// The data of a layer: the places of its rows that are pads, its other rows, and the best pad of each hole (the one in which it lies deepest).
 #[derive(Drop)]

@@ -31,7 +31,7 @@ pub use scaled::scaled_point;
 pub use waived::{acceptance_of, count_waived, count_waived_first, is_waived};
 
 /// The rings of the holes of one diameter in one drill file, on the layer of one copper file.
-#[derive(Clone, Copy, Debug, PartialEq, Eq)]
+#[derive(Clone, Copy, PartialEq, Eq)]
 pub struct RingLine {
     /// The index of the copper file in the package, from 0.
     pub layer: usize,
@@ -48,7 +48,7 @@ pub struct RingLine {
 }
 
 /// The least ring of some holes, and the first hole that has it.
-#[derive(Clone, Copy, Debug, PartialEq, Eq)]
+#[derive(Clone, Copy, PartialEq, Eq)]
 pub struct LeastRing {
     /// The ring in pm, from -5 m to 5 m. Below 0 the hole is wider than the copper round its centre.
     pub ring: i64,
@@ -57,7 +57,7 @@ pub struct LeastRing {
 }
 
 /// The least gap of two holes, and the first two that have it.
-#[derive(Clone, Copy, Debug, PartialEq, Eq)]
+#[derive(Clone, Copy, PartialEq, Eq)]
 pub struct GapLine {
     /// The gap in pm, from -10 m to 30 m. Below 0 the holes overlap.
     pub gap: i64,
@@ -66,7 +66,7 @@ pub struct GapLine {
 }
 
 /// Where a hole stands in a package.
-#[derive(Clone, Copy, Debug, PartialEq, Eq)]
+#[derive(Clone, Copy, PartialEq, Eq)]
 pub struct HolePlace {
     /// The index of the drill file in the package, from 0.
     pub drill: usize,
@@ -75,7 +75,7 @@ pub struct HolePlace {
 }
 
 /// A plated drill file whose coordinates seem to be off by a factor.
-#[derive(Clone, Copy, Debug, PartialEq, Eq)]
+#[derive(Clone, Copy, PartialEq, Eq)]
 pub struct UnitMistake {
     /// The index of the drill file in the package, from 0.
     pub drill: usize,
@@ -88,7 +88,7 @@ pub struct UnitMistake {
 }
 
 /// A drill file whose own comments contradict its role.
-#[derive(Clone, Copy, Debug, PartialEq, Eq)]
+#[derive(Clone, Copy, PartialEq, Eq)]
 pub struct RoleConflict {
     /// The index of the drill file in the package, from 0.
     pub drill: usize,
@@ -97,7 +97,7 @@ pub struct RoleConflict {
 }
 
 /// A factor that coordinates are multiplied by.
-#[derive(Clone, Copy, Debug, PartialEq, Eq)]
+#[derive(Clone, Copy, PartialEq, Eq)]
 pub enum UnitFactor {
     /// 10.
     Ten,
@@ -110,7 +110,7 @@ pub enum UnitFactor {
 }
 
 /// The rules that a package meets.
-#[derive(Clone, Copy, Debug, PartialEq, Eq)]
+#[derive(Clone, Copy, PartialEq, Eq)]
 pub struct Meets {
     /// The rings that all holes have that need one.
     pub ring: Met,
@@ -134,7 +134,7 @@ pub struct Measure {
 }
 
 /// The best pad of a hole, in which it lies deepest, where it is plain, and the hole's ring there.
-#[derive(Clone, Copy, Debug, PartialEq, Eq)]
+#[derive(Clone, Copy, PartialEq, Eq)]
 pub struct RingInPad {
     /// The number of its flash on the layer, from 1.
     pub flash: usize,
@@ -147,7 +147,7 @@ pub struct RingInPad {
 }
 
 /// The best pad of a hole, where it is a rounded polygon, and the hole's ring there.
-#[derive(Clone, Copy, Debug, PartialEq, Eq)]
+#[derive(Clone, Copy, PartialEq, Eq)]
 pub struct RingAtEdge {
     /// The number of its flash or contour on the layer, from 1.
     pub flash: usize,
@@ -158,7 +158,7 @@ pub struct RingAtEdge {
 }
 
 /// Why a hole lacks its ring on a layer: the first cause that applies.
-#[derive(Clone, Copy, Debug, PartialEq, Eq)]
+#[derive(Clone, Copy, PartialEq, Eq)]
 pub enum RingCause {
     /// The best pad is plain, and too small for the hole and its ring, wherever the hole stands in it.
     TooSmall(RingInPad),
@@ -190,14 +190,14 @@ pub enum RingCause {
 }
 
 /// A hole with its place in a package.
-#[derive(Clone, Copy, Debug, PartialEq, Eq)]
+#[derive(Clone, Copy, PartialEq, Eq)]
 pub struct PlacedHole {
     pub place: HolePlace,
     pub hole: Hole,
 }
 
 /// A hole that lacks its ring on a layer.
-#[derive(Clone, Copy, Debug, PartialEq, Eq)]
+#[derive(Clone, Copy, PartialEq, Eq)]
 pub struct RingLack {
     /// The place of the layer among the copper files, from 0.
     pub layer: usize,
@@ -208,7 +208,7 @@ pub struct RingLack {
 }
 
 /// Two holes that lack their gap.
-#[derive(Clone, Copy, Debug, PartialEq, Eq)]
+#[derive(Clone, Copy, PartialEq, Eq)]
 pub struct GapLack {
     /// The hole that comes first in the package.
     pub first: PlacedHole,
@@ -221,7 +221,7 @@ pub struct GapLack {
 }
 
 /// The head of a layer: its file, and how many holes need a ring there.
-#[derive(Clone, Copy, Debug, PartialEq, Eq)]
+#[derive(Clone, Copy, PartialEq, Eq)]
 pub struct LayerHead {
     /// The index of the copper file in the package, from 0.
     pub file: usize,
@@ -230,7 +230,7 @@ pub struct LayerHead {
 }
 
 /// The report on a package.
-#[derive(Debug, Drop)]
+#[derive(Drop)]
 pub struct BoardReport {
     /// The required ring and gap.
     pub rules: Rules,
@@ -249,7 +249,7 @@ pub struct BoardReport {
 }
 
 /// The reasons why findings of a report are accepted. Findings past the end of a list have none.
-#[derive(Clone, Copy, Debug)]
+#[derive(Clone, Copy)]
 pub struct Acceptances<'a> {
     /// For each ring, in the order of [`BoardReport::rings`], the reason why it is accepted, or `None`.
     pub rings: &'a [Option<&'a str>],

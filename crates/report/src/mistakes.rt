@@ -1,8 +1,8 @@
 //! The lines of drill files whose coordinates seem to be off by a factor.
 
 ghost use Rattle.std.specs.Prelude.{◌≡◌, ◌↔◌, ◌*◌, ◌<◌, ◌≤◌, List, length, map, IfOk, IsTrue};
-ghost use Rattle.wide_pads.specs.WidePads.{wide_pad_covers};
-ghost use Rattle.wide_pads.specs.declared.wide_pad.WidePad.{WidePad as ThePad};
+ghost use Rattle.pad_shapes.specs.WidePads.{wide_pad_covers};
+ghost use Rattle.pad_shapes.specs.declared.wide_pad.WidePad.{WidePad as ThePad};
 ghost use Rattle.ring_rules.specs.declared.finding.Drilled.{Drilled as TheDrilled};
 ghost use Rattle.margins.specs.BestPads.{AreBestPads};
 ghost use Rattle.report.specs.UnitMistakes.{AreFileRanges, AreUnitMistakes, IsUnitMistakeOrNone, bare_count_with, factors, holes_in};
@@ -14,9 +14,9 @@ use crate::bare::{bare_among, round_among};
 use crate::counts::HoleRange;
 use crate::fewest::{Fewest, Tried, try_factors};
 use margins::BestPad;
+use pad_shapes::WidePad;
 use ring_rules::Drilled;
 use std::alloc::{AllocError, Global};
-use wide_pads::WidePad;
 
 /// A drill file, and where its holes are in a list of holes.
 #[derive(Clone, Copy)]

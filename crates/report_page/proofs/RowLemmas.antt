@@ -15,7 +15,7 @@ use Rattle.print_text.specs.Texts.{number_of}
 use Rattle.grid_units.specs.declared.profile.Profile.{Profile}
 use Rattle.package_check.specs.declared.FileSum.{FileSum}
 use Rattle.picture.specs.Escapes.{escaped}
-use Rattle.printing.specs.Holes.{name_of}
+use Rattle.grid_units.specs.HoleWords.{name_of}
 use Rattle.report_page.specs.Pages.{file_items, file_words, gap_row, gap_rows, ring_row, ring_rows}
 
 -- what one more element gives, by its position

@@ -1,35 +1,39 @@
 -- The report as one page of HTML (docs/FORMATS.md, Page). Lengths are whole picometres, printed in millimetres.
 -- Positions count all findings of a report from 0: the rings first, then the gaps. Their numbers count them from 1.
-use Rattle.std.specs.Prelude.{◌≡◌, ◌<◌, ℕ, ℤ, pos, ◌+◌, ◌-◌, ◌*◌, ◌==◌, ◌++◌, Bool, List, [], length, get_or, map, codes, decimal, slice_get, Option, Some, None, if◌then◌else◌}
+use Rattle.std.specs.Prelude.{◌≡◌, ◌<◌, ℕ, ℤ, pos, ◌+◌, ◌-◌, ◌*◌, ◌==◌, ◌++◌, ◌||◌, Bool, not, int_lt, List, [], length, get_or, map, codes, decimal, slice_get, Option, Some, None, if◌then◌else◌}
 use Rattle.std.specs.Borrow.{Bor}
 use Rattle.std.specs.List.{enumerate_from, flat_map}
 use Rattle.grid_units.specs.Holes.{GridHole, GridRules}
 use Rattle.grid_units.specs.Spans.{LayerSpan}
 use Rattle.grid_units.specs.declared.profile.Profile.{Profile}
 use Rattle.grid_units.specs.declared.profile.Profile.TheVariants.{Strict, Wide}
-use Rattle.printing.specs.Holes.{ends_words, name_of, two_lengths}
-use Rattle.printing.specs.Lengths.{short_millimetres}
+use Rattle.grid_units.specs.HoleWords.{ends_words, name_of, two_lengths}
+use Rattle.grid_units.specs.LengthWords.{short_millimetres}
 use Rattle.report.specs.Acceptances.{acceptance_at, waived_in}
 use Rattle.report.specs.RoleConflicts.{conflict_words}
 use Rattle.report.specs.declared.Acceptances.{Acceptances}
 use Rattle.report.specs.declared.BoardReport.{BoardReport}
 use Rattle.report.specs.declared.GapLack.{GapLack}
 use Rattle.report.specs.declared.LayerHead.{LayerHead}
+use Rattle.report.specs.declared.LeastRing.{LeastRing}
+use Rattle.report.specs.declared.Measure.{Measure}
 use Rattle.report.specs.declared.PlacedHole.{PlacedHole}
 use Rattle.report.specs.declared.RingCause.{RingCause}
 use Rattle.report.specs.declared.RingCause.TheVariants as causes
 use Rattle.report.specs.declared.RingLack.{RingLack}
+use Rattle.report.specs.declared.RingLine.{RingLine}
 use Rattle.report.specs.declared.RoleConflict.{RoleConflict}
 use Rattle.print_text.specs.Causes.{kind_of, kind_words}
-use Rattle.print_text.specs.Texts.{fewer_words, number_of, rule_words, waived_words}
+use Rattle.print_text.specs.Texts.{fewer_words, number_of, rule_words, waived_words, warning_words}
 use Rattle.print_text.specs.declared.particulars.Particulars.{Particulars}
+use Rattle.board_report.specs.Measures.{IsMeasure}
 use Rattle.package_check.specs.Boards.{BoardView}
 use Rattle.package_check.specs.declared.FileSum.{FileSum}
 use Rattle.package_check.specs.declared.FileSum.TheVariants as sums
 use Rattle.picture.specs.Escapes.{escaped}
 use Rattle.layer_image.specs.declared.drawn.Drawn.{Drawn}
 use Rattle.drawing.specs.Drawings.{IsDrawn, declaration, number_of as file_number, svg_text}
-use Rattle.report_page.specs.declared.frame.TheConstants.{BEFORE_RULES, BEFORE_SCRIPT, BEFORE_STYLE, BODY, CAPTION, COLUMNS, END, FIGURE, FILES, HEAD, PREMISES, STRICT_PROMISE, TOOLS, WIDE_PROMISE}
+use Rattle.report_page.specs.declared.frame.TheConstants.{BEFORE_RULES, BEFORE_SCRIPT, BEFORE_STYLE, BODY, CAPTION, COLUMNS, END, FIGURE, FILES, HEAD, PREMISES, STRICT_PROMISE, TOOL_COLUMNS, TOOLS, WIDE_PROMISE}
 use Rattle.report_page.specs.declared.page.HtmlReport.{HtmlReport}
 use Rattle.report_page.specs.declared.script.TheConstants.{SCRIPT}
 use Rattle.report_page.specs.declared.style.TheConstants.{STYLE}
@@ -78,13 +82,9 @@ particulars_text about rules findings =
 
 -- ---- the drill files whose own comments contradict their role
 
--- a warning of a drill file by its name, and what comes before the next paragraph: `warning: npth: its role is unplated, and it says that holes are plated`
-unfoldable pub warning : List ℕ → List ℕ → List ℕ
-warning name says = codes "warning: " ++ (name ++ (codes ": " ++ (says ++ codes "</p>\n<p>")))
-
--- the warning of a drill file whose own comments contradict its role
+-- the warning of a drill file whose own comments contradict its role, and what comes before the next paragraph
 abbrev pub conflict_warning : List (List ℕ) → RoleConflict → List ℕ
-conflict_warning names line = warning (escaped (name_of names line.drill)) (conflict_words line.plated)
+conflict_warning names line = warning_words (escaped (name_of names line.drill)) (conflict_words line.plated) (codes "</p>\n<p>")
 
 -- ---- the files, and what a pass promises
 
@@ -273,6 +273,45 @@ pub record NumbersEachOnce (report : BoardReport) : Type 0 where
   pub all : length (row_numbers report) ≡ length report.rings.items + length report.gaps.items
   pub at : (i d : ℕ) → i < length (row_numbers report) → get_or (row_numbers report) i d ≡ i + 1
 
+-- ---- the tool table
+
+-- the holes of a line lack the ring of a rule: one of them has no pad that counts, or their smallest ring is below the rule
+abbrev pub lacks_ring : ℤ → ℕ → Option LeastRing → Bool
+lacks_ring rule bare None = not (bare == 0)
+lacks_ring rule bare (Some least) = not (bare == 0) || int_lt least.ring rule
+
+-- the mark of such holes; nothing where each hole has the ring of the rule
+unfoldable pub mark_words : ℤ → ℕ → Option LeastRing → List ℕ
+mark_words rule bare least = if lacks_ring rule bare least then codes "below the rule" else []
+
+-- the smallest ring of the holes that lie in a pad: a length, or `none`
+abbrev pub least_words : Option LeastRing → List ℕ
+least_words None = codes "none"
+least_words (Some least) = short_millimetres least.ring
+
+-- the start of a row: the layer, the drill file, and the diameter of the holes
+unfoldable pub tool_start : List ℕ → List ℕ → ℤ → List ℕ
+tool_start layer drill diameter =
+    codes "<tr><th scope=\"row\">" ++ (layer ++ (codes "</th><td>" ++ (drill ++ (next_cell ++ (short_millimetres diameter ++ next_cell)))))
+
+-- how many holes there are, and how many of them have no pad that counts
+unfoldable pub tool_counts : ℕ → ℕ → List ℕ
+tool_counts holes bare = decimal holes ++ (next_cell ++ (decimal bare ++ next_cell))
+
+-- the end of a row: the smallest ring, the rule for it, and the mark of holes that lack it
+unfoldable pub tool_end : List ℕ → ℤ → List ℕ → List ℕ
+tool_end least rule mark = least ++ (next_cell ++ (short_millimetres rule ++ (next_cell ++ (mark ++ codes "</td></tr>\n"))))
+
+-- the row of the holes of one drill file and diameter on one layer, by the line of a measure for them
+abbrev pub tool_row : List (List ℕ) → GridRules → RingLine → List ℕ
+tool_row names rules line =
+    tool_start (escaped (name_of names line.layer)) (escaped (name_of names line.drill)) line.diameter
+    ++ (tool_counts line.holes line.bare ++ tool_end (least_words line.least) (pos rules.ring) (mark_words (pos rules.ring) line.bare line.least))
+
+-- the rows of the tool table, in the order of the measure: by layer, drill file and diameter
+abbrev pub tool_rows : List (List ℕ) → GridRules → List RingLine → List ℕ
+tool_rows names rules tools = flat_map (tool_row names rules) tools
+
 -- ---- the page
 
 -- the number of findings
@@ -291,24 +330,28 @@ head_text names about files conflicts rules findings waived =
 abbrev pub picture_text : List (List ℕ) → List LayerHead → List ℕ → List ℕ
 picture_text names layers svg = TOOLS.now ++ (flat_map (layer_button names) layers ++ (FIGURE.now ++ svg))
 
--- the table, and the script that the page ends with
-abbrev pub table_text : List (List ℕ) → BoardReport → List (Option (Bor (List ℕ))) → List (Option (Bor (List ℕ))) → List ℕ
-table_text names report rings gaps =
+-- the table of the findings, the tool table, and the script that the page ends with
+abbrev pub tables_text : List (List ℕ) → BoardReport → List (Option (Bor (List ℕ))) → List (Option (Bor (List ℕ))) → List RingLine → List ℕ
+tables_text names report rings gaps tools =
     (CAPTION.now ++ (count_words (finding_count report) ++ (COLUMNS.now ++ table_rows names report rings gaps)))
-    ++ (BEFORE_SCRIPT.now ++ (SCRIPT.now ++ END.now))
+    ++ (TOOL_COLUMNS.now ++ (tool_rows names report.rules tools ++ (BEFORE_SCRIPT.now ++ (SCRIPT.now ++ END.now))))
 
--- the text of a page, by the element `svg` of its drawing; `names` are those of the package's files
-abbrev pub html_text : List (List ℕ) → Particulars → List FileSum → BoardReport → Acceptances → List ℕ → List ℕ
-html_text names about files report accepted svg =
+-- the text of a page, by the lines of a measure for its tool table and by the element `svg` of its drawing; `names` are those of the package's files
+abbrev pub html_text : List (List ℕ) → Particulars → List FileSum → BoardReport → Acceptances → List RingLine → List ℕ → List ℕ
+html_text names about files report accepted tools svg =
     head_text names about files report.conflicts.items report.rules (finding_count report) (waived_in report accepted.rings.now accepted.gaps.now)
-    ++ (picture_text names report.layers.items svg ++ table_text names report accepted.rings.now accepted.gaps.now)
+    ++ (picture_text names report.layers.items svg ++ tables_text names report accepted.rings.now accepted.gaps.now tools)
 
 -- what a page prints
 abbrev pub page_text : HtmlReport → List ℕ
-page_text page = html_text (map (λ name. name.now) page.names.now) page.about.now page.files.now page.report.now page.accepted.now (svg_text page.drawing)
+page_text page =
+    html_text (map (λ name. name.now) page.names.now) page.about.now page.files.now page.report.now page.accepted.now page.tools.items (svg_text page.drawing)
 
--- a text is the page of a report, with the drawing of a board under the rules of the report and with the outline that these parts draw
+-- a text is the page of a report, with the drawing of a board under the rules of the report, with the outline that these parts draw, and with a tool
+-- table by the measure of the board in the profile of these rules
 pub record IsHtmlPage (names : List (List ℕ)) (about : Particulars) (board : BoardView) (outline : List Drawn) (report : BoardReport) (accepted : Acceptances) (text : List ℕ) : Type 0 where
   pub svg : List ℕ
+  pub measure : Measure
   pub drawn : IsDrawn names board outline (Some report.rules) (declaration ++ svg)
-  pub is : text ≡ html_text names about board.files report accepted svg
+  pub measured : IsMeasure report.rules.profile board measure
+  pub is : text ≡ html_text names about board.files report accepted measure.rings.items svg

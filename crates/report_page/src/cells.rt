@@ -2,14 +2,12 @@
 
 ghost use Rattle.std.specs.Prelude.{◌≡◌, ◌*◌, pos, map, slice_get, Some};
 ghost use Rattle.std.specs.Fmt.{DisplaysOnOk};
-ghost use Rattle.printing.specs.Holes.{ends_words, point_words};
-ghost use Rattle.print_text.specs.Causes.{kind_of, kind_words};
+ghost use Rattle.grid_units.specs.HoleWords.{ends_words, point_words};
 ghost use Rattle.report_page.specs.Pages.{cause_words, diameter_words, flash_words, hole_words, layer_name, reason_words, ring_words, row_start};
 
-use grid_units::{Hole, Point};
-use layer_image::Why;
+use grid_units::{Hole, Point, ShortMillimetres, name_of};
 use picture::Escaped;
-use printing::{ShortMillimetres, name_of};
+use print_text::words_for_cause;
 use report::{LayerHead, PlacedHole, RingCause};
 use std::fmt;
 use std::fmt::{Display, Formatter};
@@ -52,7 +50,7 @@ struct PointWords(Point);
 impl Display for PointWords {
     ghost output = { λ words. Some (point_words words.0) };
 
-    #[tactic(auto, unfolding(printing::specs::Holes::two_lengths))]
+    #[tactic(auto, unfolding(grid_units::specs::HoleWords::two_lengths))]
     fn fmt<W: fmt::Write>(&self, f: &mut Formatter<W>) -> fmt::Result {
         let (x, y) = (ShortMillimetres(self.0.x()), ShortMillimetres(self.0.y()));
         write!(f, "{x},{y}")
@@ -135,28 +133,6 @@ impl Display for RingWords<'_> {
     }
 }
 
-/// The words for a cause, as in the text of a report.
-fn cause_word(cause: &RingCause) -> &'static str
-    ensures { result.now ≡ kind_words (kind_of cause.now) }
-{
-    match cause {
-        RingCause::TooSmall(_) => "pad too small",
-        RingCause::OffCentre(_) => "off centre",
-        RingCause::Edge(_) => "in a rounded pad or contour, too near its edge",
-        RingCause::Other { why, .. } => match why {
-            Why::Macro => "only a macro flash",
-            Why::Polygon => "only a polygon flash",
-            Why::Holed => "only a holed flash",
-            Why::Scaled => "only a scaled flash",
-            Why::Turned => "only a turned flash",
-        },
-        RingCause::Clear { .. } => "only a clear flash",
-        RingCause::Cleared { .. } => "only a cleared flash",
-        RingCause::NoFlash => "no pad at the hole",
-        RingCause::Oblique => "oblique slot",
-    }
-}
-
 /// Writes the flash that a cause names, if it names one: `: flash 17`.
 fn write_flash<W: fmt::Write>(f: &mut Formatter<W>, cause: &RingCause) -> fmt::Result
     ensures { DisplaysOnOk W.write_str_gives f.old result (Some (flash_words cause.now)) f.new }
@@ -180,7 +156,7 @@ impl Display for CauseWords<'_> {
     ghost output = { λ words. Some (cause_words words.0.now) };
 
     fn fmt<W: fmt::Write>(&self, f: &mut Formatter<W>) -> fmt::Result {
-        f.write_str(cause_word(self.0))?;
+        f.write_str(words_for_cause(self.0))?;
         write_flash(f, self.0)
     }
 }

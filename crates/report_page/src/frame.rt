@@ -8,7 +8,7 @@ pub const HEAD: &str = "\
 <html lang=\"en\">
 <head>
 <meta charset=\"utf-8\">
-<meta http-equiv=\"Content-Security-Policy\" content=\"default-src 'none'; style-src 'sha256-JNO6FhsM7DP6NQyoCNty2B4CNxkwKV72WbvF4aeu2cc=' 'sha256-blXjcbfO961yVKxrEwJwWdE7jWJrdRTPj3qDpArJ4vs='; script-src 'sha256-csla810vQzhPU7yIUMJzKEb27vpT4YJVkWmKqyqpL1I=' 'sha256-s7T3FnPXJwAcHys8Hkqo0+R5fCeYtknlX8xpfPmife0='; base-uri 'none'; form-action 'none'\">
+<meta http-equiv=\"Content-Security-Policy\" content=\"default-src 'none'; style-src 'sha256-aT4E8f4ktUBSa/22t5g7KX4ECiMNC8p3jS1wDvbVvZE=' 'sha256-blXjcbfO961yVKxrEwJwWdE7jWJrdRTPj3qDpArJ4vs='; script-src 'sha256-csla810vQzhPU7yIUMJzKEb27vpT4YJVkWmKqyqpL1I=' 'sha256-s7T3FnPXJwAcHys8Hkqo0+R5fCeYtknlX8xpfPmife0='; base-uri 'none'; form-action 'none'\">
 <meta name=\"viewport\" content=\"width=device-width, initial-scale=1\">
 <title>";
 
@@ -109,7 +109,21 @@ pub const COLUMNS: &str = "\
 <tbody>
 ";
 
-/// From the rows to the script.
+/// From the rows of the findings to those of the tool table: the heads of its columns. Lengths are in millimetres.
+pub const TOOL_COLUMNS: &str = "\
+</tbody>
+</table>
+</div>
+<div id=\"drills\" role=\"region\" aria-label=\"tool table\" tabindex=\"0\">
+<table>
+<caption>tool table: the smallest annular ring on each layer for each drill file and diameter; lengths in mm</caption>
+<thead>
+<tr><th scope=\"col\">layer</th><th scope=\"col\">drill file</th><th scope=\"col\">diameter</th><th scope=\"col\">holes</th><th scope=\"col\">no pad that counts</th><th scope=\"col\">smallest ring of the others</th><th scope=\"col\">rule</th><th scope=\"col\">mark</th></tr>
+</thead>
+<tbody>
+";
+
+/// From the rows of the tool table to the script.
 pub const BEFORE_SCRIPT: &str = "\
 </tbody>
 </table>

@@ -5,8 +5,8 @@ ghost use Rattle.report.specs.declared.BoardReport.{BoardReport};
 ghost use Rattle.report_page.specs.Markers.{EachRowHasItsMarker};
 ghost use Rattle.report_page.specs.Pages.{NumbersEachOnce};
 
+use pad_shapes::WidePad;
 use ring_rules::laws::findings_name_places;
-use wide_pads::WidePad;
 
 /// The numbers of the rows of a page are 1, 2, 3 and so on, to the number of the findings.
 pub fn each_number_once()

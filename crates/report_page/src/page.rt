@@ -3,24 +3,29 @@
 ghost use Rattle.std.specs.Prelude.{◌≡◌, Some, map, IfOk};
 ghost use Rattle.std.specs.Fmt.{DisplaysOnOk};
 ghost use Rattle.drawing.specs.Drawings.{svg_text};
-ghost use Rattle.report_page.specs.Pages.{IsHtmlPage, conflict_warning, finding_count, head_text, layer_button, page_text, picture_text, table_text};
+ghost use Rattle.report_page.specs.Pages.{IsHtmlPage, conflict_warning, finding_count, head_text, layer_button, page_text, picture_text, tables_text};
 
 use crate::files::FilesText;
 use crate::frame::{
-    BEFORE_RULES, BEFORE_SCRIPT, BEFORE_STYLE, BODY, CAPTION, COLUMNS, END, FIGURE, HEAD, TOOLS,
+    BEFORE_RULES, BEFORE_SCRIPT, BEFORE_STYLE, BODY, CAPTION, COLUMNS, END, FIGURE, HEAD,
+    TOOL_COLUMNS, TOOLS,
 };
 use crate::particulars::ParticularsText;
 use crate::rows::Rows;
 use crate::script::SCRIPT;
 use crate::style::STYLE;
+use crate::tools::ToolTable;
 use crate::verdict::{CountWords, Verdict};
+use board_report::measure_board;
 use drawing::{Drawing, Svg};
+use grid_units::{Line, Lines, name_of};
 use layer_image::Drawn;
 use package_check::{Board, FileSum};
 use picture::Escaped;
 use print_text::Particulars;
-use printing::{Line, Lines, name_of};
-use report::{Acceptances, BoardReport, LayerHead, RoleConflict, conflict_words, count_waived};
+use report::{
+    Acceptances, BoardReport, LayerHead, RingLine, RoleConflict, conflict_words, count_waived,
+};
 use std::alloc::{AllocError, Global};
 use std::fmt;
 use std::fmt::{Display, Formatter};
@@ -48,7 +53,7 @@ impl Line<FileNames<'_>> for LayerHead {
 impl Line<FileNames<'_>> for RoleConflict {
     ghost text = { λ names line. conflict_warning (map (λ name. name.now) names.0.now) line };
 
-    #[tactic(auto, unfolding(crate::specs::Pages::warning))]
+    #[tactic(auto, unfolding(print_text::specs::Texts::warning_words))]
     fn fmt_on<W: fmt::Write>(&self, page: &FileNames<'_>, f: &mut Formatter<W>) -> fmt::Result {
         let name = Escaped(name_of(page.0, self.drill));
         write!(
@@ -112,18 +117,27 @@ fn write_picture<W: fmt::Write>(
     write!(f, "{TOOLS}{buttons}{FIGURE}{}", Svg(drawing))
 }
 
-/// Writes the table, and the script.
-fn write_table<W: fmt::Write>(f: &mut Formatter<W>, rows: &Rows) -> fmt::Result
-    ensures { DisplaysOnOk W.write_str_gives f.old result (Some (table_text (map (λ name. name.now) rows.now.names.now) rows.now.report.now rows.now.accepted.now.rings.now rows.now.accepted.now.gaps.now)) f.new }
+/// Writes the table of the findings, the tool table, and the script.
+fn write_tables<W: fmt::Write>(f: &mut Formatter<W>, rows: &Rows, tools: &[RingLine]) -> fmt::Result
+    ensures { DisplaysOnOk W.write_str_gives f.old result (Some (tables_text (map (λ name. name.now) rows.now.names.now) rows.now.report.now rows.now.accepted.now.rings.now rows.now.accepted.now.gaps.now tools.now)) f.new }
 {
     let count = CountWords(finding_count(rows.report));
     write!(f, "{CAPTION}{count}{COLUMNS}{rows}")?;
-    write!(f, "{BEFORE_SCRIPT}{SCRIPT}{END}")
+    let table = ToolTable {
+        names: rows.names,
+        rules: &rows.report.rules,
+    };
+    let tools = Lines {
+        page: &table,
+        lines: tools,
+    };
+    write!(f, "{TOOL_COLUMNS}{tools}{BEFORE_SCRIPT}{SCRIPT}{END}")
 }
 
 /// A report as one page of HTML, which is what it prints: the verdict and the particulars of the report, its files and what a pass promises, the picture of the board with buttons for its layers,
-/// and a table with a row for each finding. The page loads nothing. Each row links to the marker of its finding, whose id is `f` and
-/// its number. Lengths are printed in millimetres.
+/// a table with a row for each finding, and the tool table: a row for each layer, drill file and diameter at which holes need a ring, with
+/// their smallest ring. The page loads nothing. Each row of a finding links to its marker, whose id is `f` and its number. Lengths are printed
+/// in millimetres.
 #[derive(Drop)]
 pub struct HtmlReport<'a> {
     names: &'a [&'a str],
@@ -131,12 +145,15 @@ pub struct HtmlReport<'a> {
     files: &'a [FileSum],
     report: &'a BoardReport,
     accepted: &'a Acceptances<'a>,
+    tools: Vec<RingLine>,
     drawing: Drawing<'a>,
 }
 
 impl<'a> HtmlReport<'a> {
     /// The page of a report on a board, with the reasons why findings are waived. `names` are those of the package's files, and `about` says on
-    /// which manifest the report is, by which program, and how many findings the wide profile does not have. All memory is taken here, for the drawing of the board under the rules of the report, with the outline that these parts draw; printing takes none.
+    /// which manifest the report is, by which program, and how many findings the wide profile does not have. The board is measured here, in the
+    /// profile of the report. All memory is taken here, for that and for the drawing of the board under the rules of the report, with the outline
+    /// that these parts draw; printing takes none.
     ///
     /// # Errors
     ///
@@ -152,6 +169,7 @@ impl<'a> HtmlReport<'a> {
     ) -> Result<HtmlReport<'a>, AllocError>
         ensures { IfOk result (λ page. IsHtmlPage (map (λ name. name.now) names.now) about.now board.now outline.now report.now accepted.now (page_text page)) }
     {
+        let measure = measure_board(alloc, board, report.rules.profile())?;
         let drawing = Drawing::new(alloc, names, board, outline, Some(report.rules))?;
         let files = board.files();
         Ok(HtmlReport {
@@ -160,6 +178,7 @@ impl<'a> HtmlReport<'a> {
             files,
             report,
             accepted,
+            tools: measure.rings,
             drawing,
         })
     }
@@ -180,6 +199,6 @@ impl Display for HtmlReport<'_> {
         };
         write_head(f, self.names, self.files, self.report, self.about, &verdict)?;
         write_picture(f, self.names, &self.report.layers, &self.drawing)?;
-        write_table(f, &rows)
+        write_tables(f, &rows, &self.tools)
     }
 }

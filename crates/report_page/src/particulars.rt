@@ -1,31 +1,13 @@
 //! The particulars of a report: the findings that disappear in the wide profile, the manifest, the rules, the program.
 
-ghost use Rattle.std.specs.Prelude.{◌≡◌, pos, Some};
-ghost use Rattle.print_text.specs.Texts.{rule_words};
+ghost use Rattle.std.specs.Prelude.{◌≡◌, Some};
 ghost use Rattle.report_page.specs.Pages.{fewer_note, particulars_text, profile_words, rules_words};
 
 use grid_units::{Profile, Rules};
 use picture::Escaped;
-use print_text::{FewerWords, Particulars};
-use printing::ShortMillimetres;
+use print_text::{FewerWords, Particulars, RuleWords};
 use std::fmt;
 use std::fmt::{Display, Formatter};
-
-/// A rule, in pm, after its words: `rules: annular ring 0.15 mm`.
-#[derive(Clone, Copy)]
-struct RuleWords {
-    words: &'static str,
-    rule: i64,
-}
-
-impl Display for RuleWords {
-    ghost output = { λ it. Some (rule_words it.words.now it.rule) };
-
-    #[tactic(auto, unfolding(print_text::specs::Texts::rule_words))]
-    fn fmt<W: fmt::Write>(&self, f: &mut Formatter<W>) -> fmt::Result {
-        write!(f, "{}{} mm", self.words, ShortMillimetres(self.rule))
-    }
-}
 
 /// The profile at the end of the rules: `, profile strict`.
 fn profile_words(profile: Profile) -> &'static str

@@ -3,16 +3,15 @@
 ghost use Rattle.std.specs.Prelude.{◌≡◌, pos, length, map, slice_get, Some};
 ghost use Rattle.std.specs.Fmt.{DisplaysOnOk};
 ghost use Rattle.std.specs.List.{enumerate_from};
-ghost use Rattle.printing.specs.Holes.{two_lengths};
+ghost use Rattle.grid_units.specs.HoleWords.{two_lengths};
 ghost use Rattle.picture.specs.Escapes.{escaped};
 ghost use Rattle.report_page.specs.Pages.{cause_words, gap_end, gap_place, gap_row, gap_rows, hole_words, layer_name, next_cell, reason_words, ring_end, ring_place, ring_row, ring_rows, ring_words, table_rows};
 
 use crate::cells::{
     CauseWords, DiameterWords, HoleWords, ReasonWords, RingWords, RowStart, layer_name,
 };
-use grid_units::Rules;
+use grid_units::{Rules, ShortMillimetres};
 use picture::Escaped;
-use printing::ShortMillimetres;
 use report::{Acceptances, BoardReport, GapLack, LayerHead, RingLack, acceptance_of};
 use std::fmt;
 use std::fmt::{Display, Formatter};
@@ -133,7 +132,7 @@ struct GapAndRule {
 impl Display for GapAndRule {
     ghost output = { λ cells. Some (two_lengths cells.gap next_cell cells.rule) };
 
-    #[tactic(auto, unfolding(printing::specs::Holes::two_lengths))]
+    #[tactic(auto, unfolding(grid_units::specs::HoleWords::two_lengths))]
     fn fmt<W: fmt::Write>(&self, f: &mut Formatter<W>) -> fmt::Result {
         let (gap, rule) = (ShortMillimetres(self.gap), ShortMillimetres(self.rule));
         write!(f, "{gap}</td><td>{rule}")

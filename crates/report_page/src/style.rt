@@ -5,7 +5,7 @@
 /// all layers and all rows, with the colours for light ground.
 /// The parts of a table of many findings (`many`) are laid out as they come into view, which a browser does for boxes other than those of a
 /// table alone: each row is a grid whose columns are as wide as those of the table. The third column, the name of a layer's file, takes the width
-/// that the others leave.
+/// that the others leave. The tool table (`drills`) stands below, and scrolls in a box of its own, on a phone along both axes.
 pub const STYLE: &str = "\
 :root{color-scheme:light dark;--ink:#222;--paper:#fff;--edge:#999;--rule:#ddd;--head:#eee;--over:#f4f1e6;--on:#ffe08a;--link:#0040b0;--strong:#0050d0;--faint:#666;--lack:#c00018}
 @media screen and (prefers-color-scheme:dark){
@@ -57,20 +57,25 @@ small{font-weight:normal;color:var(--faint)}
 #selected{height:4.2em;overflow:auto;overflow-wrap:anywhere}
 #spoken{position:absolute;width:1px;height:1px;margin:0;overflow:hidden;clip-path:inset(50%);white-space:nowrap}
 #rows{flex:1;min-height:0;overflow:auto;border:1px solid var(--edge)}
-table{table-layout:fixed;width:100%;min-width:54em;border-collapse:collapse;font-size:.75em}
+#drills{flex:none;max-height:24vh;overflow:auto;border:1px solid var(--edge)}
+table{width:100%;border-collapse:collapse;font-size:.75em}
+#rows table{table-layout:fixed;min-width:54em}
+#drills table{min-width:44em}
 caption{text-align:left;padding:.3em;font-weight:bold}
 th,td{text-align:left;vertical-align:top;padding:.2em .3em;border-top:1px solid var(--rule);overflow-wrap:anywhere}
 thead th{position:sticky;top:0;background:var(--head)}
-thead th:nth-child(1),thead th:nth-child(6){width:4.8em}
-thead th:nth-child(5){width:5.4em}
-thead th:nth-child(2){width:4.5em}
-thead th:nth-child(4){width:21%}
-thead th:nth-child(7){width:3em}
-thead th:nth-child(8){width:15%}
-thead th:nth-child(9){width:8%}
-tbody tr{cursor:pointer}
-tbody tr:hover{background:var(--over)}
-tbody tr.on{background:var(--on)}
+#rows thead th:nth-child(1),#rows thead th:nth-child(6){width:4.8em}
+#rows thead th:nth-child(5){width:5.4em}
+#rows thead th:nth-child(2){width:4.5em}
+#rows thead th:nth-child(4){width:21%}
+#rows thead th:nth-child(7){width:3em}
+#rows thead th:nth-child(8){width:15%}
+#rows thead th:nth-child(9){width:8%}
+#rows tbody tr{cursor:pointer}
+#rows tbody tr:hover{background:var(--over)}
+#rows tbody tr.on{background:var(--on)}
+#drills tr>:nth-child(n+3){overflow-wrap:normal}
+#drills td:last-child{font-weight:bold;color:var(--lack)}
 a{color:var(--link)}
 :focus-visible{outline:3px solid var(--strong);outline-offset:-1px}
 .reading main{display:none}
@@ -82,39 +87,40 @@ table.many,.many caption,.many thead,.many tbody{display:block}
 .many tr{display:grid;grid-template-columns:5.4em 5.1em minmax(0,1fr) 21% 6em 5.4em 3.6em 15% 8%}
 .many tbody{content-visibility:auto;contain-intrinsic-size:auto 680em}
 .many thead{position:sticky;top:0;z-index:1}
-.many thead th{position:static;width:auto}
+#rows .many thead th{position:static;width:auto}
 }
 @media screen and (max-width:85em){
 body{height:auto}
 header{max-height:none}
 main{display:block}
 #picture{overflow:visible;grid-auto-rows:60vh}
-#rows{max-height:70vh}
+#rows,#drills{max-height:70vh}
 }
 @media screen and (max-width:43em){
 #rows{max-height:none;overflow:visible;border:0}
-table{min-width:0;font-size:.9em}
-table,caption,tbody,tr,th,td,.many tr{display:block}
-thead,.many thead,td:empty{display:none}
-tbody tr{margin:.5em 0;padding:.3em;border:1px solid var(--edge);border-radius:.4em}
-th,td{border:0;padding:.1em .3em}
-tbody th::before{content:'#'}
-td:nth-child(3)::before{content:'layer: '}
-td:nth-child(5)::before{content:'diameter: '}
-td:nth-child(6)::before{content:'ring or gap: '}
-td:nth-child(7)::before{content:'rule: '}
-td:nth-child(8)::before{content:'cause: '}
-td:nth-child(9)::before{content:'waived: '}
-td::before{color:var(--faint)}
+#rows table{min-width:0;font-size:.9em}
+#rows table,#rows caption,#rows tbody,#rows tr,#rows th,#rows td{display:block}
+#rows thead,#rows td:empty{display:none}
+#rows tbody tr{margin:.5em 0;padding:.3em;border:1px solid var(--edge);border-radius:.4em}
+#rows th,#rows td{border:0;padding:.1em .3em}
+#rows tbody th::before{content:'#'}
+#rows td:nth-child(3)::before{content:'layer: '}
+#rows td:nth-child(5)::before{content:'diameter: '}
+#rows td:nth-child(6)::before{content:'ring or gap: '}
+#rows td:nth-child(7)::before{content:'rule: '}
+#rows td:nth-child(8)::before{content:'cause: '}
+#rows td:nth-child(9)::before{content:'waived: '}
+#rows td::before{color:var(--faint)}
 }
 @media print{
 body,main,section,#picture,.sheet,.sheet[hidden]{display:block;height:auto}
-#picture,#rows{border:0;overflow:visible}
+#picture,#rows,#drills{border:0;overflow:visible}
+#drills{max-height:none}
 .tools,#selected{display:none}
 header{max-height:none;overflow:visible}
 .sheet{outline:0;break-inside:avoid;margin-bottom:1em}
 .sight{aspect-ratio:var(--shape);width:min(100%,80vh*var(--shape))}
-table{min-width:0;font-size:.6em}
+#rows table,#drills table{min-width:0;font-size:.6em}
 thead th{position:static}
 tr{break-inside:avoid}
 *{print-color-adjust:exact}

@@ -8,10 +8,10 @@ use further_copper::{FeatureRow, RowKind};
 use grid_units::{Hole, Point, Profile, Rules};
 use layer_image::{What, Why};
 use margins::best_pads;
+use pad_shapes::WidePad;
 use report::{RingCause, *};
 use ring_rules::Drilled;
 use std::alloc::{AllocError, Global};
-use wide_pads::WidePad;
 
 /// What is flashed, and where.
 type FlashRow = (Form, i64, i64);

@@ -576,14 +576,14 @@ fn causes_and_scales_are_printed(rt: HostRuntime) {
         "pth: coordinates look 10 times too small: 3 holes have no pad; with coordinates times 10 it would be 0\n\
         rules: annular ring 0.15 mm, hole to hole 0.25 mm\n\
         hole to hole: 0 gaps too small\n\
-        1 pad too small: the pad's own radius or half side is less than the hole's radius and the ring\n\
+        1 pad too small: the pad's own radius or half side is less than the hole's radius plus the ring\n\
         1 off centre: the pad is large enough for a hole at its centre; drill files are rounded: see `ringcheck explain ring`\n\
         1 in a rounded pad or contour, too near its edge: move the hole or enlarge the pad: rings in rounded pads and contours are measured to their edge\n\
         2 only a macro flash: flashes by a macro are not judged: choose circle, oval or rectangle: see `ringcheck explain macro`\n\
         1 only a polygon flash: polygon flashes are not judged\n\
         1 only a holed flash: flashes with a hole are not judged\n\
         1 only a scaled flash: scaled flashes are not judged\n\
-        1 only a turned flash: flashes turned by other than quarters are not judged\n\
+        1 only a turned flash: flashes turned by anything but quarter turns are not judged\n\
         1 only a clear flash: a flash in clear polarity takes copper away\n\
         1 only a cleared flash: copper drawn before a clear object does not count\n\
         1 no pad at the hole: none was flashed here, or its copper is drawn or of a shape that is not judged, or origin or format differ: see `ringcheck explain none`\n\

@@ -5,7 +5,7 @@ use Rattle.std.specs.List.{list_any}
 use Rattle.grid_units.specs.Points.{GridPoint}
 use Rattle.grid_units.specs.Holes.{GridHole}
 use Rattle.grid_units.specs.declared.profile.Profile.{Profile}
-use Rattle.wide_pads.specs.Holding.{covers_hole}
+use Rattle.pad_shapes.specs.Holding.{covers_hole}
 use Rattle.ring_rules.specs.Findings.{is_refused_slot, lacks_ring}
 use Rattle.ring_rules.specs.Inner.Marks.{gives_ring}
 

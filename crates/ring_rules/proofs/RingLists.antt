@@ -9,7 +9,7 @@ use Rattle.grid_units.specs.Points.{GridPoint}
 use Rattle.grid_units.specs.Spans.{is_in_span}
 use Rattle.grid_units.specs.declared.profile.Profile.{Profile}
 use Rattle.grid_units.specs.declared.profile.Profile.TheVariants.{Strict, Wide}
-use Rattle.wide_pads.specs.Holding.{covers_hole}
+use Rattle.pad_shapes.specs.Holding.{covers_hole}
 use Rattle.ring_rules.specs.Findings.{is_oblique, is_ring_finding, finding_of, layer_findings, ring_findings}
 use Rattle.ring_rules.specs.WithoutFindings.{FindsOblique, FindsNoObliqueInWide, AreAmong, WideFindsNoMore}
 use Rattle.ring_rules.specs.declared.finding.Drilled.{Drilled}

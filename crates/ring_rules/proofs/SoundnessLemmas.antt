@@ -10,7 +10,7 @@ use Rattle.grid_units.specs.Holes.{GridHole, AreClear}
 use Rattle.grid_units.specs.declared.profile.Profile.{Profile}
 use Rattle.grid_units.specs.declared.profile.Profile.TheVariants.{Strict}
 use Rattle.pad_shapes.specs.Shapes.{IsAxisAligned, ContainsCovered, ContainsCoveredSlots}
-use Rattle.wide_pads.specs.Holding.{covers_hole, HoldsCoveredHoles}
+use Rattle.pad_shapes.specs.Holding.{covers_hole, HoldsCoveredHoles}
 use Rattle.ring_rules.specs.Cores.{are_clear}
 use Rattle.ring_rules.specs.Findings.{is_oblique, is_refused_slot, lacks_ring, is_ring_finding, ring_findings, layer_findings, hole_findings}
 use Rattle.grid_units.specs.Spans.{is_in_span}

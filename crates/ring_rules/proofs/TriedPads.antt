@@ -8,7 +8,7 @@ use Rattle.grid_units.specs.Points.{GridPoint}
 use Rattle.grid_units.specs.Holes.{GridHole}
 use Rattle.grid_units.specs.Spans.{is_in_span}
 use Rattle.grid_units.specs.declared.profile.Profile.{Profile}
-use Rattle.wide_pads.specs.Holding.{covers_hole}
+use Rattle.pad_shapes.specs.Holding.{covers_hole}
 use Rattle.ring_rules.specs.Findings.{finding_of, is_refused_slot, layer_findings}
 use Rattle.ring_rules.specs.Spots.{spot_at}
 use Rattle.ring_rules.specs.Search.{Covering, HasTriedCoverings, HasTried}

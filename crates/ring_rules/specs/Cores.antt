@@ -9,7 +9,7 @@ abbrev pub positive_part : ℤ → ℕ
 positive_part (pos n) = n
 positive_part (negsuc n) = 0
 
--- how far the ranges from a to b and from c to d are apart, 0 where they meet; the ends of each may stand in any order
+-- how far the ranges from a to b and from c to d are apart, 0 where they meet; the ends of each may be in any order
 abbrev pub range_distance : ℤ → ℤ → ℤ → ℤ → ℕ
 range_distance a b c d = max (positive_part (int_min c d -ℤ int_max a b)) (positive_part (int_min a b -ℤ int_max c d))
 

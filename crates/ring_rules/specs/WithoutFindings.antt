@@ -6,7 +6,7 @@ use Rattle.grid_units.specs.Holes.{GridHole, IsInCore, AreClear, AreApart}
 use Rattle.grid_units.specs.declared.profile.Profile.{Profile}
 use Rattle.grid_units.specs.declared.profile.Profile.TheVariants.{Strict, Wide}
 use Rattle.pad_shapes.specs.Shapes.{IsAxisAligned}
-use Rattle.wide_pads.specs.Holding.{HoldsHole}
+use Rattle.pad_shapes.specs.Holding.{HoldsHole}
 use Rattle.ring_rules.specs.Findings.{is_oblique, layer_findings, ring_findings, gap_findings}
 use Rattle.grid_units.specs.Spans.{is_in_span}
 use Rattle.ring_rules.specs.declared.finding.Drilled.{Drilled}

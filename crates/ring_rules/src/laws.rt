@@ -3,8 +3,7 @@
 ghost use Rattle.ring_rules.specs.Cores.{ClearHolesAreApart};
 ghost use Rattle.ring_rules.specs.WithoutFindings.{RingsHoldWithoutFindings, SlotsHoldWithoutFindings, HolesHoldWithoutFindings, StraightWithoutFindings, FindsOblique, FindsNoObliqueInWide, WideFindsNoMore, JudgesByCoverings, ApartWithoutFindings, RingsNamePlaces, GapsNamePlaces};
 
-use pad_shapes::PadShape;
-use wide_pads::SlotShape;
+use pad_shapes::{PadShape, SlotShape};
 
 /// No points of two clear holes are nearer than the gap.
 pub fn clear_holes_are_apart()

@@ -3,7 +3,7 @@
 ghost use Rattle.std.specs.Prelude.{◌≡◌, ◌+◌, ◌<◌, ◌≤◌, ◌&&◌, false, not, length};
 ghost use Rattle.ring_rules.specs.Inner.Marks.{gives_ring, gives_ring_at, RemovesMarks, NoMarkPassesFrom, HasNoMarkFrom};
 ghost use Rattle.ring_rules.specs.Inner.Regions.{AreInOrder};
-ghost use Rattle.wide_pads.specs.Holding.{covers_hole};
+ghost use Rattle.pad_shapes.specs.Holding.{covers_hole};
 
 use crate::finding::is_refused_slot;
 use crate::ordered::between;
@@ -18,7 +18,7 @@ fn covers_hole<S: PadShape>(pad: &S, hole: &Hole, rules: Rules) -> bool
     ensures { result ≡ covers_hole S.covers rules.ring hole.now pad.now }
 {
     let x = hole.from().x();
-    pad.left() <= x && x <= pad.right() && wide_pads::covers_hole(pad, hole, rules)
+    pad.left() <= x && x <= pad.right() && pad_shapes::covers_hole(pad, hole, rules)
 }
 
 /// Whether a pad gives a hole its ring. No pad does so for a slot that the profile refuses.

@@ -2,11 +2,11 @@
 
 use crate::rows::{add_round, disc, drilled, point};
 use margins::best_pads;
+use pad_shapes::WidePad;
 use report::{UnitFactor, UnitMistake, *};
 use ring_rules::Drilled;
 use std::alloc::Global;
 use std::test::Fail;
-use wide_pads::WidePad;
 
 /// A millimetre, in pm.
 const MM: i64 = 1_000_000_000;

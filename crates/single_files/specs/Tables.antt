@@ -10,8 +10,8 @@ use Rattle.grid_units.specs.declared.profile.Profile.TheVariants.{Strict, Wide}
 use Rattle.pad_shapes.specs.Rounded.{rounded_bottom, rounded_left, rounded_right, rounded_top}
 use Rattle.pad_shapes.specs.declared.pad.Pad.{Pad}
 use Rattle.pad_shapes.specs.declared.pad.Pad.TheVariants as pads
-use Rattle.wide_pads.specs.declared.wide_pad.WidePad.{WidePad}
-use Rattle.wide_pads.specs.declared.wide_pad.WidePad.TheVariants.{Plain, Rounded}
+use Rattle.pad_shapes.specs.declared.wide_pad.WidePad.{WidePad}
+use Rattle.pad_shapes.specs.declared.wide_pad.WidePad.TheVariants.{Plain, Rounded}
 use Rattle.drill_lines.specs.declared.command.DrillCommand.{DrillCommand}
 use Rattle.drill_text.specs.Holes.{holes_of}
 use Rattle.drill_text.specs.Profiles.{ReadsAsIn}

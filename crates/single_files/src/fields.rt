@@ -10,9 +10,8 @@ use further_copper::{Feature, FeatureKind};
 use grid_units::Hole;
 use itoa::Buffer;
 use layer_image::Why;
-use pad_shapes::Pad;
+use pad_shapes::{Pad, WidePad};
 use std::alloc::AllocError;
-use wide_pads::WidePad;
 
 fn shape_word(pad: &Pad) -> &'static str
     ensures text { result.now ≡ shape_word pad.now }

@@ -15,9 +15,9 @@ use drill_text::{Drill, DrillReader, readings_in_profiles};
 use further_copper::{Feature, FeatureKind};
 use grid_units::{Fail, Hole, Profile};
 use layer_image::{Flash, Layer, LayerReader, What, shown_faults};
+use pad_shapes::WidePad;
 use std::alloc::{AllocError, Global};
 use wide_layers::read_wide_layer;
-use wide_pads::WidePad;
 
 /// How many bytes of a layer are read at a time, so that no more of its commands are held.
 const PIECE: usize = 65_536;

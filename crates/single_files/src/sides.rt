@@ -12,8 +12,7 @@ use arrayvec::ArrayString;
 use further_copper::FeatureKind;
 use grid_units::write_mm;
 use itoa::Buffer;
-use pad_shapes::{Pad, PlacedRounded};
-use wide_pads::WidePad;
+use pad_shapes::{Pad, PlacedRounded, WidePad};
 
 /// How many pm are a millimetre.
 const MILLIMETRE: u64 = 1_000_000_000;

@@ -8,8 +8,8 @@ use Rattle.grid_units.specs.Holes.{GridHole, is_round}
 use Rattle.grid_units.specs.Points.{GridPoint}
 use Rattle.grid_units.specs.Spellings.{fraction_text, minus, places, trimmed}
 use Rattle.manifest.specs.Manifest.{CsvRecord}
-use Rattle.printing.specs.Lengths.{short_millimetres}
-use Rattle.printing.specs.Holes.{drilled_words, ends_words, point_words, two_lengths}
+use Rattle.grid_units.specs.LengthWords.{short_millimetres}
+use Rattle.grid_units.specs.HoleWords.{drilled_words, ends_words, point_words, two_lengths}
 use Rattle.waivers.specs.Findings.{finding_record, head_record}
 use Rattle.waivers.specs.Inner.{joined}
 

@@ -4,7 +4,7 @@ use Rattle.std.specs.List.{flat_map}
 use Rattle.std.specs.Option.{option_map_or}
 use Rattle.csv.specs.Writing.{default_writer, row_text}
 use Rattle.manifest.specs.Manifest.{CsvRecord}
-use Rattle.printing.specs.Lengths.{short_millimetres}
+use Rattle.grid_units.specs.LengthWords.{short_millimetres}
 use Rattle.report.specs.declared.GapLack.{GapLack}
 use Rattle.report.specs.declared.PlacedHole.{PlacedHole}
 use Rattle.report.specs.declared.LayerHead.{LayerHead}
@@ -12,7 +12,7 @@ use Rattle.report.specs.declared.RingCause.{RingCause}
 use Rattle.report.specs.declared.RingCause.TheVariants as causes
 use Rattle.report.specs.declared.RingLack.{RingLack}
 use Rattle.report.specs.declared.BoardReport.{BoardReport}
-use Rattle.printing.specs.Holes.{drilled_words, name_of}
+use Rattle.grid_units.specs.HoleWords.{drilled_words, name_of}
 
 -- a hole without its number: `pic_programmer-PTH, 0.75 at 142.24,-97.79`
 abbrev pub hole_field : List (List ℕ) → PlacedHole → List ℕ

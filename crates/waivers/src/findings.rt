@@ -3,13 +3,13 @@
 ghost use Rattle.std.specs.Prelude.{◌≡◌, Some, map};
 ghost use Rattle.csv.specs.Writing as Spec;
 ghost use Rattle.csv.specs.Writing.{default_writer, escaped, field_text, needs_byte};
-ghost use Rattle.printing.specs.Lengths.{short_millimetres};
+ghost use Rattle.grid_units.specs.LengthWords.{short_millimetres};
 ghost use Rattle.waivers.specs.Findings.{gap_fields, has_field, hole_field, layer_field, ring_fields};
 ghost use Rattle.waivers.specs.Inner.{joined};
 ghost use Rattle.waivers.specs.Waiving.{compared_fields};
 
 use crate::Waiver;
-use printing::{DrilledWords, ShortMillimetres, name_of};
+use grid_units::{DrilledWords, ShortMillimetres, name_of};
 use report::{GapLack, LayerHead, PlacedHole, RingCause, RingLack};
 use std::fmt;
 use std::fmt::{Display, Formatter};

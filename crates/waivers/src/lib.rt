@@ -23,7 +23,7 @@ use std::alloc::Global;
 pub use waiving::{Waived, idle, reasons, waive};
 
 /// A finding that is accepted, as a record of a file of waivers.
-#[derive(Debug, Drop)]
+#[derive(Drop)]
 pub struct Waiver {
     /// What is lacking: `ring` or `gap`.
     pub kind: Name,

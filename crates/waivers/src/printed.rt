@@ -4,7 +4,7 @@ ghost use Rattle.std.specs.Prelude.{Some, map};
 ghost use Rattle.waivers.specs.Findings.{finding_record, findings_text, gap_fields, ring_fields};
 
 use crate::findings::{GapFields, RingFields};
-use printing::{Line, Lines};
+use grid_units::{Line, Lines};
 use report::{BoardReport, GapLack, LayerHead, RingLack};
 use std::fmt;
 use std::fmt::{Display, Formatter};

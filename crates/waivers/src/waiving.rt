@@ -16,7 +16,7 @@ use std::alloc::{AllocError, Global};
 use std::collections::BTreeSet;
 
 /// For each finding of a report the waiver that waives it.
-#[derive(Debug, Drop)]
+#[derive(Drop)]
 pub struct Waived {
     /// For each ring of the report, in order, the index of the first waiver that waives it.
     pub rings: Vec<Option<usize>>,

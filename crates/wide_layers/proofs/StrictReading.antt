@@ -8,7 +8,7 @@ use Rattle.std.proofs.lemmas.List.Elements.{filter_map-append}
 use Rattle.grid_units.specs.Lists.{with_prefixes_from}
 use Rattle.grid_units.specs.Points.{GridPoint}
 use Rattle.pad_shapes.specs.Rounded.{GridRounded}
-use Rattle.wide_pads.specs.declared.wide_pad.WidePad.TheVariants.{Rounded}
+use Rattle.pad_shapes.specs.declared.wide_pad.WidePad.TheVariants.{Rounded}
 use Rattle.grid_units.specs.declared.fault.Fault.{Fault}
 use Rattle.grid_units.proofs.BoolLemmas.{both_true, or_is_false}
 use Rattle.gerber_commands.specs.declared.command.Command.{Command}

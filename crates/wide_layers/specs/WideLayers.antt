@@ -4,7 +4,7 @@ use Rattle.std.specs.List.{filter_map}
 use Rattle.grid_units.specs.declared.fault.Fault.{Fault}
 use Rattle.grid_units.specs.declared.profile.Profile.TheVariants.{Wide}
 use Rattle.pad_shapes.specs.declared.pad.Pad.{Pad}
-use Rattle.wide_pads.specs.declared.wide_pad.WidePad.TheVariants.{Plain}
+use Rattle.pad_shapes.specs.declared.wide_pad.WidePad.TheVariants.{Plain}
 use Rattle.gerber_text.specs.Writing.{without_places}
 use Rattle.gerber_commands.specs.declared.command.Command.{Command}
 use Rattle.layer_image.specs.FileFunction.{file_function_of}

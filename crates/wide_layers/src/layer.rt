@@ -8,9 +8,9 @@ ghost use Rattle.wide_layers.specs.WideLayers.{AreCountsOf};
 use crate::counts::FeatureCounts;
 use further_copper::{Feature, FeatureRow, NextFeatures, into_pads};
 use grid_units::Text;
+use pad_shapes::WidePad;
 use std::alloc::{AllocError, Global};
 use std::marker::Model;
-use wide_pads::WidePad;
 
 /// The text of a file function, where one is named.
 fn named(file_function: &Option<Text>) -> Option<&[u8]>

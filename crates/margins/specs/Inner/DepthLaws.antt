@@ -9,8 +9,8 @@ use Rattle.pad_shapes.specs.Pads.{pad_covers}
 use Rattle.pad_shapes.specs.declared.pad.Pad.TheVariants.{Disc, Rect, Obround}
 use Rattle.pad_shapes.specs.Rounded.{rounded_covers}
 use Rattle.pad_shapes.specs.Inner.RoundedLaws.{covers_less}
-use Rattle.wide_pads.specs.WidePads.{wide_pad_covers}
-use Rattle.wide_pads.specs.declared.wide_pad.WidePad.TheVariants.{Plain, Rounded}
+use Rattle.pad_shapes.specs.WidePads.{wide_pad_covers}
+use Rattle.pad_shapes.specs.declared.wide_pad.WidePad.TheVariants.{Plain, Rounded}
 use Rattle.margins.specs.Depths.{CoversLess}
 
 -- two tests that both passed

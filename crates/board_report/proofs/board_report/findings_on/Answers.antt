@@ -3,7 +3,7 @@ use Rattle.std.specs.Global.{Vec}
 use Rattle.std.specs.List.{All}
 use Rattle.std.proofs.lemmas.List.Elements.{All-append}
 use Rattle.std.proofs.lemmas.Result.{IfOk-weaker}
-use Rattle.wide_pads.specs.WidePads.{wide_pad_covers}
+use Rattle.pad_shapes.specs.WidePads.{wide_pad_covers}
 use Rattle.ring_rules.specs.Findings.{gap_findings, ring_findings}
 use Rattle.ring_rules.specs.WithoutFindings.{NamesPlaces}
 use Rattle.ring_rules.specs.declared.finding.Finding.{Finding}

@@ -1,5 +1,5 @@
 use Rattle.std.proofs.Common.{◌≡◌, ◌<◌, true, map}
-use Rattle.wide_pads.specs.WidePads.{wide_pad_covers}
+use Rattle.pad_shapes.specs.WidePads.{wide_pad_covers}
 use Rattle.margins.specs.Meets.{MeetsOnLayers}
 use Rattle.board_report.specs.Measures.{AreLayerBests}
 use Rattle.board_report.specs.Rows.{AreRowLines}

@@ -1,6 +1,6 @@
 use Rattle.std.proofs.Common.{◌++◌, codes, refl}
 use Rattle.std.proofs.Output.{has_written_append, has_written_of_eq}
-use Rattle.printing.specs.Lengths.{short_millimetres}
+use Rattle.grid_units.specs.LengthWords.{short_millimetres}
 use Rattle.drawing.specs.Pages.{length_at, text_start}
 use Rattle.drawing.proofs.words.write_length.Goals as goal
 

@@ -1,6 +1,6 @@
 use Rattle.std.proofs.Common.{List, take}
-use Rattle.wide_pads.specs.WidePads.{wide_pad_covers}
-use Rattle.wide_pads.specs.declared.wide_pad.WidePad.{WidePad}
+use Rattle.pad_shapes.specs.WidePads.{wide_pad_covers}
+use Rattle.pad_shapes.specs.declared.wide_pad.WidePad.{WidePad}
 use Rattle.margins.specs.BestPads.{AreBestPads}
 use Rattle.report.specs.Inner.RescaledCounts.{AreSuspects}
 use Rattle.report.proofs.mistakes.suspects_of.Given as goal

@@ -1,6 +1,6 @@
 use Rattle.std.proofs.Common.{◌≡◌, Bool, true, false, sym, ap, ◌∙◌}
 use Rattle.std.specs.Prelude.{◌&&◌, not}
-use Rattle.wide_pads.specs.Holding.{covers_hole}
+use Rattle.pad_shapes.specs.Holding.{covers_hole}
 use Rattle.ring_rules.specs.Findings.{is_refused_slot}
 use Rattle.ring_rules.specs.Inner.Marks.{gives_ring}
 use Rattle.ring_rules.proofs.marks.gives_ring.Goals as goal

@@ -1,5 +1,5 @@
 use Rattle.std.proofs.Common.{◌++◌, List, map, ap, subst, sym, ◌∙◌}
-use Rattle.wide_pads.specs.WidePads.{wide_pad_covers}
+use Rattle.pad_shapes.specs.WidePads.{wide_pad_covers}
 use Rattle.ring_rules.specs.Findings.{layer_findings}
 use Rattle.ring_rules.specs.Search.{Covering, HasTried}
 use Rattle.ring_rules.proofs.TriedPads.{layer_by_coverings}

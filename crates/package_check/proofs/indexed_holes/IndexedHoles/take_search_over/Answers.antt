@@ -1,5 +1,5 @@
 use Rattle.std.proofs.Common.{◌≡◌, ◌∙◌, List, Option, map, ap, subst, sym}
-use Rattle.wide_pads.specs.WidePads.{wide_pad_covers}
+use Rattle.pad_shapes.specs.WidePads.{wide_pad_covers}
 use Rattle.package_check.specs.HoleViews.{HolesView}
 use Rattle.package_check.specs.Judging.{HasTriedIn}
 use Rattle.ring_rules.specs.Search.{HasTried}

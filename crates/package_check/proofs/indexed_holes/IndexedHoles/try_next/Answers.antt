@@ -1,6 +1,6 @@
 -- Where all before them is taken away, the next pads alone stand; else they come after those that were tried.
 use Rattle.std.proofs.Common.{◌≡◌, ◌++◌, List, [], OnOk, ap, refl, subst, sym, ◌∙◌}
-use Rattle.wide_pads.specs.declared.wide_pad.WidePad.{WidePad}
+use Rattle.pad_shapes.specs.declared.wide_pad.WidePad.{WidePad}
 use Rattle.further_copper.specs.Features.{pads_of}
 use Rattle.package_check.specs.HoleViews.{HolesView}
 use Rattle.package_check.specs.Judging.{HasTriedIn}

@@ -1,5 +1,5 @@
 use Rattle.std.proofs.Common.{List, map, refl, ap, subst, sym, ◌∙◌}
-use Rattle.wide_pads.specs.WidePads.{wide_pad_covers}
+use Rattle.pad_shapes.specs.WidePads.{wide_pad_covers}
 use Rattle.pad_shapes.specs.Pads.{pad_covers}
 use Rattle.ring_rules.proofs.TriedPads.{tried_more_by_map}
 use Rattle.package_check.specs.LayerViews.{plain}

@@ -1,6 +1,6 @@
 -- The next pads are tried after those before them.
 use Rattle.std.proofs.Common.{map, ap, subst, sym, ◌∙◌, List}
-use Rattle.wide_pads.specs.WidePads.{wide_pad_covers}
+use Rattle.pad_shapes.specs.WidePads.{wide_pad_covers}
 use Rattle.ring_rules.proofs.TriedPads.{tried_more}
 use Rattle.ring_rules.specs.Search.{HasTried}
 use Rattle.ring_rules.specs.declared.finding.Drilled.{Drilled}

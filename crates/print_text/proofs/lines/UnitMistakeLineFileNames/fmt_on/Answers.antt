@@ -1,6 +1,6 @@
 use Rattle.std.proofs.Common.{◌∙◌, ℕ, List, ap, ap₂, map}
 use Rattle.std.proofs.Output.{has_written_of_eq}
-use Rattle.printing.specs.Holes.{name_of}
+use Rattle.grid_units.specs.HoleWords.{name_of}
 use Rattle.print_text.specs.Texts.{scale_words, size_words}
 use Rattle.print_text.proofs.lines.UnitMistakeLineFileNames.fmt_on.Goals as goal
 

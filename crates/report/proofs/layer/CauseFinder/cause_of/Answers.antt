@@ -1,6 +1,6 @@
 use Rattle.std.proofs.Common.{◌≡◌, Option, false, sym, subst, ◌∙◌}
 use Rattle.grid_units.specs.declared.profile.Profile.{Profile}
-use Rattle.wide_pads.specs.WidePads.{wide_pad_covers}
+use Rattle.pad_shapes.specs.WidePads.{wide_pad_covers}
 use Rattle.ring_rules.specs.Findings.{is_refused_slot}
 use Rattle.margins.specs.BestPads.{IsBestPad}
 use Rattle.margins.specs.declared.best.BestPad.{BestPad}

@@ -1,4 +1,6 @@
-use Rattle.std.proofs.Common.{List, ap, map}
+use Rattle.std.proofs.Common.{List, ap, map, subst}
+use Rattle.grid_units.specs.declared.profile.Profile.{Profile}
+use Rattle.board_report.specs.Measures.{IsMeasure}
 use Rattle.drawing.specs.Drawings.{svg_text}
 use Rattle.package_check.specs.declared.FileSum.{FileSum}
 use Rattle.report_page.specs.Pages.{html_text}
@@ -8,8 +10,11 @@ use Rattle.report_page.proofs.page.HtmlReport.new.Goals as goal
 pub returns : goal.returns
 returns c =
     let svg = svg_text c.in_ok-drawing.drawing in
+    let measure = c.in_ok-measure.measure in
     record {
       svg = svg;
+      measure = measure;
       drawn = c.in_ok-drawing.ensures;
-      is = ap (λ (files : List FileSum). html_text (map (λ name. name.now) c.args.names.now) c.args.about.now files c.args.report.now c.args.accepted.now svg) c.files-files.ensures.sums;
+      measured = subst (λ (profile : Profile). IsMeasure profile c.args.board.now measure) c.profile.ensures c.in_ok-measure.ensures.exact;
+      is = ap (λ (files : List FileSum). html_text (map (λ name. name.now) c.args.names.now) c.args.about.now files c.args.report.now c.args.accepted.now measure.rings.items svg) c.files-files.ensures.sums;
     }

@@ -2,7 +2,7 @@ use Rattle.std.proofs.Common.{◌≡◌, ◌∙◌, ap, rules, sym, w64}
 use mir.Val.{of_z, to_z}
 use Rattle.std.proofs.lemmas.Int.{to_z-of_z}
 use Rattle.std.proofs.Output.{has_written_of_eq}
-use Rattle.printing.specs.Lengths.{short_millimetres}
+use Rattle.grid_units.specs.LengthWords.{short_millimetres}
 use Rattle.waivers.proofs.Quoted.{length_field}
 use Rattle.waivers.proofs.findings.LengthFieldDisplay.fmt.Goals as goal
 

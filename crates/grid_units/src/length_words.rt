@@ -1,0 +1,106 @@
+//! Lengths in millimetres.
+
+ghost use Rattle.std.specs.Prelude.{◌≡◌, ◌≤◌, ◌<◌, ◌+◌, ◌++◌, ◌∷◌, ◌/◌, ◌%◌, ◌^◌, [], Some, decimal};
+ghost use Rattle.std.specs.Fmt.{DisplaysOnOk};
+ghost use Rattle.grid_units.specs.Spellings.{fraction_text, millimetres, minus, places, trimmed};
+ghost use Rattle.grid_units.specs.LengthWords.{short_millimetres};
+
+use crate::{power_of_ten, write_mm};
+use std::fmt;
+use std::fmt::{Display, Formatter};
+
+/// How many pm are a millimetre.
+const MILLIMETRE: u64 = 1_000_000_000;
+
+/// The sign of a length: `-` below zero.
+fn minus(length: i64) -> &'static str
+    ensures { result.now ≡ minus length }
+{
+    if length < 0 { "-" } else { "" }
+}
+
+/// Writes a point and the nine decimals of so many pm, less than a millimetre.
+fn write_decimals<W: fmt::Write>(f: &mut Formatter<W>, below: u32) -> fmt::Result
+    requires { below < 10 ^ 9 }
+    ensures { DisplaysOnOk W.write_str_gives f.old result (Some (46 ∷ places 9 below)) f.new }
+{
+    let spelled = write_mm(i64::from(below));
+    match spelled.as_str().strip_prefix('0') {
+        Some(decimals) => f.write_str(decimals),
+        None => Ok(()),
+    }
+}
+
+/// A length in pm, printed in millimetres with nine decimals: `-0.125000000`.
+#[derive(Clone, Copy, Debug, PartialEq, Eq)]
+pub struct Millimetres(pub i64);
+
+impl Display for Millimetres {
+    ghost output = { λ length. Some (millimetres length.0) };
+
+    fn fmt<W: fmt::Write>(&self, f: &mut Formatter<W>) -> fmt::Result {
+        let size = self.0.unsigned_abs();
+        write!(f, "{}{}", minus(self.0), size / MILLIMETRE)?;
+        write_decimals(f, (size % MILLIMETRE) as u32)
+    }
+}
+
+/// A number without the zeros at its end, and how many of its nine digits are left.
+fn without_zeros(number: u32) -> (u32, u8)
+    ensures places { places result.1 result.0 ≡ trimmed (places 9 number) }
+    ensures width { result.1 ≤ 9 }
+{
+    let mut rest = number;
+    let mut width = 9;
+    while width > 0 && rest % 10 == 0 {
+        rest /= 10;
+        width -= 1;
+    }
+    (rest, width)
+}
+
+/// One digit of a number: that of so many tens.
+fn digit_of(number: u32, exponent: u8) -> u8
+    requires { exponent < 9 }
+    ensures value { result ≡ number / 10 ^ exponent % 10 }
+    ensures digit { result < 10 }
+{
+    (u64::from(number) / power_of_ten(exponent) % 10) as u8
+}
+
+/// Writes the last so many digits of a number.
+fn write_places<W: fmt::Write>(f: &mut Formatter<W>, number: u32, width: u8) -> fmt::Result
+    requires { width ≤ 9 }
+    ensures { DisplaysOnOk W.write_str_gives f.old result (Some (places width number)) f.new }
+{
+    for exponent in (0..width).rev() {
+        write!(f, "{}", digit_of(number, exponent))?;
+    }
+    Ok(())
+}
+
+/// Writes a point and the decimals of so many pm, less than a millimetre, without the zeros at their end; nothing where none is left.
+fn write_short_decimals<W: fmt::Write>(f: &mut Formatter<W>, below: u32) -> fmt::Result
+    ensures { DisplaysOnOk W.write_str_gives f.old result (Some (fraction_text (trimmed (places 9 below)))) f.new }
+{
+    let (number, width) = without_zeros(below);
+    if width == 0 {
+        return Ok(());
+    }
+    f.write_str(".")?;
+    write_places(f, number, width)
+}
+
+/// A length in pm, printed in millimetres without the zeros at the end of its decimals, and without a point where none is left: `0.125`.
+#[derive(Clone, Copy, Debug, PartialEq, Eq)]
+pub struct ShortMillimetres(pub i64);
+
+impl Display for ShortMillimetres {
+    ghost output = { λ length. Some (short_millimetres length.0) };
+
+    fn fmt<W: fmt::Write>(&self, f: &mut Formatter<W>) -> fmt::Result {
+        let size = self.0.unsigned_abs();
+        write!(f, "{}{}", minus(self.0), size / MILLIMETRE)?;
+        write_short_decimals(f, (size % MILLIMETRE) as u32)
+    }
+}

@@ -1,0 +1,41 @@
+-- Sums and steps of coordinates, within 128 bits.
+use Rattle.std.proofs.Common.{◌≡◌, ℕ, ◌*◌, ◌^◌, ◌≤◌, ◌<◌, ℤ, pos, ◌+ℤ◌, ◌*ℤ◌, unsigned_abs, FitsSigned, ap, ◌∙◌, arith, to_z, of_z, mul-le-mul, lit<}
+use Rattle.std.proofs.lemmas.Int.{ints, fits_signed_mul, unsigned_abs-mul, to_z-of_z}
+use Rattle.grid_units.proofs.LengthLemmas.{back_128}
+use mir.Syntax.{w128, w64}
+
+-- so many steps, as the code forms them
+pub steps : (a step : ℤ) (count : ℕ) → a ≡ pos count → count < 2 ^ 32 → unsigned_abs step ≤ 2 ^ 71 → to_z w128 (of_z w128 a) *ℤ to_z w128 (of_z w128 step) ≡ pos count *ℤ step
+steps a step count e few short = λ i. (ap (λ z. to_z w128 (of_z w128 z)) e ∙ to_z-of_z w128 (pos count) (omega (arith, ints))) i *ℤ back_128 step (omega arith) i
+
+pub steps_fit : (count : ℕ) (step : ℤ) → count < 2 ^ 32 → unsigned_abs step ≤ 2 ^ 71 → FitsSigned w128 (pos count *ℤ step)
+steps_fit count step few short = fits_signed_mul w128 (pos count) step (2 ^ 32) (2 ^ 71) (omega (arith, ints)) short (lit< tt)
+
+steps_bound : (count : ℕ) (step : ℤ) → count < 2 ^ 32 → unsigned_abs step ≤ 2 ^ 71 → unsigned_abs (pos count *ℤ step) ≤ 2 ^ 103
+steps_bound count step few short =
+    let few_or_equal : count ≤ 2 ^ 32 = omega arith in
+    let p : count * unsigned_abs step ≤ 2 ^ 32 * 2 ^ 71 = mul-le-mul few_or_equal short in
+    rw unsigned_abs-mul (omega arith)
+
+small_sum_fits : (a b : ℤ) → unsigned_abs a ≤ 2 ^ 98 → unsigned_abs b ≤ 2 ^ 103 → FitsSigned w128 (a +ℤ b)
+small_sum_fits a b h l = omega (arith, ints)
+
+pub stepped_fits : (start step : ℤ) (count : ℕ) → unsigned_abs start ≤ 2 ^ 98 → count < 2 ^ 32 → unsigned_abs step ≤ 2 ^ 71 → FitsSigned w128 (start +ℤ pos count *ℤ step)
+stepped_fits start step count near few short = small_sum_fits start _ near (steps_bound count step few short)
+
+-- a start moved by so many steps, as the code forms it
+pub stepped : (start a step : ℤ) (count : ℕ) → a ≡ pos count → unsigned_abs start ≤ 2 ^ 98 → count < 2 ^ 32 → unsigned_abs step ≤ 2 ^ 71 → to_z w128 (of_z w128 start) +ℤ to_z w128 (of_z w128 (to_z w128 (of_z w128 a) *ℤ to_z w128 (of_z w128 step))) ≡ start +ℤ pos count *ℤ step
+stepped start a step count e near few short = λ i. back_128 start near i +ℤ (ap (λ z. to_z w128 (of_z w128 z)) (steps a step count e few short) ∙ to_z-of_z w128 _ (steps_fit count step few short)) i
+
+in_128 : (z : ℤ) → FitsSigned w64 z → to_z w128 (of_z w128 z) ≡ z
+in_128 z h = to_z-of_z w128 z (omega (arith, ints))
+
+-- a sum of two numbers of 64 bits, as the code forms it
+pub sum : (a b x y : ℤ) → FitsSigned w64 x → FitsSigned w64 y → a ≡ x → b ≡ y → to_z w128 (of_z w128 a) +ℤ to_z w128 (of_z w128 b) ≡ x +ℤ y
+sum a b x y h l e f = λ i. (ap (λ z. to_z w128 (of_z w128 z)) e ∙ in_128 x h) i +ℤ (ap (λ z. to_z w128 (of_z w128 z)) f ∙ in_128 y l) i
+
+pub sum_fits : (x y : ℤ) → FitsSigned w64 x → FitsSigned w64 y → FitsSigned w128 (x +ℤ y)
+sum_fits x y h l = omega (arith, ints)
+
+pub sum_bound : (x y : ℤ) → FitsSigned w64 x → FitsSigned w64 y → unsigned_abs (x +ℤ y) ≤ 2 ^ 64
+sum_bound x y h l = omega (arith, ints)

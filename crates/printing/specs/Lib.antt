@@ -1,2 +1,0 @@
-pub mod Holes
-pub mod Lengths

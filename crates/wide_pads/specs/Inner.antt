@@ -1,2 +1,0 @@
-pub mod HoldingLaws
-pub mod WidePadLaws

@@ -1,4 +1,0 @@
-pub mod Holding
-pub mod WidePads
-pub mod Laws
-pub mod Inner
