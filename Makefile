@@ -9,7 +9,7 @@ root = $(DESTDIR)$(PREFIX)
 documents = $(root)/share/doc/ringcheck
 pages := docs/GUIDE.md docs/FORMATS.md docs/JSON.md docs/TRUST.md docs/ringcheck.schema.json docs/board.svg
 boards := $(wildcard $(foreach it,csv gbr drl,examples/first/*.$(it) examples/spans/*.$(it) examples/board/*.$(it) examples/board/gerbers/*.$(it)))
-shared := extras/junit.jq extras/github.jq extras/gitlab.jq $(wildcard extras/kicad/*.py) extras/kicad/README.md packaging/ci/github.yml packaging/ci/gitlab.yml
+shared := extras/junit.jq extras/github.jq extras/gitlab.jq $(wildcard extras/kicad/*.py) extras/kicad/README.md extras/ci/github.yml extras/ci/gitlab.yml
 installed = bin/ringcheck bin/ringcheck-each share/doc/ringcheck/proved share/man/man1/ringcheck.1 share/man/man1/ringcheck-each.1 \
   $(patsubst extras/%,share/ringcheck/%,$(shared:packaging/%=share/ringcheck/%)) share/bash-completion/completions/ringcheck share/zsh/site-functions/_ringcheck \
   share/fish/vendor_completions.d/ringcheck.fish $(pages:docs/%=share/doc/ringcheck/%) $(boards:%=share/doc/ringcheck/%)

@@ -5,7 +5,7 @@
     examples/board/make.py --rows       prints the runs of examples/runs.txt on it as rows of crates/worked_examples/data/examples.txt
 
 Made are gerbers/ (two copper layers, a drill file of plated and one of unplated holes, an outline), board.csv, and expected/.
-What is expected is written down from how the board is made, not from what a program answers. scripts/check_examples runs the
+What is expected is written down from how the board is made, not from what a program answers. checks/examples runs the
 commands and compares. Lengths are whole nanometres (nm) here.
 
 The board has four DIP sockets, a header, vias, a jack with a slot, parts on its top, mounting holes. Its ring is 0.15 mm and its
@@ -311,7 +311,7 @@ def report_for_people(files):
         f"  #6 {at(59)}, and {at(60)}: gap 0.2 (rule {length(GAP)})",
         "2 off centre: the pad is large enough for a hole at its centre; drill files are rounded: see `ringcheck explain ring`",
         "2 only a macro flash: flashes by a macro are not judged: choose circle, oval or rectangle: see `ringcheck explain macro`",
-        "1 no pad at the hole: none was flashed here, or its copper is drawn or of a shape that is not judged, or origin or format differ: see `ringcheck explain none`",
+        "1 no pad at the hole: no pad was flashed here, or it is drawn or of a shape that is not judged, or the drill file has another origin or format: see `ringcheck explain none`",
         f"smallest ring {length(RING - 1_000)} (rule {length(RING)})",
         f"smallest gap 0.2 (rule {length(GAP)})",
         f"no annular ring is met: 3 findings are of holes with no pad that counts (without them: {length(RING - 1_000)}); hole to hole 0.2 is met",

@@ -150,7 +150,7 @@ def findings_of(answer):
 def warnings_of(answer):
     """A line for each drill file whose own comments contradict its role."""
     files = [it for it in answer["files"] if it.get("contradicted")]
-    return [f"{it['name']}: its role is {it['role']}, and it says that holes are {'not ' if it['role'] == 'plated' else ''}plated" for it in files]
+    return [f"{it['name']}: its role is {it['role']}, but its comments say that holes are {'not ' if it['role'] == 'plated' else ''}plated" for it in files]
 
 
 def has_plated_hole(answer):

@@ -32,16 +32,21 @@ _ringcheck() {
       mapfile -t COMPREPLY < <(compgen -f -- "$word")
       return
       ;;
+    --in)
+      compopt -o filenames
+      mapfile -t COMPREPLY < <(compgen -d -- "$word")
+      return
+      ;;
     --ring | --gap | --max) return ;;
   esac
   case $command in
-    check) options='--ring --gap --profile --help' ;;
-    draw) options='--ring --gap --profile --outline --help' ;;
-    report) options='--ring --gap --profile --max --waive --outline --format --exit-zero --help' ;;
-    measure) options='--profile --format --help' ;;
-    manifest) options='--why --profile --help' ;;
-    show) options='--kind --profile --help' ;;
-    rewrite) options='--kind --help' ;;
+    check) options='--ring --gap --profile --in --help' ;;
+    draw) options='--ring --gap --profile --outline --in --help' ;;
+    report) options='--ring --gap --profile --max --waive --outline --format --exit-zero --in --help' ;;
+    measure) options='--profile --format --in --help' ;;
+    manifest) options='--why --profile --in --help' ;;
+    show) options='--kind --profile --in --help' ;;
+    rewrite) options='--kind --in --help' ;;
     explain)
       mapfile -t COMPREPLY < <(compgen -W "$(ringcheck explain 2>/dev/null | cut -d: -f1)" -- "$word")
       return

@@ -17,6 +17,7 @@ complete -c ringcheck -n '__fish_seen_subcommand_from explain' -a '(ringcheck ex
 complete -c ringcheck -n '__fish_seen_subcommand_from help' -a 'check report measure draw manifest explain show rewrite'
 complete -c ringcheck -n '__fish_seen_subcommand_from check report draw' -l ring -x -d 'minimum annular ring, in mm'
 complete -c ringcheck -n '__fish_seen_subcommand_from check report draw' -l gap -x -d 'minimum distance between hole edges, in mm'
+complete -c ringcheck -n '__fish_seen_subcommand_from check report measure draw manifest show rewrite' -l in -x -a '(__fish_complete_directories)' -d 'the folder that file names are taken from'
 complete -c ringcheck -n '__fish_seen_subcommand_from check report measure draw manifest show' -l profile -x -a 'strict wide' -d 'which shapes are pads, and which files are read'
 complete -c ringcheck -n '__fish_seen_subcommand_from report' -l max -x -d 'show at most this many findings'
 complete -c ringcheck -n '__fish_seen_subcommand_from report' -l exit-zero -d 'exit with status 0 even if there are findings'

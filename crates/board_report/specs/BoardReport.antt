@@ -1,5 +1,5 @@
 -- The report on a package: each finding of its check with its place, its cause and its figures. Lengths are whole picometres.
-use Rattle.std.specs.Prelude.{◌≡◌, ℕ, pos, ◌+◌, ◌-ℤ◌, Bool, true, false, not, List, [], length, get_or, map, count_by, Option, Some, None, Result, Ok, Err, ⊤, if◌then◌else◌}
+use Rattle.std.specs.Prelude.{◌≡◌, ℕ, pos, ◌+◌, ◌-ℤ◌, Bool, true, false, not, List, [], length, get_or, map, count_by, Option, Some, None, if◌then◌else◌}
 use Rattle.std.specs.List.{AllZip, enumerate_from, filter, filter_map}
 use Rattle.grid_units.specs.Holes.{GridRules}
 use Rattle.pad_shapes.specs.declared.wide_pad.WidePad.{WidePad}
@@ -11,13 +11,11 @@ use Rattle.ring_rules.specs.declared.finding.Finding.TheVariants.{Gap, Oblique, 
 use Rattle.margins.specs.Gaps.{IsGap}
 use Rattle.margins.specs.Meets.{needs_ring}
 use Rattle.package_check.specs.Boards.{BoardView, IsFlashedBoard, board_findings}
-use Rattle.package_check.specs.Package.{IsFirstRefused, IsReport, FileView}
+use Rattle.package_check.specs.Package.{IsReport, FileView}
 use Rattle.package_check.specs.Reports.{ReportView}
 use Rattle.package_check.specs.Soundness.{IsSound}
 use Rattle.package_check.specs.declared.FileSum.{FileSum}
 use Rattle.package_check.specs.declared.FileSum.TheVariants as sum
-use Rattle.package_check.specs.declared.PackageFault.{PackageFault}
-use Rattle.package_check.specs.declared.PackageFault.TheVariants as stop
 use Rattle.board_report.specs.Measures.{IsMeasure}
 use Rattle.board_report.specs.Rows.{IsPlace}
 use Rattle.report.specs.declared.Measure.{Measure}
@@ -101,12 +99,6 @@ pub record IsBoardReportOf (sources : List FileView) (required : GridRules) (out
   pub board : BoardView
   pub read : IsFlashedBoard sources board
   pub is : IsBoardReport required board output
-
--- the answer is the report on the package, or its first file that is refused; if memory runs out nothing is claimed
-abbrev pub AnswersBoardReport : List FileView → GridRules → Result BoardReport PackageFault → Type 0
-AnswersBoardReport sources required (Ok output) = IsBoardReportOf sources required output
-AnswersBoardReport sources required (Err stop.Memory) = ⊤
-AnswersBoardReport sources required (Err (stop.File index fault)) = IsFirstRefused sources index fault
 
 -- an entry has the drill file and the number of the hole at a place in the list of all holes
 abbrev pub MatchesHole : List FileSum → ℕ → PlacedHole → Type 0

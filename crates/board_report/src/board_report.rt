@@ -3,19 +3,18 @@
 ghost use Rattle.std.specs.Prelude.{◌≡◌, IfOk, length};
 ghost use Rattle.std.specs.List.{All};
 ghost use Rattle.ring_rules.specs.WithoutFindings.{NamesPlaces};
-ghost use Rattle.package_check.specs.Boards.{ReturnsFlashedBoard, board_findings};
-ghost use Rattle.package_check.specs.Package.{file_views_in};
+ghost use Rattle.package_check.specs.Boards.{board_findings};
 ghost use Rattle.board_report.specs.Inner.EntriesSoFar.{AreBoardBests};
-ghost use Rattle.board_report.specs.BoardReport.{AnswersBoardReport, IsBoardReport};
+ghost use Rattle.board_report.specs.BoardReport.{IsBoardReport};
 
-use crate::conflicts::role_conflicts;
+use crate::files_with_holes;
 use crate::gaps::gap_lacks;
-use crate::heads::heads;
+use crate::heads::{heads, role_conflicts};
+use crate::measure::measure_of;
 use crate::rings::ring_lacks;
-use crate::{files_with_holes, measure_with_bests};
 use grid_units::Rules;
 use margins::{BestPad, ring_findings_from_bests};
-use package_check::{Board, File, Keep, PackageFault, read_package};
+use package_check::Board;
 use pad_shapes::WidePad;
 use report::BoardReport;
 use ring_rules::laws::findings_name_places;
@@ -63,7 +62,7 @@ fn findings_on(
 pub fn report_on(alloc: Global, board: &Board, rules: Rules) -> Result<BoardReport, AllocError>
     ensures { IfOk result (IsBoardReport rules board.now) }
 {
-    let (measure, bests) = measure_with_bests(alloc, board, rules.profile())?;
+    let (measure, bests) = measure_of(alloc, board, rules.profile(), true)?;
     let findings = findings_on(alloc, board, &bests, rules)?;
     let files = files_with_holes(alloc, board)?;
     Ok(BoardReport {
@@ -75,25 +74,4 @@ pub fn report_on(alloc: Global, board: &Board, rules: Rules) -> Result<BoardRepo
         conflicts: role_conflicts(alloc, board)?,
         meets: measure.meets,
     })
-}
-
-/// The report on the package of these files, read in the profile of the rules: an entry for each finding of its check under these rules,
-/// in order, with what it lacks and why, and the rules that the package meets.
-///
-/// # Errors
-///
-/// As those of [`package_check::check_bytes`] on these files: the first file that is refused, by its index, with its fault; `Memory`
-/// when memory runs out.
-pub fn report_bytes(
-    alloc: Global,
-    files: &[File],
-    rules: Rules,
-) -> Result<BoardReport, PackageFault>
-    ensures { AnswersBoardReport (file_views_in rules.profile files.now) rules result }
-{
-    let board = read_package(alloc, rules.profile(), files, Keep::Flashes)?;
-    match report_on(alloc, &board, rules) {
-        Ok(output) => Ok(output),
-        Err(_) => Err(PackageFault::Memory),
-    }
 }

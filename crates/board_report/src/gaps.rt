@@ -8,7 +8,7 @@ ghost use Rattle.board_report.specs.Inner.EntriesSoFar.{AddsEntry};
 ghost use Rattle.board_report.specs.BoardReport.{IsGapEntry, IsGapEntryOf, is_gap};
 
 use crate::FileHoles;
-use crate::hole_places::hole_at;
+use crate::places::hole_at;
 use grid_units::Rules;
 use margins::gap_between;
 use package_check::Board;

@@ -1,13 +1,13 @@
 //! The layers of a board, with the number of holes that need a ring on each.
 
 ghost use Rattle.std.specs.Prelude.{◌≡◌, IfOk, count_by, map};
-ghost use Rattle.std.specs.List.{enumerate_from};
+ghost use Rattle.std.specs.List.{enumerate_from, filter_map};
 ghost use Rattle.margins.specs.Meets.{needs_ring};
-ghost use Rattle.board_report.specs.BoardReport.{head_of};
+ghost use Rattle.board_report.specs.BoardReport.{head_of, conflict_in};
 
 use margins::needs_ring;
-use package_check::Board;
-use report::LayerHead;
+use package_check::{Board, FileSum};
+use report::{LayerHead, RoleConflict};
 use ring_rules::Drilled;
 use std::alloc::{AllocError, Global};
 
@@ -41,5 +41,31 @@ pub(crate) fn heads(alloc: Global, board: &Board) -> Result<Vec<LayerHead>, Allo
         .iter()
         .enumerate()
         .map(|(layer, file)| head_of(holes, layer, *file))
+        .collect(alloc)
+}
+
+/// The conflict of a file, by its index: of a drill file whose own comments contradict its role.
+fn conflict_in(drill: usize, file: &FileSum) -> Option<RoleConflict>
+    ensures { result ≡ conflict_in (drill, file.now) }
+{
+    match *file {
+        FileSum::Drill {
+            plated,
+            contradicted: true,
+            ..
+        } => Some(RoleConflict { drill, plated }),
+        FileSum::Layer { .. } | FileSum::Drill { .. } | FileSum::Mixed { .. } => None,
+    }
+}
+
+/// The drill files of a board whose own comments contradict their role, in order.
+pub(crate) fn role_conflicts(alloc: Global, board: &Board) -> Result<Vec<RoleConflict>, AllocError>
+    ensures { IfOk result (λ conflicts. conflicts.items ≡ filter_map conflict_in (enumerate_from 0 board.now.files)) }
+{
+    board
+        .files()
+        .iter()
+        .enumerate()
+        .filter_map(|(drill, file)| conflict_in(drill, file))
         .collect(alloc)
 }

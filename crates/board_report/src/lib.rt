@@ -5,19 +5,16 @@
 #![tactic(auto)]
 
 mod board_report;
-mod conflicts;
 mod gaps;
 mod heads;
-mod hole_places;
 pub mod laws;
 mod measure;
 mod places;
-pub mod report_laws;
 mod rings;
 mod rows;
 mod units;
 
-pub use board_report::{report_bytes, report_on};
-pub use measure::{measure_board, measure_bytes, measure_with_bests};
+pub use board_report::report_on;
+pub use measure::{measure_board, measure_bytes};
 pub use places::{FileHoles, files_with_holes, place_among, place_of};
 pub use report::{BoardReport, Measure};

@@ -90,8 +90,8 @@ fn rings_on(
     })
 }
 
-/// The measure of a board, and the best pads of its layers if they are kept.
-fn measure_of(
+/// The measure of a board, and for each of its layers the best pad of each hole there if they are kept: these take memory for each layer and hole.
+pub(crate) fn measure_of(
     alloc: Global,
     board: &Board,
     profile: Profile,
@@ -136,23 +136,6 @@ pub fn measure_board(alloc: Global, board: &Board, profile: Profile) -> Result<M
     rings_pass::<WidePad>();
     gaps_pass();
     measure_alone(alloc, board, profile)
-}
-
-/// The measure of a board, and for each of its layers the best pad of each hole there. These take memory for each layer and hole;
-/// [`measure_board`] keeps none of them.
-///
-/// # Errors
-///
-/// An `AllocError` when memory runs out.
-pub fn measure_with_bests(
-    alloc: Global,
-    board: &Board,
-    profile: Profile,
-) -> Result<(Measure, Vec<Vec<Option<BestPad>>>), AllocError>
-    ensures exact { IfOk result (λ found. IsMeasure profile board.now found.0) }
-    ensures bests { IfOk result (λ found. AreLayerBests board.now (length board.now.layers) (map (λ bests. bests.items) found.1.items)) }
-{
-    measure_of(alloc, board, profile, true)
 }
 
 fn measure_files(alloc: Global, profile: Profile, files: &[File]) -> Result<Measure, PackageFault>

@@ -3,13 +3,13 @@
 ghost use Rattle.std.specs.Prelude.{◌≡◌, ◌++◌, ◌∷◌, ◌+◌, ◌<◌, ◌≤◌, [], length, IfOk, OnOk};
 ghost use Rattle.std.specs.List.{Contains};
 ghost use Rattle.margins.specs.NearestHoles.{IsNearest, IsNearestOf, IsPair};
-ghost use Rattle.package_check.specs.Boards.{BoardView};
+ghost use Rattle.package_check.specs.Boards.{BoardView, holes_before};
 ghost use Rattle.board_report.specs.Rows.{AreFilesWithHoles, IsPlace, IsGapLine, IsLeastGap};
-ghost use Rattle.package_check.specs.Boards.{holes_before};
+ghost use Rattle.board_report.specs.BoardReport.{IsPlacedHole};
 
 use margins::Nearest;
 use package_check::{Board, hole_count};
-use report::{GapLine, HolePlace};
+use report::{GapLine, HolePlace, PlacedHole};
 use std::alloc::{AllocError, Global};
 
 /// The holes of a drill file that has some, as places in the list of all holes of a board.
@@ -131,5 +131,17 @@ pub(crate) fn gap_line(board: &Board, nearest: Option<Nearest>) -> Option<GapLin
     match nearest {
         Some(pair) => Some(line_of(board, pair)),
         None => None,
+    }
+}
+
+/// A hole of a board, by its place in the list of all holes, with its drill file and its number there.
+pub(crate) fn hole_at(board: &Board, files: &[FileHoles], place: usize) -> PlacedHole
+    requires files { AreFilesWithHoles board.now files.now }
+    requires place { place < length board.now.holes }
+    ensures { IsPlacedHole board.now place result }
+{
+    PlacedHole {
+        place: place_among(files, place),
+        hole: board.holes()[place].hole,
     }
 }

@@ -9,7 +9,7 @@ ghost use Rattle.board_report.specs.Inner.EntriesSoFar.{AddsEntry, AreBoardBests
 ghost use Rattle.board_report.specs.BoardReport.{IsRingEntry, IsRingEntryAt, is_gap, layer_pads, layer_rows};
 
 use crate::FileHoles;
-use crate::hole_places::hole_at;
+use crate::places::hole_at;
 use further_copper::FeatureRow;
 use grid_units::Rules;
 use margins::BestPad;

@@ -22,66 +22,69 @@ version_fault = refl
 
 -- ---- `check`
 
-abbrev pub check_options : Text → Text → Option Text → Text → Options
-check_options r g f m = (codes "ring", Some r) ∷ (codes "gap", Some g) ∷ (codes "profile", f) ∷ (codes "manifest", Some m) ∷ []
+abbrev pub check_options : Text → Text → Option Text → Option Text → Text → Options
+check_options r g f i m = (codes "ring", Some r) ∷ (codes "gap", Some g) ∷ (codes "profile", f) ∷ (codes "in", i) ∷ (codes "manifest", Some m) ∷ []
 
-pub check_answer : (r g : Text) (f : Option Text) (m : Text) → is_plain_word r ≡ true → is_plain_word g ≡ true → is_plain_if_some f ≡ true → is_plain_word m ≡ true
-    → answer (check_words r g f m) ≡ (true, Some (codes "check", rows_of (check_options r g f m)))
+pub check_answer : (r g : Text) (f i : Option Text) (m : Text) → is_plain_word r ≡ true → is_plain_word g ≡ true → is_plain_if_some f ≡ true → is_plain_if_some i ≡ true → is_plain_word m ≡ true
+    → answer (check_words r g f i m) ≡ (true, Some (codes "check", rows_of (check_options r g f i m)))
 unfolding clap_on_literals
-check_answer r g f m p q t s =
-    command_answer (codes "check") ((codes "ring", Some r) ∷ (codes "gap", Some g) ∷ (codes "profile", f) ∷ []) (codes "manifest") m
-    (record { named = (λ rest. refl, λ rest. refl); options = (refl, (refl, (refl, tt))); end = refl; defaults = refl }) (p, (q, (t, tt))) s
+check_answer r g f i m p q t u s =
+    command_answer (codes "check") ((codes "ring", Some r) ∷ (codes "gap", Some g) ∷ (codes "profile", f) ∷ (codes "in", i) ∷ []) (codes "manifest") m
+    (record { named = (λ rest. refl, λ rest. refl); options = (refl, (refl, (refl, (refl, tt)))); end = refl; defaults = refl }) (p, (q, (t, (u, tt)))) s
 
 -- ---- `measure`
 
-abbrev pub measure_options : Option Text → Option Text → Text → Options
-measure_options p o m = (codes "profile", p) ∷ (codes "format", o) ∷ (codes "manifest", Some m) ∷ []
+abbrev pub measure_options : Option Text → Option Text → Option Text → Text → Options
+measure_options p o i m = (codes "profile", p) ∷ (codes "format", o) ∷ (codes "in", i) ∷ (codes "manifest", Some m) ∷ []
 
-pub measure_answer : (p o : Option Text) (m : Text) → is_plain_if_some p ≡ true → is_plain_if_some o ≡ true → is_plain_word m ≡ true
-    → answer (measure_words p o m) ≡ (true, Some (codes "measure", rows_of (measure_options p o m)))
+pub measure_answer : (p o i : Option Text) (m : Text) → is_plain_if_some p ≡ true → is_plain_if_some o ≡ true → is_plain_if_some i ≡ true → is_plain_word m ≡ true
+    → answer (measure_words p o i m) ≡ (true, Some (codes "measure", rows_of (measure_options p o i m)))
 unfolding clap_on_literals
-measure_answer p o m q t s =
-    command_answer (codes "measure") ((codes "profile", p) ∷ (codes "format", o) ∷ []) (codes "manifest") m
-    (record { named = (λ rest. refl, λ rest. refl); options = (refl, (refl, tt)); end = refl; defaults = refl }) (q, (t, tt)) s
+measure_answer p o i m q t u s =
+    command_answer (codes "measure") ((codes "profile", p) ∷ (codes "format", o) ∷ (codes "in", i) ∷ []) (codes "manifest") m
+    (record { named = (λ rest. refl, λ rest. refl); options = (refl, (refl, (refl, tt))); end = refl; defaults = refl }) (q, (t, (u, tt))) s
 
 -- ---- `draw`
 
-abbrev given : Option (Text × Text) → Option Text → Option Text → Options
-given o f l = (codes "ring", option_map (λ rules. rules.0) o) ∷ (codes "gap", option_map (λ rules. rules.1) o) ∷ (codes "profile", f) ∷ (codes "outline", l) ∷ []
+abbrev given : Option (Text × Text) → Option Text → Option Text → Option Text → Options
+given o f l i = (codes "ring", option_map (λ rules. rules.0) o) ∷ (codes "gap", option_map (λ rules. rules.1) o) ∷ (codes "profile", f) ∷ (codes "outline", l) ∷ (codes "in", i) ∷ []
 
-abbrev pub draw_options : Option (Text × Text) → Option Text → Option Text → Text → Options
-draw_options o f l m = (codes "ring", option_map (λ rules. rules.0) o) ∷ (codes "gap", option_map (λ rules. rules.1) o) ∷ (codes "profile", f) ∷ (codes "outline", l) ∷ (codes "manifest", Some m) ∷ []
+abbrev pub draw_options : Option (Text × Text) → Option Text → Option Text → Option Text → Text → Options
+draw_options o f l i m =
+    (codes "ring", option_map (λ rules. rules.0) o) ∷ (codes "gap", option_map (λ rules. rules.1) o) ∷ (codes "profile", f) ∷ (codes "outline", l) ∷ (codes "in", i) ∷ (codes "manifest", Some m) ∷ []
 
-is_draw : (o : Option (Text × Text)) (f l : Option Text) (m : Text) → IsCommand (codes "draw") (given o f l) (codes "manifest") m
+is_draw : (o : Option (Text × Text)) (f l i : Option Text) (m : Text) → IsCommand (codes "draw") (given o f l i) (codes "manifest") m
 unfolding clap_on_literals
-is_draw o f l m = record { named = (λ rest. refl, λ rest. refl); options = (refl, (refl, (refl, (refl, tt)))); end = refl; defaults = refl }
+is_draw o f l i m = record { named = (λ rest. refl, λ rest. refl); options = (refl, (refl, (refl, (refl, (refl, tt))))); end = refl; defaults = refl }
 
-pub draw_answer : (o : Option (Text × Text)) (f l : Option Text) (m : Text) → are_plain_rules o ≡ true → is_plain_if_some f ≡ true → is_plain_if_some l ≡ true → is_plain_word m ≡ true
-    → answer (draw_words o f l m) ≡ (true, Some (codes "draw", rows_of (draw_options o f l m)))
-draw_answer None f l m p y t s = command_answer (codes "draw") (given None f l) (codes "manifest") m (is_draw None f l m) (refl, (refl, (y, (t, tt)))) s
-draw_answer (Some (r, g)) f l m p y t s =
+pub draw_answer : (o : Option (Text × Text)) (f l i : Option Text) (m : Text) → are_plain_rules o ≡ true → is_plain_if_some f ≡ true → is_plain_if_some l ≡ true → is_plain_if_some i ≡ true → is_plain_word m ≡ true
+    → answer (draw_words o f l i m) ≡ (true, Some (codes "draw", rows_of (draw_options o f l i m)))
+draw_answer None f l i m p y t u s = command_answer (codes "draw") (given None f l i) (codes "manifest") m (is_draw None f l i m) (refl, (refl, (y, (t, (u, tt))))) s
+draw_answer (Some (r, g)) f l i m p y t u s =
     let k = both (is_plain_word r) (is_plain_word g) p in
-    command_answer (codes "draw") (given (Some (r, g)) f l) (codes "manifest") m (is_draw (Some (r, g)) f l m) (k.0, (k.1, (y, (t, tt)))) s
+    command_answer (codes "draw") (given (Some (r, g)) f l i) (codes "manifest") m (is_draw (Some (r, g)) f l i m) (k.0, (k.1, (y, (t, (u, tt))))) s
 
 -- ---- `show` and `rewrite`
 
-abbrev pub show_options : Text → Option Text → Text → Options
-show_options k p f = (codes "kind", Some k) ∷ (codes "profile", p) ∷ (codes "file", Some f) ∷ []
+abbrev pub show_options : Text → Option Text → Option Text → Text → Options
+show_options k p i f = (codes "kind", Some k) ∷ (codes "profile", p) ∷ (codes "in", i) ∷ (codes "file", Some f) ∷ []
 
-pub show_answer : (k : Text) (p : Option Text) (f : Text) → is_plain_word k ≡ true → is_plain_if_some p ≡ true → is_plain_word f ≡ true
-    → answer (show_words k p f) ≡ (true, Some (codes "show", rows_of (show_options k p f)))
+pub show_answer : (k : Text) (p i : Option Text) (f : Text) → is_plain_word k ≡ true → is_plain_if_some p ≡ true → is_plain_if_some i ≡ true → is_plain_word f ≡ true
+    → answer (show_words k p i f) ≡ (true, Some (codes "show", rows_of (show_options k p i f)))
 unfolding clap_on_literals
-show_answer k p f q t s =
-    command_answer (codes "show") ((codes "kind", Some k) ∷ (codes "profile", p) ∷ []) (codes "file") f
-    (record { named = (λ rest. refl, λ rest. refl); options = (refl, (refl, tt)); end = refl; defaults = refl }) (q, (t, tt)) s
+show_answer k p i f q t u s =
+    command_answer (codes "show") ((codes "kind", Some k) ∷ (codes "profile", p) ∷ (codes "in", i) ∷ []) (codes "file") f
+    (record { named = (λ rest. refl, λ rest. refl); options = (refl, (refl, (refl, tt))); end = refl; defaults = refl }) (q, (t, (u, tt))) s
 
-abbrev pub rewrite_options : Text → Text → Options
-rewrite_options k f = (codes "kind", Some k) ∷ (codes "file", Some f) ∷ []
+abbrev pub rewrite_options : Text → Option Text → Text → Options
+rewrite_options k i f = (codes "kind", Some k) ∷ (codes "in", i) ∷ (codes "file", Some f) ∷ []
 
-pub rewrite_answer : (k f : Text) → is_plain_word k ≡ true → is_plain_word f ≡ true → answer (rewrite_words k f) ≡ (true, Some (codes "rewrite", rows_of (rewrite_options k f)))
+pub rewrite_answer : (k : Text) (i : Option Text) (f : Text) → is_plain_word k ≡ true → is_plain_if_some i ≡ true → is_plain_word f ≡ true
+    → answer (rewrite_words k i f) ≡ (true, Some (codes "rewrite", rows_of (rewrite_options k i f)))
 unfolding clap_on_literals
-rewrite_answer k f p q =
-    command_answer (codes "rewrite") ((codes "kind", Some k) ∷ []) (codes "file") f (record { named = (λ rest. refl, λ rest. refl); options = (refl, tt); end = refl; defaults = refl }) (p, tt) q
+rewrite_answer k i f p u q =
+    command_answer (codes "rewrite") ((codes "kind", Some k) ∷ (codes "in", i) ∷ []) (codes "file") f
+    (record { named = (λ rest. refl, λ rest. refl); options = (refl, (refl, tt)); end = refl; defaults = refl }) (p, (u, tt)) q
 
 -- ---- `explain`
 

@@ -4,17 +4,17 @@ use Rattle.clap.specs.Words.{App, Row, Text, fault_of, subcommand_of}
 use Rattle.clap.specs.Kinds.{IsAmong, Kinds}
 use Rattle.clap.specs.declared.error.kind.ErrorKind.{ErrorKind}
 use Rattle.clap.specs.declared.error.kind.ErrorKind.TheVariants.{DisplayHelp, DisplayVersion, OutOfMemory}
-use Rattle.command_line.specs.declared.Request.{Request}
+use Rattle.command_line.specs.declared.CommandLine.{CommandLine}
 use Rattle.command_line.specs.declared.Refusal.{Refusal}
 use Rattle.command_line.specs.declared.Refusal.TheVariants.{Help, Version, Usage, Memory}
-use Rattle.command_line.specs.ProgramArgs.{ParsesLine, ParsesAsVersion, IsRequestOf, ringcheck_app}
+use Rattle.command_line.specs.ProgramArgs.{ParsesLine, ParsesAsVersion, IsLineOf, ringcheck_app}
 use Rattle.command_line.specs.RefusalTexts.{EndsUsageWith, TellsFault, below_text}
 use Rattle.command_line.specs.Inner.RequestSteps.{IsRefusalFor}
 
-pub request_is_parsed : (a : App) (words : List Text) (rows : Option (Text × List Row)) (request : Request) → a ≡ ringcheck_app → fault_of a words ≡ [] → rows ≡ subcommand_of a words
-    → IsRequestOf rows request → ParsesLine words (Ok request)
-request_is_parsed a words rows request e none is asks =
-    (ap (λ (b : App). fault_of b words) (sym e) ∙ none, subst (λ o. IsRequestOf o request) (is ∙ ap (λ (b : App). subcommand_of b words) e) asks)
+pub line_is_parsed : (a : App) (words : List Text) (rows : Option (Text × List Row)) (line : CommandLine) → a ≡ ringcheck_app → fault_of a words ≡ [] → rows ≡ subcommand_of a words
+    → IsLineOf rows line → ParsesLine words (Ok line)
+line_is_parsed a words rows line e none is asks =
+    (ap (λ (b : App). fault_of b words) (sym e) ∙ none, subst (λ o. IsLineOf o line) (is ∙ ap (λ (b : App). subcommand_of b words) e) asks)
 
 pub refused : (a : App) (words : List Text) (kind : ErrorKind) (r : Refusal) → a ≡ ringcheck_app → (kind ≡ OutOfMemory) ⊎ IsAmong kind (fault_of a words) → IsRefusalFor kind r
     → (kind ≡ OutOfMemory → r ≡ Memory) → ParsesLine words (Err r)

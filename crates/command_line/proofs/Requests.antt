@@ -1,12 +1,13 @@
 -- The request of a line, from the command that the program finds and the rows of its values.
-use Rattle.std.proofs.Common.{◌≡◌, ◌∙◌, sym, refl, List, Option, Some, None, Bool, true, false, codes}
+use Rattle.std.proofs.Common.{◌≡◌, ◌∙◌, sym, refl, List, Option, Some, None, Bool, true, false, codes, option_map}
 use Rattle.std.specs.Str.{bytes_eq}
 use Rattle.std.proofs.lemmas.Bool.{false≢true}
 use Rattle.std.proofs.lemmas.Slice.Eq.{bytes_eq-Decides}
-use Rattle.clap.specs.Words.{Text}
+use Rattle.clap.specs.Words.{Row, Text, first_of}
+use Rattle.command_line.specs.declared.CommandLine.{CommandLine}
 use Rattle.command_line.specs.declared.Request.{Request}
 use Rattle.command_line.specs.declared.Request.TheVariants.{Check, Measure, Report, Draw, Show, Rewrite, Manifest, Explain}
-use Rattle.command_line.specs.ProgramArgs.{IsFlagValue, IsRequestOf, IsCheck, IsDraw, IsExplain, IsManifest, IsMeasure, IsReport, IsRewrite, IsShow}
+use Rattle.command_line.specs.ProgramArgs.{IsFlagValue, IsLineOf, IsRequestOf, IsCheck, IsDraw, IsExplain, IsManifest, IsMeasure, IsReport, IsRewrite, IsShow}
 use Rattle.command_line.proofs.CommandWords.{check_options, draw_options, measure_options, rewrite_options, show_options, word_options}
 use Rattle.command_line.proofs.GivenOptions.{first_is, rows_of}
 use Rattle.command_line.proofs.ManifestWords.{rows_of_manifest}
@@ -19,31 +20,36 @@ some_is x y e = cc
 differ : (a : Text) {b : Text} → a ≡ b → bytes_eq a b ≡ false → ⊥
 differ a {b} same e = false≢true (sym e ∙ (bytes_eq-Decides a b).1 same)
 
-pub is_check : (r g : Text) (f : Option Text) (m : Text) (request : Request) → IsRequestOf (Some (codes "check", rows_of (check_options r g f m))) request → IsCheck r g f m request
-is_check r g f m (Check ring gap profile manifest) a =
-    let all = check_options r g f m in (
+-- a line by its rows: the folder, and the request of a command
+pub on_line : (name : Text) (rows : List Row) (i : Option Text) (Is : Request → Type 0) (line : CommandLine) → first_of (codes "in") rows ≡ i → ((request : Request) → IsRequestOf (Some (name, rows)) request → Is request)
+    → IsLineOf (Some (name, rows)) line → (option_map (λ f. f.now) line.folder ≡ i) × Is line.request
+on_line name rows i Is line found is a = (sym a.0 ∙ found, is line.request a.1)
+
+pub is_check : (r g : Text) (f i : Option Text) (m : Text) (request : Request) → IsRequestOf (Some (codes "check", rows_of (check_options r g f i m))) request → IsCheck r g f m request
+is_check r g f i m (Check ring gap profile manifest) a =
+    let all = check_options r g f i m in (
       some_is ring.now r (sym a.1 ∙ first_is (codes "ring") all),
       some_is gap.now g (sym a.2 ∙ first_is (codes "gap") all),
       sym a.3 ∙ first_is (codes "profile") all,
       some_is manifest.now m (sym a.4 ∙ first_is (codes "manifest") all),
     )
-is_check r g f m request a = absurd (differ (codes "check") a.0 refl)
+is_check r g f i m request a = absurd (differ (codes "check") a.0 refl)
 
-pub is_measure : (p o : Option Text) (m : Text) (request : Request) → IsRequestOf (Some (codes "measure", rows_of (measure_options p o m))) request → IsMeasure p o m request
-is_measure p o m (Measure profile format manifest) a =
-    let all = measure_options p o m in
+pub is_measure : (p o i : Option Text) (m : Text) (request : Request) → IsRequestOf (Some (codes "measure", rows_of (measure_options p o i m))) request → IsMeasure p o m request
+is_measure p o i m (Measure profile format manifest) a =
+    let all = measure_options p o i m in
     (sym a.1 ∙ first_is (codes "profile") all, sym a.2 ∙ first_is (codes "format") all, some_is manifest.now m (sym a.3 ∙ first_is (codes "manifest") all))
-is_measure p o m request a = absurd (differ (codes "measure") a.0 refl)
+is_measure p o i m request a = absurd (differ (codes "measure") a.0 refl)
 
 -- the flag is on where its words are given, and else off
 is_on : (z on : Bool) (text : Option Text) → text ≡ Some (text_of z) → IsFlagValue text on → on ≡ z
 is_on true on text e is = is.yes e
 is_on false on text e is = is.no e
 
-pub is_report : (z : Bool) (r g : Text) (f n v l o : Option Text) (m : Text) (request : Request) → IsRequestOf (Some (codes "report", rows_of_report z (report_options r g f n v l o m))) request
+pub is_report : (z : Bool) (r g : Text) (f n v l o i : Option Text) (m : Text) (request : Request) → IsRequestOf (Some (codes "report", rows_of_report z (report_options r g f n v l o i m))) request
     → IsReport z r g f n v l o m request
-is_report z r g f n v l o m (Report options manifest) a =
-    let all = report_options r g f n v l o m in (
+is_report z r g f n v l o i m (Report options manifest) a =
+    let all = report_options r g f n v l o i m in (
       is_on z options.exit_zero _ (flag_is z all refl) a.8,
       some_is options.ring.now r (sym a.1 ∙ value_is z (codes "ring") all refl),
       some_is options.gap.now g (sym a.2 ∙ value_is z (codes "gap") all refl),
@@ -54,37 +60,52 @@ is_report z r g f n v l o m (Report options manifest) a =
       sym a.7 ∙ value_is z (codes "format") all refl,
       some_is manifest.now m (sym a.9 ∙ value_is z (codes "manifest") all refl),
     )
-is_report z r g f n v l o m request a = absurd (differ (codes "report") a.0 refl)
+is_report z r g f n v l o i m request a = absurd (differ (codes "report") a.0 refl)
 
-pub is_draw : (o : Option (Text × Text)) (f l : Option Text) (m : Text) (request : Request) → IsRequestOf (Some (codes "draw", rows_of (draw_options o f l m))) request → IsDraw o f l m request
-is_draw o f l m (Draw options manifest) a =
-    let all = draw_options o f l m in (
+pub is_draw : (o : Option (Text × Text)) (f l i : Option Text) (m : Text) (request : Request) → IsRequestOf (Some (codes "draw", rows_of (draw_options o f l i m))) request → IsDraw o f l m request
+is_draw o f l i m (Draw options manifest) a =
+    let all = draw_options o f l i m in (
       sym a.1 ∙ first_is (codes "ring") all,
       sym a.2 ∙ first_is (codes "gap") all,
       sym a.3 ∙ first_is (codes "profile") all,
       sym a.4 ∙ first_is (codes "outline") all,
       some_is manifest.now m (sym a.5 ∙ first_is (codes "manifest") all),
     )
-is_draw o f l m request a = absurd (differ (codes "draw") a.0 refl)
+is_draw o f l i m request a = absurd (differ (codes "draw") a.0 refl)
 
-pub is_show : (k : Text) (p : Option Text) (f : Text) (request : Request) → IsRequestOf (Some (codes "show", rows_of (show_options k p f))) request → IsShow k p f request
-is_show k p f (Show kind profile file) a =
-    let all = show_options k p f in
+pub is_show : (k : Text) (p i : Option Text) (f : Text) (request : Request) → IsRequestOf (Some (codes "show", rows_of (show_options k p i f))) request → IsShow k p f request
+is_show k p i f (Show kind profile file) a =
+    let all = show_options k p i f in
     (some_is kind.now k (sym a.1 ∙ first_is (codes "kind") all), sym a.2 ∙ first_is (codes "profile") all, some_is file.now f (sym a.3 ∙ first_is (codes "file") all))
-is_show k p f request a = absurd (differ (codes "show") a.0 refl)
+is_show k p i f request a = absurd (differ (codes "show") a.0 refl)
 
-pub is_rewrite : (k f : Text) (request : Request) → IsRequestOf (Some (codes "rewrite", rows_of (rewrite_options k f))) request → IsRewrite k f request
-is_rewrite k f (Rewrite kind file) a =
-    let all = rewrite_options k f in
+pub is_rewrite : (k : Text) (i : Option Text) (f : Text) (request : Request) → IsRequestOf (Some (codes "rewrite", rows_of (rewrite_options k i f))) request → IsRewrite k f request
+is_rewrite k i f (Rewrite kind file) a =
+    let all = rewrite_options k i f in
     (some_is kind.now k (sym a.1 ∙ first_is (codes "kind") all), some_is file.now f (sym a.2 ∙ first_is (codes "file") all))
-is_rewrite k f request a = absurd (differ (codes "rewrite") a.0 refl)
+is_rewrite k i f request a = absurd (differ (codes "rewrite") a.0 refl)
 
-pub is_manifest : (why : Bool) (p : Option Text) (fs : List Text) (request : Request) → IsRequestOf (Some (codes "manifest", rows_of_manifest why p fs)) request → IsManifest why p fs request
-is_manifest true None fs (Manifest why profile files) a = (a.1.yes refl, sym a.2, some_is _ fs (sym a.3))
-is_manifest true (Some p) fs (Manifest why profile files) a = (a.1.yes refl, sym a.2, some_is _ fs (sym a.3))
-is_manifest false None fs (Manifest why profile files) a = (a.1.no refl, sym a.2, some_is _ fs (sym a.3))
-is_manifest false (Some p) fs (Manifest why profile files) a = (a.1.no refl, sym a.2, some_is _ fs (sym a.3))
-is_manifest why p fs request a = absurd (differ (codes "manifest") a.0 refl)
+-- the folder of a manifest's line
+pub manifest_folder : (why : Bool) (p i : Option Text) (fs : List Text) → first_of (codes "in") (rows_of_manifest why p i fs) ≡ i
+manifest_folder true None None fs = refl
+manifest_folder true None (Some i) fs = refl
+manifest_folder true (Some p) None fs = refl
+manifest_folder true (Some p) (Some i) fs = refl
+manifest_folder false None None fs = refl
+manifest_folder false None (Some i) fs = refl
+manifest_folder false (Some p) None fs = refl
+manifest_folder false (Some p) (Some i) fs = refl
+
+pub is_manifest : (why : Bool) (p i : Option Text) (fs : List Text) (request : Request) → IsRequestOf (Some (codes "manifest", rows_of_manifest why p i fs)) request → IsManifest why p fs request
+is_manifest true None None fs (Manifest why profile files) a = (a.1.yes refl, sym a.2, some_is _ fs (sym a.3))
+is_manifest true None (Some i) fs (Manifest why profile files) a = (a.1.yes refl, sym a.2, some_is _ fs (sym a.3))
+is_manifest true (Some p) None fs (Manifest why profile files) a = (a.1.yes refl, sym a.2, some_is _ fs (sym a.3))
+is_manifest true (Some p) (Some i) fs (Manifest why profile files) a = (a.1.yes refl, sym a.2, some_is _ fs (sym a.3))
+is_manifest false None None fs (Manifest why profile files) a = (a.1.no refl, sym a.2, some_is _ fs (sym a.3))
+is_manifest false None (Some i) fs (Manifest why profile files) a = (a.1.no refl, sym a.2, some_is _ fs (sym a.3))
+is_manifest false (Some p) None fs (Manifest why profile files) a = (a.1.no refl, sym a.2, some_is _ fs (sym a.3))
+is_manifest false (Some p) (Some i) fs (Manifest why profile files) a = (a.1.no refl, sym a.2, some_is _ fs (sym a.3))
+is_manifest why p i fs request a = absurd (differ (codes "manifest") a.0 refl)
 
 pub is_explain : (o : Option Text) (request : Request) → IsRequestOf (Some (codes "explain", rows_of (word_options o))) request → IsExplain o request
 is_explain o (Explain word) a = sym a.1 ∙ first_is (codes "word") (word_options o)

@@ -7,6 +7,7 @@ use Rattle.clap.specs.Kinds.{IsAmong}
 use Rattle.clap.specs.declared.builder.action.ArgAction.TheVariants.{Append, Set, SetTrue}
 use Rattle.clap.specs.declared.error.kind.ErrorKind.{ErrorKind}
 use Rattle.clap.specs.declared.error.kind.ErrorKind.TheVariants.{DisplayHelp, DisplayVersion}
+use Rattle.command_line.specs.declared.CommandLine.{CommandLine}
 use Rattle.command_line.specs.declared.Request.{Request}
 use Rattle.command_line.specs.declared.Request.TheVariants.{Check, Measure, Report, Draw, Show, Rewrite, Manifest, Explain}
 use Rattle.command_line.specs.declared.Refusal.{Refusal}
@@ -38,39 +39,45 @@ one_or_more id = record (new_rule id) { required = true; action = Some Append; r
 abbrev pub flag : Text → Rule
 flag id = record (new_rule id) { long = Some id; action = Some SetTrue }
 
--- `check --ring MM --gap MM [--profile strict|wide] MANIFEST`
+-- the option for the folder from which names are taken: `[--in FOLDER]`
+abbrev pub folder_option : Rule
+folder_option = optional_option (codes "in")
+
+-- `check --ring MM --gap MM [--profile strict|wide] [--in FOLDER] MANIFEST`
 abbrev pub check_app : App
 check_app =
-    with_rule (with_rule (with_rule (with_rule (new_app (codes "check")) (option (codes "ring"))) (option (codes "gap"))) (optional_option (codes "profile")))
+    with_rule (with_rule (with_rule (with_rule (with_rule (new_app (codes "check")) (option (codes "ring"))) (option (codes "gap"))) (optional_option (codes "profile")))
+    folder_option) (positional (codes "manifest"))
+
+-- `measure [--profile strict|wide] [--format text|json] [--in FOLDER] MANIFEST`
+abbrev pub measure_app : App
+measure_app =
+    with_rule (with_rule (with_rule (with_rule (new_app (codes "measure")) (optional_option (codes "profile"))) (optional_option (codes "format"))) folder_option)
     (positional (codes "manifest"))
 
--- `measure [--profile strict|wide] [--format text|json] MANIFEST`
-abbrev pub measure_app : App
-measure_app = with_rule (with_rule (with_rule (new_app (codes "measure")) (optional_option (codes "profile"))) (optional_option (codes "format"))) (positional (codes "manifest"))
-
--- `report --ring MM --gap MM [--profile strict|wide] [--max N] [--waive FILE] [--outline FILE] [--format text|html|json|waivers] [--exit-zero] MANIFEST`
+-- `report --ring MM --gap MM [--profile strict|wide] [--max N] [--waive FILE] [--outline FILE] [--format text|html|json|waivers] [--exit-zero] [--in FOLDER] MANIFEST`
 abbrev pub report_app : App
 report_app =
-    with_rule (with_rule (with_rule (with_rule (with_rule (with_rule (with_rule (with_rule (with_rule (new_app (codes "report")) (option (codes "ring"))) (option (codes "gap"))) (optional_option (codes "profile"))) (optional_option (codes "max")))
-    (optional_option (codes "waive"))) (optional_option (codes "outline"))) (optional_option (codes "format"))) (flag (codes "exit-zero"))) (positional (codes "manifest"))
+    with_rule (with_rule (with_rule (with_rule (with_rule (with_rule (with_rule (with_rule (with_rule (with_rule (new_app (codes "report")) (option (codes "ring"))) (option (codes "gap"))) (optional_option (codes "profile"))) (optional_option (codes "max")))
+    (optional_option (codes "waive"))) (optional_option (codes "outline"))) (optional_option (codes "format"))) (flag (codes "exit-zero"))) folder_option) (positional (codes "manifest"))
 
--- `draw [--ring MM --gap MM] [--profile strict|wide] [--outline FILE] MANIFEST`
+-- `draw [--ring MM --gap MM] [--profile strict|wide] [--outline FILE] [--in FOLDER] MANIFEST`
 abbrev pub draw_app : App
 draw_app =
-    with_rule (with_rule (with_rule (with_rule (with_rule (new_app (codes "draw")) (optional_option (codes "ring"))) (optional_option (codes "gap"))) (optional_option (codes "profile"))) (optional_option (codes "outline")))
-    (positional (codes "manifest"))
+    with_rule (with_rule (with_rule (with_rule (with_rule (with_rule (new_app (codes "draw")) (optional_option (codes "ring"))) (optional_option (codes "gap"))) (optional_option (codes "profile"))) (optional_option (codes "outline")))
+    folder_option) (positional (codes "manifest"))
 
--- `show --kind layer|drill [--profile strict|wide] FILE`
+-- `show --kind layer|drill [--profile strict|wide] [--in FOLDER] FILE`
 abbrev pub show_app : App
-show_app = with_rule (with_rule (with_rule (new_app (codes "show")) (option (codes "kind"))) (optional_option (codes "profile"))) (positional (codes "file"))
+show_app = with_rule (with_rule (with_rule (with_rule (new_app (codes "show")) (option (codes "kind"))) (optional_option (codes "profile"))) folder_option) (positional (codes "file"))
 
--- `rewrite --kind layer|drill FILE`
+-- `rewrite --kind layer|drill [--in FOLDER] FILE`
 abbrev pub rewrite_app : App
-rewrite_app = with_rule (with_rule (new_app (codes "rewrite")) (option (codes "kind"))) (positional (codes "file"))
+rewrite_app = with_rule (with_rule (with_rule (new_app (codes "rewrite")) (option (codes "kind"))) folder_option) (positional (codes "file"))
 
--- `manifest [--why] [--profile strict|wide] FILE..`
+-- `manifest [--why] [--profile strict|wide] [--in FOLDER] FILE..`
 abbrev pub manifest_app : App
-manifest_app = with_rule (with_rule (with_rule (new_app (codes "manifest")) (flag (codes "why"))) (optional_option (codes "profile"))) (one_or_more (codes "file"))
+manifest_app = with_rule (with_rule (with_rule (with_rule (new_app (codes "manifest")) (flag (codes "why"))) (optional_option (codes "profile"))) folder_option) (one_or_more (codes "file"))
 
 -- `explain [WORD]`
 abbrev pub explain_app : App
@@ -123,10 +130,15 @@ IsRequestOf (Some (name, rows)) (Manifest why profile files) =
     × (all_of (codes "file") rows ≡ Some (map (λ file. file.now) files.items))
 IsRequestOf (Some (name, rows)) (Explain word) = (name ≡ codes "explain") × (first_of (codes "word") rows ≡ option_map (λ w. w.now) word)
 
--- the answer to the words of a line, running out of memory aside: a request just where `clap` finds no fault in them,
+-- the line has the request of the command that `clap` finds, and the folder that its words name, or none
+abbrev pub IsLineOf : Option (Text × List Row) → CommandLine → Type 0
+IsLineOf None line = ⊥
+IsLineOf (Some (name, rows)) line = (first_of (codes "in") rows ≡ option_map (λ f. f.now) line.folder) × IsRequestOf (Some (name, rows)) line.request
+
+-- the answer to the words of a line, running out of memory aside: a request, with its folder, just where `clap` finds no fault in them,
 -- help or the version where it finds these asked for, and a usage error where it finds another fault
-abbrev pub ParsesLine : List Text → Result Request Refusal → Type 0
-ParsesLine words (Ok request) = (fault_of ringcheck_app words ≡ []) × IsRequestOf (subcommand_of ringcheck_app words) request
+abbrev pub ParsesLine : List Text → Result CommandLine Refusal → Type 0
+ParsesLine words (Ok line) = (fault_of ringcheck_app words ≡ []) × IsLineOf (subcommand_of ringcheck_app words) line
 ParsesLine words (Err (Help text)) = IsAmong DisplayHelp (fault_of ringcheck_app words)
 ParsesLine words (Err Version) = IsAmong DisplayVersion (fault_of ringcheck_app words)
 ParsesLine words (Err (Usage text)) = (kind : ErrorKind) × IsAmong kind (fault_of ringcheck_app words) × (kind ≢ DisplayHelp) × (kind ≢ DisplayVersion)
@@ -154,35 +166,36 @@ abbrev pub flag_words : Text → Bool → List Text
 flag_words name true = name ∷ []
 flag_words name false = []
 
--- the words `check --ring R --gap G [--profile P] M`
-abbrev pub check_words : Text → Text → Option Text → Text → List Text
-check_words ring gap profile manifest = codes "check" ∷ codes "--ring" ∷ ring ∷ codes "--gap" ∷ gap ∷ (option_words (codes "--profile") profile ++ manifest ∷ [])
+-- the words `check --ring R --gap G [--profile P] [--in F] M`
+abbrev pub check_words : Text → Text → Option Text → Option Text → Text → List Text
+check_words ring gap profile folder manifest =
+    codes "check" ∷ codes "--ring" ∷ ring ∷ codes "--gap" ∷ gap ∷ (option_words (codes "--profile") profile ++ (option_words (codes "--in") folder ++ manifest ∷ []))
 
 -- the request is a check with just this ring, gap and manifest, and just this word for a profile or none
 abbrev pub IsCheck : Text → Text → Option Text → Text → Request → Type 0
 IsCheck r g p m (Check ring gap profile manifest) = (ring.now ≡ r) × (gap.now ≡ g) × (option_map (λ w. w.now) profile ≡ p) × (manifest.now ≡ m)
 IsCheck r g p m _ = ⊥
 
--- the answer is such a request, running out of memory aside
-abbrev pub ParsesAs : (Request → Type 0) → Result Request Refusal → Type 0
-ParsesAs IsExpected (Ok request) = IsExpected request
-ParsesAs IsExpected (Err Memory) = Unit {0}
-ParsesAs IsExpected (Err _) = ⊥
+-- the answer is such a request with just this folder or none, running out of memory aside
+abbrev pub ParsesAs : Option Text → (Request → Type 0) → Result CommandLine Refusal → Type 0
+ParsesAs folder IsExpected (Ok line) = (option_map (λ f. f.now) line.folder ≡ folder) × IsExpected line.request
+ParsesAs folder IsExpected (Err Memory) = Unit {0}
+ParsesAs folder IsExpected (Err _) = ⊥
 
 -- ---- what the words of a command on one file ask for
 
--- the words `show --kind K [--profile P] F`
-abbrev pub show_words : Text → Option Text → Text → List Text
-show_words kind profile file = codes "show" ∷ codes "--kind" ∷ kind ∷ (option_words (codes "--profile") profile ++ file ∷ [])
+-- the words `show --kind K [--profile P] [--in D] F`
+abbrev pub show_words : Text → Option Text → Option Text → Text → List Text
+show_words kind profile folder file = codes "show" ∷ codes "--kind" ∷ kind ∷ (option_words (codes "--profile") profile ++ (option_words (codes "--in") folder ++ file ∷ []))
 
 -- the request is to show this file as one of this kind, with just this word for a profile or none
 abbrev pub IsShow : Text → Option Text → Text → Request → Type 0
 IsShow k p f (Show kind profile file) = (kind.now ≡ k) × (option_map (λ w. w.now) profile ≡ p) × (file.now ≡ f)
 IsShow k p f _ = ⊥
 
--- the words `rewrite --kind K F`
-abbrev pub rewrite_words : Text → Text → List Text
-rewrite_words kind file = codes "rewrite" ∷ codes "--kind" ∷ kind ∷ file ∷ []
+-- the words `rewrite --kind K [--in D] F`
+abbrev pub rewrite_words : Text → Option Text → Text → List Text
+rewrite_words kind folder file = codes "rewrite" ∷ codes "--kind" ∷ kind ∷ (option_words (codes "--in") folder ++ file ∷ [])
 
 -- the request is to rewrite this file as one of this kind
 abbrev pub IsRewrite : Text → Text → Request → Type 0
@@ -195,31 +208,31 @@ IsRewrite k f _ = ⊥
 abbrev pub are_plain_words : List Text → Bool
 are_plain_words words = not (length words == 0) && list_all is_plain_word words
 
--- the words `manifest [--profile P] FILE..` or, for the table of why, `manifest --why [--profile P] FILE..`
-abbrev pub manifest_words : Bool → Option Text → List Text → List Text
-manifest_words true profile files = codes "manifest" ∷ codes "--why" ∷ (option_words (codes "--profile") profile ++ files)
-manifest_words false profile files = codes "manifest" ∷ (option_words (codes "--profile") profile ++ files)
+-- the words `manifest [--profile P] [--in D] FILE..` or, for the table of why, `manifest --why [--profile P] [--in D] FILE..`
+abbrev pub manifest_words : Bool → Option Text → Option Text → List Text → List Text
+manifest_words why profile folder files = codes "manifest" ∷ (flag_words (codes "--why") why ++ (option_words (codes "--profile") profile ++ (option_words (codes "--in") folder ++ files)))
 
 -- the request is for a manifest of these files, or for the table of why, with just this word for a profile or none
 abbrev pub IsManifest : Bool → Option Text → List Text → Request → Type 0
 IsManifest w p fs (Manifest why profile files) = (why ≡ w) × (option_map (λ o. o.now) profile ≡ p) × (map (λ file. file.now) files.items ≡ fs)
 IsManifest w p fs _ = ⊥
 
--- the words `measure [--profile P] [--format F] M`
-abbrev pub measure_words : Option Text → Option Text → Text → List Text
-measure_words profile format manifest = codes "measure" ∷ (option_words (codes "--profile") profile ++ (option_words (codes "--format") format ++ manifest ∷ []))
+-- the words `measure [--profile P] [--format F] [--in D] M`
+abbrev pub measure_words : Option Text → Option Text → Option Text → Text → List Text
+measure_words profile format folder manifest =
+    codes "measure" ∷ (option_words (codes "--profile") profile ++ (option_words (codes "--format") format ++ (option_words (codes "--in") folder ++ manifest ∷ [])))
 
 -- the request is to measure the package of this manifest, with just these words for a profile and a format or with none
 abbrev pub IsMeasure : Option Text → Option Text → Text → Request → Type 0
 IsMeasure p o m (Measure profile format manifest) = (option_map (λ w. w.now) profile ≡ p) × (option_map (λ f. f.now) format ≡ o) × (manifest.now ≡ m)
 IsMeasure p o m _ = ⊥
 
--- the words `report [--exit-zero] --ring R --gap G [--profile P] [--max N] [--waive V] [--outline O] [--format F] M`
-abbrev pub report_words : Bool → Text → Text → Option Text → Option Text → Option Text → Option Text → Option Text → Text → List Text
-report_words exit_zero ring gap profile limit waive outline format manifest =
+-- the words `report [--exit-zero] --ring R --gap G [--profile P] [--max N] [--waive V] [--outline O] [--format F] [--in D] M`
+abbrev pub report_words : Bool → Text → Text → Option Text → Option Text → Option Text → Option Text → Option Text → Option Text → Text → List Text
+report_words exit_zero ring gap profile limit waive outline format folder manifest =
     codes "report" ∷ (flag_words (codes "--exit-zero") exit_zero ++ codes "--ring" ∷ ring ∷ codes "--gap" ∷ gap
     ∷ (option_words (codes "--profile") profile
-    ++ (option_words (codes "--max") limit ++ (option_words (codes "--waive") waive ++ (option_words (codes "--outline") outline ++ (option_words (codes "--format") format ++ manifest ∷ []))))))
+    ++ (option_words (codes "--max") limit ++ (option_words (codes "--waive") waive ++ (option_words (codes "--outline") outline ++ (option_words (codes "--format") format ++ (option_words (codes "--in") folder ++ manifest ∷ [])))))))
 
 -- the request is a report with just this ring, gap and manifest, with the flag for the status 0 or without it, and just these of a profile,
 -- a limit of findings, a file of waivers, a file of an outline and a format
@@ -229,11 +242,13 @@ IsReport z r g p n v l o m (Report options manifest) =
     × (option_map (λ w. w.now) options.waive ≡ v) × (option_map (λ f. f.now) options.outline ≡ l) × (option_map (λ f. f.now) options.format ≡ o) × (manifest.now ≡ m)
 IsReport z r g p n v l o m _ = ⊥
 
--- the words `draw [--profile P] [--outline O] M` or `draw --ring R --gap G [--profile P] [--outline O] M`
-abbrev pub draw_words : Option (Text × Text) → Option Text → Option Text → Text → List Text
-draw_words None profile outline manifest = codes "draw" ∷ (option_words (codes "--profile") profile ++ (option_words (codes "--outline") outline ++ manifest ∷ []))
-draw_words (Some (ring, gap)) profile outline manifest =
-    codes "draw" ∷ codes "--ring" ∷ ring ∷ codes "--gap" ∷ gap ∷ (option_words (codes "--profile") profile ++ (option_words (codes "--outline") outline ++ manifest ∷ []))
+-- the words `draw [--profile P] [--outline O] [--in D] M` or `draw --ring R --gap G [--profile P] [--outline O] [--in D] M`
+abbrev pub draw_words : Option (Text × Text) → Option Text → Option Text → Option Text → Text → List Text
+draw_words None profile outline folder manifest =
+    codes "draw" ∷ (option_words (codes "--profile") profile ++ (option_words (codes "--outline") outline ++ (option_words (codes "--in") folder ++ manifest ∷ [])))
+draw_words (Some (ring, gap)) profile outline folder manifest =
+    codes "draw" ∷ codes "--ring" ∷ ring ∷ codes "--gap" ∷ gap
+    ∷ (option_words (codes "--profile") profile ++ (option_words (codes "--outline") outline ++ (option_words (codes "--in") folder ++ manifest ∷ [])))
 
 -- whether a ring and a gap that may be left out are plain where they are there
 abbrev pub are_plain_rules : Option (Text × Text) → Bool
@@ -258,7 +273,7 @@ IsExplain o (Explain word) = option_map (λ w. w.now) word ≡ o
 IsExplain o _ = ⊥
 
 -- the answer is the version, running out of memory aside
-abbrev pub ParsesAsVersion : Result Request Refusal → Type 0
+abbrev pub ParsesAsVersion : Result CommandLine Refusal → Type 0
 ParsesAsVersion (Err Memory) = Unit {0}
 ParsesAsVersion (Err Version) = Unit {0}
 ParsesAsVersion _ = ⊥

@@ -6,7 +6,7 @@ use Rattle.clap.specs.Words.{Text, fault_of}
 use Rattle.clap.specs.Kinds.{IsAmong}
 use Rattle.clap.specs.declared.error.kind.ErrorKind.{ErrorKind}
 use Rattle.clap.specs.declared.error.kind.ErrorKind.TheVariants.{UnknownArgument}
-use Rattle.command_line.specs.declared.Request.{Request}
+use Rattle.command_line.specs.declared.CommandLine.{CommandLine}
 use Rattle.command_line.specs.declared.Refusal.{Refusal}
 use Rattle.command_line.specs.declared.Refusal.TheVariants.{Help, Version, Usage, Memory}
 use Rattle.command_line.specs.ProgramArgs.{ringcheck_app}
@@ -41,8 +41,8 @@ EndsUsageWith below (Usage text) = EndsWith below (string_bytes text)
 EndsUsageWith below Memory = Unit {0}
 
 -- the text of a usage error ends with what stands below it for a fault that `clap` finds in the words
-abbrev pub TellsFault : List Text → Result Request Refusal → Type 0
-TellsFault words (Ok request) = Unit {0}
+abbrev pub TellsFault : List Text → Result CommandLine Refusal → Type 0
+TellsFault words (Ok line) = Unit {0}
 TellsFault words (Err (Help text)) = Unit {0}
 TellsFault words (Err Version) = Unit {0}
 TellsFault words (Err (Usage text)) = (kind : ErrorKind) × IsAmong kind (fault_of ringcheck_app words) × EndsWith (below_text kind words) (string_bytes text)

@@ -2,7 +2,7 @@
 
 ghost use Rattle.std.specs.Prelude.{◌≡◌, IfOk, codes, false, true};
 ghost use Rattle.clap.specs.Words.{App, app_of, new_app, rule_of, with_subcommand};
-ghost use Rattle.command_line.specs.ProgramArgs.{check_app, draw_app, explain_app, manifest_app, optional, optional_option, measure_app, option, positional, program_app, report_app, rewrite_app, ringcheck_app, show_app, one_or_more, flag};
+ghost use Rattle.command_line.specs.ProgramArgs.{check_app, draw_app, explain_app, folder_option, manifest_app, optional, optional_option, measure_app, option, positional, program_app, report_app, rewrite_app, ringcheck_app, show_app, one_or_more, flag};
 ghost use Rattle.command_line.specs.Inner.AppParts.{file_commands_of, package_commands_of, report_args_of};
 
 use clap::{Arg, ArgAction, Command};
@@ -39,24 +39,26 @@ json, one object; waivers, a file to write reasons in";
 
 const EXIT_ZERO: &str = "Exit with status 0 even if there are findings";
 
+const FOLDER: &str = "Folder that file names are relative to";
+
 const PROFILE: &str = "strict (default): only discs, rectangles and
 obrounds are pads; wide: rounded pads of macros and
 contours are too, and more files are read";
 
 // After `Usage: ` it stands on two lines.
 const CHECK_USAGE: &str = "ringcheck check --ring <MM> --gap <MM> [--profile <strict|wide>]
-                       <MANIFEST>";
+                       [--in <FOLDER>] <MANIFEST>";
 
 const CHECK: &str = "A manifest is a CSV file. Its first line is role,name,file, and each other line
 names a file; the role is copper, plated or unplated, or, in the wide profile,
 mixed. With role,name,file,first,last a drill file can name the first and the
 last layer that its holes go through. File names are relative to the working
-directory.
+directory, or to the folder of --in.
 Example:  ringcheck check --ring 0.125 --gap 0.25 board.csv";
 
 // After `Usage: ` it stands on two lines.
 const MEASURE_USAGE: &str = "ringcheck measure [--profile <strict|wide>] [--format <text|json>]
-                         <MANIFEST>";
+                         [--in <FOLDER>] <MANIFEST>";
 
 const MEASURE: &str =
     "Under this ring and gap, or smaller ones, check finds nothing; held is the ring
@@ -69,20 +71,23 @@ const REPORT_PROFILE: &str = "strict (default) or wide: see ringcheck check --he
 
 // After `Usage: ` it stands on three lines, the others below the options of the first.
 const REPORT_USAGE: &str = "ringcheck report --ring <MM> --gap <MM> [--max <N>] [--waive <FILE>]
-                        [--outline <FILE>] [--format <text|html|json|waivers>]
-                        [--profile <strict|wide>] [--exit-zero] <MANIFEST>";
+                        [--outline <FILE>] [--format <NAME>] [--profile <NAME>]
+                        [--exit-zero] [--in <FOLDER>] <MANIFEST>";
 
-const REPORT: &str = "Shows the findings of check, in the same order and with the same exit status
-unless all are waived, then their causes and the rules that the package meets.
+const REPORT: &str = "Findings and exit status are those of check, unless all findings are waived.
 Example:  ringcheck report --ring 0.125 --gap 0.25 board.csv";
 
 // After `Usage: ` it stands on two lines.
 const DRAW_USAGE: &str = "ringcheck draw [--ring <MM> --gap <MM>] [--profile <strict|wide>]
-                      [--outline <FILE>] <MANIFEST>";
+                      [--outline <FILE>] [--in <FOLDER>] <MANIFEST>";
 
 const DRAW: &str = "Each copper layer gets a panel, seen from above, with its pads and holes. With
 a ring and a gap the findings are drawn too: give both, or neither.
 Example:  ringcheck draw --ring 0.125 --gap 0.25 board.csv > board.svg";
+
+// After `Usage: ` it stands on two lines.
+const MANIFEST_USAGE: &str = "ringcheck manifest [--why] [--profile <strict|wide>] [--in <FOLDER>]
+                          <FILE>...";
 
 const MANIFEST: &str = "The role of each file is worked out from its text, its file function and its
 name: read the manifest before you use it. A file that may belong to it, but
@@ -94,6 +99,10 @@ drill file that says of each hole whether it is plated
 gets the role mixed";
 
 const EXPLAIN: &str = "Example:  ringcheck explain Routed";
+
+// After `Usage: ` it stands on two lines.
+const SHOW_USAGE: &str = "ringcheck show --kind <layer|drill> [--profile <strict|wide>]
+                      [--in <FOLDER>] <FILE>";
 
 const SHOW: &str = "Example:  ringcheck show --kind drill pth.drl";
 
@@ -159,7 +168,7 @@ fn with_command<'a>(
     }
 }
 
-/// `check --ring MM --gap MM [--profile strict|wide] MANIFEST`
+/// `check --ring MM --gap MM [--profile strict|wide] [--in FOLDER] MANIFEST`
 fn check<'a>(alloc: Global) -> Result<Command<'a>, AllocError>
     ensures { IfOk result (λ c. app_of c ≡ check_app) }
 {
@@ -173,6 +182,7 @@ fn check<'a>(alloc: Global) -> Result<Command<'a>, AllocError>
     .arg(ring_arg(alloc))?
     .arg(gap_arg(alloc))?
     .arg(profile_arg(alloc))?
+    .arg(folder_arg(alloc))?
     .arg(required_arg(
         alloc,
         "manifest",
@@ -181,7 +191,7 @@ fn check<'a>(alloc: Global) -> Result<Command<'a>, AllocError>
     ))
 }
 
-/// `measure [--profile strict|wide] [--format text|json] MANIFEST`
+/// `measure [--profile strict|wide] [--format text|json] [--in FOLDER] MANIFEST`
 fn measure<'a>(alloc: Global) -> Result<Command<'a>, AllocError>
     ensures { IfOk result (λ c. app_of c ≡ measure_app) }
 {
@@ -194,6 +204,7 @@ fn measure<'a>(alloc: Global) -> Result<Command<'a>, AllocError>
     )
     .arg(profile_arg(alloc))?
     .arg(format_arg(alloc))?
+    .arg(folder_arg(alloc))?
     .arg(required_arg(
         alloc,
         "manifest",
@@ -202,7 +213,7 @@ fn measure<'a>(alloc: Global) -> Result<Command<'a>, AllocError>
     ))
 }
 
-/// `report --ring MM --gap MM [--profile strict|wide] [--max N] [--waive FILE] [--outline FILE] [--format text|html|json|waivers] [--exit-zero] MANIFEST`
+/// `report --ring MM --gap MM [--profile strict|wide] [--max N] [--waive FILE] [--outline FILE] [--format text|html|json|waivers] [--exit-zero] [--in FOLDER] MANIFEST`
 fn report<'a>(alloc: Global) -> Result<Command<'a>, AllocError>
     ensures { IfOk result (λ c. app_of c ≡ report_app) }
 {
@@ -219,7 +230,7 @@ fn report<'a>(alloc: Global) -> Result<Command<'a>, AllocError>
     with_report_args(alloc, under_rules)
 }
 
-/// Adds `[--max N] [--waive FILE] [--outline FILE] [--format text|html|json|waivers] [--exit-zero] MANIFEST` to a command.
+/// Adds `[--max N] [--waive FILE] [--outline FILE] [--format text|html|json|waivers] [--exit-zero] [--in FOLDER] MANIFEST` to a command.
 fn with_report_args<'a>(alloc: Global, command: Command<'a>) -> Result<Command<'a>, AllocError>
     ensures { IfOk result (λ c. app_of c ≡ report_args_of (app_of command.entry)) }
 {
@@ -234,6 +245,7 @@ fn with_report_args<'a>(alloc: Global, command: Command<'a>) -> Result<Command<'
         .arg(optional_option_arg(alloc, "outline", "FILE", PAGE_OUTLINE))?
         .arg(optional_option_arg(alloc, "format", "NAME", REPORT_FORMAT))?
         .arg(flag_arg(alloc, "exit-zero", EXIT_ZERO))?
+        .arg(folder_arg(alloc))?
         .arg(required_arg(
             alloc,
             "manifest",
@@ -242,7 +254,7 @@ fn with_report_args<'a>(alloc: Global, command: Command<'a>) -> Result<Command<'
         ))
 }
 
-/// `draw [--ring MM --gap MM] [--profile strict|wide] [--outline FILE] MANIFEST`
+/// `draw [--ring MM --gap MM] [--profile strict|wide] [--outline FILE] [--in FOLDER] MANIFEST`
 fn draw<'a>(alloc: Global) -> Result<Command<'a>, AllocError>
     ensures { IfOk result (λ c. app_of c ≡ draw_app) }
 {
@@ -257,6 +269,7 @@ fn draw<'a>(alloc: Global) -> Result<Command<'a>, AllocError>
     .arg(optional_option_arg(alloc, "gap", "MM", GAP))?
     .arg(profile_arg(alloc))?
     .arg(optional_option_arg(alloc, "outline", "FILE", OUTLINE))?
+    .arg(folder_arg(alloc))?
     .arg(required_arg(
         alloc,
         "manifest",
@@ -265,7 +278,7 @@ fn draw<'a>(alloc: Global) -> Result<Command<'a>, AllocError>
     ))
 }
 
-/// `manifest [--why] [--profile strict|wide] FILE..`
+/// `manifest [--why] [--profile strict|wide] [--in FOLDER] FILE..`
 fn manifest<'a>(alloc: Global) -> Result<Command<'a>, AllocError>
     ensures { IfOk result (λ c. app_of c ≡ manifest_app) }
 {
@@ -273,11 +286,12 @@ fn manifest<'a>(alloc: Global) -> Result<Command<'a>, AllocError>
         alloc,
         "manifest",
         "Propose a manifest for some files",
-        "ringcheck manifest [--why] [--profile <strict|wide>] <FILE>...",
+        MANIFEST_USAGE,
         MANIFEST,
     )
     .arg(flag_arg(alloc, "why", "Show what each file is taken for, and why"))?
     .arg(optional_option_arg(alloc, "profile", "NAME", MANIFEST_PROFILE))?
+    .arg(folder_arg(alloc))?
     .arg(repeated_arg(alloc, "file", "FILE", "Files to look at"))
 }
 
@@ -300,7 +314,7 @@ fn explain<'a>(alloc: Global) -> Result<Command<'a>, AllocError>
     ))
 }
 
-/// `show --kind layer|drill [--profile strict|wide] FILE`
+/// `show --kind layer|drill [--profile strict|wide] [--in FOLDER] FILE`
 fn show<'a>(alloc: Global) -> Result<Command<'a>, AllocError>
     ensures { IfOk result (λ c. app_of c ≡ show_app) }
 {
@@ -308,15 +322,16 @@ fn show<'a>(alloc: Global) -> Result<Command<'a>, AllocError>
         alloc,
         "show",
         "Print a table of a layer's flashes or a drill file's holes",
-        "ringcheck show --kind <layer|drill> [--profile <strict|wide>] <FILE>",
+        SHOW_USAGE,
         SHOW,
     )
     .arg(kind_arg(alloc))?
     .arg(profile_arg(alloc))?
+    .arg(folder_arg(alloc))?
     .arg(required_arg(alloc, "file", "FILE", "File to read"))
 }
 
-/// `rewrite --kind layer|drill FILE`
+/// `rewrite --kind layer|drill [--in FOLDER] FILE`
 fn rewrite<'a>(alloc: Global) -> Result<Command<'a>, AllocError>
     ensures { IfOk result (λ c. app_of c ≡ rewrite_app) }
 {
@@ -324,10 +339,11 @@ fn rewrite<'a>(alloc: Global) -> Result<Command<'a>, AllocError>
         alloc,
         "rewrite",
         "Print the canonical text of a layer or a drill file",
-        "ringcheck rewrite --kind <layer|drill> <FILE>",
+        "ringcheck rewrite --kind <layer|drill> [--in <FOLDER>] <FILE>",
         REWRITE,
     )
     .arg(kind_arg(alloc))?
+    .arg(folder_arg(alloc))?
     .arg(required_arg(alloc, "file", "FILE", "File to read"))
 }
 
@@ -417,6 +433,14 @@ fn format_arg<'a>(alloc: Global) -> Arg<'a>
     ensures global { result.global ≡ false }
 {
     optional_option_arg(alloc, "format", "text|json", FORMAT)
+}
+
+/// `[--in FOLDER]`
+fn folder_arg<'a>(alloc: Global) -> Arg<'a>
+    ensures rule { rule_of result ≡ folder_option }
+    ensures global { result.global ≡ false }
+{
+    optional_option_arg(alloc, "in", "FOLDER", FOLDER)
 }
 
 /// A required option with one value.

@@ -1,21 +1,21 @@
 //! The command line of the program.
 //!
 //! ```text
-//! ringcheck check --ring MM --gap MM [--profile strict|wide] MANIFEST
-//! ringcheck report --ring MM --gap MM [--profile strict|wide] [--max N] [--waive FILE] [--outline FILE] [--format text|html|json|waivers] [--exit-zero] MANIFEST
-//! ringcheck measure [--profile strict|wide] [--format text|json] MANIFEST
-//! ringcheck draw [--ring MM --gap MM] [--profile strict|wide] [--outline FILE] MANIFEST
-//! ringcheck manifest [--why] [--profile strict|wide] FILE..
+//! ringcheck check --ring MM --gap MM [--profile strict|wide] [--in FOLDER] MANIFEST
+//! ringcheck report --ring MM --gap MM [--profile strict|wide] [--max N] [--waive FILE] [--outline FILE] [--format text|html|json|waivers] [--exit-zero] [--in FOLDER] MANIFEST
+//! ringcheck measure [--profile strict|wide] [--format text|json] [--in FOLDER] MANIFEST
+//! ringcheck draw [--ring MM --gap MM] [--profile strict|wide] [--outline FILE] [--in FOLDER] MANIFEST
+//! ringcheck manifest [--why] [--profile strict|wide] [--in FOLDER] FILE..
 //! ringcheck explain [WORD]
-//! ringcheck show --kind layer|drill [--profile strict|wide] FILE
-//! ringcheck rewrite --kind layer|drill FILE
+//! ringcheck show --kind layer|drill [--profile strict|wide] [--in FOLDER] FILE
+//! ringcheck rewrite --kind layer|drill [--in FOLDER] FILE
 //! ```
 #![tactic(auto)]
 
 ghost use Rattle.std.specs.Prelude.{◌≡◌, ◌∷◌, [], Bool, IfOk, IfSome, Some, None, List, Option, true, codes, length, map, option_map, string_bytes};
 ghost use Rattle.std.specs.List.{list_any};
 ghost use Rattle.clap.specs.Words.{Row, Text, first_of, found_of, kind_of, one_of, rows_of, subcommand_rows_of};
-ghost use Rattle.command_line.specs.ProgramArgs.{ParsesAs, ParsesLine, ParsesAsVersion, IsRequestOf, IsCheck, IsDraw, IsExplain, IsManifest, IsMeasure, IsReport, IsRewrite, IsShow, IsFlagValue, are_plain_rules, are_plain_words, check_words, draw_words, explain_words, is_plain_if_some, is_plain_word, manifest_words, measure_words, report_words, rewrite_words, show_words};
+ghost use Rattle.command_line.specs.ProgramArgs.{ParsesAs, ParsesLine, ParsesAsVersion, IsLineOf, IsRequestOf, IsCheck, IsDraw, IsExplain, IsManifest, IsMeasure, IsReport, IsRewrite, IsShow, IsFlagValue, are_plain_rules, are_plain_words, check_words, draw_words, explain_words, is_plain_if_some, is_plain_word, manifest_words, measure_words, report_words, rewrite_words, show_words};
 ghost use Rattle.command_line.specs.RefusalTexts as texts;
 ghost use Rattle.command_line.specs.RefusalTexts.{EndsUsageWith, EndsWith, TellsFault};
 ghost use Rattle.command_line.specs.Inner.RequestSteps.{IsRefusalFor};
@@ -114,6 +114,14 @@ pub enum Request<'a> {
     },
 }
 
+/// What a line asks for, and where its files are.
+#[derive(Debug, Drop)]
+pub struct CommandLine<'a> {
+    /// The folder from which the names of files are taken, on the line and in a manifest, where one is given.
+    pub folder: Option<&'a str>,
+    pub request: Request<'a>,
+}
+
 /// Why the words ask for nothing that can be done, with the text for the user.
 #[derive(Debug, Drop)]
 pub enum Refusal {
@@ -136,27 +144,27 @@ pub enum Refusal {
 /// runs out. [`Refusal::Usage`] where the words are no command of the program; its text is the help where there are none.
 // It is not inlined: clap's values would otherwise lie in the frame of a caller for as long as that runs.
 #[inline(never)]
-pub fn parse<'a>(alloc: Global, words: &'a [&'a str]) -> Result<Request<'a>, Refusal>
+pub fn parse<'a>(alloc: Global, words: &'a [&'a str]) -> Result<CommandLine<'a>, Refusal>
     ensures exact { ParsesLine (map (λ w. w.now) words.entry.now) result }
-    ensures check { (r g : Text) (profile : Option Text) (m : Text) → map (λ w. w.now) words.entry.now ≡ check_words r g profile m → is_plain_word r ≡ true
-        → is_plain_word g ≡ true → is_plain_if_some profile ≡ true → is_plain_word m ≡ true → ParsesAs (IsCheck r g profile m) result }
-    ensures measure { (profile format : Option Text) (m : Text) → map (λ w. w.now) words.entry.now ≡ measure_words profile format m → is_plain_if_some profile ≡ true
-        → is_plain_if_some format ≡ true → is_plain_word m ≡ true → ParsesAs (IsMeasure profile format m) result }
-    ensures report { (exit_zero : Bool) (r g : Text) (profile limit waive outline format : Option Text) (m : Text)
-        → map (λ w. w.now) words.entry.now ≡ report_words exit_zero r g profile limit waive outline format m
+    ensures check { (r g : Text) (profile folder : Option Text) (m : Text) → map (λ w. w.now) words.entry.now ≡ check_words r g profile folder m → is_plain_word r ≡ true
+        → is_plain_word g ≡ true → is_plain_if_some profile ≡ true → is_plain_if_some folder ≡ true → is_plain_word m ≡ true → ParsesAs folder (IsCheck r g profile m) result }
+    ensures measure { (profile format folder : Option Text) (m : Text) → map (λ w. w.now) words.entry.now ≡ measure_words profile format folder m → is_plain_if_some profile ≡ true
+        → is_plain_if_some format ≡ true → is_plain_if_some folder ≡ true → is_plain_word m ≡ true → ParsesAs folder (IsMeasure profile format m) result }
+    ensures report { (exit_zero : Bool) (r g : Text) (profile limit waive outline format folder : Option Text) (m : Text)
+        → map (λ w. w.now) words.entry.now ≡ report_words exit_zero r g profile limit waive outline format folder m
         → is_plain_word r ≡ true → is_plain_word g ≡ true → is_plain_if_some profile ≡ true → is_plain_if_some limit ≡ true → is_plain_if_some waive ≡ true → is_plain_if_some outline ≡ true
-        → is_plain_if_some format ≡ true → is_plain_word m ≡ true → ParsesAs (IsReport exit_zero r g profile limit waive outline format m) result }
-    ensures draw { (rules : Option (Text × Text)) (profile outline : Option Text) (m : Text) → map (λ w. w.now) words.entry.now ≡ draw_words rules profile outline m
-        → are_plain_rules rules ≡ true → is_plain_if_some profile ≡ true → is_plain_if_some outline ≡ true → is_plain_word m ≡ true → ParsesAs (IsDraw rules profile outline m) result }
-    ensures show { (k : Text) (profile : Option Text) (f : Text) → map (λ w. w.now) words.entry.now ≡ show_words k profile f → is_plain_word k ≡ true
-        → is_plain_if_some profile ≡ true → is_plain_word f ≡ true → ParsesAs (IsShow k profile f) result }
-    ensures rewrite { (k f : Text) → map (λ w. w.now) words.entry.now ≡ rewrite_words k f → is_plain_word k ≡ true
-        → is_plain_word f ≡ true → ParsesAs (IsRewrite k f) result }
-    ensures manifest { (why : Bool) (profile : Option Text) (fs : List Text) → map (λ w. w.now) words.entry.now ≡ manifest_words why profile fs → is_plain_if_some profile ≡ true
-        → are_plain_words fs ≡ true → ParsesAs (IsManifest why profile fs) result }
-    ensures list { map (λ w. w.now) words.entry.now ≡ explain_words None → ParsesAs (IsExplain None) result }
+        → is_plain_if_some format ≡ true → is_plain_if_some folder ≡ true → is_plain_word m ≡ true → ParsesAs folder (IsReport exit_zero r g profile limit waive outline format m) result }
+    ensures draw { (rules : Option (Text × Text)) (profile outline folder : Option Text) (m : Text) → map (λ w. w.now) words.entry.now ≡ draw_words rules profile outline folder m
+        → are_plain_rules rules ≡ true → is_plain_if_some profile ≡ true → is_plain_if_some outline ≡ true → is_plain_if_some folder ≡ true → is_plain_word m ≡ true → ParsesAs folder (IsDraw rules profile outline m) result }
+    ensures show { (k : Text) (profile folder : Option Text) (f : Text) → map (λ w. w.now) words.entry.now ≡ show_words k profile folder f → is_plain_word k ≡ true
+        → is_plain_if_some profile ≡ true → is_plain_if_some folder ≡ true → is_plain_word f ≡ true → ParsesAs folder (IsShow k profile f) result }
+    ensures rewrite { (k : Text) (folder : Option Text) (f : Text) → map (λ w. w.now) words.entry.now ≡ rewrite_words k folder f → is_plain_word k ≡ true
+        → is_plain_if_some folder ≡ true → is_plain_word f ≡ true → ParsesAs folder (IsRewrite k f) result }
+    ensures manifest { (why : Bool) (profile folder : Option Text) (fs : List Text) → map (λ w. w.now) words.entry.now ≡ manifest_words why profile folder fs → is_plain_if_some profile ≡ true
+        → is_plain_if_some folder ≡ true → are_plain_words fs ≡ true → ParsesAs folder (IsManifest why profile fs) result }
+    ensures list { map (λ w. w.now) words.entry.now ≡ explain_words None → ParsesAs None (IsExplain None) result }
     ensures explain { (w : Text) → map (λ w. w.now) words.entry.now ≡ explain_words (Some w) → is_plain_word w ≡ true
-        → ParsesAs (IsExplain (Some w)) result }
+        → ParsesAs None (IsExplain (Some w)) result }
     ensures version { map (λ w. w.now) words.entry.now ≡ codes "--version" ∷ [] → ParsesAsVersion result }
     ensures below { TellsFault (map (λ w. w.now) words.entry.now) result }
 {
@@ -166,8 +174,8 @@ pub fn parse<'a>(alloc: Global, words: &'a [&'a str]) -> Result<Request<'a>, Ref
         return Err(Refusal::Memory);
     };
     match command.try_get_matches_from(words) {
-        Ok(matches) => match request_of(alloc, &matches) {
-            Some(request) => Ok(request),
+        Ok(matches) => match line_of(alloc, &matches) {
+            Some(line) => Ok(line),
             // Each value is required, so that only running out of memory takes this arm.
             None => Err(Refusal::Memory),
         },
@@ -182,11 +190,20 @@ fn word_count(words: &[&str]) -> usize
     words.len()
 }
 
-/// The request of a parsed line.
-fn request_of<'a>(alloc: Global, matches: &ArgMatches<'a>) -> Option<Request<'a>>
-    ensures { IfSome result (λ request. IsRequestOf (subcommand_rows_of matches.now) request) }
+/// The request of a parsed line, with its folder.
+fn line_of<'a>(alloc: Global, matches: &ArgMatches<'a>) -> Option<CommandLine<'a>>
+    ensures { IfSome result (λ line. IsLineOf (subcommand_rows_of matches.now) line) }
 {
     let (name, values) = matches.subcommand()?;
+    let folder = value(values, "in");
+    let request = request_of(alloc, name, values)?;
+    Some(CommandLine { folder, request })
+}
+
+/// The request of the command of this name, with these values.
+fn request_of<'a>(alloc: Global, name: &str, values: &ArgMatches<'a>) -> Option<Request<'a>>
+    ensures { IfSome result (λ request. IsRequestOf (Some (name.now, rows_of (found_of values.now))) request) }
+{
     match name {
         "check" => check_request(values),
         "report" => report_request(values),

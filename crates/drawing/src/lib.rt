@@ -13,7 +13,6 @@ mod page;
 mod page_layout;
 mod panels;
 mod places;
-mod scale;
 mod words;
 
 pub use draw::{Drawing, Svg};

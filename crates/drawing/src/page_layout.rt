@@ -1,13 +1,12 @@
 //! The layout of a page, from the extent of the board.
 
-ghost use Rattle.std.specs.Prelude.{◌≡◌, ◌≤◌, ◌^◌, ◌*◌, ◌≤ℤ◌, pos, unsigned_abs};
+ghost use Rattle.std.specs.Prelude.{◌≡◌, ◌≤◌, ◌^◌, ◌*◌, ◌≤ℤ◌, pos, unsigned_abs, ◌<◌, ℕ};
 ghost use Rattle.drawing.specs.Boxes.{IsBox, side};
-ghost use Rattle.drawing.specs.Layouts.{IsLayout, ring_of};
+ghost use Rattle.drawing.specs.Layouts.{IsLayout, ring_of, IsBar};
 
 use crate::columns::{columns_of, unit_of};
 use crate::extent::Extent;
 use crate::layout::Layout;
-use crate::scale::bar_of;
 use grid_units::Rules;
 use picture::{Frame, Pen};
 
@@ -80,4 +79,30 @@ pub(crate) fn layout_of(extent: Option<Extent>, count: usize, rules: &Option<Rul
         rows: count.div_ceil(columns),
         bar: bar_of(frame.width.unsigned_abs()),
     }
+}
+
+/// The greatest of 1, 2 or 5 times a power of ten that is at most a quarter of a width, in pm.
+pub(crate) fn bar_of(width: u64) -> u64
+    requires some { 4 ≤ width }
+    requires near { width ≤ 10 ^ 14 }
+    ensures { IsBar width result }
+{
+    let limit = width / 4;
+    let power = power_within(limit);
+    if 5 * power <= limit {
+        5 * power
+    } else if 2 * power <= limit {
+        2 * power
+    } else {
+        power
+    }
+}
+
+/// The greatest power of ten that is no more than `limit`.
+fn power_within(limit: u64) -> u64
+    requires some { 1 ≤ limit }
+    requires near { limit ≤ 10 ^ 14 }
+    ensures { (k : ℕ) × ((result ≡ 10 ^ k) × ((10 ^ k ≤ limit) × (limit < 10 * 10 ^ k))) }
+{
+    10_u64.pow(limit.ilog10())
 }

@@ -7,7 +7,7 @@ ghost use Rattle.drawing.specs.Layouts.{box_left, box_top};
 ghost use Rattle.drawing.specs.Pages.{text_of_panel};
 
 use crate::layout::Layout;
-use grid_units::Line;
+use grid_units::{Line, name_of};
 use layer_image::Drawn;
 use package_check::Board;
 use picture::{LayerCopper, Place, Scene, scene_of};
@@ -37,16 +37,6 @@ impl Line<Layout> for Panel<'_> {
             scene: &self.scene,
         };
         write!(f, "{panel}")
-    }
-}
-
-/// The name of a file, by its index; empty where it has none.
-fn name_of<'a>(names: &[&'a str], file: usize) -> &'a str
-    ensures { result.now ≡ get_or (map (λ name. name.now) names.now) file [] }
-{
-    match names.get(file) {
-        Some(name) => *name,
-        None => "",
     }
 }
 

@@ -1,5 +1,5 @@
 -- Of a line that is written for a command, or for nothing, the rows answer just that.
-use Rattle.std.proofs.Common.{◌≡◌, ◌≢◌, ℕ, ◌≤◌, Bool, true, false, cond, not, ◌||◌, ◌&&◌, eqb, leb, List, [], ◌∷◌, ◌++◌, length, drop, ℤ, Option, Some, None, is_some, Ok, Err, IfSome, refl, sym, ap, subst, ◌∙◌, arith, append_assoc}
+use Rattle.std.proofs.Common.{◌≡◌, ◌≢◌, ℕ, zero, suc, ◌≤◌, Bool, true, false, cond, not, ◌||◌, ◌&&◌, eqb, leb, List, [], ◌∷◌, ◌++◌, length, drop, ℤ, Option, Some, None, is_some, Result, Ok, Err, IfSome, refl, sym, ap, subst, ◌∙◌, arith, append_assoc, replicate}
 use Rattle.std.specs.Prelude.{codes, take_while, count_by}
 use Rattle.std.specs.List.{Contains, list_all, prefix_len, after_first, AllByRecursion}
 use Rattle.std.proofs.lemmas.Bool.{le-leb, eq-eqb}
@@ -7,13 +7,17 @@ use Rattle.std.proofs.lemmas.Bool.Decides.{nat_tests}
 use Rattle.std.proofs.lemmas.List.{append-nil}
 use Rattle.std.proofs.lemmas.List.Elements.{All-from_recursion, All-contains}
 use Rattle.std.proofs.lemmas.List.Sums.{sum_by-append}
+use Rattle.grid_units.specs.declared.fault.Reason.{Reason}
 use Rattle.grid_units.specs.declared.fault.Reason.TheVariants.{BadLine, BadNumber}
 use Rattle.grid_units.specs.declared.lengths.Unit.{Unit as Units}
+use Rattle.grid_units.specs.declared.lengths.Unit.TheVariants.{Inch, Millimetre}
 use Rattle.grid_units.specs.declared.zero_filling.Zeros.{Zeros}
+use Rattle.grid_units.specs.declared.zero_filling.Zeros.TheVariants.{Leading, Trailing, Full}
 use Rattle.grid_units.specs.Results.{◌>>=◌, both}
 use Rattle.grid_units.specs.Numbers.{is_digit, is_digits, is_number_char, value}
 use Rattle.grid_units.proofs.BoolLemmas.{and_true, both_true}
-use Rattle.grid_units.proofs.ListLemmas.{list_all_weaker, list_all_append, take_while_append, drop_run_append}
+use Rattle.grid_units.proofs.ListLemmas.{list_all_weaker, list_all_append, prefix_len_append, take_while_append, drop_run_append}
+use Rattle.grid_units.proofs.SpellingsLemmas.{length-zeros}
 use Rattle.drill_lines.specs.declared.command.Coordinates.{Coordinates}
 use Rattle.drill_lines.specs.declared.command.Part.{Part}
 use Rattle.drill_lines.specs.declared.command.Part.TheVariants as part
@@ -21,17 +25,28 @@ use Rattle.drill_lines.specs.declared.command.Settings.{Settings}
 use Rattle.drill_lines.specs.declared.command.DrillCommand.{DrillCommand}
 use Rattle.drill_lines.specs.declared.command.DrillCommand.TheVariants.{Comment, Start, UnitLine, Tool, HeaderEnd, UnitCode, Pick, Hit, Slot, Finish}
 use Rattle.drill_lines.specs.Formats.{Digits, AreDigitCounts}
+use Rattle.drill_lines.specs.Header.{is_zero, is_digit_count, digit_counts, pattern, pattern_from, unit_format, unit_line}
 use Rattle.drill_lines.specs.Tools.{is_diameter_letter, is_tool_letter, is_skipped_letter, begins_with, are_fields, tool_number, diameter_of, diameter_run, tool_fields, tool_line, pick_fields, pick_line}
 use Rattle.drill_lines.specs.HoleLines.{coordinate, field, Runs, runs_of, has_run, coordinates, point_line, slot_line, hole_from, hole_line}
-use Rattle.drill_lines.specs.Meaning.{one_command, lines_before, common_lines, header_ends, body_prefixes, line_in, meaning}
+use Rattle.drill_lines.specs.Meaning.{one_command, lines_before, common_lines, header_ends, body_prefixes, begins_comment, line_in, meaning}
 use Rattle.drill_lines.specs.Writing.{unit_word, zeros_text, pattern_text, canonical, can_give_zeros, IsInRange}
 use Rattle.drill_lines.specs.Grammar.{fixed_lines, unit_words, zeros_words, IsUnitLine, IsNumber, IsToolLine, IsPickLine, IsCoordinate, IsPointText, IsSlotLine}
 use Rattle.drill_lines.specs.Laws.{WrittenIsAnswered, SpellsAtMostOne}
 use Rattle.drill_lines.proofs.CutLemmas.{nested, after_more, after_here, decimal_numbers, coordinate_numbers}
 use Rattle.drill_lines.proofs.SkippedFields.{is_field_byte, is_skipped_byte, letter_no_digit, letter_no_number, written_bytes, written_begins, fields_end, last_fields_end, count_more}
-use Rattle.drill_lines.proofs.Runs.{or_right}
-use Rattle.drill_lines.proofs.ToolsAndPoints.{slot_after_point}
-use Rattle.drill_lines.proofs.CanonicalParses.{read_in_part, means, in_part}
+use Rattle.drill_lines.proofs.Runs.{or_right, zeros_pass}
+
+-- ---- lines of a part
+
+-- a line without blanks at its end, in this part
+unfoldable pub read_in_part : Part → Settings → List ℕ → Result (Option DrillCommand) Reason
+read_in_part p s [] = Ok None
+read_in_part p s (b ∷ bs) = cond (begins_comment p b) (Ok (Some (Comment bs))) (line_in p s (b ∷ bs))
+
+pub means : (s : Settings) (line : List ℕ) → meaning s line ≡ read_in_part s.part s line
+unfolding meaning read_in_part
+means s [] = refl
+means s (b ∷ bs) = refl
 
 -- a line that spells this in a part is read so in a file that is there
 in_this_part : (s : Settings) (p : Part) (line : List ℕ) (spelled : Option DrillCommand) → s.part ≡ p → read_in_part p s line ≡ Ok spelled → meaning s line ≡ Ok spelled
@@ -61,6 +76,60 @@ comment_read part.After s text h = absurd (h refl)
 
 -- ---- unit lines
 
+unfoldable pub shows : Digits → List ℕ
+shows f = replicate f.whole 48 ++ 46 ∷ replicate f.decimals 48
+
+sizes_read : (f : Digits) → AreDigitCounts f.whole f.decimals → digit_counts f.whole f.decimals ≡ Ok f
+sizes_read f s =
+    let a : is_digit_count f.whole ≡ true = and_true (leb 1 f.whole) (leb f.whole 6) (le-leb 1 f.whole s.0) (le-leb f.whole 6 s.1) in
+    let b : is_digit_count f.decimals ≡ true = and_true (leb 1 f.decimals) (leb f.decimals 6) (le-leb 1 f.decimals s.2) (le-leb f.decimals 6 s.3) in
+    λ i. cond (a i && b i) (Ok f) (Err BadNumber)
+
+pattern_read : (f : Digits) → AreDigitCounts f.whole f.decimals → pattern (shows f) ≡ Ok f
+unfolding pattern shows
+pattern_read f s =
+    let zeros : list_all is_zero (replicate f.whole 48) ≡ true = zeros_pass f.whole is_zero refl in
+    let behind : list_all is_zero (replicate f.decimals 48) ≡ true = zeros_pass f.decimals is_zero refl in
+    let len : prefix_len is_zero (shows f) ≡ f.whole = prefix_len_append is_zero (replicate f.whole 48) (46 ∷ replicate f.decimals 48) zeros refl ∙ length-zeros f.whole in
+    let rest : drop (prefix_len is_zero (shows f)) (shows f) ≡ 46 ∷ replicate f.decimals 48 = drop_run_append is_zero (replicate f.whole 48) (46 ∷ replicate f.decimals 48) zeros refl in
+    (λ i. pattern_from (len i) (rest i))
+    ∙ ((λ i. cond (behind i) (digit_counts f.whole (length-zeros f.decimals i)) (Err BadNumber)) ∙ sizes_read f s)
+
+pub pattern_numbers : (f : Digits) → list_all is_number_char (shows f) ≡ true
+unfolding shows
+pattern_numbers f = list_all_append is_number_char (replicate f.whole 48) (46 ∷ replicate f.decimals 48) (zeros_pass f.whole is_number_char refl) (zeros_pass f.decimals is_number_char refl)
+
+format_read : (unit : Units) (zeros : Option Zeros) (f : Digits) → AreDigitCounts f.whole f.decimals → unit_format unit zeros (44 ∷ shows f) ≡ Ok (UnitLine unit zeros (Some f))
+unfolding unit_format
+format_read unit zeros f s =
+    (λ i. cond (pattern_numbers f i) (pattern (shows f) >>= λ p. Ok (UnitLine unit zeros (Some p))) (Err BadLine))
+    ∙ (λ i. pattern_read f s i >>= λ p. Ok (UnitLine unit zeros (Some p)))
+
+-- a pattern begins with a zero
+bare_from : (unit : Units) (i d : ℕ) → 1 ≤ i → unit_line unit (44 ∷ (replicate i 48 ++ 46 ∷ replicate d 48)) ≡ unit_format unit None (44 ∷ (replicate i 48 ++ 46 ∷ replicate d 48))
+unfolding unit_line
+bare_from unit zero d h = absurd (omega arith)
+bare_from unit (suc i) d h = refl
+
+bare_read : (unit : Units) (f : Digits) → AreDigitCounts f.whole f.decimals → unit_line unit (44 ∷ shows f) ≡ unit_format unit None (44 ∷ shows f)
+unfolding shows
+bare_read unit f s = bare_from unit f.whole f.decimals s.0
+
+unit_text_read : (unit : Units) (zeros : Option Zeros) (format : Option Digits) → can_give_zeros zeros ≡ true → IsInRange (UnitLine unit zeros format) → unit_line unit (zeros_text zeros ++ pattern_text format) ≡ Ok (UnitLine unit zeros format)
+unfolding unit_line unit_format shows
+unit_text_read unit (Some Leading) None h s = refl
+unit_text_read unit (Some Leading) (Some f) h s = format_read unit (Some Leading) f s
+unit_text_read unit (Some Trailing) None h s = refl
+unit_text_read unit (Some Trailing) (Some f) h s = format_read unit (Some Trailing) f s
+unit_text_read unit (Some Full) format h s = absurd cc
+unit_text_read unit None None h s = refl
+unit_text_read unit None (Some f) h s = bare_read unit f s ∙ format_read unit None f s
+
+unit_spelled : (s : Settings) (unit : Units) (zeros : Option Zeros) (format : Option Digits) → can_give_zeros zeros ≡ true → IsInRange (UnitLine unit zeros format) → read_in_part part.Header s (canonical (UnitLine unit zeros format)) ≡ Ok (Some (UnitLine unit zeros format))
+unfolding read_in_part line_in header_ends
+unit_spelled s Inch zeros format h t = ap one_command (unit_text_read Inch zeros format h t)
+unit_spelled s Millimetre zeros format h t = ap one_command (unit_text_read Millimetre zeros format h t)
+
 in_range : (unit : Units) (kept : Option Zeros) (format : Option Digits) → IfSome format (λ f. AreDigitCounts f.whole f.decimals) → IsInRange (UnitLine unit kept format)
 in_range unit kept None h = tt
 in_range unit kept (Some f) h = h
@@ -78,7 +147,7 @@ unit_read s line unit kept format h =
     let w = All-contains IsWord unit_words (h.0, unit) (All-from_recursion IsWord unit_words words_are) h.3 in
     let z = All-contains IsNamed zeros_words (h.1, kept) (All-from_recursion IsNamed zeros_words named_are) h.4 in
     let whole : line ≡ canonical (UnitLine unit kept format) = h.2 ∙ append_assoc h.0 h.1 (pattern_text format) ∙ (λ i. w i ++ (z.0 i ++ pattern_text format)) in
-    ap (read_in_part part.Header s) whole ∙ in_part part.Header s (UnitLine unit kept format) z.1 (in_range unit kept format h.5)
+    ap (read_in_part part.Header s) whole ∙ unit_spelled s unit kept format z.1 (in_range unit kept format h.5)
 
 -- ---- tools
 
@@ -249,6 +318,14 @@ hit_read s line p h =
     let r = point_alone s line p h in
     let read : hole_line s line ≡ Ok (Hit p) = (λ i. hole_from s (r.cut i).0 (r.cut i).1) ∙ (λ i. r.reads i >>= λ q. Ok (Hit q)) in
     subst (λ (t : List ℕ). read_in_part part.Body s t ≡ one_command (hole_line s t)) (append-nil line) (drills s line [] p h) ∙ ap one_command read
+
+some_bytes : (n : ℕ) → eqb (suc n) 0 ≡ false
+some_bytes n = grind (arith, nat_tests)
+
+-- what follows the first point begins with `G85`, so it is a slot
+slot_after_point : (s : Settings) (runs : Runs) (q : List ℕ) → hole_from s runs (codes "G85" ++ q) ≡ slot_line s runs q
+unfolding hole_from
+slot_after_point s runs q = ap (λ t. cond t (coordinates s runs >>= λ p. Ok (Hit p)) (slot_line s runs q)) (some_bytes (suc (suc (length q))))
 
 slot_read : (s : Settings) (line : List ℕ) (p q : Coordinates) → IsSlotLine s line p q → read_in_part part.Body s line ≡ Ok (Some (Slot p q))
 unfolding hole_line slot_line

@@ -1,20 +1,17 @@
--- The canonical line of a command spells just it.
-use Rattle.std.proofs.Common.{◌≡◌, ℕ, zero, suc, ◌≤◌, Bool, true, false, cond, not, ◌||◌, ◌&&◌, eqb, leb, ltb, List, [], ◌∷◌, ◌++◌, length, drop, ℤ, Option, Some, None, is_some, Result, Ok, Err, refl, sym, ap, ◌∙◌, arith, replicate, ◌⊎◌, inl, inr, lit<, lit≤}
+-- The canonical line of a command spells just it, since it is so written.
+use Rattle.std.proofs.Common.{◌≡◌, ℕ, suc, ◌≤◌, Bool, true, false, cond, not, ◌||◌, ◌&&◌, eqb, leb, ltb, List, [], ◌∷◌, ◌++◌, length, ℤ, Option, Some, None, Ok, Contains, refl, sym, ap, subst, ◌∙◌, arith, append_assoc, append-nil, replicate, ◌⊎◌, inl, inr, lit<, lit≤, IfSome}
 use Rattle.std.specs.Prelude.{decimal, codes}
-use Rattle.std.specs.List.{list_all, list_any, prefix_len}
+use Rattle.std.specs.List.{list_all, list_any}
 use Rattle.std.proofs.lemmas.List.{length-append}
 use Rattle.std.proofs.lemmas.Fmt.{length-decimal-le}
-use Rattle.std.proofs.lemmas.Bool.{leb-true, le-leb, eqb-true, ltb-true}
-use Rattle.grid_units.specs.declared.fault.Reason.{Reason}
-use Rattle.grid_units.specs.declared.fault.Reason.TheVariants.{BadLine, BadNumber}
+use Rattle.std.proofs.lemmas.Bool.{leb-true, eqb-true, ltb-true}
 use Rattle.grid_units.specs.declared.lengths.Unit.{Unit as Units}
 use Rattle.grid_units.specs.declared.lengths.Unit.TheVariants.{Inch, Millimetre}
 use Rattle.grid_units.specs.declared.zero_filling.Zeros.{Zeros}
 use Rattle.grid_units.specs.declared.zero_filling.Zeros.TheVariants.{Leading, Trailing, Full}
-use Rattle.grid_units.specs.Results.{◌>>=◌}
-use Rattle.grid_units.specs.Numbers.{is_digit, is_number_char}
+use Rattle.grid_units.specs.Numbers.{is_digit, is_number_char, parse_zero_filled}
 use Rattle.grid_units.specs.Spellings.{pointed}
-use Rattle.grid_units.proofs.SpellingsLemmas.{length-zeros, digit_number}
+use Rattle.grid_units.proofs.SpellingsLemmas.{length-zeros, digit_number, spells_decimal}
 use Rattle.drill_lines.specs.declared.command.Coordinates.{Coordinates}
 use Rattle.drill_lines.specs.declared.command.Part.{Part}
 use Rattle.drill_lines.specs.declared.command.Part.TheVariants as part
@@ -22,113 +19,79 @@ use Rattle.drill_lines.specs.declared.command.Settings.{Settings}
 use Rattle.drill_lines.specs.declared.command.DrillCommand.{DrillCommand}
 use Rattle.drill_lines.specs.declared.command.DrillCommand.TheVariants.{Comment, Start, UnitLine, Tool, HeaderEnd, UnitCode, Pick, Hit, Slot, Finish}
 use Rattle.drill_lines.specs.Formats.{Digits, AreDigitCounts}
+use Rattle.drill_lines.specs.Grammar.{fixed_lines, unit_words, zeros_words, IsNumber, IsCoordinate, IsPointText, IsLine}
+use Rattle.drill_lines.specs.HoleLines.{format_in, zeros_in, coordinate_of}
 use Rattle.drill_lines.specs.Lines.{is_blank, trimmed}
-use Rattle.drill_lines.specs.Header.{is_zero, is_digit_count, digit_counts, pattern, pattern_from, unit_format, unit_line}
-use Rattle.drill_lines.specs.HoleLines.{hole_line}
-use Rattle.drill_lines.specs.Meaning.{one_command, lines_before, common_lines, header_ends, body_prefixes, begins_comment, line_in, meaning}
+use Rattle.drill_lines.specs.Meaning.{meaning}
 use Rattle.drill_lines.specs.Writing.{unit_word, zeros_text, pattern_text, coordinate_text, point_text, canonical, is_comment_text, can_give_zeros, has_coordinate, is_sayable, IsOptionalDec, IsPoint, IsInRange}
-use Rattle.drill_lines.proofs.Runs.{decimal_digits, pointed_run, pointed_short, is_no_blank_or_break, solid_number, solid_kept, zeros_pass}
-use Rattle.drill_lines.proofs.ToolsAndPoints.{tool_spelled, pick_spelled, hit_spelled, slot_spelled}
-use Rattle.grid_units.proofs.BoolLemmas.{and_true, both_true}
-use Rattle.grid_units.proofs.ListLemmas.{list_all_weaker, list_all_append, prefix_len_append, drop_run_append}
+use Rattle.drill_lines.proofs.Answered.{shows, pattern_numbers, written_is_answered}
+use Rattle.drill_lines.proofs.CutLemmas.{nested}
+use Rattle.drill_lines.proofs.Runs.{decimal_digits, pointed_run, pointed_short, is_no_blank_or_break, solid_number, solid_kept}
+use Rattle.grid_units.proofs.BoolLemmas.{and_true, both_true, not_empty}
+use Rattle.grid_units.proofs.ListLemmas.{list_all_weaker, list_all_append}
 
--- ---- unit lines
+-- ---- forms
 
-shows : Digits → List ℕ
-shows f = replicate f.whole 48 ++ 46 ∷ replicate f.decimals 48
+listed : (s : Settings) (p : Part) (form : List ℕ × Option DrillCommand) → s.part ≡ p → Contains (([], None) ∷ fixed_lines p) form → Contains (([], None) ∷ fixed_lines s.part) form
+listed s p form e h = subst (λ q. Contains (([], None) ∷ fixed_lines q) form) (sym e) h
 
-sizes_read : (f : Digits) → AreDigitCounts f.whole f.decimals → digit_counts f.whole f.decimals ≡ Ok f
-sizes_read f s =
-    let a : is_digit_count f.whole ≡ true = and_true (leb 1 f.whole) (leb f.whole 6) (le-leb 1 f.whole s.0) (le-leb f.whole 6 s.1) in
-    let b : is_digit_count f.decimals ≡ true = and_true (leb 1 f.decimals) (leb f.decimals 6) (le-leb 1 f.decimals s.2) (le-leb f.decimals 6 s.3) in
-    λ i. cond (a i && b i) (Ok f) (Err BadNumber)
+unit_listed : (unit : Units) → Contains unit_words (unit_word unit, unit)
+unit_listed Inch = (0, omega arith, refl)
+unit_listed Millimetre = (1, omega arith, refl)
 
-pattern_read : (f : Digits) → AreDigitCounts f.whole f.decimals → pattern (shows f) ≡ Ok f
-unfolding pattern shows
-pattern_read f s =
-    let zeros : list_all is_zero (replicate f.whole 48) ≡ true = zeros_pass f.whole is_zero refl in
-    let behind : list_all is_zero (replicate f.decimals 48) ≡ true = zeros_pass f.decimals is_zero refl in
-    let len : prefix_len is_zero (shows f) ≡ f.whole = prefix_len_append is_zero (replicate f.whole 48) (46 ∷ replicate f.decimals 48) zeros refl ∙ length-zeros f.whole in
-    let rest : drop (prefix_len is_zero (shows f)) (shows f) ≡ 46 ∷ replicate f.decimals 48 = drop_run_append is_zero (replicate f.whole 48) (46 ∷ replicate f.decimals 48) zeros refl in
-    (λ i. pattern_from (len i) (rest i))
-    ∙ ((λ i. cond (behind i) (digit_counts f.whole (length-zeros f.decimals i)) (Err BadNumber)) ∙ sizes_read f s)
+zeros_listed : (zeros : Option Zeros) → can_give_zeros zeros ≡ true → Contains zeros_words (zeros_text zeros, zeros)
+zeros_listed None h = (0, omega arith, refl)
+zeros_listed (Some Leading) h = (1, omega arith, refl)
+zeros_listed (Some Trailing) h = (2, omega arith, refl)
+zeros_listed (Some Full) h = absurd cc
 
-pattern_numbers : (f : Digits) → list_all is_number_char (shows f) ≡ true
-unfolding shows
-pattern_numbers f = list_all_append is_number_char (replicate f.whole 48) (46 ∷ replicate f.decimals 48) (zeros_pass f.whole is_number_char refl) (zeros_pass f.decimals is_number_char refl)
+format_given : (unit : Units) (zeros : Option Zeros) (format : Option Digits) → IsInRange (UnitLine unit zeros format) → IfSome format (λ f. AreDigitCounts f.whole f.decimals)
+format_given unit zeros None t = tt
+format_given unit zeros (Some f) t = t
 
-format_read : (unit : Units) (zeros : Option Zeros) (f : Digits) → AreDigitCounts f.whole f.decimals → unit_format unit zeros (44 ∷ shows f) ≡ Ok (UnitLine unit zeros (Some f))
-unfolding unit_format
-format_read unit zeros f s =
-    (λ i. cond (pattern_numbers f i) (pattern (shows f) >>= λ p. Ok (UnitLine unit zeros (Some p))) (Err BadLine))
-    ∙ (λ i. pattern_read f s i >>= λ p. Ok (UnitLine unit zeros (Some p)))
+number_written : (n : ℕ) → n ≤ 999 → IsNumber (decimal n) n
+number_written n high =
+    let s = spells_decimal n (omega (arith, high)) in
+    (λ i. not_empty (length (decimal n)) s.some i && s.digits i, sym s.value, high)
 
--- a pattern begins with a zero
-bare_from : (unit : Units) (i d : ℕ) → 1 ≤ i → unit_line unit (44 ∷ (replicate i 48 ++ 46 ∷ replicate d 48)) ≡ unit_format unit None (44 ∷ (replicate i 48 ++ 46 ∷ replicate d 48))
-unfolding unit_line
-bare_from unit zero d h = absurd (omega arith)
-bare_from unit (suc i) d h = refl
+-- ---- points
 
-bare_read : (unit : Units) (f : Digits) → AreDigitCounts f.whole f.decimals → unit_line unit (44 ∷ shows f) ≡ unit_format unit None (44 ∷ shows f)
-unfolding shows
-bare_read unit f s = bare_from unit f.whole f.decimals s.0
+coordinate_written : (s : Settings) (letter : ℕ) (v : Option ℤ) → IsOptionalDec v → IsCoordinate s (letter ∷ []) (coordinate_text letter v) v
+unfolding coordinate_of
+coordinate_written s letter None t = refl
+coordinate_written s letter (Some v) t =
+    let run = pointed_run v t in
+    (pointed v, refl, λ i. cond (run.point i) (run.reads i) (parse_zero_filled (pointed v) (format_in s).whole (format_in s).decimals (zeros_in s)))
 
-pub unit_read : (unit : Units) (zeros : Option Zeros) (format : Option Digits) → can_give_zeros zeros ≡ true → IsInRange (UnitLine unit zeros format) → unit_line unit (zeros_text zeros ++ pattern_text format) ≡ Ok (UnitLine unit zeros format)
-unfolding unit_line unit_format shows
-unit_read unit (Some Leading) None h s = refl
-unit_read unit (Some Leading) (Some f) h s = format_read unit (Some Leading) f s
-unit_read unit (Some Trailing) None h s = refl
-unit_read unit (Some Trailing) (Some f) h s = format_read unit (Some Trailing) f s
-unit_read unit (Some Full) format h s = absurd cc
-unit_read unit None None h s = refl
-unit_read unit None (Some f) h s = bare_read unit f s ∙ format_read unit None f s
+point_written : (s : Settings) (p : Coordinates) → IsPoint p → has_coordinate p ≡ true → IsPointText s (point_text p) p
+point_written s p t h = (coordinate_text 88 p.x, coordinate_text 89 p.y, refl, coordinate_written s 88 p.x t.0, coordinate_written s 89 p.y t.1, h)
 
--- ---- lines of a part
+-- ---- the line of a command
 
--- a line without blanks at its end, in this part
-unfoldable pub read_in_part : Part → Settings → List ℕ → Result (Option DrillCommand) Reason
-read_in_part p s [] = Ok None
-read_in_part p s (b ∷ bs) = cond (begins_comment p b) (Ok (Some (Comment bs))) (line_in p s (b ∷ bs))
-
-pub means : (s : Settings) (line : List ℕ) → meaning s line ≡ read_in_part s.part s line
-unfolding meaning read_in_part
-means s [] = refl
-means s (b ∷ bs) = refl
-
-hit_head : (s : Settings) (x y : Option ℤ) → (is_some x || is_some y) ≡ true → read_in_part part.Body s (coordinate_text 88 x ++ coordinate_text 89 y) ≡ one_command (hole_line s (coordinate_text 88 x ++ coordinate_text 89 y))
-unfolding read_in_part line_in
-hit_head s (Some v) y h = refl
-hit_head s None (Some v) h = refl
-hit_head s None None h = absurd cc
-
-slot_head : (s : Settings) (x y : Option ℤ) (tail : List ℕ) → (is_some x || is_some y) ≡ true
-    → read_in_part part.Body s ((coordinate_text 88 x ++ coordinate_text 89 y) ++ tail) ≡ one_command (hole_line s ((coordinate_text 88 x ++ coordinate_text 89 y) ++ tail))
-unfolding read_in_part line_in
-slot_head s (Some v) y tail h = refl
-slot_head s None (Some v) tail h = refl
-slot_head s None None tail h = absurd cc
-
-pub in_part : (p : Part) (s : Settings) (c : DrillCommand) → is_sayable p c ≡ true → IsInRange c → read_in_part p s (canonical c) ≡ Ok (Some c)
-unfolding read_in_part line_in lines_before common_lines header_ends body_prefixes
-in_part part.Before s Start h t = refl
-in_part part.Before s (Comment text) h t = refl
-in_part part.Header s (Comment text) h t = refl
-in_part part.Header s (UnitLine Inch zeros format) h t = ap one_command (unit_read Inch zeros format h t)
-in_part part.Header s (UnitLine Millimetre zeros format) h t = ap one_command (unit_read Millimetre zeros format h t)
-in_part part.Header s (Tool number diameter) h t = ap one_command (tool_spelled number diameter h t)
-in_part part.Header s HeaderEnd h t = refl
-in_part part.Header s (UnitCode Inch) h t = refl
-in_part part.Header s (UnitCode Millimetre) h t = refl
-in_part part.Body s (Comment text) h t = refl
-in_part part.Body s (UnitCode Inch) h t = refl
-in_part part.Body s (UnitCode Millimetre) h t = refl
-in_part part.Body s (Pick number) h t = ap one_command (pick_spelled number (leb-true number 999 h))
-in_part part.Body s (Hit p) h t = hit_head s p.x p.y h ∙ ap one_command (hit_spelled s p t)
-in_part part.Body s (Slot p q) h t =
-    let n = both_true (has_coordinate p) (has_coordinate q) h in
-    slot_head s p.x p.y (codes "G85" ++ point_text q) n.0 ∙ ap one_command (slot_spelled s p q t.0 t.1 n.1)
-in_part part.Body s Finish h t = refl
-in_part p s c h t = absurd cc
+canonical_written : (p : Part) (s : Settings) (c : DrillCommand) → s.part ≡ p → is_sayable p c ≡ true → IsInRange c → IsLine s (canonical c) (Some c)
+canonical_written part.Before s Start e h t = listed s part.Before (codes "M48", Some Start) e (1, omega arith, refl)
+canonical_written part.Before s (Comment text) e h t = (λ k. absurd (let no : part.Before ≡ part.After = sym e ∙ k in cc), refl)
+canonical_written part.Header s (Comment text) e h t = (λ k. absurd (let no : part.Header ≡ part.After = sym e ∙ k in cc), refl)
+canonical_written part.Body s (Comment text) e h t = (λ k. absurd (let no : part.Body ≡ part.After = sym e ∙ k in cc), refl)
+canonical_written part.Header s (UnitLine unit zeros format) e h t =
+    (e, (unit_word unit, zeros_text zeros, sym (append_assoc (unit_word unit) (zeros_text zeros) (pattern_text format)), unit_listed unit, zeros_listed zeros h, format_given unit zeros format t))
+canonical_written part.Header s (Tool n diameter) e h t =
+    let k = both_true (leb 1 n) (leb n 999) h in
+    let run = pointed_run diameter t in
+    let whole : 84 ∷ (decimal n ++ 67 ∷ pointed diameter) ≡ 84 ∷ (decimal n ++ 67 ∷ (pointed diameter ++ [])) = ap (λ (l : List ℕ). 84 ∷ (decimal n ++ 67 ∷ l)) (sym (append-nil (pointed diameter))) in
+    (e, (decimal n, [], pointed diameter, [], whole ∙ sym (nested (codes "T") (decimal n) [] (codes "C") (pointed diameter) []), number_written n (leb-true n 999 k.1), leb-true 1 n k.0, (refl, refl), (refl, refl), run.point, run.reads))
+canonical_written part.Header s HeaderEnd e h t = listed s part.Header (codes "%", Some HeaderEnd) e (1, omega arith, refl)
+canonical_written part.Header s (UnitCode Millimetre) e h t = listed s part.Header (codes "M71", Some (UnitCode Millimetre)) e (3, omega arith, refl)
+canonical_written part.Header s (UnitCode Inch) e h t = listed s part.Header (codes "M72", Some (UnitCode Inch)) e (4, omega arith, refl)
+canonical_written part.Body s (UnitCode Millimetre) e h t = listed s part.Body (codes "M71", Some (UnitCode Millimetre)) e (2, omega arith, refl)
+canonical_written part.Body s (UnitCode Inch) e h t = listed s part.Body (codes "M72", Some (UnitCode Inch)) e (3, omega arith, refl)
+canonical_written part.Body s (Pick n) e h t = (e, (decimal n, [], sym (append-nil (84 ∷ decimal n)), number_written n (leb-true n 999 h), (refl, refl)))
+canonical_written part.Body s (Hit p) e h t = (e, point_written s p t h)
+canonical_written part.Body s (Slot p q) e h t =
+    let k = both_true (has_coordinate p) (has_coordinate q) h in
+    (e, (point_text p, point_text q, sym (append_assoc (point_text p) (codes "G85") (point_text q)), point_written s p t.0 k.0, point_written s q t.1 k.1))
+canonical_written part.Body s Finish e h t = listed s part.Body (codes "M30", Some Finish) e (1, omega arith, refl)
+canonical_written p s c e h t = absurd cc
 
 -- ---- bytes of a line
 
@@ -265,9 +228,9 @@ unfolding is_no_blank_or_break
 solid_no_break b h = (both_true (not (is_blank b)) (not (eqb b 10)) h).1
 
 pub parses : (s : Settings) (c : DrillCommand) → is_sayable s.part c ≡ true → IsInRange c → CanonicalParses s c
-parses s c h t = elim (solid_line s.part c h t) [
+parses s c h t = let answered = written_is_answered s (canonical c) (Some c) (canonical_written s.part s c refl h t) in elim (solid_line s.part c h t) [
   | inl solid ↦ record {
-    spells = ap (meaning s) (solid_kept (canonical c) solid) ∙ (means s (canonical c) ∙ in_part s.part s c h t);
+    spells = ap (meaning s) (solid_kept (canonical c) solid) ∙ answered;
     inside = list_all_weaker is_no_blank_or_break (λ b. not (eqb b 10)) solid_no_break (canonical c) solid;
     short = line_short s.part c h t;
   }
@@ -277,7 +240,7 @@ parses s c h t = elim (solid_line s.part c h t) [
       let l = both_true (eqb (length (trimmed text)) (length text)) (ltb (length text) 1048576) k.1 in
       let kept : trimmed (canonical c) ≡ canonical c = ap trimmed comment.1 ∙ (ap (λ (x : List ℕ). 59 ∷ x) (trimmed_whole text (eqb-true _ _ l.0)) ∙ sym comment.1) in
       record {
-        spells = ap (meaning s) kept ∙ (means s (canonical c) ∙ in_part s.part s c h t);
+        spells = ap (meaning s) kept ∙ answered;
         inside = ap (list_all (λ b. not (eqb b 10))) comment.1 ∙ no_breaks text k.0;
         short = line_short s.part c h t;
       })

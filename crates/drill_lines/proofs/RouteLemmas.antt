@@ -28,7 +28,7 @@ use Rattle.drill_lines.specs.Inner.RouteSteps.{Step, second_step, third_step, fo
 use Rattle.drill_lines.specs.LineReading.{IsRouteIn, HasReadLines, IsLater, ReadsLine}
 use Rattle.drill_lines.proofs.CutLemmas.{bytes_are, begins_so}
 use Rattle.drill_lines.proofs.Rows.{ok_is}
-use Rattle.drill_lines.proofs.CanonicalParses.{read_in_part, means}
+use Rattle.drill_lines.proofs.Answered.{read_in_part, means}
 
 -- ---- a line that the strict profile reads is none of a route
 

@@ -1,7 +1,7 @@
 -- Runs of a line: digits, numbers, and what follows them.
-use Rattle.std.proofs.Common.{◌≡◌, ℕ, zero, suc, ◌+◌, ◌<◌, ◌≤◌, Bool, true, false, cond, not, ◌||◌, ◌&&◌, ◌/◌, ◌%◌, ◌^◌, eqb, List, [], ◌∷◌, ◌++◌, length, ℤ, Ok, refl, ap, ◌∙◌, arith, replicate, lit<, lit≤}
+use Rattle.std.proofs.Common.{◌≡◌, ℕ, zero, suc, ◌<◌, ◌≤◌, Bool, true, false, cond, not, ◌||◌, ◌&&◌, ◌/◌, ◌%◌, ◌^◌, eqb, List, [], ◌∷◌, ◌++◌, length, ℤ, Ok, refl, ap, ◌∙◌, arith, replicate, lit<, lit≤}
 use Rattle.std.specs.Prelude.{unsigned_abs, decimal}
-use Rattle.std.specs.List.{list_all, list_any, fold}
+use Rattle.std.specs.List.{list_all, list_any}
 use Rattle.std.proofs.lemmas.List.{length-append}
 use Rattle.std.proofs.lemmas.Bool.Decides.{nat_tests}
 use Rattle.std.proofs.lemmas.Fmt.{length-decimal-le}
@@ -10,7 +10,7 @@ use Rattle.grid_units.specs.Numbers.{is_digit, is_number_char, parse_decimal, ma
 use Rattle.grid_units.specs.Spellings.{minus, decimals, fraction_text_or_zero, pointed, places}
 use Rattle.grid_units.proofs.SpellingsLemmas.{spells_decimal, digits-places, trims, pointed_reads, digit_number, minus_numbers, minus_short}
 use Rattle.drill_lines.specs.Lines.{is_blank, trimmed}
-use Rattle.drill_lines.specs.Tools.{is_point, is_diameter_letter}
+use Rattle.drill_lines.specs.Tools.{is_point}
 use Rattle.grid_units.proofs.BoolLemmas.{and_true, both_true}
 use Rattle.grid_units.proofs.ListLemmas.{list_all_weaker, list_all_append}
 
@@ -21,8 +21,6 @@ or_right false b h = h
 any_append : (p : ℕ → Bool) (xs ys : List ℕ) → list_any p ys ≡ true → list_any p (xs ++ ys) ≡ true
 any_append p [] ys h = h
 any_append p (x ∷ xs) ys h = or_right (p x) (list_any p (xs ++ ys)) (any_append p xs ys h)
-
--- ---- runs
 
 -- ---- a spelled decimal
 
@@ -79,19 +77,6 @@ solid_kept (x ∷ xs) h =
     no_blank : (t : Bool) → not t ≡ true → cond (t && eqb (length (trimmed xs)) 0) [] (x ∷ trimmed xs) ≡ x ∷ trimmed xs
     no_blank true e = absurd cc
     no_blank false e = refl
-
--- ---- letters among numbers
-
-pub no_letter : (b : ℕ) → is_number_char b ≡ true → is_diameter_letter b ≡ false
-no_letter b h = grind (arith, nat_tests)
-
--- among number characters there is no `C`
-pub no_diameters : (xs : List ℕ) (n : ℕ) → list_all is_number_char xs ≡ true → fold (λ a x. a + cond (is_diameter_letter x) 1 0) n xs ≡ n
-no_diameters [] n h = refl
-no_diameters (x ∷ xs) n h =
-    let b = both_true (is_number_char x) (list_all is_number_char xs) h in
-    let same : n + cond (is_diameter_letter x) 1 0 ≡ n = ap (λ t. n + cond t 1 0) (no_letter x b.0) ∙ omega arith in
-    ap (λ k. fold (λ a y. a + cond (is_diameter_letter y) 1 0) k xs) same ∙ no_diameters xs n b.1
 
 pub zeros_pass : (n : ℕ) (p : ℕ → Bool) → p 48 ≡ true → list_all p (replicate n 48) ≡ true
 zeros_pass zero p h = refl

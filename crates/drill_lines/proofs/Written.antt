@@ -3,6 +3,7 @@ use Rattle.std.proofs.Common.{◌≡◌, ◌≢◌, ℕ, Bool, true, false, cond
 use Rattle.std.specs.Prelude.{codes}
 use Rattle.std.specs.List.{Contains, AllByRecursion}
 use Rattle.std.specs.Option.{option_map}
+use Rattle.std.proofs.lemmas.Bool.{eqb-true}
 use Rattle.std.proofs.lemmas.List.Elements.{Contains-append_right}
 use Rattle.grid_units.specs.declared.fault.Reason.{Reason}
 use Rattle.grid_units.specs.declared.fault.Reason.TheVariants.{OldFormat, BadLine}
@@ -15,12 +16,11 @@ use Rattle.drill_lines.specs.declared.command.DrillCommand.{DrillCommand}
 use Rattle.drill_lines.specs.declared.command.DrillCommand.TheVariants.{Comment, Start, HeaderEnd, UnitCode, Finish}
 use Rattle.drill_lines.specs.Header.{unit_line}
 use Rattle.drill_lines.specs.Tools.{tool_line, pick_line}
-use Rattle.drill_lines.specs.HoleLines.{hole_line}
+use Rattle.drill_lines.specs.HoleLines.{runs_of, has_run, hole_line}
 use Rattle.drill_lines.specs.Meaning.{one_command, lines_before, common_lines, common_rows, header_ends, header_rows, hole_row, body_prefixes, body_rows, begins_comment, line_in, meaning}
 use Rattle.drill_lines.specs.Grammar.{shared_lines, fixed_lines, IsLine}
 use Rattle.drill_lines.specs.Laws.{AnswersAreWritten}
 use Rattle.drill_lines.proofs.Rows.{RowHas, first_match_has, beginning_has, literal_has, stripped_has, either_has, ok_is}
-use Rattle.drill_lines.proofs.ParsedIsSayable.{first_named, begins_semicolon}
 use Rattle.drill_lines.proofs.WrittenFields.{SpellsOne, unit_spelled, pick_spelled, tool_spelled, hole_spelled}
 
 -- the line is written for what is read, if it is read
@@ -80,8 +80,8 @@ drilled_spelled s [] e = tt
 drilled_spelled s (b ∷ bs) e = by (eqb b 88) (eqb b 89) refl refl
   where
     by : (t u : Bool) → eqb b 88 ≡ t → eqb b 89 ≡ u → RowHas (Spells s (b ∷ bs)) (cond (t && true) (Some (one_command (hole_line s (b ∷ bs)))) (cond (u && true) (Some (one_command (hole_line s (b ∷ bs)))) None))
-    by true u x y = one_spelled s (b ∷ bs) (hole_line s (b ∷ bs)) (hole_spelled s (b ∷ bs) e (first_named b bs true u x y refl))
-    by false true x y = one_spelled s (b ∷ bs) (hole_line s (b ∷ bs)) (hole_spelled s (b ∷ bs) e (first_named b bs false true x y refl))
+    by true u x y = one_spelled s (b ∷ bs) (hole_line s (b ∷ bs)) (hole_spelled s (b ∷ bs) e (subst (λ c. has_run (runs_of (c ∷ bs)).0 ≡ true) (sym (eqb-true b 88 x)) refl))
+    by false true x y = one_spelled s (b ∷ bs) (hole_line s (b ∷ bs)) (hole_spelled s (b ∷ bs) e (subst (λ c. has_run (runs_of (c ∷ bs)).0 ≡ true) (sym (eqb-true b 89 y)) refl))
     by false false x y = tt
 
 body_spelled : (s : Settings) (line : List ℕ) → s.part ≡ part.Body → Spells s line (first_match_or BadLine (body_rows s line))
@@ -108,19 +108,19 @@ part_spelled part.Header s line e = header_spelled s line e
 part_spelled part.Body s line e = body_spelled s line e
 part_spelled part.After s line e = tt
 
--- a comment stands before the end
-comment_part : (p : Part) (b : ℕ) → begins_comment p b ≡ true → p ≢ part.After
-comment_part part.Before b h e = absurd cc
-comment_part part.Header b h e = absurd cc
-comment_part part.Body b h e = absurd cc
-comment_part part.After b h e = absurd cc
+-- a comment stands before the end, and begins with `;`
+comment_begins : (p : Part) (b : ℕ) → begins_comment p b ≡ true → (p ≢ part.After) × (b ≡ 59)
+comment_begins part.Before b h = (λ e. absurd cc, eqb-true b 59 h)
+comment_begins part.Header b h = (λ e. absurd cc, eqb-true b 59 h)
+comment_begins part.Body b h = (λ e. absurd cc, eqb-true b 59 h)
+comment_begins part.After b h = absurd cc
 
 line_spelled : (s : Settings) (line : List ℕ) → Spells s line (meaning s line)
 unfolding meaning
 line_spelled s [] = (0, omega arith, refl)
 line_spelled s (b ∷ bs) =
     either_has (Spells s (b ∷ bs)) (begins_comment s.part b) (Ok (Some (Comment bs))) (line_in s.part s (b ∷ bs))
-    (λ h. (comment_part s.part b h, ap (λ c. c ∷ bs) (begins_semicolon s.part b bs h)))
+    (λ h. let k = comment_begins s.part b h in (k.0, ap (λ c. c ∷ bs) k.1))
     (λ _. part_spelled s.part s (b ∷ bs) refl)
 
 pub answers_are_written : AnswersAreWritten

@@ -1,5 +1,5 @@
 -- The lines of units, tools and points are written for the commands that they are read as.
-use Rattle.std.proofs.Common.{◌≡◌, ℕ, ◌≤◌, Bool, true, false, cond, ◌||◌, ◌&&◌, eqb, leb, List, [], ◌∷◌, ◌++◌, length, drop, ℤ, Option, Some, None, Result, Ok, IfOk, refl, sym, ap, subst, ◌∙◌, arith, append_assoc, replicate}
+use Rattle.std.proofs.Common.{◌≡◌, ℕ, ◌≤◌, Bool, true, false, cond, ◌||◌, ◌&&◌, eqb, leb, List, [], ◌∷◌, ◌++◌, length, drop, ℤ, Option, Some, None, is_some, Result, Ok, IfOk, refl, sym, ap, subst, ◌∙◌, arith, append_assoc, replicate}
 use Rattle.std.specs.Prelude.{codes, take_while, count_by}
 use Rattle.std.specs.List.{Contains, list_all, list_any, prefix_len, before_first, after_first}
 use Rattle.std.specs.Option.{option_map}
@@ -26,10 +26,10 @@ use Rattle.drill_lines.specs.Header.{is_zero, is_digit_count, digit_counts, patt
 use Rattle.drill_lines.specs.Tools.{is_point, is_diameter_letter, is_tool_letter, is_skipped_letter, begins_with, are_fields, tool_number, diameter_of, tool_fields, tool_line, pick_fields, pick_line}
 use Rattle.drill_lines.specs.HoleLines.{coordinate_of, coordinate, field, Runs, runs_of, has_run, coordinates, point_line, slot_line, hole_from, hole_line}
 use Rattle.drill_lines.specs.Grammar.{unit_words, zeros_words, IsNumber, IsCoordinate, IsPointText, IsLine}
+use Rattle.drill_lines.specs.Writing.{has_coordinate}
 use Rattle.drill_lines.proofs.CutLemmas.{nested, run_and_rest, run_passes, rest_fails, before_more, after_more, before_here, after_here, passed}
 use Rattle.drill_lines.proofs.SkippedFields.{is_field_byte, is_skipped_byte, skipped_written, rest_written, count_more}
 use Rattle.drill_lines.proofs.Rows.{RowHas, first_match_has, stripped_has, either_has, ok_if, ok_bind}
-use Rattle.drill_lines.proofs.ParsedIsSayable.{point_named}
 
 -- the line is written for the command that is read, if one is
 abbrev pub SpellsOne : Settings → List ℕ → Result DrillCommand Reason → Type 0
@@ -240,6 +240,14 @@ coordinates_are s runs p e =
     let c = both_ok (coordinate s runs.x) (coordinate s runs.y) b.0 b.1 in
     let same : (let q : Coordinates = record { x = b.0.0; y = b.0.1 } in q ≡ p) = cc in
     (c.0 ∙ ap (λ (q : Coordinates). Ok q.x) same, c.1 ∙ ap (λ (q : Coordinates). Ok q.y) same)
+
+named_alike : (s : Settings) (run : Option (List ℕ)) (v : Option ℤ) → coordinate s run ≡ Ok v → is_some v ≡ is_some run
+unfolding coordinate
+named_alike s None v e = let same : None ≡ v = cc in ap is_some (sym same)
+named_alike s (Some run) v e = let b = bind_ok (coordinate_of s run) (λ x. Ok (Some x)) v e in let same : Some b.0 ≡ v = cc in ap is_some (sym same)
+
+point_named : (s : Settings) (runs : Runs) (p : Coordinates) → coordinates s runs ≡ Ok p → has_coordinate p ≡ has_run runs
+point_named s runs p e = let c = coordinates_are s runs p e in λ i. named_alike s runs.x p.x c.0 i || named_alike s runs.y p.y c.1 i
 
 -- a point cut off a line: its text, and what follows it
 record IsCutPoint (s : Settings) (line : List ℕ) (p : Coordinates) : Type 0 where

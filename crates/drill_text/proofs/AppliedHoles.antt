@@ -1,33 +1,54 @@
--- A judge that drilled knows one command more.
-use Rattle.std.proofs.Common.{◌≡◌, ℕ, ℤ, List, [], ◌∷◌, ◌++◌, length, Option, None, Some, Result, Ok, Err, sym, ap, ◌∙◌, append-nil}
-use Rattle.std.specs.Option.{option_map, option_to_list}
+-- A state that drilled knows one command more.
+use Rattle.std.proofs.Common.{◌≡◌, ℕ, ℤ, true, false, cond, inl, inr, List, [], ◌∷◌, ◌++◌, length, Option, None, Some, nat_eq, Result, Ok, Err, sym, ap, ◌∙◌, append-nil}
+use Rattle.std.specs.Option.{option_map, option_or, option_to_list}
+use Rattle.indexmap.specs.IndexMap.{get}
 use Rattle.grid_units.specs.Holes.{GridHole}
 use Rattle.grid_units.specs.declared.item_fail.ItemFail.{ItemFail}
 use Rattle.grid_units.specs.declared.item_fail.ItemFail.TheVariants as stops
 use Rattle.drill_lines.specs.declared.command.Coordinates.{Coordinates}
 use Rattle.drill_lines.specs.declared.command.DrillCommand.{DrillCommand}
+use Rattle.drill_text.specs.declared.platings.PlatingKind.{PlatingKind}
 use Rattle.drill_text.specs.declared.state.DrillState.{DrillState}
 use Rattle.drill_text.specs.Lookback.{tool_defined}
 use Rattle.drill_text.specs.Holes.{DrillPath, hole_of}
-use Rattle.drill_text.specs.Rules.{first_broken}
-use Rattle.drill_text.specs.Inner.StateSteps.{state_of, IsStateAfter, AppliesOrRefuses, DrillsOrRefuses, after, moved, drill_path, hole_in}
-use Rattle.drill_text.proofs.Lookbacks.{knows_more, same_rule}
+use Rattle.drill_text.specs.Outcome.{diameters}
+use Rattle.drill_text.specs.Plating.{calls_plated, plating_set, tool_made}
+use Rattle.drill_text.specs.Rules.{drills, first_broken}
+use Rattle.drill_text.specs.Inner.StateSteps.{state_of, IsStateAfter, AppliesOrRefuses, DrillsOrRefuses, after, heard, moved, drill_path, hole_in, mark_of, picked_plating, plating_in}
+use Rattle.drill_text.proofs.Lookbacks.{breaks_first, breaks_none, breaks_own, knows_more}
 use Rattle.drill_text.proofs.HoleLines.{ok_unless, unless_ok, unless_err, not_redefined}
+use Rattle.drill_text.proofs.PlatingLemmas.{own_hole}
 
-pub judges_drilled : (old new : DrillState) (before : List DrillCommand) (c : DrillCommand) (p q : Coordinates) (d : DrillPath) (r : Result (Unit {0}) ItemFail)
-    → IsStateAfter old before → drill_path (state_of old) c ≡ Some d
-    → hole_in (state_of old) (length old.holes.items) p q ≡ ok_unless (first_broken (state_of old) (length old.holes.items) (drill_path (state_of old) c) c) (hole_of d)
-    → moved q (moved p (state_of old)) ≡ after c (state_of old) → tool_defined c ≡ None
-    → DrillsOrRefuses old p q new r → AppliesOrRefuses before c new r
-judges_drilled old new before c p q d (Ok x) is_state what rule moves none (hole, made, state_of_is, holes, tools) =
-    let u = unless_ok (first_broken (state_of old) (length old.holes.items) (drill_path (state_of old) c) c) (hole_of d) hole (sym rule ∙ made) in (
-      sym (same_rule old before c is_state) ∙ u.0,
-      knows_more old new before c is_state (not_redefined (state_of old) (length old.holes.items) (drill_path (state_of old) c) c u.0) (record {
-        state_after = state_of_is ∙ moves;
-        holes = holes ∙ (ap (λ (h : GridHole). old.holes.items ++ h ∷ []) (sym u.1) ∙ ap (λ (o : Option DrillPath). old.holes.items ++ option_to_list (option_map hole_of o)) (sym what));
-        tools = λ _. tools ∙ (sym (append-nil old.tools.entries) ∙ ap (λ (o : Option (ℕ × ℤ)). old.tools.entries ++ option_to_list o) (sym none));
+-- A command that drills this, as a hit and a slot do, and says nothing.
+pub record IsDrilling (state : DrillState) (c : DrillCommand) (p q : Coordinates) (d : DrillPath) : Type 0 where
+  pub path : drill_path (state_of state) c ≡ Some d
+  pub rule : hole_in (state_of state) (length state.holes.items) p q ≡ ok_unless (first_broken (state_of state) (length state.holes.items) (drill_path (state_of state) c) c) (hole_of d)
+  pub moves : moved q (moved p (state_of state)) ≡ after c (state_of state)
+  pub defines : tool_defined c ≡ None
+  pub makes : (number : ℕ) → tool_made number state.words.said c ≡ None
+  pub drilled : drills c ≡ true
+  pub silent : plating_set c ≡ None
+  pub unheard : calls_plated c ≡ false
+  pub hears : state.words ≡ heard c state.words
+
+pub judges_drilled : (old new : DrillState) (kind : PlatingKind) (before : List DrillCommand) (c : DrillCommand) (p q : Coordinates) (d : DrillPath) (r : Result (Unit {0}) ItemFail)
+    → IsStateAfter old kind before → IsDrilling old c p q d → DrillsOrRefuses old p q new r → AppliesOrRefuses kind before c new r
+judges_drilled old new kind before c p q d (Ok x) is_state is (hole, made, marks, state_of_is, holes, plated, tools, words) =
+    let u = unless_ok (first_broken (state_of old) (length old.holes.items) (drill_path (state_of old) c) c) (hole_of d) hole (sym is.rule ∙ made) in
+    let own = own_hole old.words.kind old.header_ended (picked_plating old) c is.drilled is.silent is.unheard in (
+      breaks_none old kind before c is_state u.0 (own ∙ marks),
+      knows_more old new kind before c is_state (not_redefined (state_of old) (length old.holes.items) (drill_path (state_of old) c) c u.0) (record {
+        state_after = state_of_is ∙ is.moves;
+        holes = holes ∙ (ap (λ (h : GridHole). old.holes.items ++ h ∷ []) (sym u.1) ∙ ap (λ (o : Option DrillPath). old.holes.items ++ option_to_list (option_map hole_of o)) (sym is.path));
+        tools = λ _. ap (λ t. diameters t.entries) tools ∙ (sym (append-nil (diameters old.tools.entries)) ∙ ap (λ (o : Option (ℕ × ℤ)). diameters old.tools.entries ++ option_to_list o) (sym is.defines));
+        words = words ∙ is.hears;
+        platings = λ number. ap (λ t. option_map plating_in (get nat_eq t number)) tools ∙ ap (λ o. option_or o (option_map plating_in (get nat_eq old.tools number))) (sym (is.makes number));
+        plated = plated ∙ ap (λ t. old.plated.items ++ cond t (mark_of old.words.kind (picked_plating old)) []) (sym is.drilled);
       }),
     )
-judges_drilled old new before c p q d (Err (stops.Refused broken)) is_state what rule moves none made =
-    sym (same_rule old before c is_state) ∙ unless_err (first_broken (state_of old) (length old.holes.items) (drill_path (state_of old) c) c) (hole_of d) broken (sym rule ∙ made)
-judges_drilled old new before c p q d (Err stops.Memory) is_state what rule moves none made = tt
+judges_drilled old new kind before c p q d (Err (stops.Refused broken)) is_state is (inl made) =
+    breaks_first old kind before c broken is_state (unless_err (first_broken (state_of old) (length old.holes.items) (drill_path (state_of old) c) c) (hole_of d) broken (sym is.rule ∙ made))
+judges_drilled old new kind before c p q d (Err (stops.Refused broken)) is_state is (inr (hole, made, own)) =
+    breaks_own old kind before c broken is_state (unless_ok (first_broken (state_of old) (length old.holes.items) (drill_path (state_of old) c) c) (hole_of d) hole (sym is.rule ∙ made)).0
+    (own_hole old.words.kind old.header_ended (picked_plating old) c is.drilled is.silent is.unheard ∙ own)
+judges_drilled old new kind before c p q d (Err stops.Memory) is_state is made = tt

@@ -3,17 +3,14 @@ use Rattle.std.proofs.Common.{◌≡◌, ℕ, zero, suc, ◌-◌, ◌<◌, cond,
 use Rattle.std.proofs.lemmas.List.{take-append-le, length-append}
 use Rattle.std.proofs.lemmas.Bool.{lt-ltb, ltb-true}
 use Rattle.drill_lines.specs.declared.command.DrillCommand.{DrillCommand}
-use Rattle.grid_units.specs.declared.profile.Profile.TheVariants.{Strict}
 use Rattle.grid_units.specs.declared.fault.Fault.{Fault}
 use Rattle.grid_units.specs.declared.fault.Reason.TheVariants.{TooLong}
 use Rattle.drill_text.specs.Lines.{Splits}
 use Rattle.grid_units.specs.Results.{◌>>=◌, fault}
 use Rattle.grid_units.proofs.ResultLemmas.{bind_err, guard_err}
-use Rattle.drill_text.specs.Reading.{Shows, Reads}
-use Rattle.drill_text.specs.Profiles.{Kind, plain, shown_by, ShowsBy, ReadsBy}
+use Rattle.drill_text.specs.Profiles.{Kind, shown_by, ShowsBy, ReadsBy}
 use Rattle.drill_text.specs.Holding.{HasFault}
 use Rattle.drill_text.proofs.PieceLemmas.{fault_stays}
-use Rattle.drill_text.proofs.ProfileLemmas.{shows_strictly, strictly_shows, reads_strictly}
 use Rattle.drill_text.proofs.FinishLemmas.{shows_reads}
 use Rattle.grid_units.specs.Limits.{text_limit}
 
@@ -58,9 +55,3 @@ shows_stay_in p text more f s =
 
 pub shown_is_read_in : (p : Kind) (text more : List ℕ) (f : Fault) → ShowsBy p text (Err f) → ReadsBy p (text ++ more) (Err f)
 shown_is_read_in p text more f s = shows_reads p (text ++ more) f (shows_stay_in p text more f s)
-
-pub shows_stay : (text more : List ℕ) (f : Fault) → Shows text (Err f) → Shows (text ++ more) (Err f)
-shows_stay text more f s = shows_strictly (text ++ more) (Err f) (shows_stay_in (plain Strict) text more f (strictly_shows text (Err f) s))
-
-pub shown_is_read : (text more : List ℕ) (f : Fault) → Shows text (Err f) → Reads (text ++ more) (Err f)
-shown_is_read text more f s = reads_strictly (text ++ more) (Err f) (shown_is_read_in (plain Strict) text more f (strictly_shows text (Err f) s))

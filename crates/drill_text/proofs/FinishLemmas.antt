@@ -13,14 +13,12 @@ use Rattle.drill_text.specs.declared.kept.Keep.{Keep}
 use Rattle.drill_text.specs.declared.reader.Progress.{Progress}
 use Rattle.drill_text.specs.Lines.{Splits}
 use Rattle.grid_units.specs.Results.{◌>>=◌, fault, Answers, IfFault}
-use Rattle.drill_text.specs.Reading.{ended, is_finish, place_after_count, Shows}
-use Rattle.drill_text.specs.Profiles.{Kind, plain, shown_by, with_rest, ReadsBy, ReadsAsBy, ShowsBy}
+use Rattle.drill_text.specs.Profiles.{Kind, ReadsAsBy, ReadsBy, Shows, ShowsBy, ended, is_finish, place_after_count, plain, shown_by, with_rest}
 use Rattle.drill_text.specs.Outcome.{DrillFile, file_of}
 use Rattle.drill_text.specs.Texts.{ReadsAs}
 use Rattle.drill_text.specs.Holding.{Holds}
 use Rattle.grid_units.proofs.ResultLemmas.{bind_err, guard_err}
 use Rattle.grid_units.specs.Limits.{text_limit}
-use Rattle.drill_text.proofs.ProfileLemmas.{strictly_shows, reads_strictly}
 
 ends_with : Kind → ℕ → List (List ℕ) → List ℕ → List DrillCommand → Result (List DrillCommand) Fault
 ends_with p len lines rest commands = cond (ltb text_limit len) (Err (fault (suc (length lines)) text_limit TooLong)) (with_rest p lines rest commands >>= ended len lines rest)
@@ -43,7 +41,7 @@ reads_is {p = p} r text h answer le e =
 
 -- the last line has a fault
 pub reads_fault : (p : Kind) (keep : Keep) (r : Progress) (text : List ℕ) (e : Fail) → r.offset ≤ text_limit → (h : Holds r p keep text)
-    → IfFault (λ f. with_rest p h.lines r.line.items h.commands ≡ Err f) e → Answers (λ (d : DrillFile). d) (ReadsAsBy p (file_of keep) text) (Err e)
+    → IfFault (λ f. with_rest p h.lines r.line.items h.commands ≡ Err f) e → Answers (λ (d : DrillFile). d) (ReadsAsBy p (file_of p.plating keep) text) (Err e)
 reads_fault p keep r text fails.Memory le h k = tt
 reads_fault p keep r text (fails.Refused f) le h k = reads_is r text h (Err f) le (ap (λ s. s >>= ended (length text) h.lines r.line.items) k)
 
@@ -79,4 +77,4 @@ shows_reads p text f s = record {
 -- a fault that a text shows refuses it, however its commands would be seen
 pub shown_refused : {T V : Type 0} (view : T → V) (see : List DrillCommand → V) (text : List ℕ) (e : Fail) → IfFault (λ f. Shows text (Err f)) e → Answers view (ReadsAs see text) (Err e)
 shown_refused view see text fails.Memory h = tt
-shown_refused view see text (fails.Refused f) h = reads_strictly text (Err f) (shows_reads (plain Strict) text f (strictly_shows text (Err f) h))
+shown_refused view see text (fails.Refused f) h = shows_reads (plain Strict) text f h

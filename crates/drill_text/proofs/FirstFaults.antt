@@ -1,27 +1,26 @@
 -- A text has a fault exactly where it is its first one.
-use Rattle.std.proofs.Common.{◌≡◌, ◌⊎◌, inl, inr, ℕ, suc, ◌+◌, ◌<◌, ◌≤◌, Bool, true, false, cond, eqb, ltb, List, [], ◌∷◌, ◌++◌, length, take, Option, None, Some, Result, Ok, Err, refl, sym, ap, ◌∙◌, arith}
+use Rattle.std.proofs.Common.{◌≡◌, ◌⊎◌, inl, inr, ℕ, suc, ◌<◌, ◌≤◌, Bool, true, false, cond, eqb, ltb, List, [], ◌∷◌, ◌++◌, length, take, Option, None, Some, Result, Ok, Err, refl, sym, ap, ◌∙◌, append_assoc}
 use Rattle.std.specs.List.{list_any}
 use Rattle.std.specs.Option.{option_to_list}
-use Rattle.std.proofs.lemmas.List.{length-append}
+use Rattle.std.proofs.lemmas.List.{append-nil}
 use Rattle.std.proofs.lemmas.Bool.{le-ltb, lt-ltb, ltb-true, ltb-false, eqb-true, eqb-false}
 use Rattle.grid_units.specs.declared.fault.Fault.{Fault}
 use Rattle.grid_units.specs.declared.fault.Reason.{Reason}
 use Rattle.grid_units.specs.declared.fault.Reason.TheVariants.{TooLong, Truncated}
 use Rattle.grid_units.specs.Results.{◌>>=◌, fault, with_place}
-use Rattle.grid_units.proofs.ResultLemmas.{bind_ok, bind_err}
+use Rattle.grid_units.proofs.ResultLemmas.{bind_cong, bind_ok, bind_err}
+use Rattle.grid_units.specs.declared.profile.Profile.TheVariants.{Strict}
 use Rattle.drill_lines.specs.declared.command.DrillCommand.{DrillCommand}
 use Rattle.drill_lines.specs.Lines.{trimmed}
 use Rattle.drill_lines.specs.Meaning.{meaning}
 use Rattle.drill_text.specs.Lines.{bytes_of, Splits}
 use Rattle.drill_text.specs.Lookback.{settings_after}
 use Rattle.drill_text.specs.Rules.{broken_rule}
-use Rattle.drill_text.specs.Reading.{is_finish, add_unless, checked, step, spelled, commands_from, shown, ended, place_after, read_in, Reads}
+use Rattle.drill_text.specs.Profiles.{Kind, Reads, ReadsBy, add_unless, checked, commands_by, ended, is_finish, place_after, plain, read_by, shown_by, spelled_in, step_in}
 use Rattle.drill_text.specs.Texts.{spelled_after, AreWithinLimit}
 use Rattle.drill_text.specs.Faults.{SpellLegally, IsRefused, HasRefusedLine, HasFaultWithin, HasFaultBeyond, IsFirstFault, HasAnswer}
-use Rattle.drill_text.proofs.SplitsLemmas.{commands_from-push}
-use Rattle.drill_text.proofs.ShowsLemmas.{shown_ok, show_ok, show_long, show_err, shown_err}
-use Rattle.drill_text.specs.Profiles.{Kind, ReadsBy, read_by}
-use Rattle.drill_text.proofs.SpellsTextLemmas.{all_kept, all_spelled, reads_drill_text}
+use Rattle.drill_text.proofs.ProfileLemmas.{commands_by-append, commands_by-push, show_by_err, show_by_long, show_by_ok, shown_by_err, shown_by_ok, too_long}
+use Rattle.drill_text.proofs.SpellsTextLemmas.{all_kept, all_spelled, last_short, reads_drill_text, strict_rest}
 use Rattle.grid_units.specs.Limits.{text_limit, line_limit}
 use Rattle.grid_units.specs.Lists.{IsLegal}
 
@@ -39,9 +38,9 @@ judged_err before (Some c) r e = by (broken_rule before c) refl e
     by None is k = absurd cc
     by (Some b) is k = let same : b ≡ r = cc in (c, refl, is ∙ ap (λ (x : Reason). Some x) same)
 
-step_err : (before : List DrillCommand) (line : List ℕ) (r : Reason) → step before line ≡ Err r → IsRefused before line r
-unfolding step
-step_err before line r e = by (ltb line_limit (length line)) refl e
+step_err : (earlier : List (List ℕ)) (before : List DrillCommand) (line : List ℕ) (r : Reason) → step_in (plain Strict) earlier before line ≡ Err r → IsRefused before line r
+unfolding step_in
+step_err earlier before line r e = by (ltb line_limit (length line)) refl e
   where
     by : (t : Bool) → ltb line_limit (length line) ≡ t → cond t (Err TooLong) (meaning (settings_after before) (trimmed line) >>= checked before) ≡ Err r → IsRefused before line r
     by true long k = let same : TooLong ≡ r = cc in inl (ltb-true _ _ long, sym same)
@@ -51,10 +50,10 @@ step_err before line r e = by (ltb line_limit (length line)) refl e
           | inr h ↦ (let j = judged_err before h.0 r h.2 in inr (ltb-false _ _ short, inr (j.0, h.1 ∙ ap (λ (o : Option DrillCommand). Ok o) j.1, j.2)))
         ]
 
-refused_err : (before : List DrillCommand) (line : List ℕ) (r : Reason) → IsRefused before line r → step before line ≡ Err r
-unfolding step
-refused_err before line r (inl h) = ap (λ t. cond t (Err TooLong) (meaning (settings_after before) (trimmed line) >>= checked before)) (lt-ltb _ _ h.0) ∙ ap (λ (x : Reason). Err x) (sym h.1)
-refused_err before line r (inr h) =
+refused_err : (earlier : List (List ℕ)) (before : List DrillCommand) (line : List ℕ) (r : Reason) → IsRefused before line r → step_in (plain Strict) earlier before line ≡ Err r
+unfolding step_in
+refused_err earlier before line r (inl h) = ap (λ t. cond t (Err TooLong) (meaning (settings_after before) (trimmed line) >>= checked before)) (lt-ltb _ _ h.0) ∙ ap (λ (x : Reason). Err x) (sym h.1)
+refused_err earlier before line r (inr h) =
     ap (λ t. cond t (Err TooLong) (meaning (settings_after before) (trimmed line) >>= checked before)) (le-ltb _ _ h.0)
     ∙ elim h.1 [
       | inl k ↦ ap (λ x. x >>= checked before) k
@@ -63,8 +62,17 @@ refused_err before line r (inr h) =
 
 -- ---- lines
 
--- the first of some lines that is refused, after these commands
-record Refused (place byte : ℕ) (lines : List (List ℕ)) (start : List DrillCommand) (f : Fault) : Type 0 where
+abbrev strict_from : List (List ℕ) → List (List ℕ) → List DrillCommand → Result (List DrillCommand) Fault
+strict_from = commands_by (plain Strict)
+
+abbrev strict_line : List (List ℕ) → List ℕ → List DrillCommand → Result (List DrillCommand) Fault
+strict_line = spelled_in (plain Strict)
+
+abbrev strictly_shown : List (List ℕ) → List ℕ → Result (List DrillCommand) Fault
+strictly_shown = shown_by (plain Strict)
+
+-- the first of some lines that is refused, after earlier ones and their commands
+record Refused (earlier lines : List (List ℕ)) (start : List DrillCommand) (f : Fault) : Type 0 where
   before : List (List ℕ)
   line : List ℕ
   after : List (List ℕ)
@@ -74,12 +82,13 @@ record Refused (place byte : ℕ) (lines : List (List ℕ)) (start : List DrillC
   spelling : spelled_after start before ≡ Ok commands
   legal : IsLegal broken_rule start → IsLegal broken_rule commands
   refused : IsRefused commands line f.reason
-  place_is : f.place ≡ place + length before
-  byte_is : f.byte ≡ byte + length (bytes_of before)
+  place_is : f.place ≡ suc (length (earlier ++ before))
+  byte_is : f.byte ≡ length (bytes_of (earlier ++ before))
 
-next_refused : (place byte : ℕ) (line : List ℕ) (lines : List (List ℕ)) (start next : List DrillCommand) (f : Fault) → spelled place byte line start ≡ Ok next → Refused (suc place) (byte + (length line + 1)) lines next f → Refused place byte (line ∷ lines) start f
-next_refused place byte line lines start next f e r =
-    let one_command = all_kept place byte (line ∷ []) start next (ap (λ x. x >>= commands_from (suc place) (byte + (length line + 1)) []) e) in
+next_refused : (earlier : List (List ℕ)) (line : List ℕ) (lines : List (List ℕ)) (start next : List DrillCommand) (f : Fault) → strict_line earlier line start ≡ Ok next → Refused (earlier ++ line ∷ []) lines next f → Refused earlier (line ∷ lines) start f
+next_refused earlier line lines start next f e r =
+    let one_command = all_kept earlier (line ∷ []) start next (ap (λ x. x >>= strict_from (earlier ++ line ∷ []) []) e) in
+    let same : (earlier ++ line ∷ []) ++ r.before ≡ earlier ++ line ∷ r.before = append_assoc earlier (line ∷ []) r.before in
     record {
       before = line ∷ r.before;
       line = r.line;
@@ -90,8 +99,8 @@ next_refused place byte line lines start next f e r =
       spelling = first_spelled start line r.before next one_command.1 ∙ r.spelling;
       legal = λ legal. r.legal (one_command.2 legal);
       refused = r.refused;
-      place_is = omega (arith, r.place_is);
-      byte_is = omega (arith, r.byte_is, length-append (line ++ 10 ∷ []) (bytes_of r.before), length-append line (10 ∷ []));
+      place_is = r.place_is ∙ ap (λ (x : List (List ℕ)). suc (length x)) same;
+      byte_is = r.byte_is ∙ ap (λ (x : List (List ℕ)). length (bytes_of x)) same;
     }
   where
     first_spelled : (start : List DrillCommand) (line : List ℕ) (lines : List (List ℕ)) (next : List DrillCommand) → spelled_after start (line ∷ []) ≡ Ok next → spelled_after start (line ∷ lines) ≡ spelled_after next lines
@@ -100,11 +109,12 @@ next_refused place byte line lines start next f e r =
         let same : start ++ option_to_list b.0 ≡ next = let k = b.2 in cc in
         ap (λ x. x >>= λ command. spelled_after (start ++ option_to_list command) lines) b.1 ∙ ap (λ (x : List DrillCommand). spelled_after x lines) same
 
-faulty : (place byte : ℕ) (lines : List (List ℕ)) (start : List DrillCommand) (f : Fault) → commands_from place byte lines start ≡ Err f → Refused place byte lines start f
-faulty place byte [] start f e = absurd cc
-faulty place byte (line ∷ lines) start f e =
-    elim (bind_err (spelled place byte line start) (commands_from (suc place) (byte + (length line + 1)) lines) f e) [
-      | inl h ↦ (let k = at_err place byte (step start line) f h in
+faulty : (earlier lines : List (List ℕ)) (start : List DrillCommand) (f : Fault) → strict_from earlier lines start ≡ Err f → Refused earlier lines start f
+faulty earlier [] start f e = absurd cc
+faulty earlier (line ∷ lines) start f e =
+    elim (bind_err (strict_line earlier line start) (strict_from (earlier ++ line ∷ []) lines) f e) [
+      | inl h ↦ (let k = at_err (suc (length earlier)) (length (bytes_of earlier)) (step_in (plain Strict) earlier start line) f h in
+          let none : earlier ≡ earlier ++ [] = sym (append-nil earlier) in
           record {
             before = [];
             line = line;
@@ -114,37 +124,26 @@ faulty place byte (line ∷ lines) start f e =
             short = tt;
             spelling = refl;
             legal = λ legal. legal;
-            refused = step_err start line f.reason k.0;
-            place_is = omega (arith, k.1);
-            byte_is = omega (arith, k.2);
+            refused = step_err earlier start line f.reason k.0;
+            place_is = k.1 ∙ ap (λ (x : List (List ℕ)). suc (length x)) none;
+            byte_is = k.2 ∙ ap (λ (x : List (List ℕ)). length (bytes_of x)) none;
           })
-      | inr h ↦ next_refused place byte line lines start h.0 f h.1 (faulty (suc place) (byte + (length line + 1)) lines h.0 f h.2)
+      | inr h ↦ next_refused earlier line lines start h.0 f h.1 (faulty (earlier ++ line ∷ []) lines h.0 f h.2)
     ]
 
 -- lines before these keep the fault
-lines_refused : (place byte : ℕ) (before : List (List ℕ)) (line : List ℕ) (after : List (List ℕ)) (start cs : List DrillCommand) (r : Reason) → commands_from place byte before start ≡ Ok cs → step cs line ≡ Err r
-    → commands_from place byte (before ++ line ∷ after) start ≡ Err (fault (place + length before) (byte + length (bytes_of before)) r)
-lines_refused place byte [] line after start cs r e h =
-    let same : start ≡ cs = cc in
-    let k : place ≡ place + 0 = omega arith in
-    let j : byte ≡ byte + 0 = omega arith in
-    ap (λ x. with_place place byte x >>= commands_from (suc place) (byte + (length line + 1)) after) (ap (λ (x : List DrillCommand). step x line) same ∙ h)
-    ∙ (ap (λ p. Err (fault p byte r)) k ∙ ap (λ b. Err (fault (place + 0) b r)) j)
-lines_refused place byte (x ∷ before) line after start cs r e h =
-    let next : ℕ = byte + (length x + 1) in
-    let b = bind_ok (spelled place byte x start) (commands_from (suc place) next before) cs e in
-    let k : suc place + length before ≡ place + suc (length before) = omega arith in
-    let j : next + length (bytes_of before) ≡ byte + length (bytes_of (x ∷ before)) = omega (arith, length-append (x ++ 10 ∷ []) (bytes_of before), length-append x (10 ∷ [])) in
-    ap (λ y. y >>= commands_from (suc place) next (before ++ line ∷ after)) b.1
-    ∙ (lines_refused (suc place) next before line after b.0 cs r b.2 h
-    ∙ (ap (λ p. Err (fault p (next + length (bytes_of before)) r)) k ∙ ap (λ o. Err (fault (place + suc (length before)) o r)) j))
+lines_refused : (before : List (List ℕ)) (line : List ℕ) (after : List (List ℕ)) (cs : List DrillCommand) (r : Reason) → strict_from [] before [] ≡ Ok cs → step_in (plain Strict) before cs line ≡ Err r
+    → strict_from [] (before ++ line ∷ after) [] ≡ Err (fault (suc (length before)) (length (bytes_of before)) r)
+lines_refused before line after cs r e h =
+    commands_by-append (plain Strict) [] before (line ∷ after) []
+    ∙ (ap (λ x. x >>= strict_from before (line ∷ after)) e ∙ ap (λ x. with_place (suc (length before)) (length (bytes_of before)) x >>= strict_from (before ++ line ∷ []) after) h)
 
 none_legal : IsLegal broken_rule []
 none_legal = refl
 
-pub has_refused : (lines : List (List ℕ)) (f : Fault) → commands_from 1 0 lines [] ≡ Err f → HasRefusedLine lines f
+pub has_refused : (lines : List (List ℕ)) (f : Fault) → strict_from [] lines [] ≡ Err f → HasRefusedLine lines f
 has_refused lines f e =
-    let r = faulty 1 0 lines [] f e in
+    let r = faulty [] lines [] f e in
     record {
       before = r.before;
       line = r.line;
@@ -153,41 +152,46 @@ has_refused lines f e =
       commands = r.commands;
       spells = record { short = r.short; spelling = r.spelling; legal = r.legal none_legal };
       refused = r.refused;
-      place = omega (arith, r.place_is);
-      byte = omega (arith, r.byte_is);
+      place = r.place_is;
+      byte = r.byte_is;
     }
 
-pub refused_has : (lines : List (List ℕ)) (f : Fault) → HasRefusedLine lines f → commands_from 1 0 lines [] ≡ Err f
+pub refused_has : (lines : List (List ℕ)) (f : Fault) → HasRefusedLine lines f → strict_from [] lines [] ≡ Err f
 refused_has lines f h =
     let s = h.spells in
-    let e = lines_refused 1 0 h.before h.line h.after [] h.commands f.reason (all_spelled 1 0 h.before [] h.commands s.short s.spelling s.legal) (refused_err h.commands h.line f.reason h.refused) in
-    let p : 1 + length h.before ≡ f.place = omega (arith, h.place) in
-    let b : 0 + length (bytes_of h.before) ≡ f.byte = omega (arith, h.byte) in
-    ap (λ (x : List (List ℕ)). commands_from 1 0 x []) h.whole ∙ (e ∙ (λ i. Err (fault (p i) (b i) f.reason)))
+    ap (λ (x : List (List ℕ)). strict_from [] x []) h.whole
+    ∙ (lines_refused h.before h.line h.after h.commands f.reason (all_spelled [] h.before [] h.commands s.short s.spelling s.legal) (refused_err h.before h.commands h.line f.reason h.refused)
+    ∙ (λ i. Err (fault (sym h.place i) (sym h.byte i) f.reason)))
 
-pub legal_lines : (lines : List (List ℕ)) (cs : List DrillCommand) → commands_from 1 0 lines [] ≡ Ok cs → SpellLegally lines cs
-legal_lines lines cs e = let k = all_kept 1 0 lines [] cs e in record { short = k.0; spelling = k.1; legal = k.2 none_legal }
+pub legal_lines : (lines : List (List ℕ)) (cs : List DrillCommand) → strict_from [] lines [] ≡ Ok cs → SpellLegally lines cs
+legal_lines lines cs e = let k = all_kept [] lines [] cs e in record { short = k.0; spelling = k.1; legal = k.2 none_legal }
 
-pub lines_legal : (lines : List (List ℕ)) (cs : List DrillCommand) → SpellLegally lines cs → commands_from 1 0 lines [] ≡ Ok cs
-lines_legal lines cs s = all_spelled 1 0 lines [] cs s.short s.spelling s.legal
+pub lines_legal : (lines : List (List ℕ)) (cs : List DrillCommand) → SpellLegally lines cs → strict_from [] lines [] ≡ Ok cs
+lines_legal lines cs s = all_spelled [] lines [] cs s.short s.spelling s.legal
 
 -- ---- texts
 
 last_place : ℕ → List (List ℕ) → List ℕ → List DrillCommand → Result (List DrillCommand) Fault
-last_place len lines rest cs = spelled (suc (length lines)) (length (bytes_of lines)) rest cs >>= ended len lines rest
+last_place len lines rest cs = strict_line lines rest cs >>= ended len lines rest
+
+-- what a text is read as, its rest as a line
+strictly_read : (len : ℕ) (lines : List (List ℕ)) (rest : List ℕ) → read_by (plain Strict) len lines rest ≡ (strictly_shown lines rest >>= λ commands. cond (ltb text_limit len) (Err (fault (suc (length lines)) text_limit TooLong)) (last_place len lines rest commands))
+unfolding last_place
+strictly_read len lines rest = bind_cong (strictly_shown lines rest) _ _ (λ commands. ap (λ r. cond (ltb text_limit len) (Err (fault (suc (length lines)) text_limit TooLong)) (r >>= ended len lines rest)) (strict_rest lines rest commands))
+
+-- the same of a text within the limit, or above it
+read_within : (len : ℕ) (lines : List (List ℕ)) (rest : List ℕ) → len ≤ text_limit → read_by (plain Strict) len lines rest ≡ (strictly_shown lines rest >>= last_place len lines rest)
+read_within len lines rest le = strictly_read len lines rest ∙ ap (λ t. strictly_shown lines rest >>= λ commands. cond t (Err (fault (suc (length lines)) text_limit TooLong)) (last_place len lines rest commands)) (le-ltb text_limit len le)
+
+read_beyond : (len : ℕ) (lines : List (List ℕ)) (rest : List ℕ) → text_limit < len → read_by (plain Strict) len lines rest ≡ (strictly_shown lines rest >>= λ commands. Err (fault (suc (length lines)) text_limit TooLong))
+read_beyond len lines rest lt = strictly_read len lines rest ∙ ap (λ t. strictly_shown lines rest >>= λ commands. cond t (Err (fault (suc (length lines)) text_limit TooLong)) (last_place len lines rest commands)) (lt-ltb text_limit len lt)
 
 -- the lines and the rest as a line
-all_lines : (lines : List (List ℕ)) (rest : List ℕ) (cs : List DrillCommand) → commands_from 1 0 lines [] ≡ Ok cs → commands_from 1 0 (lines ++ rest ∷ []) [] ≡ spelled (suc (length lines)) (length (bytes_of lines)) rest cs
-all_lines lines rest cs e =
-    let k : 1 + length lines ≡ suc (length lines) = omega arith in
-    let j : 0 + length (bytes_of lines) ≡ length (bytes_of lines) = omega arith in
-    commands_from-push 1 0 lines rest [] ∙ (ap (λ x. x >>= spelled (1 + length lines) (0 + length (bytes_of lines)) rest) e ∙ (λ i. spelled (k i) (j i) rest cs))
+all_lines : (lines : List (List ℕ)) (rest : List ℕ) (cs : List DrillCommand) → strict_from [] lines [] ≡ Ok cs → strict_from [] (lines ++ rest ∷ []) [] ≡ strict_line lines rest cs
+all_lines lines rest cs e = commands_by-push (plain Strict) [] lines rest [] ∙ ap (λ x. x >>= strict_line lines rest) e
 
-prefix_err : (lines : List (List ℕ)) (rest : List ℕ) (f : Fault) → commands_from 1 0 lines [] ≡ Err f → commands_from 1 0 (lines ++ rest ∷ []) [] ≡ Err f
-prefix_err lines rest f e = commands_from-push 1 0 lines rest [] ∙ ap (λ x. x >>= spelled (1 + length lines) (0 + length (bytes_of lines)) rest) e
-
-long_err : (place byte : ℕ) (rest : List ℕ) (cs : List DrillCommand) → line_limit < length rest → spelled place byte rest cs ≡ Err (fault place byte TooLong)
-long_err place byte rest cs h = ap (with_place place byte) (refused_err cs rest TooLong (inl (h, refl)))
+prefix_err : (lines : List (List ℕ)) (rest : List ℕ) (f : Fault) → strict_from [] lines [] ≡ Err f → strict_from [] (lines ++ rest ∷ []) [] ≡ Err f
+prefix_err lines rest f e = commands_by-push (plain Strict) [] lines rest [] ∙ ap (λ x. x >>= strict_line lines rest) e
 
 ended_err : (len : ℕ) (lines : List (List ℕ)) (rest : List ℕ) (cs : List DrillCommand) (f : Fault) → ended len lines rest cs ≡ Err f → (list_any is_finish cs ≡ false) × (f ≡ fault (place_after lines rest) len Truncated)
 ended_err len lines rest cs f e = by (list_any is_finish cs) refl e
@@ -197,36 +201,30 @@ ended_err len lines rest cs f e = by (list_any is_finish cs) refl e
     by false is k = let same : fault (place_after lines rest) len Truncated ≡ f = cc in (is, sym same)
 
 -- what a text within the limit reads as
-within_err : (text : List ℕ) (lines : List (List ℕ)) (rest : List ℕ) (f : Fault) → length text ≤ text_limit → read_in (length text) lines rest ≡ Err f → HasFaultWithin text lines rest f
+within_err : (text : List ℕ) (lines : List (List ℕ)) (rest : List ℕ) (f : Fault) → length text ≤ text_limit → read_by (plain Strict) (length text) lines rest ≡ Err f → HasFaultWithin text lines rest f
 unfolding last_place
 within_err text lines rest f le e =
-    let now : (shown lines rest >>= last_place (length text) lines rest) ≡ Err f =
-    ap (λ t. shown lines rest >>= λ commands. cond t (Err (fault (suc (length lines)) text_limit TooLong)) (last_place (length text) lines rest commands)) (sym (le-ltb text_limit (length text) le)) ∙ e in
-    elim (bind_err (shown lines rest) (last_place (length text) lines rest) f now) [
-      | inl h ↦ elim (shown_err lines rest f h) [
+    elim (bind_err (strictly_shown lines rest) (last_place (length text) lines rest) f (sym (read_within (length text) lines rest le) ∙ e)) [
+      | inl h ↦ elim (shown_by_err (plain Strict) lines rest f h) [
         | inl k ↦ inl (has_refused (lines ++ rest ∷ []) f (prefix_err lines rest f k))
-        | inr k ↦ inl (has_refused (lines ++ rest ∷ []) f (all_lines lines rest k.0 k.1 ∙ (long_err (suc (length lines)) (length (bytes_of lines)) rest k.0 k.2 ∙ ap (λ (g : Fault). Err g) k.3)))
+        | inr k ↦ inl (has_refused (lines ++ rest ∷ []) f (all_lines lines rest k.0 k.1 ∙ (too_long (plain Strict) lines rest k.0 k.2 ∙ ap (λ (g : Fault). Err g) k.3)))
       ]
-      | inr h ↦ (let first = (shown_ok lines rest h.0 h.1).0 in
-          elim (bind_err (spelled (suc (length lines)) (length (bytes_of lines)) rest h.0) (ended (length text) lines rest) f h.2) [
+      | inr h ↦ (let first = (shown_by_ok (plain Strict) lines rest h.0 h.1).0 in
+          elim (bind_err (strict_line lines rest h.0) (ended (length text) lines rest) f h.2) [
             | inl k ↦ inl (has_refused (lines ++ rest ∷ []) f (all_lines lines rest h.0 first ∙ k))
             | inr k ↦ (let done = ended_err (length text) lines rest k.0 f k.2 in inr (k.0, legal_lines (lines ++ rest ∷ []) k.0 (all_lines lines rest h.0 first ∙ k.1), done.0, done.1))
           ])
     ]
 
 -- what a text above the limit reads as
-beyond_err : (text : List ℕ) (lines : List (List ℕ)) (rest : List ℕ) (f : Fault) → text_limit < length text → read_in (length text) lines rest ≡ Err f → HasFaultBeyond lines rest f
-unfolding last_place
+beyond_err : (text : List ℕ) (lines : List (List ℕ)) (rest : List ℕ) (f : Fault) → text_limit < length text → read_by (plain Strict) (length text) lines rest ≡ Err f → HasFaultBeyond lines rest f
 beyond_err text lines rest f lt e =
-    let long : List DrillCommand → Result (List DrillCommand) Fault = λ commands. Err (fault (suc (length lines)) text_limit TooLong) in
-    let now : (shown lines rest >>= long) ≡ Err f =
-    ap (λ t. shown lines rest >>= λ commands. cond t (Err (fault (suc (length lines)) text_limit TooLong)) (last_place (length text) lines rest commands)) (sym (lt-ltb text_limit (length text) lt)) ∙ e in
-    elim (bind_err (shown lines rest) long f now) [
-      | inl h ↦ elim (shown_err lines rest f h) [
+    elim (bind_err (strictly_shown lines rest) (λ commands. Err (fault (suc (length lines)) text_limit TooLong)) f (sym (read_beyond (length text) lines rest lt) ∙ e)) [
+      | inl h ↦ elim (shown_by_err (plain Strict) lines rest f h) [
         | inl k ↦ inl (has_refused lines f k)
         | inr k ↦ inr (k.0, legal_lines lines k.0 k.1, inl (k.2, sym k.3))
       ]
-      | inr h ↦ (let first = shown_ok lines rest h.0 h.1 in
+      | inr h ↦ (let first = shown_by_ok (plain Strict) lines rest h.0 h.1 in
           let same : fault (suc (length lines)) text_limit TooLong ≡ f = let k = h.2 in cc in
           inr (h.0, legal_lines lines h.0 first.0, inr (first.1, sym same)))
     ]
@@ -240,60 +238,45 @@ err_first text f r = by (ltb text_limit (length text)) refl
 
 -- ---- and back
 
-refused_within : (text : List ℕ) (lines : List (List ℕ)) (rest : List ℕ) (f : Fault) → length text ≤ text_limit → commands_from 1 0 (lines ++ rest ∷ []) [] ≡ Err f → read_in (length text) lines rest ≡ Err f
+refused_within : (text : List ℕ) (lines : List (List ℕ)) (rest : List ℕ) (f : Fault) → length text ≤ text_limit → strict_from [] (lines ++ rest ∷ []) [] ≡ Err f → read_by (plain Strict) (length text) lines rest ≡ Err f
 unfolding last_place
 refused_within text lines rest f le e =
-    let k : 1 + length lines ≡ suc (length lines) = omega arith in
-    let j : 0 + length (bytes_of lines) ≡ length (bytes_of lines) = omega arith in
-    ap (λ t. shown lines rest >>= λ commands. cond t (Err (fault (suc (length lines)) text_limit TooLong)) (last_place (length text) lines rest commands)) (le-ltb text_limit (length text) le)
-    ∙ elim (bind_err (commands_from 1 0 lines []) (spelled (1 + length lines) (0 + length (bytes_of lines)) rest) f (sym (commands_from-push 1 0 lines rest []) ∙ e)) [
-      | inl h ↦ ap (λ x. x >>= last_place (length text) lines rest) (show_err lines rest f h)
-      | inr h ↦ by_rest h.0 h.1 ((λ i. spelled (sym k i) (sym j i) rest h.0) ∙ h.2) (ltb line_limit (length rest)) refl
+    read_within (length text) lines rest le
+    ∙ elim (bind_err (strict_from [] lines []) (strict_line lines rest) f (sym (commands_by-push (plain Strict) [] lines rest []) ∙ e)) [
+      | inl h ↦ ap (λ x. x >>= last_place (length text) lines rest) (show_by_err (plain Strict) lines rest f h)
+      | inr h ↦ by_rest h.0 h.1 h.2 (ltb line_limit (length rest)) refl
     ]
   where
-    by_rest : (cs : List DrillCommand) → commands_from 1 0 lines [] ≡ Ok cs → spelled (suc (length lines)) (length (bytes_of lines)) rest cs ≡ Err f → (t : Bool) → ltb line_limit (length rest) ≡ t → (shown lines rest >>= last_place (length text) lines rest) ≡ Err f
+    by_rest : (cs : List DrillCommand) → strict_from [] lines [] ≡ Ok cs → strict_line lines rest cs ≡ Err f → (t : Bool) → ltb line_limit (length rest) ≡ t → (strictly_shown lines rest >>= last_place (length text) lines rest) ≡ Err f
     by_rest cs first last true long =
         let lt = ltb-true _ _ long in
-        ap (λ x. x >>= last_place (length text) lines rest) (show_long lines rest cs first lt) ∙ (sym (long_err (suc (length lines)) (length (bytes_of lines)) rest cs lt) ∙ last)
+        ap (λ x. x >>= last_place (length text) lines rest) (show_by_long (plain Strict) lines rest cs first lt) ∙ (sym (too_long (plain Strict) lines rest cs lt) ∙ last)
     by_rest cs first last false short =
-        ap (λ x. x >>= last_place (length text) lines rest) (show_ok lines rest cs first (ltb-false _ _ short)) ∙ ap (λ x. x >>= ended (length text) lines rest) last
+        ap (λ x. x >>= last_place (length text) lines rest) (show_by_ok (plain Strict) lines rest cs first (ltb-false _ _ short)) ∙ ap (λ x. x >>= ended (length text) lines rest) last
 
-prefix_ok : (lines : List (List ℕ)) (rest : List ℕ) (cs : List DrillCommand) → commands_from 1 0 (lines ++ rest ∷ []) [] ≡ Ok cs → (first : List DrillCommand) × (commands_from 1 0 lines [] ≡ Ok first) × (spelled (suc (length lines)) (length (bytes_of lines)) rest first ≡ Ok cs)
-prefix_ok lines rest cs e =
-    let k : 1 + length lines ≡ suc (length lines) = omega arith in
-    let j : 0 + length (bytes_of lines) ≡ length (bytes_of lines) = omega arith in
-    let b = bind_ok (commands_from 1 0 lines []) (spelled (1 + length lines) (0 + length (bytes_of lines)) rest) cs (sym (commands_from-push 1 0 lines rest []) ∙ e) in
-    (b.0, b.1, (λ i. spelled (sym k i) (sym j i) rest b.0) ∙ b.2)
-
-last_short : (lines : List (List ℕ)) (rest : List ℕ) → AreWithinLimit (lines ++ rest ∷ []) → length rest ≤ line_limit
-last_short [] rest h = h.0
-last_short (line ∷ lines) rest h = last_short lines rest h.1
-
-truncated_within : (text : List ℕ) (lines : List (List ℕ)) (rest : List ℕ) (cs : List DrillCommand) → length text ≤ text_limit → SpellLegally (lines ++ rest ∷ []) cs → list_any is_finish cs ≡ false → read_in (length text) lines rest ≡ Err (fault (place_after lines rest) (length text) Truncated)
+truncated_within : (text : List ℕ) (lines : List (List ℕ)) (rest : List ℕ) (cs : List DrillCommand) → length text ≤ text_limit → SpellLegally (lines ++ rest ∷ []) cs → list_any is_finish cs ≡ false
+    → read_by (plain Strict) (length text) lines rest ≡ Err (fault (place_after lines rest) (length text) Truncated)
 unfolding last_place
 truncated_within text lines rest cs le s none =
-    let first = prefix_ok lines rest cs (lines_legal (lines ++ rest ∷ []) cs s) in
-    ap (λ t. shown lines rest >>= λ commands. cond t (Err (fault (suc (length lines)) text_limit TooLong)) (last_place (length text) lines rest commands)) (le-ltb text_limit (length text) le)
-    ∙ (ap (λ x. x >>= last_place (length text) lines rest) (show_ok lines rest first.0 first.1 (last_short lines rest s.short))
-    ∙ (ap (λ x. x >>= ended (length text) lines rest) first.2 ∙ ap (λ t. cond t (Ok cs) (Err (fault (place_after lines rest) (length text) Truncated))) none))
+    let b = bind_ok (strict_from [] lines []) (strict_line lines rest) cs (sym (commands_by-push (plain Strict) [] lines rest []) ∙ lines_legal (lines ++ rest ∷ []) cs s) in
+    read_within (length text) lines rest le
+    ∙ (ap (λ x. x >>= last_place (length text) lines rest) (show_by_ok (plain Strict) lines rest b.0 b.1 (last_short lines rest s.short))
+    ∙ (ap (λ x. x >>= ended (length text) lines rest) b.2 ∙ ap (λ t. cond t (Ok cs) (Err (fault (place_after lines rest) (length text) Truncated))) none))
 
-beyond_is : (text : List ℕ) (lines : List (List ℕ)) (rest : List ℕ) (r : Result (List DrillCommand) Fault) → text_limit < length text → shown lines rest ≡ r → read_in (length text) lines rest ≡ (r >>= λ commands. Err (fault (suc (length lines)) text_limit TooLong))
-unfolding last_place
-beyond_is text lines rest r lt e =
-    ap (λ t. shown lines rest >>= λ commands. cond t (Err (fault (suc (length lines)) text_limit TooLong)) (last_place (length text) lines rest commands)) (lt-ltb text_limit (length text) lt)
-    ∙ ap (λ x. x >>= λ commands. Err (fault (suc (length lines)) text_limit TooLong)) e
+beyond_is : (text : List ℕ) (lines : List (List ℕ)) (rest : List ℕ) (r : Result (List DrillCommand) Fault) → text_limit < length text → strictly_shown lines rest ≡ r → read_by (plain Strict) (length text) lines rest ≡ (r >>= λ commands. Err (fault (suc (length lines)) text_limit TooLong))
+beyond_is text lines rest r lt e = read_beyond (length text) lines rest lt ∙ ap (λ x. x >>= λ commands. Err (fault (suc (length lines)) text_limit TooLong)) e
 
-within_reads : (text : List ℕ) (lines : List (List ℕ)) (rest : List ℕ) (f : Fault) → length text ≤ text_limit → HasFaultWithin text lines rest f → read_in (length text) lines rest ≡ Err f
+within_reads : (text : List ℕ) (lines : List (List ℕ)) (rest : List ℕ) (f : Fault) → length text ≤ text_limit → HasFaultWithin text lines rest f → read_by (plain Strict) (length text) lines rest ≡ Err f
 within_reads text lines rest f le (inl h) = refused_within text lines rest f le (refused_has (lines ++ rest ∷ []) f h)
 within_reads text lines rest f le (inr h) = truncated_within text lines rest h.0 le h.1 h.2 ∙ ap (λ (g : Fault). Err g) (sym h.3)
 
-beyond_reads : (text : List ℕ) (lines : List (List ℕ)) (rest : List ℕ) (f : Fault) → text_limit < length text → HasFaultBeyond lines rest f → read_in (length text) lines rest ≡ Err f
-beyond_reads text lines rest f lt (inl h) = beyond_is text lines rest (Err f) lt (show_err lines rest f (refused_has lines f h))
+beyond_reads : (text : List ℕ) (lines : List (List ℕ)) (rest : List ℕ) (f : Fault) → text_limit < length text → HasFaultBeyond lines rest f → read_by (plain Strict) (length text) lines rest ≡ Err f
+beyond_reads text lines rest f lt (inl h) = beyond_is text lines rest (Err f) lt (show_by_err (plain Strict) lines rest f (refused_has lines f h))
 beyond_reads text lines rest f lt (inr h) = by h.2
   where
-    by : (((line_limit < length rest) × (f ≡ fault (suc (length lines)) (length (bytes_of lines)) TooLong)) ⊎ ((length rest ≤ line_limit) × (f ≡ fault (suc (length lines)) text_limit TooLong))) → read_in (length text) lines rest ≡ Err f
-    by (inl k) = beyond_is text lines rest (Err (fault (suc (length lines)) (length (bytes_of lines)) TooLong)) lt (show_long lines rest h.0 (lines_legal lines h.0 h.1) k.0) ∙ ap (λ (g : Fault). Err g) (sym k.1)
-    by (inr k) = beyond_is text lines rest (Ok h.0) lt (show_ok lines rest h.0 (lines_legal lines h.0 h.1) k.0) ∙ ap (λ (g : Fault). Err g) (sym k.1)
+    by : (((line_limit < length rest) × (f ≡ fault (suc (length lines)) (length (bytes_of lines)) TooLong)) ⊎ ((length rest ≤ line_limit) × (f ≡ fault (suc (length lines)) text_limit TooLong))) → read_by (plain Strict) (length text) lines rest ≡ Err f
+    by (inl k) = beyond_is text lines rest (Err (fault (suc (length lines)) (length (bytes_of lines)) TooLong)) lt (show_by_long (plain Strict) lines rest h.0 (lines_legal lines h.0 h.1) k.0) ∙ ap (λ (g : Fault). Err g) (sym k.1)
+    by (inr k) = beyond_is text lines rest (Ok h.0) lt (show_by_ok (plain Strict) lines rest h.0 (lines_legal lines h.0 h.1) k.0) ∙ ap (λ (g : Fault). Err g) (sym k.1)
 
 pub first_err : (text : List ℕ) (f : Fault) → IsFirstFault text f → Reads text (Err f)
 first_err text f (lines, rest, splits, inl h) = record { lines = lines; rest = rest; splits = splits; answer_is = sym (within_reads text lines rest f h.0 h.1) }
@@ -322,18 +305,15 @@ cut (b ∷ bs) = by (eqb b 10) refl (cut bs)
     by true is c = record { lines = [] ∷ c.lines; rest = c.rest; splits = record { whole = (λ i. eqb-true b 10 is i ∷ c.splits.whole i); each = (tt, c.splits.each); partial = c.splits.partial } }
     by false is c = longer b bs (eqb-false b 10 is) c
 
-pub has_answer : (text : List ℕ) → HasAnswer text
-has_answer text =
-    let c = cut (take text_limit text) in
-    let reads : (answer : Result (List DrillCommand) Fault) → read_in (length text) c.lines c.rest ≡ answer → Reads text answer = λ answer e. record { lines = c.lines; rest = c.rest; splits = c.splits; answer_is = sym e } in
-    by (read_in (length text) c.lines c.rest) (reads (read_in (length text) c.lines c.rest) refl)
-  where
-    by : (answer : Result (List DrillCommand) Fault) → Reads text answer → HasAnswer text
-    by (Ok cs) h = inl (cs, reads_drill_text text cs h)
-    by (Err f) h = inr (f, err_first text f h)
-
 -- in each profile each text has an answer
 pub each_read_in : (kind : Kind) (text : List ℕ) → (answer : Result (List DrillCommand) Fault) × ReadsBy kind text answer
 each_read_in kind text =
     let c = cut (take text_limit text) in
     (read_by kind (length text) c.lines c.rest, record { lines = c.lines; rest = c.rest; splits = c.splits; answer_is = refl })
+
+pub has_answer : (text : List ℕ) → HasAnswer text
+has_answer text = let r = each_read_in (plain Strict) text in by r.0 r.1
+  where
+    by : (answer : Result (List DrillCommand) Fault) → Reads text answer → HasAnswer text
+    by (Ok cs) h = inl (cs, reads_drill_text text cs h)
+    by (Err f) h = inr (f, err_first text f h)

@@ -1,21 +1,24 @@
 -- An example of a drill text.
-use Rattle.std.proofs.Common.{pos, ℕ, List, [], None, Some, refl, arith, lit≤}
+use Rattle.std.proofs.Common.{pos, ℕ, List, [], ◌∷◌, map, None, Some, refl, arith, lit≤}
 use Rattle.std.specs.Prelude.{codes}
 use Rattle.grid_units.specs.declared.lengths.Unit.TheVariants.{Millimetre}
 use Rattle.grid_units.specs.Numbers.{parse_decimal}
 use Rattle.drill_lines.specs.declared.command.DrillCommand.TheVariants.{Start, UnitLine, Tool, HeaderEnd, Pick, Finish}
 use Rattle.drill_lines.specs.HoleLines.{coordinate_of}
-use Rattle.drill_text.specs.Grammar.{IsText}
+use Rattle.grid_units.specs.declared.profile.Profile.TheVariants.{Strict}
+use Rattle.drill_text.specs.Grammar.{IsText, lines_of}
 use Rattle.drill_text.proofs.DrillingExamples.{hit, commands}
 
 abbrev text : List ℕ
 text = codes "M48\nMETRIC\nT1C0.4\n%\nT1\nX1.0Y2.0\nM30\n"
 
 -- it is a text of these commands, which drill one hole (`DrillingExamples`)
-written : IsText text commands
+written : IsText Strict text commands
 unfolding coordinate_of parse_decimal
 written = record {
-  lines = (
+  entries = map (λ line. line ∷ []) (lines_of text);
+  lines = refl;
+  spells = (
     Some Start,
     (1, omega arith, refl),
     (

@@ -1,11 +1,12 @@
 -- A text that spells commands, and one that is written for them.
-use Rattle.std.proofs.Common.{◌≡◌, ℕ, zero, suc, Bool, true, false, cond, ◌||◌, List, [], ◌∷◌, ◌++◌, Result, Ok, Err, refl, sym, ap, subst, ◌∙◌, arith, append_assoc}
-use Rattle.std.specs.List.{list_any, AllByRecursion, Contains, onto_first}
+use Rattle.std.proofs.Common.{◌≡◌, ℕ, zero, suc, Bool, true, false, cond, ◌||◌, List, [], ◌∷◌, ◌++◌, map, Ok, refl, sym, ap, subst, ◌∙◌, arith, append_assoc}
+use Rattle.std.specs.List.{list_any, flat_map, AllByRecursion, Contains, onto_first}
 use Rattle.std.specs.Option.{option_to_list}
 use Rattle.std.proofs.lemmas.Bool.{ne_eqb}
 use Rattle.grid_units.specs.Results.{◌>>=◌}
 use Rattle.grid_units.proofs.ResultLemmas.{bind_ok}
 use Rattle.grid_units.proofs.ListLemmas.{list_any_element}
+use Rattle.grid_units.specs.declared.profile.Profile.TheVariants.{Strict}
 use Rattle.drill_lines.specs.declared.command.DrillCommand.{DrillCommand}
 use Rattle.drill_lines.specs.declared.command.DrillCommand.TheVariants as command
 use Rattle.drill_lines.specs.Lines.{trimmed}
@@ -14,25 +15,40 @@ use Rattle.drill_lines.proofs.Answered.{written_is_answered}
 use Rattle.drill_lines.proofs.Written.{answers_are_written}
 use Rattle.drill_text.specs.Lines.{bytes_of, HasNoBreak, Splits}
 use Rattle.drill_text.specs.Lookback.{settings_after}
-use Rattle.drill_text.specs.Reading.{is_finish}
+use Rattle.drill_text.specs.Profiles.{is_finish}
 use Rattle.drill_text.specs.Texts.{spelled_after, AreWithinLimit, SpellsText}
-use Rattle.drill_text.specs.Grammar.{lines_of, AreLines, IsText}
-use Rattle.drill_text.specs.Laws.{IsWithinLimits, SpelledIsWritten, IsTextOfAtMostOne}
+use Rattle.drill_text.specs.Grammar.{lines_of, AreEntries, IsText}
+use Rattle.drill_text.specs.Laws.{IsWithinLimits, SpelledIsWritten}
 use Rattle.drill_text.proofs.FirstFaults.{cut}
 
 -- ---- lines
 
-lines_spell : (before : List DrillCommand) (lines : List (List ℕ)) (commands : List DrillCommand) → AreLines before lines commands → spelled_after before lines ≡ Ok commands
-lines_spell before [] commands e = ap (λ (cs : List DrillCommand). Ok cs) (sym e)
-lines_spell before (line ∷ lines) commands (spelled, is, rest) =
-    ap (λ r. r >>= λ o. spelled_after (before ++ option_to_list o) lines) (written_is_answered (settings_after before) (trimmed line) spelled is)
-    ∙ lines_spell (before ++ option_to_list spelled) lines commands rest
+-- the lines of entries, in order
+abbrev pub lines_in : List (List (List ℕ)) → List (List ℕ)
+lines_in entries = flat_map (λ entry. entry) entries
 
-spelled_lines : (before : List DrillCommand) (lines : List (List ℕ)) (commands : List DrillCommand) → spelled_after before lines ≡ Ok commands → AreLines before lines commands
-spelled_lines before [] commands e = let same : before ≡ commands = cc in sym same
-spelled_lines before (line ∷ lines) commands e =
+entries_spell : (earlier : List (List ℕ)) (before : List DrillCommand) (entries : List (List (List ℕ))) (commands : List DrillCommand) → AreEntries Strict earlier before entries commands → spelled_after before (lines_in entries) ≡ Ok commands
+entries_spell earlier before [] commands e = ap (λ (cs : List DrillCommand). Ok cs) (sym e)
+entries_spell earlier before ((line ∷ []) ∷ entries) commands (spelled, is, rest) =
+    ap (λ r. r >>= λ o. spelled_after (before ++ option_to_list o) (lines_in entries)) (written_is_answered (settings_after before) (trimmed line) spelled is)
+    ∙ entries_spell (earlier ++ line ∷ []) (before ++ option_to_list spelled) entries commands rest
+entries_spell earlier before (entry ∷ entries) commands (spelled, is, rest) = absurd is
+
+-- each line alone
+alone : List ℕ → List (List ℕ)
+alone line = line ∷ []
+
+lines_alone : (lines : List (List ℕ)) → lines_in (map alone lines) ≡ lines
+unfolding alone
+lines_alone [] = refl
+lines_alone (line ∷ lines) = ap (λ (ls : List (List ℕ)). line ∷ ls) (lines_alone lines)
+
+spelled_entries : (earlier : List (List ℕ)) (before : List DrillCommand) (lines : List (List ℕ)) (commands : List DrillCommand) → spelled_after before lines ≡ Ok commands → AreEntries Strict earlier before (map alone lines) commands
+unfolding alone
+spelled_entries earlier before [] commands e = let same : before ≡ commands = cc in sym same
+spelled_entries earlier before (line ∷ lines) commands e =
     let b = bind_ok (meaning (settings_after before) (trimmed line)) (λ o. spelled_after (before ++ option_to_list o) lines) commands e in
-    (b.0, answers_are_written (settings_after before) (trimmed line) b.0 b.1, spelled_lines (before ++ option_to_list b.0) lines commands b.2)
+    (b.0, answers_are_written (settings_after before) (trimmed line) b.0 b.1, spelled_entries (earlier ++ line ∷ []) (before ++ option_to_list b.0) lines commands b.2)
 
 -- ---- cutting at LF
 
@@ -75,14 +91,19 @@ end_found (c ∷ cs) (suc k, less, e) = or_true (is_finish c) (list_any is_finis
 
 -- ---- texts
 
-spelled_written : (text : List ℕ) (commands : List DrillCommand) → SpellsText text commands → IsWithinLimits text × IsText text commands
+spelled_written : (text : List ℕ) (commands : List DrillCommand) → SpellsText text commands → IsWithinLimits text × IsText Strict text commands
 spelled_written text commands s =
-    let same : s.lines ++ s.rest ∷ [] ≡ lines_of text = sym (same_lines text s.lines s.rest s.splits) in (
+    let lines : List (List ℕ) = s.lines ++ s.rest ∷ [] in
+    let same : lines ≡ lines_of text = sym (same_lines text s.lines s.rest s.splits) in (
       (s.within, subst AreWithinLimit same s.short),
-      record { lines = subst (λ ls. AreLines [] ls commands) same (spelled_lines [] (s.lines ++ s.rest ∷ []) commands s.spelling); ends = has_end commands s.ends },
+      record { entries = map alone lines; lines = lines_alone lines ∙ same; spells = spelled_entries [] [] lines commands s.spelling; ends = has_end commands s.ends },
     )
 
-written_spelled : (text : List ℕ) (commands : List DrillCommand) → IsWithinLimits text → IsText text commands → SpellsText text commands
+-- what the lines of a text spell
+pub text_spells : (text : List ℕ) (commands : List DrillCommand) → IsText Strict text commands → spelled_after [] (lines_of text) ≡ Ok commands
+text_spells text commands t = subst (λ ls. spelled_after [] ls ≡ Ok commands) t.lines (entries_spell [] [] t.entries commands t.spells)
+
+written_spelled : (text : List ℕ) (commands : List DrillCommand) → IsWithinLimits text → IsText Strict text commands → SpellsText text commands
 written_spelled text commands within t =
     let c = cut text in
     let same = same_lines text c.lines c.rest c.splits in
@@ -92,17 +113,9 @@ written_spelled text commands within t =
       splits = c.splits;
       within = within.0;
       short = subst AreWithinLimit same within.1;
-      spelling = lines_spell [] (c.lines ++ c.rest ∷ []) commands (subst (λ ls. AreLines [] ls commands) same t.lines);
+      spelling = subst (λ ls. spelled_after [] ls ≡ Ok commands) same (text_spells text commands t);
       ends = end_found commands t.ends;
     }
 
 pub spelled_is_written : SpelledIsWritten
 spelled_is_written text commands = (spelled_written text commands, λ h. written_spelled text commands h.0 h.1)
-
-one_answer : {E A : Type 0} (r : Result A E) (x y : A) → r ≡ Ok x → r ≡ Ok y → x ≡ y
-one_answer (Ok z) x y e f = let first : z ≡ x = cc in let second : z ≡ y = cc in sym first ∙ second
-one_answer (Err z) x y e f = absurd cc
-
-pub is_text_of_at_most_one : IsTextOfAtMostOne
-is_text_of_at_most_one text commands other t u =
-    one_answer (spelled_after [] (lines_of text)) commands other (lines_spell [] (lines_of text) commands t.lines) (lines_spell [] (lines_of text) other u.lines)

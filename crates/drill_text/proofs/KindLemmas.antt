@@ -1,14 +1,13 @@
 -- A file of each kind is read as one of the same commands whose role is believed, but for the rule that the kind has beside the others.
-use Rattle.std.proofs.Common.{◌≡◌, ℕ, suc, Bool, true, false, cond, ltb, ◌||◌, List, [], ◌∷◌, ◌++◌, length, map, Option, None, Some, Result, Ok, Err, refl, sym, ap, subst, ◌∙◌, append_assoc}
+use Rattle.std.proofs.Common.{◌≡◌, ℕ, suc, Bool, true, false, cond, ltb, ◌||◌, List, [], ◌∷◌, ◌++◌, length, map, Option, None, Some, Ok, Err, refl, sym, ap, subst, ◌∙◌, append_assoc}
 use Rattle.std.specs.List.{cons_option, filter_map, list_any}
 use Rattle.std.specs.Option.{option_map, option_or, option_to_list}
 use Rattle.std.proofs.lemmas.List.{append-nil}
-use Rattle.grid_units.specs.Limits.{line_limit, text_limit}
+use Rattle.grid_units.specs.Limits.{line_limit}
 use Rattle.grid_units.specs.Lists.{IsLegal, violation_at, with_prefixes_from}
-use Rattle.grid_units.specs.Results.{◌>>=◌, fault, with_place}
-use Rattle.grid_units.specs.declared.fault.Fault.{Fault}
+use Rattle.grid_units.specs.Results.{◌>>=◌, with_place}
 use Rattle.grid_units.specs.declared.fault.Reason.{Reason}
-use Rattle.grid_units.specs.declared.fault.Reason.TheVariants.{PlatingConflict, TooLong, Truncated}
+use Rattle.grid_units.specs.declared.fault.Reason.TheVariants.{PlatingConflict, TooLong}
 use Rattle.grid_units.proofs.LookbackLemmas.{violations-more}
 use Rattle.grid_units.proofs.ResultLemmas.{bind_ok}
 use Rattle.drill_lines.specs.Lines.{trimmed}
@@ -19,13 +18,11 @@ use Rattle.drill_text.specs.Lookback.{settings_after}
 use Rattle.drill_text.specs.MixedLaws.{KindsReadTheSame, UncontradictedIsLegal}
 use Rattle.drill_text.specs.Plating.{calls_plated, contradiction_rule, own_rule, rule_in}
 use Rattle.drill_text.specs.declared.platings.PlatingKind.{PlatingKind}
-use Rattle.drill_text.specs.Profiles.{Kind, ReadsBy, ReadsIn, commands_by, plain, shown_by, spelled_in, step_in, with_rest}
-use Rattle.drill_text.specs.Reading.{add_unless, checked, checked_by, ended, is_finish, place_after}
+use Rattle.drill_text.specs.Profiles.{Kind, ReadsBy, ReadsIn, add_unless, checked, checked_by, commands_by, plain, spelled_in, step_in, with_rest}
 use Rattle.drill_text.specs.Rules.{broken_rule}
 use Rattle.drill_text.proofs.PlatingLemmas.{rules_are}
-use Rattle.drill_text.proofs.ProfileLemmas.{show_by_ok, shown_by_ok}
-use Rattle.drill_text.proofs.SpellsTextLemmas.{at_ok, judged_ok, last_keeps, legal_start, with_end}
-use Rattle.drill_text.proofs.WideLemmas.{guarded}
+use Rattle.drill_text.proofs.ProfileLemmas.{at_ok, ending, guarded, read_alike}
+use Rattle.drill_text.proofs.SpellsTextLemmas.{judged_ok, last_keeps, legal_start}
 
 -- ---- one command
 
@@ -138,67 +135,20 @@ module _ (kind : Kind) where
 
 -- ---- texts
 
-ends_by : Kind → ℕ → List (List ℕ) → List ℕ → List DrillCommand → Result (List DrillCommand) Fault
-ends_by kind len lines rest cs = cond (ltb text_limit len) (Err (fault (suc (length lines)) text_limit TooLong)) (with_rest kind lines rest cs >>= ended len lines rest)
-
--- how a text that is read ends
-record Ending (kind : Kind) (text : List ℕ) (lines : List (List ℕ)) (rest : List ℕ) (cs : List DrillCommand) : Type 0 where
-  first : List DrillCommand
-  shown : commands_by kind [] lines [] ≡ Ok first
-  short : shown_by kind lines rest ≡ Ok first
-  within : ltb text_limit (length text) ≡ false
-  last : with_rest kind lines rest first ≡ Ok cs
-  ends : list_any is_finish cs ≡ true
-
-ending : (kind : Kind) (text : List ℕ) (cs : List DrillCommand) (r : ReadsBy kind text (Ok cs)) → Ending kind text r.lines r.rest cs
-unfolding ends_by
-ending kind text cs r =
-    let lines = r.lines in
-    let rest = r.rest in
-    let len = length text in
-    let b = bind_ok (shown_by kind lines rest) (ends_by kind len lines rest) cs (sym r.answer_is) in
-    let g = guarded (ltb text_limit len) (fault (suc (length lines)) text_limit TooLong) (with_rest kind lines rest b.0 >>= ended len lines rest) cs b.2 in
-    let c = bind_ok (with_rest kind lines rest b.0) (ended len lines rest) cs g.1 in
-    let e = with_end (list_any is_finish c.0) (fault (place_after lines rest) len Truncated) c.0 cs c.2 in
-    record {
-      first = b.0;
-      shown = (shown_by_ok kind lines rest b.0 b.1).0;
-      short = b.1;
-      within = g.0;
-      last = c.1 ∙ ap (λ (l : List DrillCommand). Ok l) e.1;
-      ends = sym (ap (list_any is_finish) e.1) ∙ e.0;
-    }
-
--- a text that ends so in another kind is read in it
-ended_by : (from to : Kind) (text : List ℕ) (cs : List DrillCommand) (r : ReadsBy from text (Ok cs)) (e : Ending from text r.lines r.rest cs) → commands_by to [] r.lines [] ≡ Ok e.first → with_rest to r.lines r.rest e.first ≡ Ok cs → ReadsBy to text (Ok cs)
-unfolding ends_by
-ended_by from to text cs r e first last =
-    let lines = r.lines in
-    let rest = r.rest in
-    let len = length text in
-    record {
-      lines = lines;
-      rest = rest;
-      splits = r.splits;
-      answer_is = sym (ap (λ s. s >>= ends_by to len lines rest) (show_by_ok to lines rest e.first first (shown_by_ok from lines rest e.first e.short).1)
-          ∙ (ap (λ t. cond t (Err (fault (suc (length lines)) text_limit TooLong)) (with_rest to lines rest e.first >>= ended len lines rest)) e.within
-          ∙ (ap (λ s. s >>= ended len lines rest) last ∙ ap (λ t. cond t (Ok cs) (Err (fault (place_after lines rest) len Truncated))) e.ends)));
-    }
-
 kind_is_read : (kind : Kind) (text : List ℕ) (cs : List DrillCommand) → ReadsBy kind text (Ok cs) → ReadsIn kind.profile text (Ok cs) × IsLegal (own_rule kind.plating) cs
 kind_is_read kind text cs r =
     let e = ending kind text cs r in
-    let all = lines_same kind [] r.lines [] e.first e.shown in
-    let last = rest_same kind r.lines r.rest e.first cs e.last in
-    (ended_by kind (plain kind.profile) text cs r e all.0 last.0, last.1 (all.1 refl))
+    let all = lines_same kind [] e.lines [] e.first e.shown in
+    let last = rest_same kind e.lines e.rest e.first cs e.last in
+    (read_alike kind (plain kind.profile) text cs e all.0 last.0, last.1 (all.1 refl))
 
 read_is_kind : (kind : Kind) (text : List ℕ) (cs : List DrillCommand) → ReadsIn kind.profile text (Ok cs) × IsLegal (own_rule kind.plating) cs → ReadsBy kind text (Ok cs)
 read_is_kind kind text cs (r, legal) =
     let rule = own_rule kind.plating in
     let e = ending (plain kind.profile) text cs r in
-    let more = rest_more kind r.lines r.rest e.first cs e.last in
+    let more = rest_more kind e.lines e.rest e.first cs e.last in
     let now : IsLegal rule e.first = legal_start rule e.first more.0 (subst (IsLegal rule) (sym more.1) legal) in
-    ended_by (plain kind.profile) kind text cs r e (lines_back kind [] r.lines [] e.first e.shown now) (rest_back kind r.lines r.rest e.first cs e.last legal)
+    read_alike (plain kind.profile) kind text cs e (lines_back kind [] e.lines [] e.first e.shown now) (rest_back kind e.lines e.rest e.first cs e.last legal)
 
 pub kinds_read_the_same : KindsReadTheSame
 kinds_read_the_same kind text cs = (kind_is_read kind text cs, read_is_kind kind text cs)

@@ -2,7 +2,6 @@ pub mod KindLemmas
 pub mod SpelledLemmas
 pub mod Lookbacks
 pub mod PlatingLemmas
-pub mod ShowsLemmas
 pub mod ProfileLemmas
 pub mod PieceLemmas
 pub mod WideLemmas

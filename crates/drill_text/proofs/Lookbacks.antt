@@ -1,5 +1,5 @@
 -- What one more command changes of the words that look back.
-use Rattle.std.proofs.Common.{◌≡◌, ℕ, ℤ, List, [], ◌∷◌, ◌++◌, length, Option, None, Some, unwrap_or, Bool, true, false, cond, ◌||◌, refl, sym, ap, ◌∙◌, append-nil}
+use Rattle.std.proofs.Common.{◌≡◌, ℕ, ℤ, List, [], ◌∷◌, ◌++◌, length, Option, None, Some, unwrap_or, Bool, true, false, cond, ◌||◌, refl, sym, ap, subst, ◌∙◌, append-nil}
 use Rattle.std.proofs.lemmas.List.Concat.{flat_map-append}
 use Rattle.std.proofs.lemmas.List.Elements.{filter_map-append}
 use Rattle.std.specs.Option.{option_or, option_map, option_to_list}
@@ -11,11 +11,16 @@ use Rattle.drill_lines.specs.declared.command.Coordinates.{Coordinates}
 use Rattle.drill_lines.specs.declared.command.DrillCommand.{DrillCommand}
 use Rattle.drill_lines.specs.declared.command.DrillCommand.TheVariants as command
 use Rattle.drill_lines.specs.declared.command.Part.TheVariants as part
+use Rattle.grid_units.specs.declared.fault.Reason.{Reason}
+use Rattle.drill_text.specs.declared.platings.PlatingKind.{PlatingKind}
+use Rattle.drill_text.specs.declared.platings.PlatingWords.{PlatingWords}
 use Rattle.drill_text.specs.declared.state.DrillState.{DrillState}
+use Rattle.drill_text.specs.Plating.{own_rule, rule_in, tool_made}
+use Rattle.drill_text.proofs.PlatingLemmas.{marks_more, picked_is, rules_are, same_own, tool_more, words_more}
 use Rattle.drill_text.specs.Lookback.{StateView, state_after, settings_after, header, ends_header, part_set, unit_set, zeros_set, format_set, diameter_set, tool_set, tool_defined, tools_of, points_in, points_of, x_set, y_set}
 use Rattle.drill_text.specs.Holes.{unit_after, point_at, coordinate_in, diameter_after, path_at, hole_of, holes_at, holes_of}
-use Rattle.drill_text.specs.Rules.{broken_rule, first_broken, redefines_tool}
-use Rattle.drill_text.specs.Inner.StateSteps.{state_of, IsStateAfter, Applies, after, settings_with, given_last, moved, no_point, drill_path, resolved_point}
+use Rattle.drill_text.specs.Rules.{broken_rule, drills, first_broken, redefines_tool}
+use Rattle.drill_text.specs.Inner.StateSteps.{state_of, AreWordsAfter, IsStateAfter, Applies, mark_of, own_broken, picked_plating, after, settings_with, given_last, moved, no_point, drill_path, resolved_point}
 
 -- ---- the header as a whole
 
@@ -126,17 +131,35 @@ tools_of-more cs c = filter_map-append tool_defined cs (c ∷ []) ∙ ap (λ (x 
     one_option None = refl
     one_option (Some x) = refl
 
--- ---- the judge
+-- ---- the state
 
--- the rule that a command breaks, by the fields of the judge
-pub same_rule : (state : DrillState) (before : List DrillCommand) (c : DrillCommand) → IsStateAfter state before → first_broken (state_of state) (length state.holes.items) (drill_path (state_of state) c) c ≡ broken_rule before c
-same_rule state before c is_state = (λ i. first_broken (is_state.state_after i) (length (is_state.holes i)) (drill_path (is_state.state_after i) c) c) ∙ ap (λ d. first_broken (state_after before) (length (holes_of before)) d c) (drilled_back before c)
+-- the rule that a command breaks, by the fields of the state
+pub same_rule : (state : DrillState) (kind : PlatingKind) (before : List DrillCommand) (c : DrillCommand) → IsStateAfter state kind before → first_broken (state_of state) (length state.holes.items) (drill_path (state_of state) c) c ≡ broken_rule before c
+same_rule state kind before c is_state = (λ i. first_broken (is_state.state_after i) (length (is_state.holes i)) (drill_path (is_state.state_after i) c) c) ∙ ap (λ d. first_broken (state_after before) (length (holes_of before)) d c) (drilled_back before c)
 
-pub knows_more : (old new : DrillState) (before : List DrillCommand) (c : DrillCommand) → IsStateAfter old before → redefines_tool (state_of old) c ≡ false → Applies old c new → IsStateAfter new (before ++ c ∷ [])
-knows_more old new before c is_state not_redefined takes = record {
+-- a command breaks no rule, neither one of every file nor the own one of its kind
+pub breaks_none : (state : DrillState) (kind : PlatingKind) (before : List DrillCommand) (c : DrillCommand) → IsStateAfter state kind before → first_broken (state_of state) (length state.holes.items) (drill_path (state_of state) c) c ≡ None
+    → own_broken state.words.kind state.header_ended (picked_plating state) c ≡ None → rule_in kind before c ≡ None
+breaks_none state kind before c is_state legal own = rules_are kind before c ∙ (λ i. option_or ((sym (same_rule state kind before c is_state) ∙ legal) i) ((sym (same_own state kind before c is_state) ∙ own) i))
+
+-- it breaks the own one alone
+pub breaks_own : (state : DrillState) (kind : PlatingKind) (before : List DrillCommand) (c : DrillCommand) (broken : Reason) → IsStateAfter state kind before → first_broken (state_of state) (length state.holes.items) (drill_path (state_of state) c) c ≡ None
+    → own_broken state.words.kind state.header_ended (picked_plating state) c ≡ Some broken → rule_in kind before c ≡ Some broken
+breaks_own state kind before c broken is_state legal own = rules_are kind before c ∙ (λ i. option_or ((sym (same_rule state kind before c is_state) ∙ legal) i) ((sym (same_own state kind before c is_state) ∙ own) i))
+
+-- it breaks a rule of every file
+pub breaks_first : (state : DrillState) (kind : PlatingKind) (before : List DrillCommand) (c : DrillCommand) (broken : Reason) → IsStateAfter state kind before → first_broken (state_of state) (length state.holes.items) (drill_path (state_of state) c) c ≡ Some broken
+    → rule_in kind before c ≡ Some broken
+breaks_first state kind before c broken is_state breaks = rules_are kind before c ∙ ap (λ o. option_or o (own_rule kind before c)) (sym (same_rule state kind before c is_state) ∙ breaks)
+
+pub knows_more : (old new : DrillState) (kind : PlatingKind) (before : List DrillCommand) (c : DrillCommand) → IsStateAfter old kind before → redefines_tool (state_of old) c ≡ false → Applies old c new → IsStateAfter new kind (before ++ c ∷ [])
+knows_more old new kind before c is_state not_redefined takes = record {
   state_after = takes.state_after ∙ ap (after c) is_state.state_after ∙ sym (state_after-more before c);
   holes = takes.holes ∙ (λ i. is_state.holes i ++ option_to_list (option_map hole_of (drill_path (is_state.state_after i) c))) ∙ ap (λ d. holes_of before ++ option_to_list (option_map hole_of d)) (drilled_back before c) ∙ sym (holes_of-more before c);
   tools = takes.tools not_redefined ∙ ap (λ (x : List (ℕ × ℤ)). x ++ option_to_list (tool_defined c)) is_state.tools ∙ sym (tools_of-more before c);
+  words = subst (λ (w : PlatingWords). AreWordsAfter w kind (before ++ c ∷ [])) (sym takes.words) (words_more old.words kind before c is_state.words);
+  platings = λ number. takes.platings number ∙ ((λ i. option_or (tool_made number (is_state.words.said i) c) (is_state.platings number i)) ∙ sym (tool_more before c number));
+  plated = takes.plated ∙ ((λ i. is_state.plated i ++ cond (drills c) (mark_of (is_state.words.kind_is i) (picked_is old kind before is_state i)) []) ∙ sym (marks_more kind before c));
 }
 
 -- ---- the arms of a hit and a slot

@@ -1,24 +1,28 @@
 -- What one more command changes of what the comments say of tools and holes.
-use Rattle.std.proofs.Common.{◌≡◌, ℕ, cond, ◌||◌, List, [], ◌∷◌, ◌++◌, Option, None, Some, unwrap_or, Result, Ok, Err, refl, sym, ap, ◌∙◌}
-use Rattle.std.specs.Option.{option_and_then, option_or}
+use Rattle.std.proofs.Common.{◌≡◌, ℕ, Bool, true, false, cond, ◌||◌, ◌&&◌, List, [], ◌∷◌, ◌++◌, Option, None, Some, is_some, unwrap_or, nat_eq, refl, sym, ap, ◌∙◌}
+use Rattle.std.specs.Option.{option_and_then, option_map, option_or}
+use Rattle.std.specs.List.{list_any}
+use Rattle.indexmap.specs.IndexMap.{get}
 use Rattle.grid_units.specs.Lists.{last_set, with_prefixes}
 use Rattle.grid_units.proofs.LookbackLemmas.{flat_positions-more, last_or-more, last_set-more, list_any-more, option_or_none, with_prefixes-append}
-use Rattle.grid_units.specs.declared.fault.Reason.{Reason}
-use Rattle.grid_units.specs.declared.item_fail.ItemFail.{ItemFail}
-use Rattle.grid_units.specs.declared.item_fail.ItemFail.TheVariants as stops
+use Rattle.grid_units.specs.declared.fault.Reason.TheVariants.{NoPlating, PlatingConflict}
 use Rattle.drill_lines.specs.declared.command.DrillCommand.{DrillCommand}
 use Rattle.drill_lines.specs.declared.plating.Plating.{Plating}
-use Rattle.drill_lines.specs.declared.plating.Plating.TheVariants.{Unsaid}
-use Rattle.drill_text.specs.declared.judge.Judge.{Judge}
+use Rattle.drill_lines.specs.declared.plating.Plating.TheVariants as plating
 use Rattle.drill_text.specs.declared.state.DrillState.{DrillState}
 use Rattle.drill_text.specs.declared.platings.PlatingKind.{PlatingKind}
 use Rattle.drill_text.specs.declared.platings.PlatingKind.TheVariants as kinds
-use Rattle.drill_text.specs.declared.platings.Platings.{Platings}
-use Rattle.drill_text.specs.Lookback.{ends_header, tool_set}
-use Rattle.drill_text.specs.Plating.{calls_plated, calls_unplated, is_plated, own_rule, plated_at, plating_after, plating_of_tool, plating_set, rule_in, said_after, tool_made}
+use Rattle.drill_text.specs.declared.platings.PlatingWords.{PlatingWords}
+use Rattle.drill_text.specs.Lookback.{StateView, ends_header}
+use Rattle.drill_text.specs.Outcome.{kept_platings}
+use Rattle.drill_text.specs.Plating.{calls_plated, calls_unplated, is_unsaid, own_rule, plated_at, plating_after, plating_of_tool, plating_set, rule_in, said_after, tool_made}
 use Rattle.drill_text.specs.Rules.{broken_rule, drills}
-use Rattle.drill_text.specs.Inner.JudgeSteps.{ArePlatingsAfter, JudgesOrRefuses, TakesOrRefuses, TakesPlating}
-use Rattle.drill_text.specs.Inner.StateSteps.{AppliesOrRefuses, IsStateAfter}
+use Rattle.drill_text.specs.Inner.StateSteps.{AreWordsAfter, IsStateAfter, heard, hole_rule, mark_of, own_broken, picked_plating, plating_in}
+
+-- a member of what was looked up
+pub mapped_then : {A B : Type 0} (f : A → B) (g : ℕ → Option A) (o : Option ℕ) → option_map f (option_and_then g o) ≡ option_and_then (λ number. option_map f (g number)) o
+mapped_then f g None = refl
+mapped_then f g (Some number) = refl
 
 -- two ways of looking a tool up that agree
 same_tool : (o : Option ℕ) (f g : ℕ → Option Plating) → ((number : ℕ) → f number ≡ g number) → option_and_then f o ≡ option_and_then g o
@@ -26,35 +30,37 @@ same_tool None f g same = refl
 same_tool (Some number) f g same = same number
 
 -- what is held of the picked tool is what the next hole is
-pub picked_is : (p : Platings) (kind : PlatingKind) (before : List DrillCommand) → ArePlatingsAfter p kind before → p.picked ≡ plating_after before
-picked_is p kind before h =
-    p.picked_is
-    ∙ (ap (λ o. unwrap_or o Unsaid) (same_tool p.tool _ (plating_of_tool before) h.tools)
-    ∙ ap (λ o. unwrap_or (option_and_then (plating_of_tool before) o) Unsaid) h.tool)
+pub picked_is : (state : DrillState) (kind : PlatingKind) (before : List DrillCommand) → IsStateAfter state kind before → picked_plating state ≡ plating_after before
+picked_is state kind before h =
+    ap (λ o. unwrap_or (option_map plating_in o) plating.Unsaid) state.picked_is
+    ∙ (ap (λ o. unwrap_or o plating.Unsaid) (mapped_then plating_in (get nat_eq state.tools) state.tool ∙ same_tool state.tool _ (plating_of_tool before) h.platings)
+    ∙ ap (λ (s : StateView). unwrap_or (option_and_then (plating_of_tool before) s.tool) plating.Unsaid) h.state_after)
 
-tool_more : (before : List DrillCommand) (c : DrillCommand) (number : ℕ) → plating_of_tool (before ++ c ∷ []) number ≡ option_or (tool_made number (said_after before) c) (plating_of_tool before number)
+-- ---- one more command
+
+pub tool_more : (before : List DrillCommand) (c : DrillCommand) (number : ℕ) → plating_of_tool (before ++ c ∷ []) number ≡ option_or (tool_made number (said_after before) c) (plating_of_tool before number)
 tool_more before c number =
     let made : List DrillCommand × DrillCommand → Option Plating = λ p. tool_made number (said_after p.0) p.1 in
     ap (last_set made) (with_prefixes-append before (c ∷ [])) ∙ last_set-more made (with_prefixes before) (before, c)
 
-pub platings_more : (old new : Platings) (kind : PlatingKind) (before : List DrillCommand) (c : DrillCommand) → ArePlatingsAfter old kind before → TakesPlating old c new → ArePlatingsAfter new kind (before ++ c ∷ [])
-platings_more old new kind before c h t = record {
-  kind_is = t.kind_is ∙ h.kind_is;
-  header_ended = t.header_ended ∙ (ap (λ b. ends_header c || b) h.header_ended ∙ sym (list_any-more ends_header before c));
-  said = t.said ∙ (ap (unwrap_or (plating_set c)) h.said ∙ sym (last_or-more plating_set Unsaid before c));
-  tools = λ number. t.tools number ∙ ((λ i. option_or (tool_made number (h.said i) c) (h.tools number i)) ∙ sym (tool_more before c number));
-  tool = t.tool ∙ (ap (option_or (tool_set c)) h.tool ∙ sym (last_set-more tool_set before c));
-  holes = t.holes ∙ ((λ i. h.holes i ++ cond (drills c) (is_plated (picked_is old kind before h i) ∷ []) []) ∙ sym (flat_positions-more plated_at before c));
-  calls_plated = t.calls_plated ∙ (ap (λ b. calls_plated c || b) h.calls_plated ∙ sym (list_any-more calls_plated before c));
-  calls_unplated = t.calls_unplated ∙ (ap (λ b. calls_unplated c || b) h.calls_unplated ∙ sym (list_any-more calls_unplated before c));
+pub words_more : (old : PlatingWords) (kind : PlatingKind) (before : List DrillCommand) (c : DrillCommand) → AreWordsAfter old kind before → AreWordsAfter (heard c old) kind (before ++ c ∷ [])
+words_more old kind before c h = record {
+  kind_is = h.kind_is;
+  said = ap (unwrap_or (plating_set c)) h.said ∙ sym (last_or-more plating_set plating.Unsaid before c);
+  calls_plated = ap (λ b. calls_plated c || b) h.calls_plated ∙ sym (list_any-more calls_plated before c);
+  calls_unplated = ap (λ b. calls_unplated c || b) h.calls_unplated ∙ sym (list_any-more calls_unplated before c);
 }
 
--- ---- rules
+no_mark : (t : Bool) (none : List Bool) → none ≡ cond t none none
+no_mark true none = refl
+no_mark false none = refl
 
--- what gives no reason gives none
-pub none_else : (o : Option Reason) → ((reason : Reason) → o ≡ Some reason → ⊥) → o ≡ None
-none_else None other = refl
-none_else (Some reason) other = absurd (other reason refl)
+pub marks_more : (kind : PlatingKind) (before : List DrillCommand) (c : DrillCommand) → kept_platings kind (before ++ c ∷ []) ≡ kept_platings kind before ++ cond (drills c) (mark_of kind (plating_after before)) []
+marks_more kinds.Stated before c = no_mark (drills c) []
+marks_more kinds.Unplated before c = no_mark (drills c) []
+marks_more kinds.Mixed before c = flat_positions-more plated_at before c
+
+-- ---- rules
 
 -- the rules of every file are asked first, then the own one of the kind
 pub rules_are : (kind : PlatingKind) (before : List DrillCommand) (c : DrillCommand) → rule_in kind before c ≡ option_or (broken_rule before c) (own_rule kind before c)
@@ -62,16 +68,23 @@ rules_are kinds.Stated before c = sym (option_or_none (broken_rule before c))
 rules_are kinds.Unplated before c = refl
 rules_are kinds.Mixed before c = refl
 
--- ---- the judge
+own_is : (kind : PlatingKind) (before : List DrillCommand) (c : DrillCommand) (header_ended : Bool) (picked : Plating) → header_ended ≡ list_any ends_header before → picked ≡ plating_after before → own_broken kind header_ended picked c ≡ own_rule kind before c
+own_is kinds.Stated before c header_ended picked e p = refl
+own_is kinds.Unplated before c header_ended picked e p = refl
+own_is kinds.Mixed before c header_ended picked e p = λ i. own_broken kinds.Mixed (e i) (p i) c
 
--- a command that was judged by the rules of every file, and then by the own one of its kind
-pub judged : (kind : PlatingKind) (before : List DrillCommand) (c : DrillCommand) (state : DrillState) (platings : Platings) (result : Result (Unit {0}) ItemFail) → broken_rule before c ≡ None → IsStateAfter state (before ++ c ∷ [])
-    → TakesOrRefuses kind before c platings result → JudgesOrRefuses kind before c (record { state = state; platings = platings }) result
-judged kind before c state platings (Ok x) legal is_state taken = (rules_are kind before c ∙ (ap (λ o. option_or o (own_rule kind before c)) legal ∙ taken.0), record { is_state = is_state; platings = taken.1 })
-judged kind before c state platings (Err (stops.Refused broken)) legal is_state own = rules_are kind before c ∙ (ap (λ o. option_or o (own_rule kind before c)) legal ∙ own)
-judged kind before c state platings (Err stops.Memory) legal is_state own = tt
+-- the rule of its kind that a command breaks, by the fields of the state
+pub same_own : (state : DrillState) (kind : PlatingKind) (before : List DrillCommand) (c : DrillCommand) → IsStateAfter state kind before → own_broken state.words.kind state.header_ended (picked_plating state) c ≡ own_rule kind before c
+same_own state kind before c h =
+    ap (λ k. own_broken k state.header_ended (picked_plating state) c) h.words.kind_is
+    ∙ own_is kind before c state.header_ended (picked_plating state) (ap (λ (s : StateView). s.header_ended) h.state_after) (picked_is state kind before h)
 
--- a command that breaks a rule of every file breaks it in each kind
-pub refused : (kind : PlatingKind) (before : List DrillCommand) (c : DrillCommand) (judge : Judge) (state : DrillState) (e : ItemFail) → AppliesOrRefuses before c state (Err e) → JudgesOrRefuses kind before c judge (Err e)
-refused kind before c judge state (stops.Refused broken) breaks = rules_are kind before c ∙ ap (λ o. option_or o (own_rule kind before c)) breaks
-refused kind before c judge state stops.Memory breaks = tt
+unsaid_alone : (t : Bool) → cond (t || false) (Some NoPlating) None ≡ cond t (Some NoPlating) None
+unsaid_alone true = refl
+unsaid_alone false = refl
+
+-- of a hole it is the rule of the picked tool
+pub own_hole : (kind : PlatingKind) (header_ended : Bool) (picked : Plating) (c : DrillCommand) → drills c ≡ true → plating_set c ≡ None → calls_plated c ≡ false → own_broken kind header_ended picked c ≡ hole_rule kind picked
+own_hole kinds.Stated header_ended picked c d p q = refl
+own_hole kinds.Unplated header_ended picked c d p q = ap (λ t. cond t (Some PlatingConflict) None) q
+own_hole kinds.Mixed header_ended picked c d p q = (λ i. cond ((d i && is_unsaid picked) || (is_some (p i) && header_ended)) (Some NoPlating) None) ∙ unsaid_alone (is_unsaid picked)

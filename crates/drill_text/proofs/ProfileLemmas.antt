@@ -1,28 +1,37 @@
--- What lines and texts spell in a profile; in the strict one they spell what they do by themselves.
-use Rattle.std.proofs.Common.{◌≡◌, ℕ, suc, ◌+◌, ◌<◌, ◌≤◌, ◌⊎◌, inl, inr, cond, ltb, List, [], ◌∷◌, ◌++◌, length, map, Option, Result, Ok, Err, refl, sym, ap, ◌∙◌, arith, append_assoc}
-use Rattle.std.proofs.lemmas.List.{append-nil, length-append}
+-- What lines and texts spell in a profile.
+use Rattle.std.proofs.Common.{◌≡◌, ℕ, suc, ◌<◌, ◌≤◌, ◌⊎◌, inl, inr, Bool, true, false, cond, ltb, List, [], ◌∷◌, ◌++◌, length, map, Option, Result, Ok, Err, refl, sym, ap, subst, ◌∙◌, append_assoc}
+use Rattle.std.specs.List.{list_any}
+use Rattle.std.proofs.lemmas.List.{append-nil, take_all}
 use Rattle.std.proofs.lemmas.Bool.{lt-ltb, le-ltb, ltb-true, ltb-false}
 use Rattle.grid_units.specs.declared.fault.Reason.{Reason}
-use Rattle.grid_units.specs.declared.fault.Reason.TheVariants.{TooLong}
+use Rattle.grid_units.specs.declared.fault.Reason.TheVariants.{TooLong, Truncated}
 use Rattle.grid_units.specs.declared.fault.Fault.{Fault}
-use Rattle.grid_units.specs.declared.fault.Fail.{Fail}
-use Rattle.grid_units.specs.declared.fault.Fail.TheVariants as fails
-use Rattle.grid_units.specs.Results.{◌>>=◌, fault, with_place, Answers, IfFault}
+use Rattle.grid_units.specs.Results.{◌>>=◌, fault, with_place}
 use Rattle.grid_units.proofs.ResultLemmas.{bind_ok, bind_err, bind_assoc, bind_cong, bind_Ok, guard_ok, guard_err}
 use Rattle.grid_units.specs.Limits.{line_limit, text_limit}
 use Rattle.drill_lines.specs.declared.command.DrillCommand.{DrillCommand}
-use Rattle.grid_units.specs.declared.profile.Profile.TheVariants.{Strict}
 use Rattle.drill_lines.specs.Lines.{trimmed}
-use Rattle.drill_lines.specs.Meaning.{meaning}
 use Rattle.drill_lines.specs.Routes.{meaning_in}
-use Rattle.drill_text.specs.Lines.{bytes_of}
+use Rattle.drill_text.specs.Lines.{bytes_of, Splits}
 use Rattle.drill_text.specs.Lookback.{settings_after}
 use Rattle.drill_text.specs.Plating.{rule_in}
-use Rattle.drill_text.specs.Reading.{checked_by, step, spelled, commands_from, shown, ended, read_in, Shows, Reads}
-use Rattle.drill_text.specs.Profiles.{Kind, plain, step_in, spelled_in, commands_by, shown_by, with_rest, read_by, ShowsIn, ReadsIn, ReadsAsIn}
-use Rattle.drill_text.specs.Texts.{ReadsAs}
-use Rattle.drill_text.proofs.SplitsLemmas.{bytes_of-push}
-use Rattle.drill_text.proofs.SpellsTextLemmas.{reads_drill_text}
+use Rattle.drill_text.specs.Profiles.{Kind, ReadsBy, checked_by, commands_by, ended, is_finish, place_after, shown_by, spelled_in, step_in, with_rest}
+
+-- ---- tests
+
+pub at_ok : {A : Type 0} (place byte : ℕ) (r : Result A Reason) (x : A) → with_place place byte r ≡ Ok x → r ≡ Ok x
+at_ok place byte (Ok y) x e = let same : y ≡ x = cc in ap (λ z. Ok z) same
+at_ok place byte (Err r) x e = absurd cc
+
+-- what is guarded by a test that a refusal fails
+pub guarded : {A E : Type 0} (t : Bool) (d : E) (r : Result A E) (x : A) → cond t (Err d) r ≡ Ok x → (t ≡ false) × (r ≡ Ok x)
+guarded true d r x e = absurd cc
+guarded false d r x e = (refl, e)
+
+-- a text whose end is among its commands
+with_end : (t : Bool) (f : Fault) (new cs : List DrillCommand) → cond t (Ok new) (Err f) ≡ Ok cs → (t ≡ true) × (new ≡ cs)
+with_end true f new cs e = (refl, cc)
+with_end false f new cs e = absurd cc
 
 -- ---- lines
 
@@ -30,17 +39,22 @@ use Rattle.drill_text.proofs.SpellsTextLemmas.{reads_drill_text}
 checks_rest : List (List ℕ) → List ℕ → List DrillCommand → Result (List DrillCommand) Fault
 checks_rest lines rest commands = cond (ltb line_limit (length rest)) (Err (fault (suc (length lines)) (length (bytes_of lines)) TooLong)) (Ok commands)
 
+pub commands_by-append : (kind : Kind) (earlier lines more : List (List ℕ)) (before : List DrillCommand) → commands_by kind earlier (lines ++ more) before ≡ (commands_by kind earlier lines before >>= commands_by kind (earlier ++ lines) more)
+commands_by-append kind earlier [] more before = ap (λ (e : List (List ℕ)). commands_by kind e more before) (sym (append-nil earlier))
+commands_by-append kind earlier (x ∷ lines) more before =
+    let next : List (List ℕ) = earlier ++ x ∷ [] in
+    let last = commands_by kind (earlier ++ x ∷ lines) more in
+    let rest : (commands : List DrillCommand) → commands_by kind next (lines ++ more) commands ≡ (commands_by kind next lines commands >>= last) = λ commands.
+    commands_by-append kind next lines more commands ∙ ap (λ (e : List (List ℕ)). commands_by kind next lines commands >>= commands_by kind e more) (append_assoc earlier (x ∷ []) lines) in
+    let first = spelled_in kind earlier x before in
+    bind_cong first (commands_by kind next (lines ++ more)) (λ commands. commands_by kind next lines commands >>= last) rest
+    ∙ sym (bind_assoc first (commands_by kind next lines) last)
+
 pub commands_by-push : (kind : Kind) (earlier lines : List (List ℕ)) (line : List ℕ) (before : List DrillCommand)
     → commands_by kind earlier (lines ++ line ∷ []) before ≡ (commands_by kind earlier lines before >>= spelled_in kind (earlier ++ lines) line)
-commands_by-push kind earlier [] line before = bind_Ok (spelled_in kind earlier line before) ∙ sym (ap (λ (e : List (List ℕ)). spelled_in kind e line before) (append-nil earlier))
-commands_by-push kind earlier (x ∷ lines) line before =
-    let last = spelled_in kind (earlier ++ x ∷ lines) line in
-    let next : List (List ℕ) = earlier ++ x ∷ [] in
-    let rest : (commands : List DrillCommand) → commands_by kind next (lines ++ line ∷ []) commands ≡ (commands_by kind next lines commands >>= last) = λ commands.
-    commands_by-push kind next lines line commands ∙ ap (λ (e : List (List ℕ)). commands_by kind next lines commands >>= spelled_in kind e line) (append_assoc earlier (x ∷ []) lines) in
-    let first = spelled_in kind earlier x before in
-    bind_cong first (commands_by kind next (lines ++ line ∷ [])) (λ commands. commands_by kind next lines commands >>= last) rest
-    ∙ sym (bind_assoc first (commands_by kind next lines) last)
+commands_by-push kind earlier lines line before =
+    commands_by-append kind earlier lines (line ∷ []) before
+    ∙ bind_cong (commands_by kind earlier lines before) (commands_by kind (earlier ++ lines) (line ∷ [])) (spelled_in kind (earlier ++ lines) line) (λ commands. bind_Ok (spelled_in kind (earlier ++ lines) line commands))
 
 pub shown_by_ok : (kind : Kind) (lines : List (List ℕ)) (rest : List ℕ) (cs : List DrillCommand) → shown_by kind lines rest ≡ Ok cs → (commands_by kind [] lines [] ≡ Ok cs) × (length rest ≤ line_limit)
 unfolding checks_rest
@@ -91,71 +105,63 @@ pub spelled_in_is : (kind : Kind) (earlier : List (List ℕ)) (line : List ℕ) 
 unfolding step_in
 spelled_in_is kind earlier line before r le e = rw (le-ltb _ _ le) (ap (λ m. with_place (suc (length earlier)) (length (bytes_of earlier)) (m >>= checked_by (rule_in kind.plating) before)) e)
 
--- ---- the strict profile
+-- ---- texts
 
-strict_spelled : (earlier : List (List ℕ)) (line : List ℕ) (before : List DrillCommand) → spelled_in (plain Strict) earlier line before ≡ spelled (suc (length earlier)) (length (bytes_of earlier)) line before
-unfolding step step_in
-strict_spelled earlier line before = refl
+ends_by : Kind → ℕ → List (List ℕ) → List ℕ → List DrillCommand → Result (List DrillCommand) Fault
+ends_by kind len lines rest cs = cond (ltb text_limit len) (Err (fault (suc (length lines)) text_limit TooLong)) (with_rest kind lines rest cs >>= ended len lines rest)
 
-strict_commands : (earlier lines : List (List ℕ)) (before : List DrillCommand) → commands_by (plain Strict) earlier lines before ≡ commands_from (suc (length earlier)) (length (bytes_of earlier)) lines before
-strict_commands earlier [] before = refl
-strict_commands earlier (line ∷ lines) before =
-    let next : List (List ℕ) = earlier ++ line ∷ [] in
-    let after : ℕ = length (bytes_of earlier) + (length line + 1) in
-    let place : suc (length next) ≡ suc (suc (length earlier)) = omega (arith, length-append earlier (line ∷ [])) in
-    let byte : length (bytes_of next) ≡ after = omega (arith, ap length (bytes_of-push earlier line), length-append (bytes_of earlier) (line ++ 10 ∷ []), length-append line (10 ∷ [])) in
-    let rest : (cs : List DrillCommand) → commands_by (plain Strict) next lines cs ≡ commands_from (suc (suc (length earlier))) after lines cs = λ cs.
-    strict_commands next lines cs ∙ (ap (λ p. commands_from p (length (bytes_of next)) lines cs) place ∙ ap (λ b. commands_from (suc (suc (length earlier))) b lines cs) byte) in
-    bind_cong (spelled_in (plain Strict) earlier line before) (commands_by (plain Strict) next lines) (commands_from (suc (suc (length earlier))) after lines) rest
-    ∙ ap (λ r. r >>= commands_from (suc (suc (length earlier))) after lines) (strict_spelled earlier line before)
+-- How a text ends that is read as commands: its lines spell the first of them, and the rest the others.
+pub record Ending (kind : Kind) (text : List ℕ) (cs : List DrillCommand) : Type 0 where
+  pub lines : List (List ℕ)
+  pub rest : List ℕ
+  pub first : List DrillCommand
+  pub splits : Splits text lines rest
+  pub shown : commands_by kind [] lines [] ≡ Ok first
+  pub short : length rest ≤ line_limit
+  pub within : length text ≤ text_limit
+  pub last : with_rest kind lines rest first ≡ Ok cs
+  pub ends : list_any is_finish cs ≡ true
 
-pub strict_shown : (lines : List (List ℕ)) (rest : List ℕ) → shown_by (plain Strict) lines rest ≡ shown lines rest
-unfolding checks_rest
-strict_shown lines rest = ap (λ r. r >>= checks_rest lines rest) (strict_commands [] lines [])
+pub ending : (kind : Kind) (text : List ℕ) (cs : List DrillCommand) → ReadsBy kind text (Ok cs) → Ending kind text cs
+unfolding ends_by
+ending kind text cs r =
+    let lines = r.lines in
+    let rest = r.rest in
+    let len = length text in
+    let b = bind_ok (shown_by kind lines rest) (ends_by kind len lines rest) cs (sym r.answer_is) in
+    let g = guarded (ltb text_limit len) (fault (suc (length lines)) text_limit TooLong) (with_rest kind lines rest b.0 >>= ended len lines rest) cs b.2 in
+    let c = bind_ok (with_rest kind lines rest b.0) (ended len lines rest) cs g.1 in
+    let e = with_end (list_any is_finish c.0) (fault (place_after lines rest) len Truncated) c.0 cs c.2 in
+    let shown = shown_by_ok kind lines rest b.0 b.1 in
+    let le : length text ≤ text_limit = ltb-false _ _ g.0 in
+    record {
+      lines = lines;
+      rest = rest;
+      first = b.0;
+      splits = subst (λ (t : List ℕ). Splits t lines rest) (take_all text_limit text le) r.splits;
+      shown = shown.0;
+      short = shown.1;
+      within = le;
+      last = c.1 ∙ ap (λ (l : List DrillCommand). Ok l) e.1;
+      ends = sym (ap (list_any is_finish) e.1) ∙ e.0;
+    }
 
-strict_rest : (lines : List (List ℕ)) (rest : List ℕ) (cs : List DrillCommand) → with_rest (plain Strict) lines rest cs ≡ spelled (suc (length lines)) (length (bytes_of lines)) rest cs
-unfolding step step_in meaning
-strict_rest lines [] cs = refl
-strict_rest lines (b ∷ bs) cs = refl
+-- a text that ends so is read as these commands
+pub ended_so : (kind : Kind) (text : List ℕ) (cs : List DrillCommand) → Ending kind text cs → ReadsBy kind text (Ok cs)
+unfolding ends_by
+ended_so kind text cs e =
+    let lines = e.lines in
+    let rest = e.rest in
+    let len = length text in
+    record {
+      lines = lines;
+      rest = rest;
+      splits = subst (λ (t : List ℕ). Splits t lines rest) (sym (take_all text_limit text e.within)) e.splits;
+      answer_is = sym (ap (λ s. s >>= ends_by kind len lines rest) (show_by_ok kind lines rest e.first e.shown e.short)
+          ∙ (ap (λ t. cond t (Err (fault (suc (length lines)) text_limit TooLong)) (with_rest kind lines rest e.first >>= ended len lines rest)) (le-ltb _ _ e.within)
+          ∙ (ap (λ s. s >>= ended len lines rest) e.last ∙ ap (λ t. cond t (Ok cs) (Err (fault (place_after lines rest) len Truncated))) e.ends)));
+    }
 
-ends_with : ℕ → List (List ℕ) → List ℕ → List DrillCommand → Result (List DrillCommand) Fault
-ends_with len lines rest cs = cond (ltb text_limit len) (Err (fault (suc (length lines)) text_limit TooLong)) (spelled (suc (length lines)) (length (bytes_of lines)) rest cs >>= ended len lines rest)
-
-ends_by : ℕ → List (List ℕ) → List ℕ → List DrillCommand → Result (List DrillCommand) Fault
-ends_by len lines rest cs = cond (ltb text_limit len) (Err (fault (suc (length lines)) text_limit TooLong)) (with_rest (plain Strict) lines rest cs >>= ended len lines rest)
-
-strict_end : (len : ℕ) (lines : List (List ℕ)) (rest : List ℕ) (cs : List DrillCommand) → ends_by len lines rest cs ≡ ends_with len lines rest cs
-unfolding ends_with ends_by
-strict_end len lines rest cs = ap (λ r. cond (ltb text_limit len) (Err (fault (suc (length lines)) text_limit TooLong)) (r >>= ended len lines rest)) (strict_rest lines rest cs)
-
-strict_read : (len : ℕ) (lines : List (List ℕ)) (rest : List ℕ) → read_by (plain Strict) len lines rest ≡ read_in len lines rest
-unfolding ends_with ends_by
-strict_read len lines rest =
-    ap (λ r. r >>= ends_by len lines rest) (strict_shown lines rest)
-    ∙ bind_cong (shown lines rest) (ends_by len lines rest) (ends_with len lines rest) (strict_end len lines rest)
-
-checks_len : ℕ → List (List ℕ) → List DrillCommand → Result (List DrillCommand) Fault
-checks_len len lines commands = cond (ltb text_limit len) (Err (fault (suc (length lines)) text_limit TooLong)) (Ok commands)
-
-pub shows_strictly : (text : List ℕ) (a : Result (List DrillCommand) Fault) → ShowsIn Strict text a → Shows text a
-unfolding checks_len
-shows_strictly text a s = record { lines = s.lines; rest = s.rest; splits = s.splits; answer_is = s.answer_is ∙ ap (λ r. r >>= checks_len (length text) s.lines) (strict_shown s.lines s.rest) }
-
-pub strictly_shows : (text : List ℕ) (a : Result (List DrillCommand) Fault) → Shows text a → ShowsIn Strict text a
-unfolding checks_len
-strictly_shows text a s = record { lines = s.lines; rest = s.rest; splits = s.splits; answer_is = s.answer_is ∙ sym (ap (λ r. r >>= checks_len (length text) s.lines) (strict_shown s.lines s.rest)) }
-
-pub reads_strictly : (text : List ℕ) (a : Result (List DrillCommand) Fault) → ReadsIn Strict text a → Reads text a
-reads_strictly text a s = record { lines = s.lines; rest = s.rest; splits = s.splits; answer_is = s.answer_is ∙ strict_read (length text) s.lines s.rest }
-
-pub strictly_reads : (text : List ℕ) (a : Result (List DrillCommand) Fault) → Reads text a → ReadsIn Strict text a
-strictly_reads text a s = record { lines = s.lines; rest = s.rest; splits = s.splits; answer_is = s.answer_is ∙ sym (strict_read (length text) s.lines s.rest) }
-
-pub strict_fault : (text : List ℕ) (e : Fail) → IfFault (λ f. ShowsIn Strict text (Err f)) e → IfFault (λ f. Shows text (Err f)) e
-strict_fault text fails.Memory h = tt
-strict_fault text (fails.Refused f) h = shows_strictly text (Err f) h
-
-pub strict_answers : {T V : Type 0} (view : T → V) (see : List DrillCommand → V) (text : List ℕ) (result : Result T Fail) → Answers view (ReadsAsIn Strict see text) result → Answers view (ReadsAs see text) result
-strict_answers view see text (Ok x) h = (h.0, reads_drill_text text h.0 (reads_strictly text (Ok h.0) h.1), h.2)
-strict_answers view see text (Err fails.Memory) h = tt
-strict_answers view see text (Err (fails.Refused f)) h = reads_strictly text (Err f) h
+-- a text that ends alike in another kind of file is read as the same commands in it
+pub read_alike : (from to : Kind) (text : List ℕ) (cs : List DrillCommand) (e : Ending from text cs) → commands_by to [] e.lines [] ≡ Ok e.first → with_rest to e.lines e.rest e.first ≡ Ok cs → ReadsBy to text (Ok cs)
+read_alike from to text cs e first last = ended_so to text cs (record { lines = e.lines; rest = e.rest; first = e.first; splits = e.splits; shown = first; short = e.short; within = e.within; last = last; ends = e.ends })

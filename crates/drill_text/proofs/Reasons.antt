@@ -28,7 +28,7 @@ use Rattle.drill_lines.proofs.Rows.{RowHas, first_match_has, just_has, beginning
 use Rattle.drill_text.specs.Lookback.{settings_after, state_after}
 use Rattle.drill_text.specs.Holes.{path_at, holes_of}
 use Rattle.drill_text.specs.Rules.{applies, rules, first_broken, broken_rule}
-use Rattle.drill_text.specs.Reading.{Reads}
+use Rattle.drill_text.specs.Profiles.{Reads}
 use Rattle.drill_text.specs.Faults.{is_drill_reason, IsRefused, HasRefusedLine, IsFirstFault}
 use Rattle.drill_text.proofs.FirstFaults.{err_first}
 

@@ -18,7 +18,7 @@ use Rattle.drill_lines.specs.Writing.{canonical, is_sayable, IsInRange}
 use Rattle.drill_lines.proofs.CanonicalParses.{parses}
 use Rattle.drill_text.specs.Lines.{ended_line, bytes_of, HasNoBreak}
 use Rattle.drill_text.specs.Lookback.{settings_after, part_after, part_set}
-use Rattle.drill_text.specs.Reading.{is_finish}
+use Rattle.drill_text.specs.Profiles.{is_finish}
 use Rattle.drill_text.specs.Texts.{spelled_after, AreWithinLimit, SpellsText}
 use Rattle.drill_text.specs.Writing.{part_with, part_from, are_sayable, is_after_end, drill_sayable, canonical_lines, written as written_result}
 use Rattle.drill_text.proofs.SplitsLemmas.{AllR-append, bytes_of-push}

@@ -11,15 +11,13 @@ use Rattle.grid_units.specs.declared.profile.Profile.{Profile}
 use Rattle.drill_lines.specs.declared.line_reader.LineReader.{LineReader}
 use Rattle.drill_lines.specs.Lines.{trimmed}
 use Rattle.drill_lines.specs.LineReading.{HasReadLines}
-use Rattle.drill_text.specs.declared.judge.Judge.{Judge}
 use Rattle.drill_text.specs.declared.platings.PlatingKind.{PlatingKind}
 use Rattle.drill_text.specs.declared.state.DrillState.{DrillState}
 use Rattle.drill_text.specs.declared.kept.Keep.{Keep}
 use Rattle.drill_text.specs.declared.kept.KeptCommands.{KeptCommands}
 use Rattle.drill_text.specs.Lookback.{StateView, settings_after}
 use Rattle.drill_text.specs.Plating.{rule_in}
-use Rattle.drill_text.specs.Reading.{add_unless, checked_by}
-use Rattle.drill_text.specs.Profiles.{Kind, spelled_in, with_rest}
+use Rattle.drill_text.specs.Profiles.{Kind, add_unless, checked_by, spelled_in, with_rest}
 use Rattle.drill_text.specs.Inner.StateSteps.{IsStateAfter}
 use Rattle.drill_text.specs.Keeping.{ResultsIn, ResultsInLine}
 
@@ -29,9 +27,9 @@ checked_kept plating before place byte c legal = ap (λ o. with_place place byte
 pub checked_broken : (plating : PlatingKind) (before : List DrillCommand) (place byte : ℕ) (c : DrillCommand) (r : Reason) → rule_in plating before c ≡ Some r → with_place place byte (checked_by (rule_in plating) before (Some c)) ≡ Err (fault place byte r)
 checked_broken plating before place byte c r broken = ap (λ o. with_place place byte (add_unless o before c)) broken
 
--- the settings of a judge are those after its commands
-pub settings_are : (state : DrillState) (before : List DrillCommand) → IsStateAfter state before → state.settings ≡ settings_after before
-settings_are state before h = ap (λ (s : StateView). s.settings) h.state_after
+-- the settings of a state are those after its commands
+pub settings_are : (state : DrillState) (plating : PlatingKind) (before : List DrillCommand) → IsStateAfter state plating before → state.settings ≡ settings_after before
+settings_are state plating before h = ap (λ (s : StateView). s.settings) h.state_after
 
 -- one more line without the blanks at its end
 pub trimmed_more : (earlier : List (List ℕ)) (line : List ℕ) → map trimmed (earlier ++ line ∷ []) ≡ map trimmed earlier ++ trimmed line ∷ []
@@ -42,10 +40,10 @@ pub lines_more : (reader : LineReader) (p : Profile) (s : Settings) (earlier : L
 lines_more reader p s earlier line h = subst (λ (e : List (List ℕ)). HasReadLines reader p s e) (sym (trimmed_more earlier line)) h
 
 -- the judged command of a line that was read
-pub line_results : {X : Type 0} (result : Result X Fail) (reader : LineReader) (judge : Judge) (kept : KeptCommands) (p : Kind) (keep : Keep) (earlier : List (List ℕ)) (line : List ℕ) (judged read : Result (List DrillCommand) Fault)
-    → read ≡ judged → ((after : List DrillCommand) → HasReadLines reader p.profile (settings_after after) (map trimmed (earlier ++ line ∷ []))) → ResultsIn result judge kept p.plating keep judged → ResultsInLine result reader judge kept p keep earlier line read
-line_results (Ok x) reader judge kept p keep earlier line judged read same lines h = (h.0, same ∙ h.1, record { lines = lines h.0; has_read = h.2 })
-line_results (Err e) reader judge kept p keep earlier line judged read same lines h = subst (λ r. IfFault (λ f. r ≡ Err f) e) (sym same) h
+pub line_results : {X : Type 0} (result : Result X Fail) (reader : LineReader) (state : DrillState) (kept : KeptCommands) (p : Kind) (keep : Keep) (earlier : List (List ℕ)) (line : List ℕ) (judged read : Result (List DrillCommand) Fault)
+    → read ≡ judged → ((after : List DrillCommand) → HasReadLines reader p.profile (settings_after after) (map trimmed (earlier ++ line ∷ []))) → ResultsIn result state kept p.plating keep judged → ResultsInLine result reader state kept p keep earlier line read
+line_results (Ok x) reader state kept p keep earlier line judged read same lines h = (h.0, same ∙ h.1, record { lines = lines h.0; has_read = h.2 })
+line_results (Err e) reader state kept p keep earlier line judged read same lines h = subst (λ r. IfFault (λ f. r ≡ Err f) e) (sym same) h
 
 -- a rest with a byte is a line
 pub rest_is_line : (p : Kind) (lines : List (List ℕ)) (rest : List ℕ) (commands : List DrillCommand) → 0 < length rest → with_rest p lines rest commands ≡ spelled_in p lines rest commands
@@ -53,7 +51,7 @@ rest_is_line p lines [] commands some = absurd (omega arith)
 rest_is_line p lines (b ∷ bs) commands some = refl
 
 -- what a last line leaves
-pub rest_results : {X : Type 0} (result : Result X Fail) (reader : LineReader) (judge : Judge) (kept : KeptCommands) (p : Kind) (keep : Keep) (earlier : List (List ℕ)) (line : List ℕ) (read rest : Result (List DrillCommand) Fault)
-    → rest ≡ read → ResultsInLine result reader judge kept p keep earlier line read → ResultsIn result judge kept p.plating keep rest
-rest_results (Ok x) reader judge kept p keep earlier line read rest same h = (h.0, same ∙ h.1, h.2.has_read)
-rest_results (Err e) reader judge kept p keep earlier line read rest same h = subst (λ r. IfFault (λ f. r ≡ Err f) e) (sym same) h
+pub rest_results : {X : Type 0} (result : Result X Fail) (reader : LineReader) (state : DrillState) (kept : KeptCommands) (p : Kind) (keep : Keep) (earlier : List (List ℕ)) (line : List ℕ) (read rest : Result (List DrillCommand) Fault)
+    → rest ≡ read → ResultsInLine result reader state kept p keep earlier line read → ResultsIn result state kept p.plating keep rest
+rest_results (Ok x) reader state kept p keep earlier line read rest same h = (h.0, same ∙ h.1, h.2.has_read)
+rest_results (Err e) reader state kept p keep earlier line read rest same h = subst (λ r. IfFault (λ f. r ≡ Err f) e) (sym same) h

@@ -7,6 +7,7 @@ use Rattle.grid_units.specs.declared.fault.Fail.{Fail}
 use Rattle.grid_units.specs.declared.fault.Fail.TheVariants as fails
 use Rattle.grid_units.specs.Results.{Answers}
 use Rattle.grid_units.proofs.ResultLemmas.{bind_ok}
+use Rattle.grid_units.specs.declared.profile.Profile.TheVariants.{Strict}
 use Rattle.drill_lines.specs.declared.command.Part.{Part}
 use Rattle.drill_lines.specs.declared.command.Part.TheVariants as part
 use Rattle.drill_lines.specs.declared.command.DrillCommand.{DrillCommand}
@@ -17,14 +18,15 @@ use Rattle.drill_lines.specs.Writing.{is_sayable}
 use Rattle.drill_lines.proofs.ParsedIsSayable.{line_sayable}
 use Rattle.drill_text.specs.Lines.{HasNoBreak}
 use Rattle.drill_text.specs.Lookback.{settings_after, part_after}
-use Rattle.drill_text.specs.Reading.{is_finish, Reads}
+use Rattle.drill_text.specs.Profiles.{Reads, is_finish, plain}
 use Rattle.drill_text.specs.Texts.{spelled_after, AreWithinLimit, SpellsText, IsDrillText, ReadsAs}
 use Rattle.drill_text.specs.Writing.{part_with, part_from, are_sayable, is_after_end, drill_sayable}
 use Rattle.drill_text.specs.declared.kept.Keep.TheVariants.{Commands}
+use Rattle.drill_text.specs.declared.platings.PlatingKind.TheVariants.{Stated}
 use Rattle.drill_text.specs.Outcome.{DrillFile, commands_in, file_of}
 use Rattle.drill_text.proofs.SplitsLemmas.{AllR-append}
 use Rattle.drill_text.proofs.SpellsTextLemmas.{drill_text_reads}
-use Rattle.drill_text.proofs.UniqueReading.{one_read}
+use Rattle.drill_text.proofs.UniqueReading.{one_read_in}
 use Rattle.drill_text.proofs.RoundTrip.{part_more}
 use Rattle.grid_units.proofs.BoolLemmas.{both_true, and_true}
 
@@ -85,7 +87,7 @@ text_sayable text cs s =
 -- ---- what a call answered that kept the commands
 
 abbrev Gave : List ℕ → Result DrillFile Fail → Type 0
-Gave text r = Answers (λ (d : DrillFile). d) (ReadsAs (file_of Commands) text) r
+Gave text r = Answers (λ (d : DrillFile). d) (ReadsAs (file_of Stated Commands) text) r
 
 pub answers_reads : (text : List ℕ) (r : Result DrillFile Fail) → Gave text r → Answers commands_in (Reads text) r
 answers_reads text (Ok d) h = subst (λ (cs : List DrillCommand). Reads text (Ok cs)) (sym (ap commands_in h.2)) (drill_text_reads text h.0 h.1)
@@ -97,12 +99,12 @@ answers_found text (Ok d) h = subst (IsDrillText text) (sym (ap commands_in h.2)
 answers_found text (Err e) h = tt
 
 pub answers_only : (text : List ℕ) (cs : List DrillCommand) (r : Result DrillFile Fail) → IsDrillText text cs → Gave text r → Answers commands_in (λ answer. answer ≡ Ok cs) r
-answers_only text cs (Ok d) i h = one_read text (Ok d.commands) (Ok cs) (answers_reads text (Ok d) h) (drill_text_reads text cs i)
+answers_only text cs (Ok d) i h = one_read_in (plain Strict) text (Ok d.commands) (Ok cs) (answers_reads text (Ok d) h) (drill_text_reads text cs i)
 answers_only text cs (Err fails.Memory) i h = tt
-answers_only text cs (Err (fails.Refused f)) i h = one_read text (Err f) (Ok cs) h (drill_text_reads text cs i)
+answers_only text cs (Err (fails.Refused f)) i h = one_read_in (plain Strict) text (Err f) (Ok cs) h (drill_text_reads text cs i)
 
-pub answers_file : (text : List ℕ) (r : Result DrillFile Fail) → Gave text r → IfOk r (λ (d : DrillFile). d ≡ file_of Commands d.commands)
-answers_file text (Ok d) h = h.2 ∙ sym (ap (λ (e : DrillFile). file_of Commands e.commands) h.2)
+pub answers_file : (text : List ℕ) (r : Result DrillFile Fail) → Gave text r → IfOk r (λ (d : DrillFile). d ≡ file_of Stated Commands d.commands)
+answers_file text (Ok d) h = h.2 ∙ sym (ap (λ (e : DrillFile). file_of Stated Commands e.commands) h.2)
 answers_file text (Err e) h = tt
 
 pub answers_sayable : (text : List ℕ) (r : Result DrillFile Fail) → Gave text r → IfOk r (λ (d : DrillFile). drill_sayable d.commands ≡ true)

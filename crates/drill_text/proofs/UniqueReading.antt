@@ -7,7 +7,6 @@ use Rattle.std.proofs.lemmas.Bool.{eqb-true}
 use Rattle.grid_units.specs.declared.fault.Fault.{Fault}
 use Rattle.drill_lines.specs.declared.command.DrillCommand.{DrillCommand}
 use Rattle.drill_text.specs.Lines.{bytes_of, HasNoBreak, Splits}
-use Rattle.drill_text.specs.Reading.{Shows, Reads, shown_in, read_in}
 use Rattle.drill_text.specs.Profiles.{Kind, ShowsBy, ReadsBy, shown_within, read_by}
 use Rattle.grid_units.specs.Limits.{text_limit}
 
@@ -45,16 +44,6 @@ finds text lines rest s =
 
 same_parts : (text : List ℕ) (lines : List (List ℕ)) (rest : List ℕ) (lines2 : List (List ℕ)) (rest2 : List ℕ) → Splits text lines rest → Splits text lines2 rest2 → (let p : List (List ℕ) × List ℕ = (lines, rest) in p ≡ (lines2, rest2))
 same_parts text lines rest lines2 rest2 s t = sym (finds text lines rest s) ∙ finds text lines2 rest2 t
-
-pub one_shown : (text : List ℕ) (a b : Result (List DrillCommand) Fault) → Shows text a → Shows text b → a ≡ b
-one_shown text a b s t =
-    let e = same_parts (take text_limit text) s.lines s.rest t.lines t.rest s.splits t.splits in
-    s.answer_is ∙ (ap (λ (p : List (List ℕ) × List ℕ). shown_in (length text) p.0 p.1) e ∙ sym t.answer_is)
-
-pub one_read : (text : List ℕ) (a b : Result (List DrillCommand) Fault) → Reads text a → Reads text b → a ≡ b
-one_read text a b s t =
-    let e = same_parts (take text_limit text) s.lines s.rest t.lines t.rest s.splits t.splits in
-    s.answer_is ∙ (ap (λ (p : List (List ℕ) × List ℕ). read_in (length text) p.0 p.1) e ∙ sym t.answer_is)
 
 pub one_shown_in : (p : Kind) (text : List ℕ) (a b : Result (List DrillCommand) Fault) → ShowsBy p text a → ShowsBy p text b → a ≡ b
 one_shown_in p text a b s t =

@@ -33,7 +33,7 @@ whole_splits old text line h none inside =
     (Splits-close (text ++ line) h.lines line (Splits-grow text h.lines [] line alone inside))
 
 -- the reader that took the line in
-pub whole_holds : {p : Kind} {keep : Keep} (old new : Progress) (text line : List ℕ) (after : List DrillCommand) (h : Holds old p keep text) → old.line.items ≡ [] → HasNoBreak line → new.line.items ≡ old.line.items → spelled_in p h.lines line h.commands ≡ Ok after → HasReadIn new.reader new.judge new.kept p keep (h.lines ++ line ∷ []) after
+pub whole_holds : {p : Kind} {keep : Keep} (old new : Progress) (text line : List ℕ) (after : List DrillCommand) (h : Holds old p keep text) → old.line.items ≡ [] → HasNoBreak line → new.line.items ≡ old.line.items → spelled_in p h.lines line h.commands ≡ Ok after → HasReadIn new.reader new.state new.kept p keep (h.lines ++ line ∷ []) after
     → new.lines ≡ old.lines + 1 → new.start ≡ new.offset → new.offset ≡ old.offset + (length line + 1) → Holds new p keep (text ++ (line ++ 10 ∷ []))
 whole_holds {p = p} old new text line after h none inside kept spells has_read count start offset =
     let lines : List (List ℕ) = h.lines ++ line ∷ [] in
@@ -51,7 +51,7 @@ whole_holds {p = p} old new text line after h none inside kept spells has_read c
 
 -- the taken bytes are this line and its LF
 pub whole_taken : {p : Kind} {keep : Keep} (old new : Progress) (text line taken : List ℕ) (after : List DrillCommand) (h : Holds old p keep text) → line ++ 10 ∷ [] ≡ taken → old.line.items ≡ [] → HasNoBreak line → new.line.items ≡ old.line.items → spelled_in p h.lines line h.commands ≡ Ok after
-    → HasReadIn new.reader new.judge new.kept p keep (h.lines ++ line ∷ []) after → new.lines ≡ old.lines + 1 → new.start ≡ new.offset → new.offset ≡ old.offset + (length line + 1) → Holds new p keep (text ++ taken)
+    → HasReadIn new.reader new.state new.kept p keep (h.lines ++ line ∷ []) after → new.lines ≡ old.lines + 1 → new.start ≡ new.offset → new.offset ≡ old.offset + (length line + 1) → Holds new p keep (text ++ taken)
 whole_taken {p = p} {keep = keep} old new text line taken after h is none inside kept spells has_read count start offset =
     subst (λ (x : List ℕ). Holds new p keep (text ++ x)) is (whole_holds old new text line after h none inside kept spells has_read count start offset)
 

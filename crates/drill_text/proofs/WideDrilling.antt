@@ -6,12 +6,14 @@ use Rattle.drill_lines.specs.declared.command.Part.TheVariants as part
 use Rattle.drill_lines.specs.declared.command.Settings.{Settings}
 use Rattle.drill_lines.specs.declared.command.DrillCommand.{DrillCommand}
 use Rattle.drill_lines.specs.declared.command.DrillCommand.TheVariants as command
+use Rattle.grid_units.specs.declared.profile.Profile.TheVariants.{Wide}
 use Rattle.drill_lines.specs.Lines.{trimmed}
 use Rattle.drill_lines.specs.RouteGrammar.{IsAlone}
 use Rattle.drill_lines.specs.Routes.{is_routing}
 use Rattle.drill_text.specs.Lookback.{settings_after, part_after}
 use Rattle.drill_text.specs.Rules.{drills}
-use Rattle.drill_text.specs.WideGrammar.{AreEntries, IsEntry, WideHolesAreDrilled}
+use Rattle.drill_text.specs.Grammar.{AreEntries, IsEntry}
+use Rattle.drill_text.specs.Laws.{WideHolesAreDrilled}
 use Rattle.drill_text.proofs.DrillingLemmas.{AreInBody, legal_are_drilled}
 use Rattle.drill_text.proofs.RoundTrip.{part_more}
 use Rattle.std.specs.Prelude.{map}
@@ -39,16 +41,16 @@ alone_in_body settings routing line (command.Slot p q) (inr h) d = let e = h.2 i
 alone_in_body settings routing line c h d = absurd cc
 
 -- and so do the lines of a route
-entry_in_body : (settings : Settings) (routing : Bool) (entry : List (List ℕ)) (c : DrillCommand) → IsEntry settings routing entry (Some c) → drills c ≡ true → settings.part ≡ part.Body
-entry_in_body settings routing (line ∷ []) c h d = alone_in_body settings routing (trimmed line) c h d
-entry_in_body settings routing (first ∷ second ∷ third ∷ fourth ∷ []) (command.Slot p q) h d = h.in_body
-entry_in_body settings routing entry c h d = absurd h
+entry_in_body : (earlier : List (List ℕ)) (settings : Settings) (entry : List (List ℕ)) (c : DrillCommand) → IsEntry Wide earlier settings entry (Some c) → drills c ≡ true → settings.part ≡ part.Body
+entry_in_body earlier settings (line ∷ []) c h d = alone_in_body settings (is_routing (map trimmed earlier)) (trimmed line) c h d
+entry_in_body earlier settings (first ∷ second ∷ third ∷ fourth ∷ []) (command.Slot p q) h d = h.in_body
+entry_in_body earlier settings entry c h d = absurd h
 
-spelled_in_body : (earlier : List (List ℕ)) (before : List DrillCommand) (entries : List (List (List ℕ))) (commands : List DrillCommand) → AreEntries earlier before entries commands → InBodyAfter before commands
+spelled_in_body : (earlier : List (List ℕ)) (before : List DrillCommand) (entries : List (List (List ℕ))) (commands : List DrillCommand) → AreEntries Wide earlier before entries commands → InBodyAfter before commands
 spelled_in_body earlier before [] commands h = record { more = []; whole = h ∙ sym (append-nil before); stands = tt }
 spelled_in_body earlier before (entry ∷ entries) commands h =
     body_next before commands h.0
-    (λ c e d. entry_in_body (settings_after before) (is_routing (map trimmed earlier)) entry c (subst (IsEntry (settings_after before) (is_routing (map trimmed earlier)) entry) e h.1) d)
+    (λ c e d. entry_in_body earlier (settings_after before) entry c (subst (IsEntry Wide earlier (settings_after before) entry) e h.1) d)
     (spelled_in_body (earlier ++ entry) (before ++ option_to_list h.0) entries commands h.2)
 
 pub wide_holes_are_drilled : WideHolesAreDrilled

@@ -1,11 +1,10 @@
 -- A text that is read in the strict profile is read alike in the wide one.
-use Rattle.std.proofs.Common.{◌≡◌, ℕ, suc, Bool, true, false, cond, ltb, List, [], ◌∷◌, ◌++◌, length, map, Result, Ok, Err, refl, sym, ap, subst, ◌∙◌, append_assoc}
+use Rattle.std.proofs.Common.{◌≡◌, ℕ, suc, false, cond, ltb, List, [], ◌∷◌, ◌++◌, length, map, Ok, Err, refl, sym, ap, subst, ◌∙◌, append_assoc}
 use Rattle.std.proofs.lemmas.List.{append-nil}
 use Rattle.grid_units.specs.declared.fault.Reason.TheVariants.{TooLong}
-use Rattle.grid_units.specs.declared.fault.Fault.{Fault}
-use Rattle.grid_units.specs.Results.{◌>>=◌, fault, with_place}
+use Rattle.grid_units.specs.Results.{◌>>=◌, with_place}
 use Rattle.grid_units.proofs.ResultLemmas.{bind_ok}
-use Rattle.grid_units.specs.Limits.{line_limit, text_limit}
+use Rattle.grid_units.specs.Limits.{line_limit}
 use Rattle.drill_lines.specs.declared.command.DrillCommand.{DrillCommand}
 use Rattle.grid_units.specs.declared.profile.Profile.TheVariants.{Strict, Wide}
 use Rattle.drill_lines.specs.Lines.{trimmed}
@@ -15,21 +14,14 @@ use Rattle.drill_lines.specs.Inner.RouteSteps.{IsFree}
 use Rattle.drill_lines.proofs.RouteLemmas.{strict_line}
 use Rattle.drill_text.specs.Lines.{bytes_of}
 use Rattle.drill_text.specs.Lookback.{settings_after}
-use Rattle.drill_text.specs.Reading.{checked, ended, Reads}
-use Rattle.drill_text.specs.Profiles.{Kind, plain, step_in, spelled_in, commands_by, shown_by, with_rest, ReadsIn}
-use Rattle.drill_text.proofs.SpellsTextLemmas.{at_ok}
+use Rattle.drill_text.specs.Profiles.{Reads, ReadsIn, checked, commands_by, plain, spelled_in, step_in, with_rest}
 use Rattle.drill_text.proofs.SpelledLemmas.{trimmed_more}
-use Rattle.drill_text.proofs.ProfileLemmas.{shown_by_ok, show_by_ok, strictly_reads}
+use Rattle.drill_text.proofs.ProfileLemmas.{at_ok, ending, guarded, read_alike}
 
 -- no line of a route is due after these lines, and the machine drills
 record IsDrilling (earlier : List (List ℕ)) : Type 0 where
   free : IsFree (map trimmed earlier)
   drills : is_routing (map trimmed earlier) ≡ false
-
--- what is guarded by a test that a refusal fails
-pub guarded : {A E : Type 0} (t : Bool) (d : E) (r : Result A E) (x : A) → cond t (Err d) r ≡ Ok x → (t ≡ false) × (r ≡ Ok x)
-guarded true d r x e = absurd cc
-guarded false d r x e = (refl, e)
 
 step_alike : (earlier : List (List ℕ)) (line : List ℕ) (before cs : List DrillCommand) → IsDrilling earlier → step_in (plain Strict) earlier before line ≡ Ok cs → (step_in (plain Wide) earlier before line ≡ Ok cs) × IsDrilling (earlier ++ line ∷ [])
 unfolding step_in
@@ -61,26 +53,8 @@ rest_alike : (lines : List (List ℕ)) (rest : List ℕ) (before cs : List Drill
 rest_alike lines [] before cs h e = e
 rest_alike lines (b ∷ bs) before cs h e = (line_alike lines (b ∷ bs) before cs h e).0
 
-ends_by : Kind → ℕ → List (List ℕ) → List ℕ → List DrillCommand → Result (List DrillCommand) Fault
-ends_by p len lines rest cs = cond (ltb text_limit len) (Err (fault (suc (length lines)) text_limit TooLong)) (with_rest p lines rest cs >>= ended len lines rest)
-
 pub wide_reads : (text : List ℕ) (cs : List DrillCommand) → Reads text (Ok cs) → ReadsIn Wide text (Ok cs)
-unfolding ends_by
 wide_reads text cs reads =
-    let r = strictly_reads text (Ok cs) reads in
-    let lines = r.lines in
-    let rest = r.rest in
-    let len = length text in
-    let b = bind_ok (shown_by (plain Strict) lines rest) (ends_by (plain Strict) len lines rest) cs (sym r.answer_is) in
-    let g = guarded (ltb text_limit len) (fault (suc (length lines)) text_limit TooLong) (with_rest (plain Strict) lines rest b.0 >>= ended len lines rest) cs b.2 in
-    let c = bind_ok (with_rest (plain Strict) lines rest b.0) (ended len lines rest) cs g.1 in
-    let shown = shown_by_ok (plain Strict) lines rest b.0 b.1 in
-    let all = lines_alike [] lines [] b.0 (record { free = (refl, refl, refl); drills = refl }) shown.0 in
-    record {
-      lines = lines;
-      rest = rest;
-      splits = r.splits;
-      answer_is = sym (ap (λ s. s >>= ends_by (plain Wide) len lines rest) (show_by_ok (plain Wide) lines rest b.0 all.0 shown.1)
-          ∙ (ap (λ t. cond t (Err (fault (suc (length lines)) text_limit TooLong)) (with_rest (plain Wide) lines rest b.0 >>= ended len lines rest)) g.0
-          ∙ (ap (λ s. s >>= ended len lines rest) (rest_alike lines rest b.0 c.0 all.1 c.1) ∙ c.2)));
-    }
+    let e = ending (plain Strict) text cs reads in
+    let all = lines_alike [] e.lines [] e.first (record { free = (refl, refl, refl); drills = refl }) e.shown in
+    read_alike (plain Strict) (plain Wide) text cs e all.0 (rest_alike e.lines e.rest e.first cs all.1 e.last)

@@ -1,16 +1,15 @@
 -- A text that is read in the wide profile is a wide text, by its grammar, of what it is read as.
-use Rattle.std.proofs.Common.{◌≡◌, ◌≤◌, inl, inr, ℕ, suc, Bool, true, false, cond, ltb, ◌||◌, List, [], ◌∷◌, ◌++◌, length, map, Option, None, Some, Result, Ok, Err, refl, sym, ap, subst, ◌∙◌, arith, append_assoc}
+use Rattle.std.proofs.Common.{◌≡◌, ◌≤◌, inl, inr, ℕ, suc, Bool, true, false, ltb, ◌||◌, List, [], ◌∷◌, ◌++◌, length, map, Option, None, Some, Ok, refl, sym, ap, subst, ◌∙◌, arith, append_assoc}
 use Rattle.std.specs.Prelude.{codes}
 use Rattle.std.specs.List.{list_any}
 use Rattle.std.specs.Option.{option_to_list}
 use Rattle.std.proofs.lemmas.Bool.{ltb-false}
-use Rattle.std.proofs.lemmas.List.{append-nil, take_all}
+use Rattle.std.proofs.lemmas.List.{append-nil}
 use Rattle.std.proofs.lemmas.List.Concat.{flat_map-append}
-use Rattle.grid_units.specs.declared.fault.Reason.TheVariants.{TooLong, Truncated}
-use Rattle.grid_units.specs.declared.fault.Fault.{Fault}
-use Rattle.grid_units.specs.Results.{◌>>=◌, fault}
+use Rattle.grid_units.specs.declared.fault.Reason.TheVariants.{TooLong}
+use Rattle.grid_units.specs.Results.{◌>>=◌}
 use Rattle.grid_units.specs.Lists.{IsLegal}
-use Rattle.grid_units.specs.Limits.{line_limit, text_limit}
+use Rattle.grid_units.specs.Limits.{line_limit}
 use Rattle.grid_units.proofs.BoolLemmas.{and_false}
 use Rattle.grid_units.proofs.LookbackLemmas.{last_or-more, list_any-more}
 use Rattle.grid_units.proofs.ResultLemmas.{bind_ok}
@@ -30,37 +29,34 @@ use Rattle.drill_lines.specs.Routes.{is_routing, wide_meaning}
 use Rattle.drill_lines.specs.RouteGrammar.{IsAlone, IsRoute}
 use Rattle.drill_lines.specs.LineReading.{IsLater}
 use Rattle.drill_lines.specs.Inner.RouteSteps.{IsRouteAfter}
-use Rattle.drill_lines.proofs.Answered.{written_is_answered}
-use Rattle.drill_lines.proofs.CanonicalParses.{read_in_part, means}
+use Rattle.drill_lines.proofs.Answered.{read_in_part, means, written_is_answered}
 use Rattle.drill_lines.proofs.RouteReads.{IsWritten, empty_line, reads_on}
-use Rattle.drill_text.specs.Lines.{bytes_of, Splits}
+use Rattle.drill_text.specs.Lines.{bytes_of}
 use Rattle.drill_text.specs.Lookback.{part_set, part_after, settings_after}
 use Rattle.drill_text.specs.Rules.{broken_rule}
-use Rattle.drill_text.specs.Reading.{checked, ended, is_finish, place_after}
+use Rattle.drill_text.specs.Profiles.{checked, commands_by, is_finish, plain, spelled_in, step_in, with_rest}
 use Rattle.drill_text.specs.Texts.{AreWithinLimit}
-use Rattle.drill_text.specs.Profiles.{plain, step_in, spelled_in, commands_by, shown_by, with_rest}
-use Rattle.drill_text.specs.Grammar.{lines_of}
-use Rattle.drill_text.specs.WideGrammar.{IsEntry, AreEntries, lines_in, ReadIsWritten}
+use Rattle.drill_text.specs.Grammar.{IsEntry, AreEntries, lines_of}
+use Rattle.drill_text.specs.Laws.{ReadIsWritten}
 use Rattle.drill_text.proofs.SplitsLemmas.{AllR-append}
-use Rattle.drill_text.proofs.GrammarLemmas.{is_end, same_lines, has_end}
-use Rattle.drill_text.proofs.SpellsTextLemmas.{at_ok, judged_ok, within, with_end}
+use Rattle.drill_text.proofs.GrammarLemmas.{is_end, lines_in, same_lines, has_end}
+use Rattle.drill_text.proofs.SpellsTextLemmas.{judged_ok}
 use Rattle.drill_text.proofs.SpelledLemmas.{trimmed_more}
-use Rattle.drill_text.proofs.ProfileLemmas.{shown_by_ok}
-use Rattle.drill_text.proofs.WideLemmas.{guarded}
+use Rattle.drill_text.proofs.ProfileLemmas.{at_ok, ending, guarded}
 
 -- ---- entries
 
-entries_push : (e : List (List ℕ)) (before : List DrillCommand) (entries : List (List (List ℕ))) (mid : List DrillCommand) (entry : List (List ℕ)) (c : Option DrillCommand) → AreEntries e before entries mid
-    → IsEntry (settings_after mid) (is_routing (map trimmed (e ++ lines_in entries))) entry c → AreEntries e before (entries ++ entry ∷ []) (mid ++ option_to_list c)
+entries_push : (e : List (List ℕ)) (before : List DrillCommand) (entries : List (List (List ℕ))) (mid : List DrillCommand) (entry : List (List ℕ)) (c : Option DrillCommand) → AreEntries Wide e before entries mid
+    → IsEntry Wide (e ++ lines_in entries) (settings_after mid) entry c → AreEntries Wide e before (entries ++ entry ∷ []) (mid ++ option_to_list c)
 entries_push e before [] mid entry c h k = (
   c,
-  subst (λ (cs : List DrillCommand). IsEntry (settings_after cs) (is_routing (map trimmed e)) entry c) h (subst (λ (l : List (List ℕ)). IsEntry (settings_after mid) (is_routing (map trimmed l)) entry c) (append-nil e) k),
+  subst (λ (cs : List DrillCommand). IsEntry Wide e (settings_after cs) entry c) h (subst (λ (l : List (List ℕ)). IsEntry Wide l (settings_after mid) entry c) (append-nil e) k),
   ap (λ (cs : List DrillCommand). cs ++ option_to_list c) h,
 )
 entries_push e before (x ∷ entries) mid entry c (spelled, is, rest) k = (
   spelled,
   is,
-  entries_push (e ++ x) (before ++ option_to_list spelled) entries mid entry c rest (subst (λ (l : List (List ℕ)). IsEntry (settings_after mid) (is_routing (map trimmed l)) entry c) (sym (append_assoc e x (lines_in entries))) k),
+  entries_push (e ++ x) (before ++ option_to_list spelled) entries mid entry c rest (subst (λ (l : List (List ℕ)). IsEntry Wide l (settings_after mid) entry c) (sym (append_assoc e x (lines_in entries))) k),
 )
 
 lines_push : (entries : List (List (List ℕ))) (entry : List (List ℕ)) → lines_in (entries ++ entry ∷ []) ≡ lines_in entries ++ entry
@@ -90,7 +86,7 @@ record IsGrouped (earlier : List (List ℕ)) (before : List DrillCommand) (r : R
   entries : List (List (List ℕ))
   pending : List (List ℕ)
   lines : earlier ≡ lines_in entries ++ pending
-  spells : AreEntries [] [] entries before
+  spells : AreEntries Wide [] [] entries before
   waits : Waits r (settings_after before) pending
 
 -- a line that spells nothing yet waits
@@ -100,8 +96,8 @@ waits_on earlier before line c next given none is h =
     (subst (λ (cs : List DrillCommand). IsGrouped (earlier ++ line ∷ []) cs next) (sym (append-nil before)) (subst (IsGrouped (earlier ++ line ∷ []) before) (sym is) h))
 
 -- the last line of an entry
-closes : (earlier : List (List ℕ)) (before : List DrillCommand) (line : List ℕ) (c : Option DrillCommand) (next : Route) (after : Bool) (entries : List (List (List ℕ))) (pending : List (List ℕ)) → next ≡ route.Free after → earlier ≡ lines_in entries ++ pending → AreEntries [] [] entries before
-    → IsEntry (settings_after before) (is_routing (map trimmed (lines_in entries))) (pending ++ line ∷ []) c → IsGrouped (earlier ++ line ∷ []) (before ++ option_to_list c) next
+closes : (earlier : List (List ℕ)) (before : List DrillCommand) (line : List ℕ) (c : Option DrillCommand) (next : Route) (after : Bool) (entries : List (List (List ℕ))) (pending : List (List ℕ)) → next ≡ route.Free after → earlier ≡ lines_in entries ++ pending → AreEntries Wide [] [] entries before
+    → IsEntry Wide (lines_in entries) (settings_after before) (pending ++ line ∷ []) c → IsGrouped (earlier ++ line ∷ []) (before ++ option_to_list c) next
 closes earlier before line c next after entries pending is lines spells entry = subst (IsGrouped (earlier ++ line ∷ []) (before ++ option_to_list c)) (sym is) (record {
   entries = entries ++ (pending ++ line ∷ []) ∷ [];
   pending = [];
@@ -165,7 +161,7 @@ grouped_more (route.Cut from to) earlier before line c next g at (fourth_is, som
       fourth_is = fourth_is;
     } in
     closes earlier before line c next true g.entries (x ∷ y ∷ z ∷ []) is (g.lines ∙ ap (λ (p : List (List ℕ)). lines_in g.entries ++ p) g.waits.3) g.spells
-    (subst (λ (o : Option DrillCommand). IsEntry s (is_routing (map trimmed (lines_in g.entries))) (x ∷ y ∷ z ∷ line ∷ []) o) (sym some) is_route)
+    (subst (λ (o : Option DrillCommand). IsEntry Wide (lines_in g.entries) s (x ∷ y ∷ z ∷ line ∷ []) o) (sym some) is_route)
 
 -- ---- after `M30` nothing is spelled
 
@@ -290,28 +286,15 @@ rest_parsed : (lines : List (List ℕ)) (rest : List ℕ) (before cs : List Dril
 rest_parsed lines [] before cs h e some = let same : before ≡ cs = cc in empty_entry lines cs (subst (IsParsed lines) same h) some
 rest_parsed lines (b ∷ bs) before cs h e some = line_parsed lines before cs (b ∷ bs) h e
 
-ends_by : ℕ → List (List ℕ) → List ℕ → List DrillCommand → Result (List DrillCommand) Fault
-ends_by len lines rest cs = cond (ltb text_limit len) (Err (fault (suc (length lines)) text_limit TooLong)) (with_rest (plain Wide) lines rest cs >>= ended len lines rest)
-
 pub read_is_written : ReadIsWritten
-unfolding ends_by
 read_is_written text cs r =
-    let lines = r.lines in
-    let rest = r.rest in
-    let len = length text in
-    let b = bind_ok (shown_by (plain Wide) lines rest) (ends_by len lines rest) cs (sym r.answer_is) in
-    let w = within (ltb text_limit len) (fault (suc (length lines)) text_limit TooLong) (with_rest (plain Wide) lines rest b.0 >>= ended len lines rest) cs b.2 in
-    let c = bind_ok (with_rest (plain Wide) lines rest b.0) (ended len lines rest) cs w.1 in
-    let e = with_end (list_any is_finish c.0) (fault (place_after lines rest) len Truncated) c.0 cs c.2 in
-    let some : list_any is_finish cs ≡ true = sym (ap (list_any is_finish) e.1) ∙ e.0 in
-    let first = lines_parsed [] lines [] b.0 none_parsed (shown_by_ok (plain Wide) lines rest b.0 b.1).0 in
-    let all = subst (IsParsed (lines ++ rest ∷ [])) e.1 (rest_parsed lines rest b.0 c.0 first c.1 e.0) in
-    let le : length text ≤ text_limit = ltb-false _ _ w.0 in
-    let splits : Splits text lines rest = subst (λ (t : List ℕ). Splits t lines rest) (take_all text_limit text le) r.splits in
-    let same : lines_of text ≡ lines ++ rest ∷ [] = same_lines text lines rest splits in
-    let f = free_at_end all.r cs all.grouped.pending all.grouped.waits (all.ends some) in
-    let whole : lines_in all.grouped.entries ≡ lines_of text = entries_alone all.grouped.entries all.grouped.pending (lines_of text) (lines ++ rest ∷ []) same all.grouped.lines f.2 in (
-      (le, subst AreWithinLimit (sym same) all.short),
-      record { entries = all.grouped.entries; lines = whole; spells = all.grouped.spells; ends = has_end cs some },
+    let k = ending (plain Wide) text cs r in
+    let first = lines_parsed [] k.lines [] k.first none_parsed k.shown in
+    let all = rest_parsed k.lines k.rest k.first cs first k.last k.ends in
+    let same : lines_of text ≡ k.lines ++ k.rest ∷ [] = same_lines text k.lines k.rest k.splits in
+    let f = free_at_end all.r cs all.grouped.pending all.grouped.waits (all.ends k.ends) in
+    let whole : lines_in all.grouped.entries ≡ lines_of text = entries_alone all.grouped.entries all.grouped.pending (lines_of text) (k.lines ++ k.rest ∷ []) same all.grouped.lines f.2 in (
+      (k.within, subst AreWithinLimit (sym same) all.short),
+      record { entries = all.grouped.entries; lines = whole; spells = all.grouped.spells; ends = has_end cs k.ends },
       all.legal,
     )

@@ -12,7 +12,7 @@ use Rattle.drill_lines.specs.Meaning.{meaning}
 use Rattle.drill_text.specs.Lines.{bytes_of, Splits}
 use Rattle.drill_text.specs.Lookback.{settings_after}
 use Rattle.drill_text.specs.Rules.{broken_rule}
-use Rattle.drill_text.specs.Reading.{is_finish, place_after}
+use Rattle.drill_text.specs.Profiles.{is_finish, place_after}
 use Rattle.drill_text.specs.Texts.{spelled_after, AreWithinLimit, IsDrillText}
 use Rattle.grid_units.specs.Limits.{text_limit, line_limit}
 use Rattle.grid_units.specs.Lists.{IsLegal}

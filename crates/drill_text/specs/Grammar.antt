@@ -1,25 +1,41 @@
--- Which texts have which commands of a drill file: the grammar of drill texts, over that of lines (docs/FORMATS.md, Drill lines).
-use Rattle.std.specs.Prelude.{◌≡◌, ◌==◌, ℕ, List, [], ◌∷◌, ◌++◌, Option}
-use Rattle.std.specs.List.{Contains, slice_split}
+-- Which texts have which commands of a drill file in a profile: the grammar of drill texts, over that of lines (docs/FORMATS.md, Drill lines; The
+-- wide profile).
+use Rattle.std.specs.Prelude.{◌≡◌, ◌==◌, ℕ, List, [], ◌∷◌, ◌++◌, map, Option, Some}
+use Rattle.std.specs.List.{Contains, flat_map, slice_split}
 use Rattle.std.specs.Option.{option_to_list}
+use Rattle.drill_lines.specs.declared.command.Settings.{Settings}
 use Rattle.drill_lines.specs.declared.command.DrillCommand.{DrillCommand}
-use Rattle.drill_lines.specs.declared.command.DrillCommand.TheVariants.{Finish}
+use Rattle.drill_lines.specs.declared.command.DrillCommand.TheVariants.{Slot, Finish}
 use Rattle.drill_lines.specs.Lines.{trimmed}
 use Rattle.drill_lines.specs.Grammar.{IsLine}
+use Rattle.drill_lines.specs.Routes.{is_routing}
+use Rattle.drill_lines.specs.RouteGrammar.{IsAlone, IsRoute}
 use Rattle.drill_text.specs.Lookback.{settings_after}
 use Rattle.grid_units.specs.Ascii as ascii
+use Rattle.grid_units.specs.declared.profile.Profile.{Profile}
+use Rattle.grid_units.specs.declared.profile.Profile.TheVariants.{Strict, Wide}
 
 -- the lines of a text, cut at each LF: `M48` and `%` of `M48`, LF, `%`
 abbrev pub lines_of : List ℕ → List (List ℕ)
 lines_of text = slice_split (λ b. b == ascii.line_feed) text
 
--- These commands, and after them those that the lines spell in order: each line, without the blanks at its end, by the settings that
--- the commands before it leave. After `M48` the lines `METRIC` and `%` spell UnitLine(Millimetre) and HeaderEnd.
-abbrev pub AreLines : List DrillCommand → List (List ℕ) → List DrillCommand → Type 0
-AreLines before [] commands = commands ≡ before
-AreLines before (line ∷ lines) commands = (spelled : Option DrillCommand) × IsLine (settings_after before) (trimmed line) spelled × AreLines (before ++ option_to_list spelled) lines commands
+-- after these lines, lines that spell at most one command together, without the blanks at their ends: one by itself, as `METRIC` spells UnitLine(Millimetre);
+-- in the wide profile also the four of a route
+abbrev pub IsEntry : Profile → List (List ℕ) → Settings → List (List ℕ) → Option DrillCommand → Type 0
+IsEntry Strict earlier settings (line ∷ []) spelled = IsLine settings (trimmed line) spelled
+IsEntry Wide earlier settings (line ∷ []) spelled = IsAlone settings (is_routing (map trimmed earlier)) (trimmed line) spelled
+IsEntry Wide earlier settings (a ∷ b ∷ c ∷ d ∷ []) (Some (Slot from to)) = IsRoute settings (trimmed a) (trimmed b) (trimmed c) (trimmed d) from to
+IsEntry profile earlier settings lines spelled = ⊥
 
--- A text of these commands: its lines spell them in order, and the end of the file, `M30`, is among them.
-pub record IsText (text : List ℕ) (commands : List DrillCommand) : Type 0 where
-  pub lines : AreLines [] (lines_of text) commands
+-- These commands after the lines before, and then those that the entries spell in order, each by the settings that the commands before it leave.
+abbrev pub AreEntries : Profile → List (List ℕ) → List DrillCommand → List (List (List ℕ)) → List DrillCommand → Type 0
+AreEntries profile earlier before [] commands = commands ≡ before
+AreEntries profile earlier before (entry ∷ entries) commands = (spelled : Option DrillCommand)
+    × IsEntry profile earlier (settings_after before) entry spelled × AreEntries profile (earlier ++ entry) (before ++ option_to_list spelled) entries commands
+
+-- A text of these commands in a profile: its lines are entries that spell them in order, and the end of the file, `M30`, is among them.
+pub record IsText (profile : Profile) (text : List ℕ) (commands : List DrillCommand) : Type 0 where
+  pub entries : List (List (List ℕ))
+  pub lines : flat_map (λ entry. entry) entries ≡ lines_of text
+  pub spells : AreEntries profile [] [] entries commands
   pub ends : Contains commands Finish

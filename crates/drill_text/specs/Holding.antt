@@ -21,7 +21,7 @@ pub record Holds (reader : Progress) (kind : Kind) (keep : Keep) (text : List �
   pub commands : List DrillCommand
   pub splits : Splits text lines reader.line.items
   pub spelled : shown_by kind lines reader.line.items ≡ Ok commands
-  pub has_read : HasReadIn reader.reader reader.judge reader.kept kind keep lines commands
+  pub has_read : HasReadIn reader.reader reader.state reader.kept kind keep lines commands
   pub count : reader.lines ≡ length lines
   pub start : reader.start ≡ length (bytes_of lines)
   pub offset : reader.offset ≡ length text

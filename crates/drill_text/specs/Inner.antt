@@ -1,3 +1,2 @@
 pub mod FastPath
 pub mod StateSteps
-pub mod JudgeSteps

@@ -1,10 +1,15 @@
 -- Laws of drill files: the holes that are listed of their commands are just those that these drill, and the texts that spell commands
 -- are just those of the grammar.
-use Rattle.std.specs.Prelude.{◌≡◌, ◌≤◌, ◌↔◌, ℕ, List, length}
+use Rattle.std.specs.Prelude.{◌≡◌, ◌≤◌, ◌↔◌, ℕ, List, length, Ok}
 use Rattle.grid_units.specs.Holes.{GridHole}
 use Rattle.drill_lines.specs.declared.command.DrillCommand.{DrillCommand}
 use Rattle.drill_text.specs.Holes.{holes_of}
 use Rattle.grid_units.specs.Limits.{text_limit}
+use Rattle.grid_units.specs.Lists.{IsLegal}
+use Rattle.grid_units.specs.declared.profile.Profile.{Profile}
+use Rattle.grid_units.specs.declared.profile.Profile.TheVariants.{Strict, Wide}
+use Rattle.drill_text.specs.Profiles.{ReadsIn}
+use Rattle.drill_text.specs.Rules.{broken_rule}
 use Rattle.drill_text.specs.Texts.{AreWithinLimit, SpellsText, IsDrillText}
 use Rattle.drill_text.specs.Drilling.{AreHoles}
 use Rattle.drill_text.specs.Grammar.{lines_of, IsText}
@@ -25,10 +30,22 @@ DrillsAtMostOneList = (commands : List DrillCommand) (holes other : List GridHol
 abbrev pub IsWithinLimits : List ℕ → Type 0
 IsWithinLimits text = (length text ≤ text_limit) × AreWithinLimit (lines_of text)
 
--- a text spells commands just where it is a text of them by the grammar, and not too long
+-- a text spells commands just where it is a text of them by the grammar of the strict profile, and not too long
 abbrev pub SpelledIsWritten : Type 0
-SpelledIsWritten = (text : List ℕ) (commands : List DrillCommand) → (SpellsText text commands) ↔ (IsWithinLimits text × IsText text commands)
+SpelledIsWritten = (text : List ℕ) (commands : List DrillCommand) → (SpellsText text commands) ↔ (IsWithinLimits text × IsText Strict text commands)
 
--- by the grammar a text is one of at most one list of commands
+-- by the grammar of a profile a text is one of at most one list of commands
 abbrev pub IsTextOfAtMostOne : Type 0
-IsTextOfAtMostOne = (text : List ℕ) (commands other : List DrillCommand) → IsText text commands → IsText text other → commands ≡ other
+IsTextOfAtMostOne = (profile : Profile) (t : List ℕ) (cs other : List DrillCommand) → IsText profile t cs → IsText profile t other → cs ≡ other
+
+-- a text of legal commands, by the grammar of the wide profile, is read as these in it, if neither the text nor a line is too long
+abbrev pub WrittenIsRead : Type 0
+WrittenIsRead = (t : List ℕ) (cs : List DrillCommand) → IsWithinLimits t → IsText Wide t cs → IsLegal broken_rule cs → ReadsIn Wide t (Ok cs)
+
+-- a text that is read as commands in the wide profile is a text of them by its grammar, they are legal, and neither the text nor a line is too long
+abbrev pub ReadIsWritten : Type 0
+ReadIsWritten = (t : List ℕ) (cs : List DrillCommand) → ReadsIn Wide t (Ok cs) → IsWithinLimits t × IsText Wide t cs × IsLegal broken_rule cs
+
+-- the legal commands of a text of the wide profile drill the holes that are listed of them
+abbrev pub WideHolesAreDrilled : Type 0
+WideHolesAreDrilled = (t : List ℕ) (cs : List DrillCommand) → IsText Wide t cs → IsLegal broken_rule cs → AreHoles cs (holes_of cs)

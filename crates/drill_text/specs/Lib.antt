@@ -4,7 +4,6 @@ pub mod Holes
 pub mod Rules
 pub mod Plating
 pub mod Drilling
-pub mod Reading
 pub mod Profiles
 pub mod Texts
 pub mod Grammar
@@ -15,5 +14,4 @@ pub mod Outcome
 pub mod Faults
 pub mod Laws
 pub mod MixedLaws
-pub mod WideGrammar
 pub mod Inner

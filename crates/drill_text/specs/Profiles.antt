@@ -1,13 +1,16 @@
 -- The commands of a drill text in a profile, or its first fault. Each line is read by those before it, so that four of them can
 -- spell one slot; mixed files and unplated ones have a rule more (docs/FORMATS.md, Drill lines; The first fault; The wide profile; Mixed drill
 -- files; Unplated drill files).
-use Rattle.std.specs.Prelude.{◌≡◌, ℕ, suc, nat_lt, List, [], ◌∷◌, ◌++◌, length, take, map, if◌then◌else◌, Result, Ok, Err}
+use Rattle.std.specs.Prelude.{◌≡◌, ℕ, suc, ◌+◌, Bool, true, false, nat_lt, List, [], ◌∷◌, ◌++◌, length, take, map, if◌then◌else◌, Option, None, Some, Result, Ok, Err}
+use Rattle.std.specs.List.{list_any}
 use Rattle.grid_units.specs.declared.fault.Reason.{Reason}
-use Rattle.grid_units.specs.declared.fault.Reason.TheVariants.{TooLong}
+use Rattle.grid_units.specs.declared.fault.Reason.TheVariants.{TooLong, Truncated}
 use Rattle.grid_units.specs.declared.fault.Fault.{Fault}
 use Rattle.grid_units.specs.Results.{◌>>=◌, fault, with_place}
 use Rattle.drill_lines.specs.declared.command.DrillCommand.{DrillCommand}
+use Rattle.drill_lines.specs.declared.command.DrillCommand.TheVariants.{Finish}
 use Rattle.grid_units.specs.declared.profile.Profile.{Profile}
+use Rattle.grid_units.specs.declared.profile.Profile.TheVariants.{Strict}
 use Rattle.drill_lines.specs.Lines.{trimmed}
 use Rattle.drill_lines.specs.Routes.{meaning_in}
 use Rattle.drill_text.specs.declared.platings.PlatingKind.{PlatingKind}
@@ -15,7 +18,7 @@ use Rattle.drill_text.specs.declared.platings.PlatingKind.TheVariants as plating
 use Rattle.drill_text.specs.Lines.{bytes_of, Splits}
 use Rattle.drill_text.specs.Lookback.{settings_after}
 use Rattle.drill_text.specs.Plating.{rule_in}
-use Rattle.drill_text.specs.Reading.{checked_by, ended}
+use Rattle.drill_text.specs.Rules.{broken_rule}
 use Rattle.grid_units.specs.Limits.{text_limit, line_limit}
 
 -- the kind of a drill file: in which profile it is read, and by what it is known which of its holes are plated
@@ -35,6 +38,22 @@ unplated_in profile = record { profile = profile; plating = plating.Unplated }
 abbrev pub mixed_in : Profile → Kind
 mixed_in profile = record { profile = profile; plating = plating.Mixed }
 
+-- ---- one line
+
+-- these commands and one more, unless it breaks this rule
+abbrev pub add_unless : Option Reason → List DrillCommand → DrillCommand → Result (List DrillCommand) Reason
+add_unless None before c = Ok (before ++ c ∷ [])
+add_unless (Some broken) before c = Err broken
+
+-- these commands and the one that a line spells, if it spells one, or the first rule that it breaks
+abbrev pub checked_by : (List DrillCommand → DrillCommand → Option Reason) → List DrillCommand → Option DrillCommand → Result (List DrillCommand) Reason
+checked_by rule before None = Ok before
+checked_by rule before (Some c) = add_unless (rule before c) before c
+
+-- the same by the rules of every drill file
+abbrev pub checked : List DrillCommand → Option DrillCommand → Result (List DrillCommand) Reason
+checked before = checked_by broken_rule before
+
 -- one more line after these, which spell these commands: TooLong above 1,048,576 bytes; else it is read by what stands before it, and
 -- its command is judged
 unfoldable pub step_in : Kind → List (List ℕ) → List DrillCommand → List ℕ → Result (List DrillCommand) Reason
@@ -45,6 +64,8 @@ step_in kind earlier before line =
 -- one more line after these; a refusal is its fault, at the number of the line, from 1, and at the offset of its first byte
 abbrev pub spelled_in : Kind → List (List ℕ) → List ℕ → List DrillCommand → Result (List DrillCommand) Fault
 spelled_in kind earlier line before = with_place (suc (length earlier)) (length (bytes_of earlier)) (step_in kind earlier before line)
+
+-- ---- all lines
 
 -- after the first lines and their commands, these commands and those of the lines that follow; or the fault of the first that has one
 abbrev pub commands_by : Kind → List (List ℕ) → List (List ℕ) → List DrillCommand → Result (List DrillCommand) Fault
@@ -67,6 +88,26 @@ pub record ShowsBy (kind : Kind) (text : List ℕ) (answer : Result (List DrillC
   pub splits : Splits (take text_limit text) lines rest
   pub answer_is : answer ≡ shown_within kind (length text) lines rest
 
+-- ---- whole texts
+
+-- Finish, the end of the file, which `M30` spells
+abbrev pub is_finish : DrillCommand → Bool
+is_finish Finish = true
+is_finish _ = false
+
+-- the number of the line after so many lines and a rest; a rest with at least one byte is a line too
+abbrev pub place_after_count : ℕ → List ℕ → ℕ
+place_after_count count [] = count + 1
+place_after_count count (b ∷ bs) = count + 2
+
+-- the number of the line after the last one of a text
+abbrev pub place_after : List (List ℕ) → List ℕ → ℕ
+place_after lines rest = place_after_count (length lines) rest
+
+-- the commands of a text that ends here; without `M30` it is Truncated after its last line, at the text's length
+abbrev pub ended : ℕ → List (List ℕ) → List ℕ → List DrillCommand → Result (List DrillCommand) Fault
+ended len lines rest commands = if list_any is_finish commands then Ok commands else Err (fault (place_after lines rest) len Truncated)
+
 -- the rest after the last LF is a line too, if it has a byte
 abbrev pub with_rest : Kind → List (List ℕ) → List ℕ → List DrillCommand → Result (List DrillCommand) Fault
 with_rest kind lines [] commands = Ok commands
@@ -85,6 +126,8 @@ pub record ReadsBy (kind : Kind) (text : List ℕ) (answer : Result (List DrillC
   pub splits : Splits (take text_limit text) lines rest
   pub answer_is : answer ≡ read_by kind (length text) lines rest
 
+-- ---- of files whose role is believed
+
 -- a text shows this in the profile, as a file whose role says whether its holes are plated
 abbrev pub ShowsIn : Profile → List ℕ → Result (List DrillCommand) Fault → Type 0
 ShowsIn profile text answer = ShowsBy (plain profile) text answer
@@ -101,3 +144,11 @@ ReadsAsBy kind see text (Err fault) = ReadsBy kind text (Err fault)
 -- the same in the profile, of a file whose role says whether its holes are plated
 abbrev pub ReadsAsIn : {V : Type 0} → Profile → (List DrillCommand → V) → List ℕ → Result V Fault → Type 0
 ReadsAsIn profile see text answer = ReadsAsBy (plain profile) see text answer
+
+-- a text shows this in the strict profile
+abbrev pub Shows : List ℕ → Result (List DrillCommand) Fault → Type 0
+Shows text answer = ShowsIn Strict text answer
+
+-- a whole text is read as this in the strict profile
+abbrev pub Reads : List ℕ → Result (List DrillCommand) Fault → Type 0
+Reads text answer = ReadsIn Strict text answer

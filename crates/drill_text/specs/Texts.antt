@@ -11,7 +11,7 @@ use Rattle.drill_lines.specs.Lines.{trimmed}
 use Rattle.drill_lines.specs.Meaning.{meaning}
 use Rattle.drill_text.specs.Lines.{Splits}
 use Rattle.drill_text.specs.Lookback.{settings_after}
-use Rattle.drill_text.specs.Reading.{is_finish, Reads}
+use Rattle.drill_text.specs.Profiles.{is_finish, Reads}
 use Rattle.grid_units.specs.Limits.{text_limit, line_limit}
 use Rattle.drill_text.specs.Rules.{broken_rule}
 

@@ -6,15 +6,16 @@ ghost use Rattle.drill_lines.specs.declared.command.DrillCommand.{DrillCommand a
 ghost use Rattle.drill_text.specs.declared.kept.Keep.{Keep};
 ghost use Rattle.drill_text.specs.declared.platings.PlatingKind.{PlatingKind as TheKind};
 ghost use Rattle.drill_text.specs.Keeping.{HasRead};
-ghost use Rattle.drill_text.specs.Outcome.{file_of};
+ghost use Rattle.drill_text.specs.Outcome.{diameters, file_of};
 ghost use Rattle.drill_text.specs.Plating.{says_otherwise};
 ghost use Rattle.drill_text.specs.Writing.{vec_bytes};
 
-use crate::judge::Judge;
 use crate::kept::KeptCommands;
+use crate::platings::{PlatingWords, Tool};
+use crate::state::DrillState;
 use crate::writer::too_long;
 use drill_lines::DrillCommand;
-use grid_units::{Dec, Fail, Hole, TEXT_LIMIT};
+use grid_units::{Fail, Hole, TEXT_LIMIT};
 use indexmap::IndexMap;
 use std::marker::Model;
 
@@ -26,35 +27,32 @@ pub struct Drill {
     text: Vec<u8>,
     holes: Vec<Hole>,
     plated: Vec<bool>,
-    calls_plated: bool,
-    calls_unplated: bool,
-    tools: IndexMap<u16, Dec>,
+    words: PlatingWords,
+    tools: IndexMap<u16, Tool>,
 }
 
 impl Model for Drill {
-    ghost use Rattle.drill_text.specs.Outcome.{DrillFile};
+    ghost use Rattle.drill_text.specs.Outcome.{DrillFile, diameters};
     ghost use Rattle.drill_text.specs.Writing.{text_or_fault};
 
     ghost Value = { DrillFile };
 
-    ghost view = { λ d. record { commands = d.commands.items; text = text_or_fault d.text.items; holes = d.holes.items; plated = d.plated.items; calls_plated = d.calls_plated; calls_unplated = d.calls_unplated; tools = d.tools.entries } };
+    ghost view = { λ d. record { commands = d.commands.items; text = text_or_fault d.text.items; holes = d.holes.items; plated = d.plated.items; calls_plated = d.words.calls_plated; calls_unplated = d.words.calls_unplated; tools = diameters d.tools.entries } };
 }
 
 impl Drill {
-    /// The drill file of the commands that a judge has met, with what was kept of them.
-    pub(crate) fn new(judge: Judge, kept: KeptCommands) -> Drill
-        ensures { (plating : TheKind) (keep : Keep) (commands : List TheCommand) → HasRead judge kept plating keep commands → result ≡ file_of keep commands }
+    /// The drill file of the commands that have led to a state, with what was kept of them.
+    pub(crate) fn new(state: DrillState, kept: KeptCommands) -> Drill
+        ensures { (plating : TheKind) (keep : Keep) (commands : List TheCommand) → HasRead state kept plating keep commands → result ≡ file_of plating keep commands }
     {
         let (commands, text) = kept.into_parts();
-        let (holes, tools, platings) = judge.into_parts();
-        let (plated, calls_plated, calls_unplated) = platings.into_parts();
+        let (holes, plated, words, tools) = state.into_parts();
         Drill {
             commands,
             text,
             holes,
             plated,
-            calls_plated,
-            calls_unplated,
+            words,
             tools,
         }
     }
@@ -73,8 +71,8 @@ impl Drill {
         &self.holes
     }
 
-    /// Of each hole, in their order, whether the file itself calls it plated: whether the last comment before the definition of its tool
-    /// that says what tools are says so. It matters of a mixed file alone.
+    /// Of each hole of a mixed file, in their order, whether it is plated: whether the last comment before the definition of its tool
+    /// that says what tools are says so. None of another file.
     pub fn plated(&self) -> &[bool]
         ensures { result.now ≡ self.now.plated }
     {
@@ -87,9 +85,9 @@ impl Drill {
         ensures { result ≡ says_otherwise plated self.now.calls_plated self.now.calls_unplated }
     {
         if plated {
-            self.calls_unplated && !self.calls_plated
+            self.words.calls_unplated && !self.words.calls_plated
         } else {
-            self.calls_plated
+            self.words.calls_plated
         }
     }
 
@@ -101,7 +99,7 @@ impl Drill {
         holes
     }
 
-    /// The holes, and of each whether the file itself calls it plated, moved out of the file.
+    /// The holes, and of each hole of a mixed file whether it is plated, moved out of the file.
     pub fn into_plated_holes(self) -> (Vec<Hole>, Vec<bool>)
         ensures holes { result.0.items ≡ self.holes }
         ensures plated { result.1.items ≡ self.plated }
@@ -125,9 +123,9 @@ impl Drill {
         Ok(text)
     }
 
-    /// The diameters by tool number, in order of definition and in the unit of the file.
-    pub fn tools(&self) -> &IndexMap<u16, Dec>
-        ensures { result.now.entries ≡ self.now.tools }
+    /// The tools by their numbers, in order of definition.
+    pub fn tools(&self) -> &IndexMap<u16, Tool>
+        ensures { diameters result.now.entries ≡ self.now.tools }
     {
         &self.tools
     }

@@ -5,16 +5,14 @@ ghost use Rattle.grid_units.specs.declared.fault.Fault.{Fault};
 ghost use Rattle.drill_lines.specs.declared.command.DrillCommand.{DrillCommand};
 ghost use Rattle.drill_text.specs.Lookback.{tools_of};
 ghost use Rattle.drill_text.specs.Holes.{holes_of};
-ghost use Rattle.drill_text.specs.Reading.{Shows, Reads};
 ghost use Rattle.drill_text.specs.Faults.{HasAnswer, IsFirstFault, is_drill_reason};
 ghost use Rattle.drill_text.specs.Texts.{SpellsText, IsDrillText};
 ghost use Rattle.drill_text.specs.Writing.{drill_sayable};
 ghost use Rattle.grid_units.specs.declared.profile.Profile.{Profile};
 ghost use Rattle.grid_units.specs.declared.profile.Profile.TheVariants.{Strict, Wide};
 ghost use Rattle.drill_text.specs.MixedLaws.{CalledIsListed, KindsReadTheSame, ListedIsCalled, OneForEach, UncontradictedIsLegal};
-ghost use Rattle.drill_text.specs.Profiles.{Kind, ReadsBy, ReadsIn, ShowsBy, ShowsIn};
-ghost use Rattle.drill_text.specs.WideGrammar.{ReadIsWritten, WideHolesAreDrilled, WrittenIsRead};
-ghost use Rattle.drill_text.specs.Laws.{ListedHolesAreDrilled, DrilledHolesAreListed, DrillsAtMostOneList, SpelledIsWritten, IsTextOfAtMostOne};
+ghost use Rattle.drill_text.specs.Profiles.{Kind, Reads, ReadsBy, ReadsIn, Shows, ShowsBy, ShowsIn};
+ghost use Rattle.drill_text.specs.Laws.{ListedHolesAreDrilled, DrilledHolesAreListed, DrillsAtMostOneList, ReadIsWritten, SpelledIsWritten, IsTextOfAtMostOne, WideHolesAreDrilled, WrittenIsRead};
 
 /// A text shows one thing, and has one reading.
 pub fn unique_reading()
@@ -59,8 +57,8 @@ pub fn drilled_holes()
     ensures one { DrillsAtMostOneList }
 {}
 
-/// A text spells commands just where it is a text of them by the grammar, and neither it nor a line is too long. By the grammar it is
-/// a text of at most one list of commands.
+/// A text spells commands just where it is a text of them by the grammar of the strict profile, and neither it nor a line is too long. By the
+/// grammar of a profile it is a text of at most one list of commands.
 pub fn text_grammar()
     ensures written { SpelledIsWritten }
     ensures one { IsTextOfAtMostOne }

@@ -3,7 +3,6 @@
 
 mod drill;
 mod fast_path;
-mod judge;
 mod kept;
 pub mod laws;
 mod platings;
@@ -19,6 +18,6 @@ pub use laws::{
     readings_in_profiles, readings_of_kinds, sayable_texts, strict_profile, text_grammar,
     unique_reading, unplated_files, wide_grammar, wide_reads_more,
 };
-pub use platings::PlatingKind;
+pub use platings::{PlatingKind, Tool};
 pub use reader::{DrillReader, read_drill};
 pub use writer::{drill_sayable, write_drill};

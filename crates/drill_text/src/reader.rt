@@ -6,11 +6,11 @@ ghost use Rattle.grid_units.specs.declared.fault.Fault.{Fault};
 ghost use Rattle.grid_units.specs.declared.fault.Fail.TheVariants.{Refused};
 ghost use Rattle.grid_units.specs.Limits.{line_limit, text_limit};
 ghost use Rattle.grid_units.specs.Results.{fault, with_place, Answers};
-ghost use Rattle.drill_text.specs.Reading.{checked_by, Reads, place_after_count};
+ghost use Rattle.drill_text.specs.Profiles.{Kind, Reads, ReadsAsBy, checked_by, place_after_count, spelled_in, with_rest};
 ghost use Rattle.drill_text.specs.Plating.{rule_in};
-ghost use Rattle.drill_text.specs.Profiles.{Kind, spelled_in, with_rest, ReadsAsBy, ReadsAsIn};
 ghost use Rattle.drill_text.specs.declared.kept.Keep.{Keep as TheKeep};
 ghost use Rattle.drill_text.specs.declared.platings.PlatingKind.{PlatingKind as TheKind};
+ghost use Rattle.drill_text.specs.declared.platings.PlatingKind.TheVariants as plating;
 ghost use Rattle.drill_text.specs.declared.kept.Keep.TheVariants as keep;
 ghost use Rattle.drill_text.specs.Keeping.{HasRead, HasReadIn, ResultsIn, ResultsInLine};
 ghost use Rattle.drill_text.specs.Lines.{bytes_of};
@@ -21,9 +21,9 @@ ghost use Rattle.drill_text.specs.Writing.{drill_sayable};
 
 use crate::drill::Drill;
 use crate::fast_path::leading_hit;
-use crate::judge::Judge;
 use crate::kept::{Keep, KeptCommands};
 use crate::platings::PlatingKind;
+use crate::state::DrillState;
 use drill_lines::{Coordinates, DrillCommand, LineReader};
 use grid_units::{Fail, Fault, ItemFail, LINE_LIMIT, Profile, Reason};
 use memchr::memchr;
@@ -36,7 +36,7 @@ const TEXT_LIMIT: u64 = grid_units::TEXT_LIMIT as u64;
 #[derive(Drop)]
 struct Progress {
     reader: LineReader,
-    judge: Judge,
+    state: DrillState,
     kept: KeptCommands,
     line: Vec<u8>,
     start: u64,
@@ -74,12 +74,12 @@ fn keep(
     place: u64,
     byte: u64,
     command: DrillCommand,
-    judge: &mut Judge,
+    state: &mut DrillState,
     kept: &mut KeptCommands,
 ) -> Result<(), Fail>
-    ensures { (plating : TheKind) (keep : TheKeep) (before : List TheCommand) → HasRead judge.old kept.old plating keep before → ResultsIn result judge.new kept.new plating keep (with_place place byte (checked_by (rule_in plating) before (Some command))) }
+    ensures { (plating : TheKind) (keep : TheKeep) (before : List TheCommand) → HasRead state.old kept.old plating keep before → ResultsIn result state.new kept.new plating keep (with_place place byte (checked_by (rule_in plating) before (Some command))) }
 {
-    match judge.step(&command) {
+    match state.step(&command) {
         Ok(()) => {
             kept.add(command)?;
             Ok(())
@@ -95,15 +95,15 @@ fn parse_line(
     byte: u64,
     line: &[u8],
     reader: &mut LineReader,
-    judge: &mut Judge,
+    state: &mut DrillState,
     kept: &mut KeptCommands,
 ) -> Result<(), Fail>
     requires short { length line.now ≤ line_limit }
-    ensures { (kind : Kind) (keep : TheKeep) (earlier : List (List ℕ)) (before : List TheCommand) → place ≡ suc (length earlier) → byte ≡ length (bytes_of earlier) → HasReadIn reader.old judge.old kept.old kind keep earlier before → ResultsInLine result reader.new judge.new kept.new kind keep earlier line.now (spelled_in kind earlier line.now before) }
+    ensures { (kind : Kind) (keep : TheKeep) (earlier : List (List ℕ)) (before : List TheCommand) → place ≡ suc (length earlier) → byte ≡ length (bytes_of earlier) → HasReadIn reader.old state.old kept.old kind keep earlier before → ResultsInLine result reader.new state.new kept.new kind keep earlier line.now (spelled_in kind earlier line.now before) }
 {
-    match reader.read(judge.settings(), line) {
+    match reader.read(state.settings(), line) {
         Ok(None) => Ok(()),
-        Ok(Some(command)) => keep(place, byte, command, judge, kept),
+        Ok(Some(command)) => keep(place, byte, command, state, kept),
         Err(ItemFail::Memory) => Err(Fail::Memory),
         Err(ItemFail::Refused(reason)) => Err(refusal(place, byte, reason)),
     }
@@ -122,7 +122,7 @@ impl Progress {
     {
         Progress {
             reader: LineReader::new(alloc, profile),
-            judge: Judge::new(alloc, plating),
+            state: DrillState::new(alloc, plating),
             kept: KeptCommands::new(alloc, keep),
             line: Vec::new(alloc),
             start: 0,
@@ -159,7 +159,7 @@ impl Progress {
             self.start,
             &self.line,
             &mut self.reader,
-            &mut self.judge,
+            &mut self.state,
             &mut self.kept,
         )?;
         self.line.clear();
@@ -184,7 +184,7 @@ impl Progress {
             self.start,
             line,
             &mut self.reader,
-            &mut self.judge,
+            &mut self.state,
             &mut self.kept,
         )?;
         self.lines += 1;
@@ -196,7 +196,7 @@ impl Progress {
     /// Reads the hit at the start of the bytes, with the LF of its line.
     fn take_hit(&mut self, point: Coordinates, len: usize, bytes: &[u8]) -> Result<(), Fail>
         requires leads { HasLeadingHit point len bytes.now }
-        requires body { self.old.judge.state.settings.part ≡ part.Body }
+        requires body { self.old.state.settings.part ≡ part.Body }
         requires drilling { self.old.reader.route ≡ route.Free false }
         requires empty { self.old.line.items ≡ [] }
         requires room { self.old.offset + length bytes.now ≤ text_limit }
@@ -208,7 +208,7 @@ impl Progress {
             self.lines + 1,
             self.start,
             DrillCommand::Hit(point),
-            &mut self.judge,
+            &mut self.state,
             &mut self.kept,
         )?;
         self.lines += 1;
@@ -240,7 +240,7 @@ impl Progress {
         ensures ok { IfOk result (λ n. Advances self.old self.new (take n bytes.now)) }
         ensures err { IfErr result (Refuses self.old bytes.now) }
     {
-        if self.line.is_empty() && self.judge.is_in_body() && self.reader.may_drill() {
+        if self.line.is_empty() && self.state.is_in_body() && self.reader.may_drill() {
             if let Some((point, len)) = leading_hit(bytes) {
                 self.take_hit(point, len, bytes)?;
                 return Ok(len + 1);
@@ -295,7 +295,7 @@ impl Progress {
 
     /// Reads the rest of the text, which no LF has ended, as a line, if it has a byte.
     fn end(&mut self) -> Result<(), Fail>
-        ensures results_in { (kind : Kind) (keep : TheKeep) (text : List ℕ) (h : Holds self.old kind keep text) → ResultsIn result self.new.judge self.new.kept kind.plating keep (with_rest kind h.lines self.old.line.items h.commands) }
+        ensures results_in { (kind : Kind) (keep : TheKeep) (text : List ℕ) (h : Holds self.old kind keep text) → ResultsIn result self.new.state self.new.kept kind.plating keep (with_rest kind h.lines self.old.line.items h.commands) }
         ensures same { OnOk result ((self.new.lines ≡ self.old.lines) × (self.new.line.items ≡ self.old.line.items) × (self.new.offset ≡ self.old.offset)) }
     {
         if self.line.is_empty() {
@@ -306,19 +306,19 @@ impl Progress {
             self.start,
             &self.line,
             &mut self.reader,
-            &mut self.judge,
+            &mut self.state,
             &mut self.kept,
         )
     }
 
     /// The drill file, or the fault of the text that ends here.
     fn finish(self) -> Result<Drill, Fail>
-        ensures { (kind : Kind) (keep : TheKeep) (text : List ℕ) → Holds self kind keep text → Answers (λ drill. drill) (ReadsAsBy kind (file_of keep) text) result }
+        ensures { (kind : Kind) (keep : TheKeep) (text : List ℕ) → Holds self kind keep text → Answers (λ drill. drill) (ReadsAsBy kind (file_of kind.plating keep) text) result }
     {
         let mut last = self;
         last.end()?;
         if last.kept.is_finished() {
-            return Ok(Drill::new(last.judge, last.kept));
+            return Ok(Drill::new(last.state, last.kept));
         }
         Err(refusal(last.place_after(), last.offset, Reason::Truncated))
     }
@@ -333,9 +333,8 @@ pub struct DrillReader {
 
 impl DrillReader {
     ghost use Rattle.std.specs.Prelude.{List, Some, Ok, Err, [], ◌++◌};
-    ghost use Rattle.drill_text.specs.Reading.{Shows};
     ghost use Rattle.grid_units.specs.Results.{IfFault};
-    ghost use Rattle.drill_text.specs.Profiles.{ShowsBy, ShowsIn};
+    ghost use Rattle.drill_text.specs.Profiles.{ShowsBy};
     ghost use Rattle.drill_text.specs.Holding.{StandsAfter, StandsBy, StandsIn, failure};
 
     /// A reader that has read nothing, and keeps the commands.
@@ -376,12 +375,8 @@ impl DrillReader {
     ///
     /// The fault that the text so far shows, whatever follows it, or [`Fail::Memory`].
     pub fn feed(&mut self, piece: &[u8]) -> Result<(), Fail>
-        ensures ok { (keep : TheKeep) (text : List ℕ) → StandsAfter self.old keep text → OnOk result (StandsAfter self.new keep (text ++ piece.now)) }
-        ensures err { (keep : TheKeep) (text : List ℕ) → StandsAfter self.old keep text → IfErr result (IfFault (λ f. Shows (text ++ piece.now) (Err f))) }
-        ensures ok_in { (profile : TheProfile) (keep : TheKeep) (text : List ℕ) → StandsIn self.old profile keep text → OnOk result (StandsIn self.new profile keep (text ++ piece.now)) }
-        ensures err_in { (profile : TheProfile) (keep : TheKeep) (text : List ℕ) → StandsIn self.old profile keep text → IfErr result (IfFault (λ f. ShowsIn profile (text ++ piece.now) (Err f))) }
-        ensures ok_by { (kind : Kind) (keep : TheKeep) (text : List ℕ) → StandsBy self.old kind keep text → OnOk result (StandsBy self.new kind keep (text ++ piece.now)) }
-        ensures err_by { (kind : Kind) (keep : TheKeep) (text : List ℕ) → StandsBy self.old kind keep text → IfErr result (IfFault (λ f. ShowsBy kind (text ++ piece.now) (Err f))) }
+        ensures ok { (kind : Kind) (keep : TheKeep) (text : List ℕ) → StandsBy self.old kind keep text → OnOk result (StandsBy self.new kind keep (text ++ piece.now)) }
+        ensures err { (kind : Kind) (keep : TheKeep) (text : List ℕ) → StandsBy self.old kind keep text → IfErr result (IfFault (λ f. ShowsBy kind (text ++ piece.now) (Err f))) }
         ensures failed { IfSome (failure self.old) (λ e. result ≡ Err e) }
         ensures fails { IfErr result (λ e. failure self.new ≡ Some e) }
     {
@@ -401,9 +396,8 @@ impl DrillReader {
     ///
     /// The fault of the whole text, or [`Fail::Memory`].
     pub fn finish(self) -> Result<Drill, Fail>
-        ensures exact { (keep : TheKeep) (text : List ℕ) → StandsAfter self keep text → Answers (λ drill. drill) (ReadsAs (file_of keep) text) result }
-        ensures exact_in { (profile : TheProfile) (keep : TheKeep) (text : List ℕ) → StandsIn self profile keep text → Answers (λ drill. drill) (ReadsAsIn profile (file_of keep) text) result }
-        ensures exact_by { (kind : Kind) (keep : TheKeep) (text : List ℕ) → StandsBy self kind keep text → Answers (λ drill. drill) (ReadsAsBy kind (file_of keep) text) result }
+        ensures exact { (keep : TheKeep) (text : List ℕ) → StandsAfter self keep text → Answers (λ drill. drill) (ReadsAs (file_of plating.Stated keep) text) result }
+        ensures exact_by { (kind : Kind) (keep : TheKeep) (text : List ℕ) → StandsBy self kind keep text → Answers (λ drill. drill) (ReadsAsBy kind (file_of kind.plating keep) text) result }
         ensures sayable { (text : List ℕ) → StandsAfter self keep.Commands text → IfOk result (λ drill. drill_sayable drill.commands ≡ true) }
         ensures failed { IfSome (failure self) (λ e. result ≡ Err e) }
     {
@@ -419,7 +413,7 @@ pub fn read_drill(alloc: Global, bytes: &[u8]) -> Result<Drill, Fail>
     ensures exact { Answers commands_in (Reads bytes.now) result }
     ensures found { IfOk result (λ drill. IsDrillText bytes.now drill.commands) }
     ensures only { (commands : List TheCommand) → IsDrillText bytes.now commands → Answers commands_in (λ answer. answer ≡ Ok commands) result }
-    ensures file { IfOk result (λ drill. drill ≡ file_of keep.Commands drill.commands) }
+    ensures file { IfOk result (λ drill. drill ≡ file_of plating.Stated keep.Commands drill.commands) }
     ensures sayable { IfOk result (λ drill. drill_sayable drill.commands ≡ true) }
 {
     let mut reader = DrillReader::new(alloc);

@@ -1,12 +1,14 @@
-//! The state of a drill file: it meets the commands one by one, and answers which rule of every drill file a command breaks first.
+//! The state of a drill file: it meets the commands one by one, and answers which rule a command breaks first.
 
 ghost use Rattle.std.specs.Prelude.{◌≡◌, nat_eq};
 ghost use Rattle.std.specs.Option.{option_and_then};
 ghost use Rattle.indexmap.specs.IndexMap.{get};
 ghost use Rattle.drill_text.specs.Rules.{same_unit, same_zeros, same_format};
 
+use crate::platings::{PlatingKind, PlatingWords, Tool, calls_plated};
 use drill_lines::{
-    Coordinates, DrillCommand, DrillFormat, OptionalDec, Part, Settings, file_format,
+    Coordinates, DrillCommand, DrillFormat, OptionalDec, Part, Plating, Settings, file_format,
+    said_plating,
 };
 use grid_units::{Dec, Hole, ItemFail, Point, Reason, Text, Unit, Zeros};
 use indexmap::IndexMap;
@@ -15,37 +17,40 @@ use std::alloc::{AllocError, Global};
 /// The greatest number of holes in a drill file.
 const MAX_HOLES: usize = 1_048_576;
 
-/// What the commands so far say to the next one, and the holes that they drill.
+/// What the commands so far say to the next one, the holes that they drill, and of each hole of a mixed file whether it is plated.
 #[derive(Drop)]
 pub(crate) struct DrillState {
     settings: Settings,
     header_ended: bool,
-    tools: IndexMap<u16, Dec>,
+    tools: IndexMap<u16, Tool>,
     tool: Option<u16>,
     // Held beside `tools` and `tool`, so that no hole looks its tool up.
-    diameter: Option<Dec>,
+    picked: Option<Tool>,
     x: OptionalDec,
     y: OptionalDec,
+    words: PlatingWords,
     holes: Vec<Hole>,
-    ghost picked: { diameter ≡ option_and_then (λ number. get nat_eq tools number) tool },
+    plated: Vec<bool>,
+    ghost picked_is: { picked ≡ option_and_then (λ number. get nat_eq tools number) tool },
 }
 
 impl DrillState {
-    ghost use Rattle.std.specs.Prelude.{◌≡◌, [], ◌∷◌, ◌++◌, List, OnOk, IfOk, IfErr, length, Some, None, Ok, true, false};
-    ghost use Rattle.grid_units.specs.declared.item_fail.ItemFail.TheVariants.{Memory};
+    ghost use Rattle.std.specs.Prelude.{◌≡◌, ◌&&◌, [], ◌∷◌, ◌++◌, List, OnOk, IfOk, length, Some, None, Ok, is_some, true, false};
     ghost use Rattle.std.specs.Option.{option_or};
     ghost use Rattle.std.specs.List.{find};
     ghost use Rattle.drill_lines.specs.declared.command.DrillCommand.{DrillCommand as TheCommand};
     ghost use Rattle.drill_lines.specs.declared.command.DrillCommand.TheVariants as command;
     ghost use Rattle.drill_lines.specs.declared.command.Part.TheVariants as part;
     ghost use Rattle.grid_units.specs.declared.fault.Reason.TheVariants as reason;
+    ghost use Rattle.drill_text.specs.Plating.{plating_set};
+    ghost use Rattle.drill_text.specs.declared.platings.PlatingKind.{PlatingKind as TheKind};
     ghost use Rattle.drill_text.specs.Rules.{first_broken, applies, rules, differs, same_unit, same_zeros, same_format, picks_unknown_tool, drills, has_no_tool};
     ghost use Rattle.drill_text.specs.Holes.{unit_or};
-    ghost use Rattle.drill_text.specs.Inner.StateSteps.{state_of, IsStateAfter, Applies, AppliesOrRefuses, DrillsOrRefuses, given, moved, drill_path, length_in, point_in, width_of, IsWidth, no_point, hole_between, hole_in, round_hole};
+    ghost use Rattle.drill_text.specs.Inner.StateSteps.{state_of, AddsOrRefuses, IsStateAfter, Applies, AppliesOrRefuses, DrillsOrRefuses, MarksOrRefuses, own_broken, picked_plating, given, moved, drill_path, length_in, point_in, width_of, IsWidth, no_point, hole_between, hole_in, round_hole};
 
-    /// A judge that has met no command.
-    pub(crate) fn new(alloc: Global) -> DrillState
-        ensures { IsStateAfter result [] }
+    /// The state before the first command, in a file whose platings are known so.
+    pub(crate) fn new(alloc: Global, kind: PlatingKind) -> DrillState
+        ensures { IsStateAfter result kind [] }
     {
         let settings = Settings {
             part: Part::Before,
@@ -58,10 +63,12 @@ impl DrillState {
             header_ended: false,
             tools: IndexMap::new(alloc),
             tool: None,
-            diameter: None,
+            picked: None,
             x: OptionalDec::new(None),
             y: OptionalDec::new(None),
+            words: PlatingWords::new(kind),
             holes: Vec::new(alloc),
+            plated: Vec::new(alloc),
         }
     }
 
@@ -79,17 +86,23 @@ impl DrillState {
         matches!(self.settings.part, Part::Body)
     }
 
-    /// The holes and the tools of the commands that were taken in.
-    pub(crate) fn into_parts(self) -> (Vec<Hole>, IndexMap<u16, Dec>)
-        ensures { result ≡ (self.holes, self.tools) }
+    /// The holes of the commands that were taken in, what is known of their platings, and the tools.
+    pub(crate) fn into_parts(self) -> (Vec<Hole>, Vec<bool>, PlatingWords, IndexMap<u16, Tool>)
+        ensures { result ≡ (self.holes, self.plated, self.words, self.tools) }
     {
-        let DrillState { holes, tools, .. } = self;
-        (holes, tools)
+        let DrillState {
+            holes,
+            plated,
+            words,
+            tools,
+            ..
+        } = self;
+        (holes, plated, words, tools)
     }
 
     /// Checks one more command, and takes it in if it breaks no rule.
     pub(crate) fn step(&mut self, command: &DrillCommand) -> Result<(), ItemFail>
-        ensures { (before : List TheCommand) → IsStateAfter self.old before → AppliesOrRefuses before command.now self.new result }
+        ensures { (kind : TheKind) (before : List TheCommand) → IsStateAfter self.old kind before → AppliesOrRefuses kind before command.now self.new result }
     {
         match command {
             DrillCommand::Hit(point) => self.drill_hit(point),
@@ -101,16 +114,19 @@ impl DrillState {
     /// Checks a command that drills nothing, and takes it in if it breaks no rule.
     fn apply_checked(&mut self, command: &DrillCommand) -> Result<(), ItemFail>
         requires { drills command.now ≡ false }
-        ensures { (before : List TheCommand) → IsStateAfter self.old before → AppliesOrRefuses before command.now self.new result }
+        ensures { (kind : TheKind) (before : List TheCommand) → IsStateAfter self.old kind before → AppliesOrRefuses kind before command.now self.new result }
     {
         if let Some(reason) = self.broken_rule(command) {
+            return Err(ItemFail::Refused(reason));
+        }
+        if let Some(reason) = self.own_rule(command) {
             return Err(ItemFail::Refused(reason));
         }
         self.take(command)?;
         Ok(())
     }
 
-    /// The first rule that a command breaks, if the command drills nothing.
+    /// The first rule of every file that a command breaks, if the command drills nothing.
     #[tactic(auto, unfolding(crate::specs::Rules::first_broken))]
     fn broken_rule(&self, command: &DrillCommand) -> Option<Reason>
         requires { drills command.now ≡ false }
@@ -208,17 +224,40 @@ impl DrillState {
         number != 0 && !self.tools.contains_key(&number)
     }
 
+    /// The rule that files of this kind have beside the others, if a command breaks it that drills nothing.
+    fn own_rule(&self, command: &DrillCommand) -> Option<Reason>
+        requires { drills command.now ≡ false }
+        ensures { result ≡ own_broken self.now.words.kind self.now.header_ended (picked_plating self.now) command.now }
+    {
+        match self.words.kind {
+            PlatingKind::Stated => None,
+            PlatingKind::Unplated => calls_plated(command).then_some(Reason::PlatingConflict),
+            PlatingKind::Mixed => self.speaks_late(command).then_some(Reason::NoPlating),
+        }
+    }
+
+    /// Whether a command is a comment on tools after the header.
+    fn speaks_late(&self, command: &DrillCommand) -> bool
+        ensures { result ≡ (is_some (plating_set command.now) && self.now.header_ended) }
+    {
+        match command {
+            DrillCommand::Comment(text) => {
+                said_plating(text.bytes()).is_some() && self.header_ended
+            }
+            _ => false,
+        }
+    }
+
     /// Applies a command that drills nothing.
     fn take(&mut self, command: &DrillCommand) -> Result<(), AllocError>
         requires { drills command.now ≡ false }
         ensures { OnOk result (Applies self.old command.now self.new) }
     {
         match command {
-            DrillCommand::Comment(text) => self.apply_settings(
-                None,
-                None,
-                file_format(text.bytes()),
-            ),
+            DrillCommand::Comment(text) => {
+                self.apply_settings(None, None, file_format(text.bytes()));
+                self.words.hear(text.bytes());
+            }
             DrillCommand::Start => self.settings.part = Part::Header,
             DrillCommand::UnitLine(unit, zeros, format) => self.apply_settings(
                 Some(*unit),
@@ -226,8 +265,12 @@ impl DrillState {
                 *format,
             ),
             DrillCommand::Tool(number, diameter) => {
-                self.tools.insert(*number, *diameter)?;
-                self.diameter = diameter_of(&self.tools, self.tool);
+                let tool = Tool {
+                    diameter: *diameter,
+                    plating: self.words.said,
+                };
+                self.tools.insert(*number, tool)?;
+                self.picked = picked(&self.tools, self.tool);
             }
             DrillCommand::HeaderEnd => {
                 self.settings.part = Part::Body;
@@ -236,7 +279,7 @@ impl DrillState {
             DrillCommand::UnitCode(unit) => self.apply_settings(Some(*unit), None, None),
             DrillCommand::Pick(number) => {
                 self.tool = Some(*number);
-                self.diameter = diameter_of(&self.tools, self.tool);
+                self.picked = picked(&self.tools, self.tool);
             }
             DrillCommand::Finish => self.settings.part = Part::After,
             DrillCommand::Hit(_) | DrillCommand::Slot(_, _) => {}
@@ -252,8 +295,10 @@ impl DrillState {
         format: Option<DrillFormat>,
     )
         ensures state_of { state_of self.new ≡ given unit zeros format (state_of self.old) }
-        ensures holes { self.new.holes.items ≡ self.old.holes.items }
-        ensures tools { self.new.tools.entries ≡ self.old.tools.entries }
+        ensures holes { self.new.holes ≡ self.old.holes }
+        ensures plated { self.new.plated ≡ self.old.plated }
+        ensures tools { self.new.tools ≡ self.old.tools }
+        ensures words { self.new.words ≡ self.old.words }
     {
         if self.header_ended {
             return;
@@ -316,16 +361,57 @@ impl DrillState {
         self.hole_between(width, from, to)
     }
 
-    /// Adds a hole, if there is memory for it.
+    /// Adds a hole, unless it breaks the rule of mixed files.
     fn add(&mut self, hole: Hole) -> Result<(), ItemFail>
         ensures state_of { state_of self.new ≡ state_of self.old }
         ensures tools { self.new.tools ≡ self.old.tools }
-        ensures holes { OnOk result (self.new.holes.items ≡ self.old.holes.items ++ hole ∷ []) }
-        ensures err { IfErr result (λ e. e ≡ Memory) }
+        ensures words { self.new.words ≡ self.old.words }
+        ensures added { AddsOrRefuses self.old hole self.new result }
     {
+        if matches!(self.words.kind, PlatingKind::Mixed) {
+            self.mark()?;
+        }
         match self.holes.push(hole) {
             Ok(()) => Ok(()),
             Err(_) => Err(ItemFail::Memory),
+        }
+    }
+
+    /// Marks the next hole as plated or not, as its tool is, or refuses it where nothing is said of that.
+    fn mark(&mut self) -> Result<(), ItemFail>
+        ensures state_of { state_of self.new ≡ state_of self.old }
+        ensures tools { self.new.tools ≡ self.old.tools }
+        ensures words { self.new.words ≡ self.old.words }
+        ensures holes { self.new.holes ≡ self.old.holes }
+        ensures marked { MarksOrRefuses self.old self.new result }
+    {
+        let plating = self.plating();
+        if matches!(plating, Plating::Unsaid) {
+            return Err(ItemFail::Refused(Reason::NoPlating));
+        }
+        match self.plated.push(matches!(plating, Plating::Plated)) {
+            Ok(()) => Ok(()),
+            Err(_) => Err(ItemFail::Memory),
+        }
+    }
+
+    /// What the holes of the picked tool are.
+    fn plating(&self) -> Plating
+        ensures { result ≡ picked_plating self.now }
+    {
+        match self.picked {
+            Some(tool) => tool.plating,
+            None => Plating::Unsaid,
+        }
+    }
+
+    /// The diameter of the picked tool, in the unit of the file.
+    fn diameter(&self) -> Option<Dec>
+        ensures { result ≡ option_and_then (state_of self.now).diameter self.now.tool }
+    {
+        match self.picked {
+            Some(tool) => Some(tool.diameter),
+            None => None,
         }
     }
 
@@ -344,7 +430,10 @@ impl DrillState {
     fn move_to(&mut self, point: &Coordinates)
         ensures state_of { state_of self.new ≡ moved point.now (state_of self.old) }
         ensures holes { self.new.holes ≡ self.old.holes }
+        ensures plated { self.new.plated ≡ self.old.plated }
         ensures tools { self.new.tools ≡ self.old.tools }
+        ensures words { self.new.words ≡ self.old.words }
+        ensures picked { self.new.picked ≡ self.old.picked }
     {
         self.x = point.x.or(self.x);
         self.y = point.y.or(self.y);
@@ -392,15 +481,15 @@ impl DrillState {
         if self.has_no_tool() {
             return Err(Reason::NoTool);
         }
-        match self.diameter {
+        match self.diameter() {
             Some(diameter) if diameter.units() > 0 => diameter.picometres(self.unit()),
             _ => Err(Reason::BadSize),
         }
     }
 }
 
-/// The diameter of the picked tool, in the unit of the file.
-fn diameter_of(tools: &IndexMap<u16, Dec>, tool: Option<u16>) -> Option<Dec>
+/// The picked tool, if it is defined.
+fn picked(tools: &IndexMap<u16, Tool>, tool: Option<u16>) -> Option<Tool>
     ensures { result ≡ option_and_then (λ number. get nat_eq tools.now number) tool }
 {
     match tool {

@@ -11,7 +11,7 @@ use Rattle.macro_shapes.specs.Primitives.{quarter_turns}
 use Rattle.gerber_commands.specs.declared.command.StepRepeat.{StepRepeat}
 use Rattle.gerber_commands.specs.declared.command.Command.{Command}
 use Rattle.gerber_commands.specs.declared.command.Command.TheVariants as command
-use Rattle.gerber_extended.specs.Pieces.{unit_scale}
+use Rattle.gerber_items.specs.Pieces.{unit_scale}
 use Rattle.layer_image.specs.declared.flash.Why.{Why}
 use Rattle.layer_image.specs.declared.flash.Why.TheVariants as why
 use Rattle.layer_image.specs.Drawn.{DrawState, draw_state_after, draw_unit, selected_aperture, shape_in}

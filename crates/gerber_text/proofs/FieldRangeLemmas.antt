@@ -1,5 +1,5 @@
--- The ranges of numbers that are read, and of the fields that they stand in.
-use Rattle.std.proofs.Common.{◌≡◌, ℕ, zero, suc, ◌+◌, ◌-◌, ◌*◌, ◌<◌, ◌≤◌, ◌^◌, Bool, true, false, cond, not, ◌||◌, ◌&&◌, eqb, leb, ltb, List, [], ◌∷◌, length, take, drop, ℤ, pos, Option, Some, None, is_some, Result, Ok, Err, refl, sym, ap, ◌∙◌, arith}
+-- The ranges of numbers that are read.
+use Rattle.std.proofs.Common.{◌≡◌, ℕ, zero, suc, ◌+◌, ◌-◌, ◌*◌, ◌<◌, ◌≤◌, ◌^◌, Bool, true, false, cond, not, ◌&&◌, eqb, leb, ltb, List, [], ◌∷◌, length, take, drop, ℤ, pos, Result, Ok, Err, refl, sym, ap, ◌∙◌, arith}
 use Rattle.std.proofs.Math.Nat.{pow-le-pow_right}
 use Rattle.std.specs.Prelude.{unsigned_abs, neg_ℤ, decimal}
 use Rattle.std.specs.List.{list_all, prefix_len, AllByRecursion}
@@ -8,40 +8,36 @@ use Rattle.std.proofs.lemmas.List.Elements.{All-from_recursion}
 use Rattle.std.proofs.lemmas.Fmt.{length-decimal-le}
 use Rattle.std.proofs.lemmas.Bool.{leb-true, le-leb, lt-ltb, ltb-false}
 use Rattle.grid_units.specs.declared.fault.Reason.{Reason}
-use Rattle.grid_units.specs.declared.fault.Reason.TheVariants.{BadWord, BadNumber, TooManyDigits, TooFine, TooFar}
+use Rattle.grid_units.specs.declared.fault.Reason.TheVariants.{BadNumber, TooManyDigits, TooFine, TooFar}
 use Rattle.grid_units.specs.Numbers.{is_digit, is_digits, value, without_sign, is_negative, signed, to_units, whole, fraction, is_decimal, fits_eight_decimals, value_without_point, parse_decimal, max_units}
-use Rattle.grid_units.proofs.ResultLemmas.{bind_ok}
 use Rattle.grid_units.proofs.DigitLemmas.{value_lt, to_units_is, filled_lt}
-use Rattle.gerber_commands.specs.declared.command.Action.{Action}
-use Rattle.gerber_commands.specs.declared.command.Action.TheVariants.{Plot, Move, Flash}
 use Rattle.gerber_commands.specs.Numbers.{significant_digits, int_of, nat_of}
-use Rattle.gerber_words.specs.Words.{action, coordinate, action_with, kind, is_plot}
 use Rattle.gerber_commands.proofs.NumberLemmas.{value_significant}
-use Rattle.gerber_text.specs.Sayable.{is_nat, is_int, is_optional_int, is_dec}
-use Rattle.grid_units.proofs.BoolLemmas.{and_true, both_true, not_false}
+use Rattle.gerber_text.specs.Sayable.{is_nat, is_int, is_dec}
+use Rattle.grid_units.proofs.BoolLemmas.{and_true, both_true}
 
 -- ---- what a test let through
 
-pub guarded : {A : Type 0} (t : Bool) (x y : A) (e : Reason) → cond t (Ok x) (Err e) ≡ Ok y → (t ≡ true) × (x ≡ y)
+guarded : {A : Type 0} (t : Bool) (x y : A) (e : Reason) → cond t (Ok x) (Err e) ≡ Ok y → (t ≡ true) × (x ≡ y)
 guarded true x y e h = (refl, cc)
 guarded false x y e h = absurd cc
 
-pub refused : {A : Type 0} (t : Bool) (r : Result A Reason) (y : A) (e : Reason) → cond t (Err e) r ≡ Ok y → (t ≡ false) × (r ≡ Ok y)
+refused : {A : Type 0} (t : Bool) (r : Result A Reason) (y : A) (e : Reason) → cond t (Err e) r ≡ Ok y → (t ≡ false) × (r ≡ Ok y)
 refused true r y e h = absurd cc
 refused false r y e h = (refl, h)
 
-pub allowed : {A : Type 0} (t : Bool) (r : Result A Reason) (y : A) (e : Reason) → cond t r (Err e) ≡ Ok y → (t ≡ true) × (r ≡ Ok y)
+allowed : {A : Type 0} (t : Bool) (r : Result A Reason) (y : A) (e : Reason) → cond t r (Err e) ≡ Ok y → (t ≡ true) × (r ≡ Ok y)
 allowed true r y e h = (refl, h)
 allowed false r y e h = absurd cc
 
 -- ---- parts of lists that pass a test
 
-pub all_drop : {A : Type 0} (p : A → Bool) (n : ℕ) (xs : List A) → list_all p xs ≡ true → list_all p (drop n xs) ≡ true
+all_drop : {A : Type 0} (p : A → Bool) (n : ℕ) (xs : List A) → list_all p xs ≡ true → list_all p (drop n xs) ≡ true
 all_drop p zero xs h = h
 all_drop p (suc n) [] h = refl
 all_drop p (suc n) (x ∷ xs) h = all_drop p n xs (both_true (p x) (list_all p xs) h).1
 
-pub all_take : {A : Type 0} (p : A → Bool) (n : ℕ) (xs : List A) → list_all p xs ≡ true → list_all p (take n xs) ≡ true
+all_take : {A : Type 0} (p : A → Bool) (n : ℕ) (xs : List A) → list_all p xs ≡ true → list_all p (take n xs) ≡ true
 all_take p zero xs h = refl
 all_take p (suc n) [] h = refl
 all_take p (suc n) (x ∷ xs) h = let k = both_true (p x) (list_all p xs) h in and_true (p x) (list_all p (take n xs)) k.0 (all_take p n xs k.1)
@@ -117,38 +113,3 @@ was_dec text v e =
     let scaled : value w * 10 ^ 8 ≤ 999999 * 10 ^ 8 = omega (arith, low) in
     let abs : unsigned_abs v ≡ m = ap unsigned_abs (sym same) ∙ signed_abs (is_negative text) m in
     le-leb (unsigned_abs v) max_units (omega (arith, abs, is, lt, scaled))
-
--- ---- coordinates and operations
-
-pub was_coordinate : (run : Option (List ℕ)) (v : Option ℤ) → coordinate run ≡ Ok v → (is_optional_int v ≡ true) × (is_some v ≡ is_some run)
-unfolding coordinate
-was_coordinate None v e = let same : None ≡ v = cc in (ap is_optional_int (sym same), ap is_some (sym same))
-was_coordinate (Some run) v e =
-    let b = bind_ok (int_of run) (λ n. Ok (Some n)) v e in
-    let same : Some b.0 ≡ v = cc in
-    (ap is_optional_int (sym same) ∙ was_int run b.0 b.1, ap is_some (sym same))
-
-pub or_true : (t : Bool) → (t || true) ≡ true
-or_true true = refl
-or_true false = refl
-
-was_plot : (t : Bool) (rest : Result Action Reason) (a : Action) → cond t (Ok Plot) rest ≡ Ok a → t ≡ true → is_plot a ≡ true
-was_plot true rest a e h = let same : Plot ≡ a = let o : Ok Plot ≡ Ok a = e in cc in ap is_plot (sym same)
-was_plot false rest a e h = absurd cc
-
-was_action : (t : Bool) (n : ℕ) (a : Action) → action_with t n ≡ Ok a → (is_plot a || not t) ≡ true
-was_action false n a e = or_true (is_plot a)
-was_action true n a e =
-    let b = bind_ok (action n) (λ what. cond (not (eqb n 1)) (Err BadWord) (Ok what)) a e in
-    let r = refused (not (eqb n 1)) (Ok b.0) a BadWord b.2 in
-    let same : b.0 ≡ a = let o : Ok b.0 ≡ Ok a = r.1 in cc in
-    let plot : is_plot b.0 ≡ true = was_plot (eqb n 1) (cond (eqb n 2) (Ok Move) (cond (eqb n 3) (Ok Flash) (Err BadWord))) b.0 b.1 (not_false (eqb n 1) r.0) in
-    ap (λ u. u || false) (ap is_plot (sym same) ∙ plot)
-
-bare_plot : (plotting : Bool) (e : Reason) (a : Action) → cond plotting (Ok Plot) (Err e) ≡ Ok a → is_plot a ≡ true
-bare_plot plotting e a h = let g = guarded plotting Plot a e h in ap is_plot (sym g.1)
-
-pub was_kind : (plotting t : Bool) (digits : Option (List ℕ)) (a : Action) → kind plotting t digits ≡ Ok a → (is_plot a || not t) ≡ true
-unfolding kind
-was_kind plotting t None a e = ap (λ u. u || not t) (bare_plot plotting _ a e)
-was_kind plotting t (Some digits) a e = let b = bind_ok (nat_of digits) (action_with t) a e in was_action t b.0 a b.2

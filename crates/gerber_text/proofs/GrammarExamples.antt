@@ -11,9 +11,9 @@ use Rattle.gerber_commands.specs.declared.command.Standard.TheVariants.{Rectangl
 use Rattle.gerber_commands.specs.declared.command.Template.TheVariants as templates
 use Rattle.grid_units.specs.declared.profile.Profile.TheVariants.{Strict, Wide}
 use Rattle.gerber_commands.specs.Numbers.{int_of, nat_of}
-use Rattle.gerber_extended.proofs.GrammarExamples.{format, millimetres}
+use Rattle.gerber_items.proofs.PieceExamples.{format, millimetres}
 use Rattle.gerber_text.specs.Reading.{may_follow}
-use Rattle.gerber_words.specs.Words.{no_effect_row, split_mode, mode_row, quadrant_row, region_row, unit_row, incremental_row, select_row, fields, operation_row, finish_row, word}
+use Rattle.gerber_items.specs.Words.{no_effect_row, split_mode, mode_row, quadrant_row, region_row, unit_row, incremental_row, select_row, fields, operation_row, finish_row, word}
 use Rattle.gerber_text.specs.Grammar.{IsItemFor, IsText, IsTextIn}
 use Rattle.gerber_text.specs.Items.{IsItem}
 use Rattle.gerber_text.specs.Meaning.{meaning_in}

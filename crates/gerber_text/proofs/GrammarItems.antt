@@ -1,34 +1,37 @@
 -- Items and their grammar, both ways.
-use Rattle.std.proofs.Common.{◌≡◌, ◌≢◌, inl, inr, ℕ, Bool, true, false, cond, not, ◌||◌, eqb, List, [], ◌∷◌, ◌++◌, Ok, Err, refl, sym, ap, subst, ◌∙◌, append_assoc}
-use Rattle.std.specs.List.{list_all, list_any, AllByRecursion}
+use Rattle.std.proofs.Common.{◌≡◌, ◌≢◌, inl, inr, ℕ, Bool, true, false, cond, ◌||◌, eqb, List, [], ◌∷◌, ◌++◌, Ok, Err, Contains, refl, sym, ap, subst, ◌∙◌, arith, append_assoc}
+use Rattle.std.specs.Prelude.{codes}
+use Rattle.std.specs.Str.{bytes_eq}
+use Rattle.std.specs.List.{list_any, AllByRecursion}
+use Rattle.std.proofs.lemmas.List.Elements.{All-contains, All-from_recursion}
 use Rattle.std.proofs.lemmas.List.Folds.{list_any-append}
 use Rattle.std.proofs.lemmas.Bool.{eqb-true, ne_eqb}
 use Rattle.grid_units.specs.declared.fault.Reason.TheVariants.{BadWord}
 use Rattle.grid_units.specs.declared.profile.Profile.{Profile}
 use Rattle.grid_units.specs.declared.profile.Profile.TheVariants.{Strict, Wide}
 use Rattle.gerber_commands.specs.declared.command.Command.{Command}
+use Rattle.gerber_commands.specs.declared.command.Command.TheVariants.{Finish}
 use Rattle.gerber_commands.specs.Rows.{Meaning}
-use Rattle.gerber_words.specs.Words.{word}
-use Rattle.gerber_words.proofs.Written.{word_written}
-use Rattle.gerber_words.proofs.Exact.{word_exact}
-use Rattle.gerber_extended.specs.Profiles.{extended_in, IsPieceIn}
-use Rattle.gerber_extended.specs.Grammar.{HasNo, IsPiece}
-use Rattle.gerber_extended.proofs.ProfileLemmas.{items_written_in, items_answered_in}
-use Rattle.gerber_text.specs.Items.{end_byte, IsUnfinished, IsItem}
+use Rattle.gerber_items.specs.Words.{word}
+use Rattle.gerber_items.proofs.WrittenWords.{word_written}
+use Rattle.gerber_items.proofs.Exact.{word_exact}
+use Rattle.gerber_items.specs.Profiles.{extended_in, IsPieceIn}
+use Rattle.gerber_items.specs.PieceGrammar.{HasNo, fixed_pieces, SpellsOne, IsPiece}
+use Rattle.gerber_items.specs.WordGrammar.{fixed_words, modes, IsWord}
+use Rattle.gerber_items.proofs.RowLemmas.{bytes_are}
+use Rattle.gerber_items.proofs.ProfileLemmas.{items_written_in, items_answered_in}
+use Rattle.gerber_text.specs.Items.{end_byte, IsUnfinished, IsItem, is_end_item}
 use Rattle.gerber_text.specs.Meaning.{without_end, meaning_in}
-use Rattle.gerber_text.specs.Grammar.{IsItemFor, IsItemIn}
-use Rattle.gerber_text.proofs.ItemLemmas.{without_end_push, is_inner, word_means, word_is_item, extended_means, piece_is_item}
-use Rattle.grid_units.proofs.BoolLemmas.{and_true, or_is_false}
+use Rattle.gerber_text.specs.Grammar.{IsItemFor, IsItemIn, IsEnd}
+use Rattle.gerber_text.specs.Sayable.{is_finish}
+use Rattle.gerber_text.proofs.ItemLemmas.{without_end_push, word_means, word_is_item, extended_means, piece_is_item}
+use Rattle.grid_units.proofs.BoolLemmas.{or_is_false}
 
 -- ---- bytes that are none of one kind
 
 has_none : (n : ℕ) (bytes : List ℕ) → AllByRecursion (λ b. b ≢ n) bytes → HasNo n bytes
 has_none n [] h = refl
 has_none n (b ∷ bytes) h = ap (λ t. t || list_any (λ c. eqb c n) bytes) (ne_eqb b n h.0) ∙ has_none n bytes h.1
-
-all_inner : (bytes : List ℕ) → HasNo 37 bytes → list_all is_inner bytes ≡ true
-all_inner [] h = refl
-all_inner (b ∷ bytes) h = let k = or_is_false (eqb b 37) (list_any (λ c. eqb c 37) bytes) h in and_true (is_inner b) (list_all is_inner bytes) (ap not k.0) (all_inner bytes k.1)
 
 -- ---- what is read is so written
 
@@ -71,7 +74,7 @@ item_means profile plotting item cs (inl h) =
     let no = word_has_no_percent plotting h.0 cs reads in
     subst (λ (x : List ℕ). Means profile plotting x cs) (sym h.1) (word_is_item h.0 no h.2, word_means profile plotting h.0 no ∙ reads)
 item_means profile plotting item cs (inr h) =
-    subst (λ (x : List ℕ). Means profile plotting x cs) (sym h.1) (piece_is_item h.0 (all_inner h.0 h.2), extended_means profile plotting h.0 ∙ items_answered_in profile h.0 cs h.3)
+    subst (λ (x : List ℕ). Means profile plotting x cs) (sym h.1) (piece_is_item h.0 h.2, extended_means profile plotting h.0 ∙ items_answered_in profile h.0 cs h.3)
 
 -- ---- what is so written in the strict profile is so written in each
 
@@ -82,3 +85,70 @@ piece_anywhere Wide text cs h = inr h
 pub item_anywhere : (profile : Profile) (plotting : Bool) (item : List ℕ) (cs : List Command) → IsItemFor plotting item cs → IsItemIn profile plotting item cs
 item_anywhere profile plotting item cs (inl h) = inl h
 item_anywhere profile plotting item cs (inr (text, is, percent, h)) = inr (text, is, percent, piece_anywhere profile text cs h)
+
+-- ---- the end of the text
+
+pub is_end : (item : List ℕ) → is_end_item item ≡ true → IsEnd item
+is_end item e = by (bytes_eq item (codes "M02*")) (bytes_eq item (codes "M2*")) refl refl e
+  where
+    by : (t u : Bool) → bytes_eq item (codes "M02*") ≡ t → bytes_eq item (codes "M2*") ≡ u → (t || u) ≡ true → IsEnd item
+    by true u a b h = inl (bytes_are item (codes "M02*") a)
+    by false true a b h = inr (bytes_are item (codes "M2*") b)
+    by false false a b h = absurd cc
+
+-- it is an item, which means Finish
+pub end_means : (profile : Profile) (plotting : Bool) (item : List ℕ) → IsEnd item → Means profile plotting item (Finish ∷ [])
+end_means profile plotting item (inl e) = item_means profile plotting item (Finish ∷ []) (inl (codes "M02", e, refl, inl (8, omega arith, refl)))
+end_means profile plotting item (inr e) = item_means profile plotting item (Finish ∷ []) (inl (codes "M2", e, refl, inl (9, omega arith, refl)))
+
+-- ---- where Finish stands
+
+pub other : (c : Command) → c ≢ Finish → is_finish c ≡ false
+other Finish h = absurd (h refl)
+other c h = refl
+
+no_finish : (text : List ℕ) (c : Command) → SpellsOne text c → is_finish c ≡ false
+no_finish text Finish h = absurd h
+no_finish text c h = refl
+
+words_end : AllByRecursion (λ f. list_any is_finish f.1 ≡ is_end_item (f.0 ++ codes "*")) fixed_words
+words_end = (refl, (refl, (refl, (refl, (refl, (refl, (refl, (refl, (refl, (refl, tt))))))))))
+
+modes_go_on : AllByRecursion (λ f. list_any is_finish f.1 ≡ false) (([], []) ∷ modes)
+modes_go_on = (refl, (refl, (refl, (refl, (refl, (refl, (refl, tt)))))))
+
+pieces_go_on : AllByRecursion (λ f. list_any is_finish f.1 ≡ false) fixed_pieces
+pieces_go_on = (refl, (refl, (refl, (refl, (refl, (refl, (refl, (refl, (refl, (refl, tt))))))))))
+
+form_is : (P : List ℕ × List Command → Type 0) (forms : List (List ℕ × List Command)) (form : List ℕ × List Command) → AllByRecursion P forms → Contains forms form → P form
+form_is P forms form h at = All-contains P forms form (All-from_recursion P forms h) at
+
+word_goes_on : (plotting : Bool) (w : List ℕ) (cs : List Command) → IsWord plotting w cs → is_end_item (w ++ codes "*") ≡ false → list_any is_finish cs ≡ false
+word_goes_on plotting w cs (inl at) e = form_is (λ f. list_any is_finish f.1 ≡ is_end_item (f.0 ++ codes "*")) fixed_words (w, cs) words_end at ∙ e
+word_goes_on plotting w cs (inr (inl at)) e = form_is (λ f. list_any is_finish f.1 ≡ false) modes (w, cs) modes_go_on.1 at
+word_goes_on plotting w cs (inr (inr (inl (text, is, spelled, positive, percent)))) e = ap (list_any is_finish) spelled
+word_goes_on plotting w cs (inr (inr (inr (inl (digits, n, is, read, ten, spelled))))) e = ap (list_any is_finish) spelled
+word_goes_on plotting w cs (inr (inr (inr (inr o)))) e = ap (list_any is_finish) o.is ∙ (list_any-append is_finish o.mode.1 _ ∙ ap (λ t. t || false) (form_is (λ f. list_any is_finish f.1 ≡ false) (([], []) ∷ modes) o.mode modes_go_on o.mode_is))
+
+piece_goes_on : (text : List ℕ) (cs : List Command) → IsPiece text cs → list_any is_finish cs ≡ false
+piece_goes_on text cs (inl (name, pieces, named, star, is, spelled)) = ap (list_any is_finish) spelled
+piece_goes_on text cs (inr (star, inl at)) = form_is (λ f. list_any is_finish f.1 ≡ false) fixed_pieces (text, cs) pieces_go_on at
+piece_goes_on text cs (inr (star, inr (inl (c, one, spelled)))) = ap (list_any is_finish) spelled ∙ ap (λ t. t || false) (no_finish text c one)
+piece_goes_on text cs (inr (star, inr (inr (idle, none)))) = ap (list_any is_finish) none
+
+item_goes_on : (profile : Profile) (plotting : Bool) (item : List ℕ) (cs : List Command) → IsItemIn profile plotting item cs → is_end_item item ≡ false → list_any is_finish cs ≡ false
+item_goes_on profile plotting item cs (inl (w, is, star, written)) e = word_goes_on plotting w cs written (ap is_end_item (sym is) ∙ e)
+item_goes_on Strict plotting item cs (inr (text, is, percent, written)) e = piece_goes_on text cs written
+item_goes_on Wide plotting item cs (inr (text, is, percent, inl (clear, spelled))) e = ap (list_any is_finish) spelled
+item_goes_on Wide plotting item cs (inr (text, is, percent, inr written)) e = piece_goes_on text cs written
+
+-- an item is written for Finish just where it ends the text
+pub item_ends : (profile : Profile) (plotting : Bool) (item : List ℕ) (cs : List Command) → IsItemIn profile plotting item cs → list_any is_finish cs ≡ is_end_item item
+item_ends profile plotting item cs h = by (is_end_item item) refl
+  where
+    same : (xs ys : List Command) → ◌≡◌ {A = Meaning} (Ok xs) (Ok ys) → xs ≡ ys
+    same xs ys e = cc
+
+    by : (t : Bool) → is_end_item item ≡ t → list_any is_finish cs ≡ t
+    by true e = ap (list_any is_finish) (same cs (Finish ∷ []) (sym (item_means profile plotting item cs h).1 ∙ (end_means profile plotting item (is_end item e)).1))
+    by false e = item_goes_on profile plotting item cs h e

@@ -9,7 +9,7 @@ use Rattle.grid_units.specs.declared.profile.Profile.TheVariants.{Strict}
 use Rattle.gerber_commands.specs.declared.command.AttributeKind.TheVariants as attributes
 use Rattle.gerber_commands.specs.declared.command.Command.TheVariants.{Attribute, Remove}
 use Rattle.gerber_commands.specs.Rows.{Meaning}
-use Rattle.gerber_extended.specs.Grammar.{HasNo}
+use Rattle.gerber_items.specs.PieceGrammar.{HasNo}
 use Rattle.gerber_text.specs.declared.text_items.LeadingText.{LeadingText}
 use Rattle.gerber_text.specs.declared.text_items.TextKind.{TextKind}
 use Rattle.gerber_text.specs.declared.text_items.TextKind.TheVariants as kinds

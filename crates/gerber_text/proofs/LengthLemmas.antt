@@ -20,8 +20,8 @@ use Rattle.gerber_commands.specs.declared.command.Standard.TheVariants.{Circle, 
 use Rattle.gerber_commands.specs.declared.command.Template.{Template}
 use Rattle.gerber_commands.specs.declared.command.Template.TheVariants as templates
 use Rattle.gerber_commands.specs.Negative.{is_negative_comment, is_negative_image}
-use Rattle.gerber_words.specs.Words.{is_plot}
-use Rattle.gerber_extended.specs.Pieces.{is_name, standard_template, min_sizes, max_sizes}
+use Rattle.gerber_items.specs.Words.{is_plot}
+use Rattle.gerber_items.specs.Pieces.{is_name, standard_template, min_sizes, max_sizes}
 use Rattle.gerber_commands.specs.Canonical.{canonical, coordinate_text, action_code, sizes_text, standard_name}
 use Rattle.gerber_text.specs.CutItems.{is_not_break, without_breaks}
 use Rattle.gerber_text.specs.Sayable.{is_text_byte, is_text, is_nat, is_optional_int, is_dec, is_aperture_number, is_macro_name, are_parameters, is_operation, is_block, has_valid_fields, is_short}

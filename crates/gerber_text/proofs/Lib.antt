@@ -16,7 +16,6 @@ pub mod UniqueReading
 pub mod FinishLemmas
 pub mod WriterLemmas
 pub mod FastPathLemmas
-pub mod OperationRowLemmas
 pub mod RunLemmas
 pub mod ItemLemmas
 pub mod NumberLemmas
@@ -25,9 +24,8 @@ pub mod PieceLemmas
 pub mod LengthLemmas
 pub mod CanonicalParses
 pub mod FieldRangeLemmas
-pub mod WordIsSayable
-pub mod PieceIsSayable
-pub mod ParsedIsSayable
+pub mod WrittenIsSayable
+pub mod SpelledCommands
 pub mod ProfileLemmas
 pub mod GrammarItems
 pub mod SpelledIsWritten

@@ -1,42 +1,20 @@
 -- Items in the two profiles.
-use Rattle.std.proofs.Common.{◌≡◌, ◌≢◌, ◌⊎◌, inl, inr, ℕ, suc, Bool, true, false, cond, eqb, List, [], ◌∷◌, Ok, refl, sym, ap, subst, ◌∙◌}
-use Rattle.std.specs.List.{list_any, AllByRecursion}
-use Rattle.std.proofs.lemmas.Bool.{false≢true}
+use Rattle.std.proofs.Common.{◌≡◌, ℕ, suc, Bool, true, false, cond, eqb, List, [], ◌∷◌, Ok, sym, ap, ◌∙◌}
 use Rattle.grid_units.specs.Results.{◌>>=◌}
-use Rattle.grid_units.proofs.BoolLemmas.{or_is_false}
 use Rattle.grid_units.proofs.ResultLemmas.{bind_ok}
 use Rattle.gerber_commands.specs.declared.command.Command.{Command}
-use Rattle.gerber_commands.specs.declared.command.Command.TheVariants.{Clear, Finish}
-use Rattle.grid_units.specs.declared.profile.Profile.{Profile}
 use Rattle.grid_units.specs.declared.profile.Profile.TheVariants.{Strict, Wide}
-use Rattle.gerber_words.specs.Words.{word}
-use Rattle.gerber_extended.specs.Pieces.{extended}
-use Rattle.gerber_extended.specs.Profiles.{extended_in}
-use Rattle.gerber_extended.proofs.ProfileLemmas.{wide_item, wide_reads_more as extended_reads_more}
-use Rattle.gerber_text.specs.Items.{is_end_item}
-use Rattle.gerber_text.specs.CutItems.{IsCutItem}
-use Rattle.gerber_text.specs.Sayable.{is_finish}
+use Rattle.gerber_items.specs.Words.{word}
+use Rattle.gerber_items.specs.Pieces.{extended}
+use Rattle.gerber_items.specs.Profiles.{extended_in}
+use Rattle.gerber_items.proofs.ProfileLemmas.{wide_reads_more as extended_reads_more}
 use Rattle.gerber_text.specs.Meaning.{meaning_in, without_end}
 use Rattle.gerber_text.specs.Cut.{OffsetByte, bytes_of, first_offset}
 use Rattle.gerber_text.specs.Reading.{Entries, is_plotting, spelled_in, commands_by, SpellsTextIn}
 use Rattle.gerber_text.proofs.Items.{spelled_ok}
-use Rattle.gerber_text.proofs.ParsedIsSayable.{item_parses}
-use Rattle.gerber_text.proofs.TextIsSayable.{added}
+use Rattle.gerber_text.proofs.SpelledIsWritten.{added}
 
 -- ---- one item
-
--- what an item that the wide profile reads spells: clear polarity, or what it spells in the strict profile
-pub wide_means : (plotting : Bool) (item : List ℕ) (cs : List Command) → meaning_in Wide plotting item ≡ Ok cs → (cs ≡ Clear ∷ []) ⊎ (meaning_in Strict plotting item ≡ Ok cs)
-unfolding meaning_in
-wide_means plotting [] cs e = absurd cc
-wide_means plotting (b ∷ bs) cs e = by (eqb b 37) e
-  where
-    by : (t : Bool) → cond t (extended_in Wide (without_end bs)) (word plotting (without_end (b ∷ bs))) ≡ Ok cs → (cs ≡ Clear ∷ []) ⊎ (cond t (extended (without_end bs)) (word plotting (without_end (b ∷ bs))) ≡ Ok cs)
-    by true h = elim (wide_item (without_end bs) cs h) [
-      | inl k ↦ inl k.1
-      | inr k ↦ inr k
-    ]
-    by false h = inr h
 
 -- an item that the strict profile reads, the wide one reads as the same commands
 pub means_more : (plotting : Bool) (item : List ℕ) (cs : List Command) → meaning_in Strict plotting item ≡ Ok cs → meaning_in Wide plotting item ≡ Ok cs
@@ -47,21 +25,6 @@ means_more plotting (b ∷ bs) cs e = by (eqb b 37) e
     by : (t : Bool) → cond t (extended (without_end bs)) (word plotting (without_end (b ∷ bs))) ≡ Ok cs → cond t (extended_in Wide (without_end bs)) (word plotting (without_end (b ∷ bs))) ≡ Ok cs
     by true h = extended_reads_more (without_end bs) cs h
     by false h = h
-
-other : (c : Command) → is_finish c ≡ false → c ≢ Finish
-other c h e = false≢true (sym h ∙ ap is_finish e)
-
-none_finish : (cs : List Command) → list_any is_finish cs ≡ false → AllByRecursion (λ c. c ≢ Finish) cs
-none_finish [] h = tt
-none_finish (c ∷ cs) h = let k = or_is_false (is_finish c) (list_any is_finish cs) h in (other c k.0, none_finish cs k.1)
-
--- only the end of the text spells Finish, in each profile
-pub not_finish : (profile : Profile) (plotting : Bool) (item : List ℕ) (cs : List Command) → IsCutItem item → is_end_item item ≡ false → meaning_in profile plotting item ≡ Ok cs → AllByRecursion (λ c. c ≢ Finish) cs
-not_finish Strict plotting item cs cut end e = none_finish cs ((item_parses plotting item cs cut e).ends ∙ end)
-not_finish Wide plotting item cs cut end e = elim (wide_means plotting item cs e) [
-  | inl is ↦ subst (AllByRecursion (λ c. c ≢ Finish)) (sym is) (other Clear refl, tt)
-  | inr is ↦ none_finish cs ((item_parses plotting item cs cut is).ends ∙ end)
-]
 
 -- ---- texts
 

@@ -13,7 +13,7 @@ use Rattle.gerber_text.specs.Reading.{spelled_in, Entries, is_plotting, spelled,
 use Rattle.gerber_text.specs.CutItems.{without_breaks, Spells}
 use Rattle.gerber_text.specs.Sayable.{is_sayable, is_finish}
 use Rattle.gerber_text.proofs.CanonicalParses.{parses as canonical_spells}
-use Rattle.gerber_text.proofs.ParsedIsSayable.{canonical_ends}
+use Rattle.gerber_text.proofs.SpelledCommands.{canonical_ends}
 use Rattle.gerber_text.specs.Writing.{lines, sayable, without_places, ReadsAs}
 use Rattle.gerber_text.proofs.OffsetByteLemmas.{offset_bytes_from-append}
 use Rattle.gerber_text.proofs.ShowsLemmas.{shown_ended}

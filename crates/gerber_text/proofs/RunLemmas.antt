@@ -1,11 +1,9 @@
--- The runs of a text, and what follows them.
-use Rattle.std.proofs.Common.{◌≡◌, ℕ, Bool, true, false, cond, ◌||◌, List, [], ◌∷◌, ◌++◌, length, refl, sym, ap, ◌∙◌}
+-- Tests that all bytes of a text pass.
+use Rattle.std.proofs.Common.{◌≡◌, ℕ, Bool, true, false, cond, ◌||◌, List, [], ◌∷◌, ◌++◌, refl, sym, ap, ◌∙◌}
 use Rattle.std.specs.Prelude.{filter}
-use Rattle.std.specs.List.{list_all, list_any, prefix_len}
-use Rattle.std.proofs.lemmas.List.{append-nil}
+use Rattle.std.specs.List.{list_all, list_any}
 use Rattle.std.proofs.lemmas.List.Folds.{list_all-append}
 use Rattle.grid_units.proofs.BoolLemmas.{both_true}
-use Rattle.grid_units.proofs.ListLemmas.{prefix_len_append}
 
 pub all_parts : (p : ℕ → Bool) (xs ys : List ℕ) → list_all p (xs ++ ys) ≡ true → (list_all p xs ≡ true) × (list_all p ys ≡ true)
 all_parts p xs ys h = both_true (list_all p xs) (list_all p ys) (sym (list_all-append p xs ys) ∙ h)
@@ -21,8 +19,3 @@ kept_whole p [] h = refl
 kept_whole p (x ∷ xs) h =
     let b = both_true (p x) (list_all p xs) h in
     ap (λ t. cond t (x ∷ filter p xs) (filter p xs)) b.0 ∙ ap (λ (l : List ℕ). x ∷ l) (kept_whole p xs b.1)
-
--- ---- runs
-
-pub prefix_alone : (p : ℕ → Bool) (xs : List ℕ) → list_all p xs ≡ true → prefix_len p xs ≡ length xs
-prefix_alone p xs h = ap (prefix_len p) (sym (append-nil xs)) ∙ prefix_len_append p xs [] h refl

@@ -1,32 +1,64 @@
 -- A text that spells commands is written for them.
-use Rattle.std.proofs.Common.{◌≡◌, ◌≢◌, inl, inr, ℕ, suc, Bool, true, false, ◌||◌, List, [], ◌∷◌, ◌++◌, Result, Ok, unwrap_or, refl, sym, ap, subst, ◌∙◌, append_assoc}
-use Rattle.std.specs.Prelude.{codes}
+use Rattle.std.proofs.Common.{◌≡◌, ◌≢◌, ℕ, suc, ◌≤◌, Bool, true, false, cond, ◌||◌, ltb, List, [], ◌∷◌, ◌++◌, length, Result, Ok, Err, unwrap_or, refl, sym, ap, subst, ◌∙◌, append_assoc}
 use Rattle.std.specs.Option.{option_or}
-use Rattle.std.specs.Str.{bytes_eq}
-use Rattle.std.specs.List.{enumerate_from, flat_map, concat, list_all, AllByRecursion}
+use Rattle.std.specs.List.{flat_map, concat, list_any, AllByRecursion}
 use Rattle.std.proofs.lemmas.List.{append-nil, map-append}
 use Rattle.std.proofs.lemmas.List.Elements.{All-from_recursion}
-use Rattle.std.proofs.lemmas.Bool.{false≢true}
+use Rattle.std.proofs.lemmas.Bool.{ltb-false, false≢true}
 use Rattle.grid_units.specs.declared.fault.Fault.{Fault}
 use Rattle.grid_units.specs.declared.fault.Reason.{Reason}
+use Rattle.grid_units.specs.declared.fault.Reason.TheVariants.{TooLong}
+use Rattle.grid_units.specs.Limits.{item_limit}
 use Rattle.grid_units.specs.Lists.{last_set}
+use Rattle.grid_units.specs.Results.{◌>>=◌, with_place}
+use Rattle.grid_units.proofs.BoolLemmas.{or_is_false}
 use Rattle.grid_units.proofs.LookbackLemmas.{last_or-append}
 use Rattle.grid_units.proofs.ResultLemmas.{bind_ok}
 use Rattle.gerber_commands.specs.declared.command.Command.{Command}
 use Rattle.gerber_commands.specs.declared.command.Command.TheVariants.{Finish}
 use Rattle.grid_units.specs.declared.profile.Profile.{Profile}
-use Rattle.gerber_text.specs.CutItems.{is_not_break}
 use Rattle.gerber_text.specs.Items.{IsItem, is_end_item}
-use Rattle.gerber_text.specs.Cut.{OffsetByte, offset_bytes, bytes_of, first_offset, has_end, AreItems}
+use Rattle.gerber_text.specs.Meaning.{meaning_in}
+use Rattle.gerber_text.specs.Sayable.{is_finish}
+use Rattle.gerber_text.specs.Cut.{OffsetByte, bytes_of, first_offset, has_end, AreItems}
 use Rattle.gerber_text.specs.Reading.{Entries, plot_of, is_plotting, placed, spelled_in, commands_by, may_follow}
 use Rattle.gerber_text.specs.Writing.{without_places}
 use Rattle.gerber_text.specs.Grammar.{AreItemsIn, plots_after, IsEnd}
 use Rattle.gerber_text.specs.Laws.{SpelledTextsAreWrittenIn}
-use Rattle.gerber_text.proofs.GrammarItems.{item_written}
-use Rattle.gerber_text.proofs.ProfileLemmas.{not_finish}
-use Rattle.gerber_text.proofs.ParsedIsSayable.{bytes_are, end_means}
+use Rattle.gerber_text.proofs.GrammarItems.{item_written, is_end, end_means, item_ends}
 use Rattle.gerber_text.proofs.RoundTrip.{bytes_of_marks}
-use Rattle.gerber_text.proofs.TextIsSayable.{Added, added, AreKept, filter_all, items_kept, bare, bare_append}
+
+-- ---- what an item adds
+
+-- an item within the limit, and the commands that it spelled
+pub record Added (profile : Profile) (place byte : ℕ) (bytes : List ℕ) (before after : Entries) : Type 0 where
+  pub short : length bytes ≤ item_limit
+  pub commands : List Command
+  pub spells : meaning_in profile (is_plotting before) bytes ≡ Ok commands
+  pub whole : after ≡ before ++ placed place byte commands
+
+at_ok : (place byte : ℕ) (r : Result Entries Reason) (after : Entries) → with_place place byte r ≡ Ok after → r ≡ Ok after
+at_ok place byte (Ok x) after e = let same : x ≡ after = let o : (let r : Result Entries Fault = Ok x in r ≡ Ok after) = e in cc in ap (λ (y : Entries). Ok y) same
+at_ok place byte (Err r) after e = absurd cc
+
+added_by : (profile : Profile) (t : Bool) (place byte : ℕ) (bytes : List ℕ) (before after : Entries) → ltb item_limit (length bytes) ≡ t → cond t (Err TooLong) (meaning_in profile (is_plotting before) bytes >>= λ commands. Ok (before ++ placed place byte commands)) ≡ Ok after → Added profile place byte bytes before after
+added_by profile true place byte bytes before after e h = absurd cc
+added_by profile false place byte bytes before after e h =
+    let b = bind_ok (meaning_in profile (is_plotting before) bytes) (λ commands. Ok (before ++ placed place byte commands)) after h in
+    record { short = ltb-false item_limit (length bytes) e; commands = b.0; spells = b.1; whole = let same : before ++ placed place byte b.0 ≡ after = let o : (let r : Result Entries Reason = Ok (before ++ placed place byte b.0) in r ≡ Ok after) = b.2 in cc in sym same }
+
+pub added : (profile : Profile) (place byte : ℕ) (bytes : List ℕ) (before after : Entries) → spelled_in profile place byte bytes before ≡ Ok after → Added profile place byte bytes before after
+unfolding spelled_in
+added profile place byte bytes before after e =
+    added_by profile (ltb item_limit (length bytes)) place byte bytes before after refl (at_ok place byte (cond (ltb item_limit (length bytes)) (Err TooLong) (meaning_in profile (is_plotting before) bytes >>= λ commands. Ok (before ++ placed place byte commands))) after e)
+
+pub bare : (place byte : ℕ) (cs : List Command) → without_places (placed place byte cs) ≡ cs
+bare place byte [] = refl
+bare place byte (c ∷ cs) = ap (λ (l : List Command). c ∷ l) (bare place byte cs)
+
+pub bare_append : (xs ys : Entries) → without_places (xs ++ ys) ≡ without_places xs ++ without_places ys
+bare_append [] ys = refl
+bare_append (x ∷ xs) ys = ap (λ (l : List Command). x.what ∷ l) (bare_append xs ys)
 
 -- ---- whether a plot goes on
 
@@ -37,15 +69,12 @@ last_placed place byte (c ∷ cs) = ap (λ o. option_or o (plot_of c)) (last_pla
 pub plots_more : (old : Entries) (place byte : ℕ) (cs : List Command) → is_plotting (old ++ placed place byte cs) ≡ plots_after (is_plotting old) cs
 plots_more old place byte cs = last_or-append (λ entry. plot_of entry.what) false old (placed place byte cs) ∙ ap (λ o. unwrap_or o (is_plotting old)) (last_placed place byte cs)
 
--- ---- the end of the text
+-- ---- commands before the end of the text
 
-is_end : (item : List ℕ) → is_end_item item ≡ true → IsEnd item
-is_end item e = by (bytes_eq item (codes "M02*")) (bytes_eq item (codes "M2*")) refl refl e
-  where
-    by : (t u : Bool) → bytes_eq item (codes "M02*") ≡ t → bytes_eq item (codes "M2*") ≡ u → (t || u) ≡ true → IsEnd item
-    by true u a b h = inl (bytes_are item (codes "M02*") a)
-    by false true a b h = inr (bytes_are item (codes "M2*") b)
-    by false false a b h = absurd (false≢true h)
+-- no Finish where the item does not end the text
+none_finish : (cs : List Command) → list_any is_finish cs ≡ false → AllByRecursion (λ c. c ≢ Finish) cs
+none_finish [] h = tt
+none_finish (c ∷ cs) h = let k = or_is_false (is_finish c) (list_any is_finish cs) h in (λ e. false≢true (sym k.0 ∙ ap is_finish e), none_finish cs k.1)
 
 -- no Finish in either of two lists
 none_in_both : (xs ys : List Command) → AllByRecursion (λ c. c ≢ Finish) xs → AllByRecursion (λ c. c ≢ Finish) ys → AllByRecursion (λ c. c ≢ Finish) (xs ++ ys)
@@ -74,7 +103,7 @@ regroup a b c d = append_assoc a b (c ++ d) ∙ ap (λ (l : List Command). a ++ 
 last_written : (profile : Profile) (place : ℕ) (item : List OffsetByte) (items : List (List OffsetByte)) (old middle after : Entries) → is_end_item (bytes_of item) ≡ true → items ≡ [] → Added profile place (first_offset item) (bytes_of item) old middle → commands_by profile (suc place) items middle ≡ Ok after → Written profile (item ∷ items) old after
 last_written profile place item items old middle after e none a h =
     let same : middle ≡ after = let o : (let r : Result Entries Fault = Ok middle in r ≡ Ok after) = ap (λ (l : List (List OffsetByte)). commands_by profile (suc place) l middle) (sym none) ∙ h in cc in
-    let commands : a.commands ≡ Finish ∷ [] = let o : (let r : Result (List Command) Reason = Ok a.commands in r ≡ Ok (Finish ∷ [])) = sym a.spells ∙ end_means profile (is_plotting old) (bytes_of item) e in cc in
+    let commands : a.commands ≡ Finish ∷ [] = let o : (let r : Result (List Command) Reason = Ok a.commands in r ≡ Ok (Finish ∷ [])) = sym a.spells ∙ (end_means profile (is_plotting old) (bytes_of item) (is_end (bytes_of item) e)).1 in cc in
     record {
       items = [];
       end = bytes_of item;
@@ -86,31 +115,31 @@ last_written profile place item items old middle after e none a h =
       is = ap without_places (sym same) ∙ (added_bare place (first_offset item) old middle a.commands a.whole ∙ ap (λ (l : List Command). without_places old ++ l) commands);
     }
 
-next_written : (profile : Profile) (place : ℕ) (item : List OffsetByte) (items : List (List OffsetByte)) (old middle after : Entries) → IsItem (bytes_of item) → list_all is_not_break (bytes_of item) ≡ true → is_end_item (bytes_of item) ≡ false → Added profile place (first_offset item) (bytes_of item) old middle → Written profile items middle after → Written profile (item ∷ items) old after
-next_written profile place item items old middle after one kept end a w =
+next_written : (profile : Profile) (place : ℕ) (item : List OffsetByte) (items : List (List OffsetByte)) (old middle after : Entries) → IsItem (bytes_of item) → is_end_item (bytes_of item) ≡ false → Added profile place (first_offset item) (bytes_of item) old middle → Written profile items middle after → Written profile (item ∷ items) old after
+next_written profile place item items old middle after one end a w =
+    let written = item_written profile (is_plotting old) (bytes_of item) a.commands one a.spells in
     let plots : is_plotting middle ≡ plots_after (is_plotting old) a.commands = ap is_plotting a.whole ∙ plots_more old place (first_offset item) a.commands in
     record {
       items = bytes_of item ∷ w.items;
       end = w.end;
       before = a.commands ++ w.before;
       whole = map-append (λ (m : OffsetByte). m.1) item (flat_map (λ (i : List OffsetByte). i) items) ∙ (ap (λ (l : List ℕ). bytes_of item ++ l) w.whole ∙ sym (append_assoc (bytes_of item) (concat w.items) w.end));
-      spelled = (a.commands, w.before, refl, a.short, item_written profile (is_plotting old) (bytes_of item) a.commands one a.spells, subst (λ p. AreItemsIn profile p w.items w.before) plots w.spelled);
-      not_ended = none_in_both a.commands w.before (not_finish profile (is_plotting old) (bytes_of item) a.commands (record { one = one; kept = kept; short = a.short }) end a.spells) w.not_ended;
+      spelled = (a.commands, w.before, refl, a.short, written, subst (λ p. AreItemsIn profile p w.items w.before) plots w.spelled);
+      not_ended = none_in_both a.commands w.before (none_finish a.commands (item_ends profile (is_plotting old) (bytes_of item) a.commands written ∙ end)) w.not_ended;
       ends = w.ends;
       is = w.is ∙ (ap (λ (l : List Command). l ++ (w.before ++ Finish ∷ [])) (added_bare place (first_offset item) old middle a.commands a.whole) ∙ regroup (without_places old) a.commands w.before (Finish ∷ []));
     }
 
-items_written : (profile : Profile) (place : ℕ) (items : List (List OffsetByte)) (old after : Entries) → AreItems items → AreKept items → has_end items ≡ true → commands_by profile place items old ≡ Ok after → Written profile items old after
-unfolding AreKept
-items_written profile place [] old after h k e c = absurd (false≢true e)
-items_written profile place (item ∷ items) old after h k e c =
+items_written : (profile : Profile) (place : ℕ) (items : List (List OffsetByte)) (old after : Entries) → AreItems items → has_end items ≡ true → commands_by profile place items old ≡ Ok after → Written profile items old after
+items_written profile place [] old after h e c = absurd (false≢true e)
+items_written profile place (item ∷ items) old after h e c =
     let b = bind_ok (spelled_in profile place (first_offset item) (bytes_of item) old) (commands_by profile (suc place) items) after c in
     let a = added profile place (first_offset item) (bytes_of item) old b.0 b.1 in
-    by (is_end_item (bytes_of item)) refl a b.2 e (λ l. items_written profile (suc place) items b.0 after h.2 k.1 l b.2)
+    by (is_end_item (bytes_of item)) refl a b.2 e (λ l. items_written profile (suc place) items b.0 after h.2 l b.2)
   where
     by : {middle : Entries} (t : Bool) → is_end_item (bytes_of item) ≡ t → Added profile place (first_offset item) (bytes_of item) old middle → commands_by profile (suc place) items middle ≡ Ok after → (t || has_end items) ≡ true → (has_end items ≡ true → Written profile items middle after) → Written profile (item ∷ items) old after
     by {middle = middle} true end a rest some again = last_written profile place item items old middle after end (h.1 end) a rest
-    by {middle = middle} false end a rest some again = next_written profile place item items old middle after h.0 k.0 end a (again some)
+    by {middle = middle} false end a rest some again = next_written profile place item items old middle after h.0 end a (again some)
 
 -- ---- texts
 
@@ -120,8 +149,7 @@ all_follow (m ∷ tail) h = (h.0, all_follow tail h.1)
 
 pub spelled_is_written : SpelledTextsAreWrittenIn
 spelled_is_written profile text entries s =
-    let kept : list_all (λ m. is_not_break m.1) (offset_bytes text) ≡ true = filter_all (λ (m : OffsetByte). is_not_break m.1) (enumerate_from 0 text) in
-    let w = items_written profile 1 s.items [] entries s.splits.each (items_kept s.items s.tail (ap (list_all (λ m. is_not_break m.1)) (sym s.splits.whole) ∙ kept)) s.ends s.spelled in
+    let w = items_written profile 1 s.items [] entries s.splits.each s.ends s.spelled in
     let cut = flat_map (λ (i : List OffsetByte). i) s.items in
     record {
       items = w.items;

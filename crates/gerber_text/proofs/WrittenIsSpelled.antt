@@ -1,32 +1,27 @@
 -- A text that is written for commands spells just these, and is written for no others.
 use Rattle.std.proofs.Common.{◌≡◌, ◌≢◌, inl, inr, ℕ, suc, ◌≤◌, Bool, true, false, ◌||◌, List, [], ◌∷◌, ◌++◌, length, Result, Ok, refl, sym, ap, subst, ◌∙◌, arith, append_assoc}
-use Rattle.std.specs.Prelude.{codes}
-use Rattle.std.specs.List.{flat_map, concat, AllByRecursion}
+use Rattle.std.specs.List.{flat_map, concat, list_any, AllByRecursion}
 use Rattle.std.proofs.lemmas.List.{append-nil}
 use Rattle.std.proofs.lemmas.List.Elements.{recursion_from_All}
 use Rattle.std.proofs.lemmas.Bool.{false≢true}
 use Rattle.grid_units.specs.declared.profile.Profile.{Profile}
 use Rattle.grid_units.specs.declared.fault.Fault.{Fault}
-use Rattle.grid_units.specs.declared.fault.Reason.{Reason}
 use Rattle.grid_units.specs.Limits.{item_limit}
 use Rattle.grid_units.specs.Results.{◌>>=◌}
 use Rattle.gerber_commands.specs.declared.command.Command.{Command}
 use Rattle.gerber_commands.specs.declared.command.Command.TheVariants.{Finish}
-use Rattle.gerber_text.specs.Items.{IsItem, is_end_item}
-use Rattle.gerber_text.specs.Meaning.{meaning_in}
+use Rattle.gerber_text.specs.Items.{is_end_item}
+use Rattle.gerber_text.specs.Sayable.{is_finish}
 use Rattle.gerber_text.specs.Cut.{OffsetByte, offset_bytes, bytes_of, first_offset, has_end, AreItems}
 use Rattle.gerber_text.specs.Reading.{Entries, is_plotting, placed, commands_by, may_follow}
 use Rattle.gerber_text.specs.Writing.{without_places}
-use Rattle.gerber_text.specs.Grammar.{AreItemsIn, plots_after, IsEnd}
+use Rattle.gerber_text.specs.Grammar.{IsItemIn, AreItemsIn, plots_after, IsEnd}
 use Rattle.gerber_text.specs.Laws.{WrittenTextsAreSpelledIn, TextsSpellOneListIn}
-use Rattle.gerber_text.proofs.GrammarItems.{Means, item_means}
-use Rattle.gerber_text.proofs.ItemLemmas.{word_is_item}
+use Rattle.gerber_text.proofs.GrammarItems.{item_means, end_means, other, item_ends}
 use Rattle.gerber_text.proofs.Items.{spelled_ok}
-use Rattle.gerber_text.proofs.ParsedIsSayable.{end_means}
 use Rattle.gerber_text.proofs.RoundTrip.{bytes_of_marks}
-use Rattle.gerber_text.proofs.SpelledIsWritten.{plots_more}
+use Rattle.gerber_text.proofs.SpelledIsWritten.{bare, bare_append, plots_more}
 use Rattle.gerber_text.proofs.SpellsTextLemmas.{spells_reads}
-use Rattle.gerber_text.proofs.TextIsSayable.{bare, bare_append}
 use Rattle.gerber_text.proofs.UniqueReading.{one_read}
 
 -- ---- bytes with their offsets
@@ -54,24 +49,17 @@ ends_text : (end : List ℕ) → IsEnd end → is_end_item end ≡ true
 ends_text end (inl e) = ap is_end_item e
 ends_text end (inr e) = ap is_end_item e
 
-end_is_item : (end : List ℕ) → IsEnd end → IsItem end
-end_is_item end (inl e) = subst IsItem (sym e) (word_is_item (codes "M02") refl refl)
-end_is_item end (inr e) = subst IsItem (sym e) (word_is_item (codes "M2") refl refl)
-
 end_is_short : (end : List ℕ) → IsEnd end → length end ≤ item_limit
 end_is_short end (inl e) = omega (arith, ap length e)
 end_is_short end (inr e) = omega (arith, ap length e)
 
--- an item that spells no Finish is not the end of the text
-goes_on : (profile : Profile) (plotting : Bool) (item : List ℕ) (cs : List Command) → meaning_in profile plotting item ≡ Ok cs → AllByRecursion (λ c. c ≢ Finish) cs → is_end_item item ≡ false
-goes_on profile plotting item cs e none = by (is_end_item item) refl
+-- an item that is written for no Finish is not the end of the text
+goes_on : (profile : Profile) (plotting : Bool) (item : List ℕ) (cs : List Command) → IsItemIn profile plotting item cs → AllByRecursion (λ c. c ≢ Finish) cs → is_end_item item ≡ false
+goes_on profile plotting item cs h none = sym (item_ends profile plotting item cs h) ∙ no_finish cs none
   where
-    same : meaning_in profile plotting item ≡ Ok (Finish ∷ []) → cs ≡ Finish ∷ []
-    same h = let o : (let r : Result (List Command) Reason = Ok cs in r ≡ Ok (Finish ∷ [])) = sym e ∙ h in cc
-
-    by : (t : Bool) → is_end_item item ≡ t → t ≡ false
-    by true h = absurd ((subst (AllByRecursion (λ c. c ≢ Finish)) (same (end_means profile plotting item h)) none).0 refl)
-    by false h = refl
+    no_finish : (ds : List Command) → AllByRecursion (λ c. c ≢ Finish) ds → list_any is_finish ds ≡ false
+    no_finish [] n = refl
+    no_finish (d ∷ ds) n = λ i. other d n.0 i || no_finish ds n.1 i
 
 all_parts : (P : Command → Type 0) (xs ys : List Command) → AllByRecursion P (xs ++ ys) → AllByRecursion P xs × AllByRecursion P ys
 all_parts P [] ys h = (tt, h)
@@ -95,27 +83,28 @@ found_last : (profile : Profile) (place : ℕ) (ms : List OffsetByte) (old : Ent
 found_last profile place ms old end tail h e =
     let d = divide ms end tail e in
     let at = first_offset d.front in
-    let ends : is_end_item (bytes_of d.front) ≡ true = ap is_end_item d.front_is ∙ ends_text end h in
-    let short = subst (λ (l : List ℕ). length l ≤ item_limit) (sym d.front_is) (end_is_short end h) in
+    let ends = subst IsEnd (sym d.front_is) h in
+    let means = end_means profile (is_plotting old) (bytes_of d.front) ends in
     record {
       items = d.front ∷ [];
       left = d.back;
       after = old ++ placed place at (Finish ∷ []);
       whole = d.whole ∙ ap (λ (l : List OffsetByte). l ++ d.back) (sym (append-nil d.front));
-      each = (subst IsItem (sym d.front_is) (end_is_item end h), λ _. refl, tt);
-      ends = ap (λ t. t || false) ends;
-      spelled = ap (λ r. r >>= commands_by profile (suc place) []) (spelled_ok profile place at (bytes_of d.front) old (Finish ∷ []) short (end_means profile (is_plotting old) (bytes_of d.front) ends));
+      each = (means.0, λ _. refl, tt);
+      ends = ap (λ t. t || false) (ends_text (bytes_of d.front) ends);
+      spelled = ap (λ r. r >>= commands_by profile (suc place) []) (spelled_ok profile place at (bytes_of d.front) old (Finish ∷ []) (end_is_short (bytes_of d.front) ends) means.1);
       is = bare_append old (placed place at (Finish ∷ []));
       left_is = d.back_is;
     }
 
-found_next : (profile : Profile) (place : ℕ) (ms : List OffsetByte) (old : Entries) (item rest tail : List ℕ) (first commands : List Command) (d : Divided ms item rest) → Means profile (is_plotting old) item first → length item ≤ item_limit → AllByRecursion (λ c. c ≢ Finish) first
+found_next : (profile : Profile) (place : ℕ) (ms : List OffsetByte) (old : Entries) (item rest tail : List ℕ) (first commands : List Command) (d : Divided ms item rest) → IsItemIn profile (is_plotting old) item first → length item ≤ item_limit → AllByRecursion (λ c. c ≢ Finish) first
     → Found profile d.back (suc place) (old ++ placed place (first_offset d.front) first) commands tail → Found profile ms place old (first ++ commands) tail
-found_next profile place ms old item rest tail first commands d means short none f =
+found_next profile place ms old item rest tail first commands d written short none f =
     let at = first_offset d.front in
     let now = placed place at first in
-    let is = subst (λ (l : List ℕ). Means profile (is_plotting old) l first) (sym d.front_is) means in
-    let not_end = goes_on profile (is_plotting old) (bytes_of d.front) first is.1 none in
+    let here = subst (λ (l : List ℕ). IsItemIn profile (is_plotting old) l first) (sym d.front_is) written in
+    let is = item_means profile (is_plotting old) (bytes_of d.front) first here in
+    let not_end = goes_on profile (is_plotting old) (bytes_of d.front) first here none in
     let added : without_places (old ++ now) ≡ without_places old ++ first = bare_append old now ∙ ap (λ (l : List Command). without_places old ++ l) (bare place at first) in
     record {
       items = d.front ∷ f.items;
@@ -144,9 +133,9 @@ found profile place plotting (item ∷ items) before ms old end tail same h none
     let now = placed place (first_offset d.front) first in
     let plots : plots_after plotting first ≡ is_plotting (old ++ now) = ap (λ t. plots_after t first) same ∙ sym (plots_more old place (first_offset d.front) first) in
     let more = found profile (suc place) (plots_after plotting first) items others d.back (old ++ now) end tail plots h.5 parts.1 ends d.back_is in
-    let means = subst (λ t. Means profile t item first) same (item_means profile plotting item first h.4) in
+    let written = subst (λ t. IsItemIn profile t item first) same h.4 in
     let joined : first ++ (others ++ Finish ∷ []) ≡ before ++ Finish ∷ [] = sym (append_assoc first others (Finish ∷ [])) ∙ ap (λ (l : List Command). l ++ Finish ∷ []) (sym h.2) in
-    subst (λ (l : List Command). Found profile ms place old l tail) joined (found_next profile place ms old item rest tail first (others ++ Finish ∷ []) d means h.3 parts.0 more)
+    subst (λ (l : List Command). Found profile ms place old l tail) joined (found_next profile place ms old item rest tail first (others ++ Finish ∷ []) d written h.3 parts.0 more)
 
 -- ---- texts
 

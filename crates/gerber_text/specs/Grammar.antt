@@ -7,9 +7,9 @@ use Rattle.gerber_commands.specs.declared.command.Command.{Command}
 use Rattle.gerber_commands.specs.declared.command.Command.TheVariants.{Finish}
 use Rattle.grid_units.specs.declared.profile.Profile.{Profile}
 use Rattle.grid_units.specs.declared.profile.Profile.TheVariants.{Strict}
-use Rattle.gerber_words.specs.Grammar.{IsWord}
-use Rattle.gerber_extended.specs.Grammar.{HasNo}
-use Rattle.gerber_extended.specs.Profiles.{IsPieceIn}
+use Rattle.gerber_items.specs.WordGrammar.{IsWord}
+use Rattle.gerber_items.specs.PieceGrammar.{HasNo}
+use Rattle.gerber_items.specs.Profiles.{IsPieceIn}
 use Rattle.gerber_text.specs.CutItems.{without_breaks}
 use Rattle.gerber_text.specs.Reading.{plot_of, may_follow}
 use Rattle.grid_units.specs.Ascii as ascii

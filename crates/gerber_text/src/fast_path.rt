@@ -1,12 +1,12 @@
 //! The fast path for operations as `G01X10Y20D01*`, as most are written: one pass over their bytes.
 
-ghost use Rattle.std.specs.Prelude.{◌≡◌, ◌≢◌, ◌++◌, [], ◌∷◌, ◌||◌, not, List, ℕ, Some, is_some, IfSome};
+ghost use Rattle.std.specs.Prelude.{◌≡◌, ◌≢◌, ◌++◌, [], ◌∷◌, ◌||◌, not, true, List, ℕ, Some, is_some, IfSome};
 ghost use Rattle.gerber_commands.specs.declared.command.Command.TheVariants.{Operate};
 ghost use Rattle.gerber_commands.specs.Canonical.{action_code};
 ghost use Rattle.gerber_commands.specs.OperationCoordinates.{omitted};
 ghost use Rattle.gerber_text.specs.FastPath.{HasLeadingOperation, HasLeadingInt, HasLeadingCoordinate, mode_prefix};
 ghost use Rattle.gerber_commands.specs.Rows.{modes_of};
-ghost use Rattle.gerber_words.specs.Words.{is_plot};
+ghost use Rattle.gerber_items.specs.Words.{is_plot};
 
 use gerber_commands::{Action, Coordinate, Interpolation, first_digits, signed};
 use grid_units::numbers::{is_negative, without_sign};
@@ -50,6 +50,17 @@ fn first_coordinate(letter: u8, bytes: &[u8]) -> Option<(Option<i64>, &[u8])>
         }
         _ => Some((None, bytes)),
     }
+}
+
+/// The two coordinates at the start of these bytes, each where its letter stands, and the bytes after them.
+#[inline(always)]
+fn first_pair(letters: (u8, u8), bytes: &[u8]) -> Option<(Option<i64>, Option<i64>, &[u8])>
+    ensures value { IfSome result (λ (first, second, rest). (between : List ℕ) × HasLeadingCoordinate letters.0 bytes.now first between × HasLeadingCoordinate letters.1 between second rest.now) }
+    ensures kept { IfSome result (λ (first, second, _). (first ≢ Some omitted) × (second ≢ Some omitted)) }
+{
+    let (first, between) = first_coordinate(letters.0, bytes)?;
+    let (second, rest) = first_coordinate(letters.1, between)?;
+    Some((first, second, rest))
 }
 
 /// The operation code at the start of these bytes, if `D01*`, `D02*` or `D03*` stands there.
@@ -97,6 +108,21 @@ fn allows_offsets(action: Action, i: Option<i64>, j: Option<i64>) -> bool
     is_plot(action) || !(i.is_some() || j.is_some())
 }
 
+/// Whether these parts may stand in one operation.
+fn may_stand(
+    mode: Option<Interpolation>,
+    action: Action,
+    x: Option<i64>,
+    y: Option<i64>,
+    i: Option<i64>,
+    j: Option<i64>,
+) -> bool
+    ensures begins { result ≡ true → (is_some mode || (is_some x || is_some y)) ≡ true }
+    ensures stands { result ≡ true → (is_plot action || not (is_some i || is_some j)) ≡ true }
+{
+    has_mode_or_xy(mode, x, y) && allows_offsets(action, i, j)
+}
+
 /// The operation at the start of these bytes, if it is written so: `G01`, `G02`, `G03` or at least one of `X` and
 /// `Y`, each coordinate with at most 12 digits, `D01`, `D02` or `D03`, and `*`. Where it is written otherwise,
 /// [`read_item`](crate::read_item) reads it.
@@ -106,14 +132,10 @@ pub fn leading_operation(bytes: &[u8]) -> Option<LeadingOperation>
     ensures { IfSome result (λ found. HasLeadingOperation bytes.now found.len (modes_of found.mode ++ Operate found.action found.x found.y found.i found.j ∷ [])) }
 {
     let (mode, after_mode) = first_mode(bytes);
-    let (x, after_x) = first_coordinate(b'X', after_mode)?;
-    let (y, after_y) = first_coordinate(b'Y', after_x)?;
-    let (i, after_i) = first_coordinate(b'I', after_y)?;
-    let (j, code) = first_coordinate(b'J', after_i)?;
+    let (x, y, after_y) = first_pair((b'X', b'Y'), after_mode)?;
+    let (i, j, code) = first_pair((b'I', b'J'), after_y)?;
     let action = first_action(code)?;
-    let begins = has_mode_or_xy(mode, x, y);
-    let stands = allows_offsets(action, i, j);
-    if !begins || !stands {
+    if !may_stand(mode, action, x, y, i, j) {
         return None;
     }
     let len = bytes.len() - code.len() + 4;

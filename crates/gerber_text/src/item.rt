@@ -6,8 +6,7 @@ ghost use Rattle.gerber_text.specs.Meaning.{meaning, meaning_in, without_end};
 ghost use Rattle.grid_units.specs.Results.{Gives};
 
 use gerber_commands::ItemCommands;
-use gerber_extended::read_extended_in;
-use gerber_words::read_word;
+use gerber_items::{read_extended_in, read_word};
 use grid_units::{ItemFail, Profile, Reason};
 use std::alloc::Global;
 

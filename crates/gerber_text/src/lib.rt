@@ -19,7 +19,7 @@ pub use gerber_commands::{
     QuadrantMode, Sizes, Standard, StepRepeat, Template, is_negative_comment, is_negative_image,
     write_item,
 };
-pub use gerber_extended::{is_name, max_sizes, min_sizes, standard_template};
+pub use gerber_items::{is_name, max_sizes, min_sizes, standard_template};
 pub use item::{end_byte, is_end_item, is_ended, read_item, read_item_in};
 pub use laws::{
     canonical_items, exact_texts, readings_in_profiles, sayable_texts, spelled_commands,

@@ -53,7 +53,7 @@ fn lines_of(alloc: Global, commands: &[Command]) -> Result<Vec<u8>, AllocError>
 /// allocation failed.
 pub fn write_commands(alloc: Global, commands: &[Command]) -> Result<Vec<u8>, Fail>
     ensures exact { Answers vec_bytes (λ answer. answer ≡ canonical_text commands.now) result }
-    ensures reads_back { sayable commands.now ≡ true → IfOk result (λ text. ReadsAs text.items commands.now) }
+    ensures reads_back { sayable commands.now ≡ true → IfOk result (λ t. ReadsAs t.items commands.now) }
 {
     limited_text(lines_of(alloc, commands)?)
 }

@@ -265,8 +265,8 @@ fn digest_line(digest: &mut Digest, command: &DrillCommand) {
 }
 
 fn digest_tools(digest: &mut Digest, drill: &Drill) {
-    for (number, diameter) in drill.tools().iter() {
-        let units = diameter.units();
+    for (number, tool) in drill.tools().iter() {
+        let units = tool.diameter.units();
         let _ = write!(digest, "{number} {units} ");
     }
 }

@@ -7,8 +7,7 @@ use drill_text::{drill_sayable, read_drill, write_drill};
 use gerber_text::{Command, Kept, Placed, read_kept, read_words, write_commands, write_placed};
 use grid_units::{Fail, Profile};
 use manifest::read_manifest;
-use ringcheck_files::{ReadFail, read_all};
-use single_files::{Kind, rewrite_bytes, show_drill_in, show_layer_in};
+use ringcheck_files::{Kind, ReadFail, read_all, rewrite_bytes, show_drill_in, show_layer_in};
 use std::alloc::{AllocError, Global};
 
 /// A call on one text.

@@ -8,8 +8,7 @@ use drill_lines::write_line;
 use drill_text::{DrillCommand, read_drill};
 use gerber_text::{ItemCommands, is_ended, read_item, write_item};
 use grid_units::{Fail, ItemFail, Profile, Reason, Text};
-use manifest::Name;
-use proposals::{FileContent, InputFile, Proposal, propose, write_proposal, write_reasons};
+use manifest::{FileContent, InputFile, Name, Proposal, propose, write_proposal, write_reasons};
 use std::alloc::{AllocError, Global};
 use std::fmt::Write;
 
@@ -68,7 +67,7 @@ pub(crate) fn named(alloc: Global, text: &[u8]) -> Result<Answer, AllocError> {
 /// The answer for the words of a command line.
 pub(crate) fn asked(alloc: Global, words: &[&str]) -> Answer {
     match parse(alloc, words) {
-        Ok(request) => of_request(&request),
+        Ok(line) => of_request(&line.request),
         Err(Refusal::Help(text)) | Err(Refusal::Usage(text)) => {
             Answer::of_text(text.as_str().as_bytes())
         }

@@ -16,7 +16,8 @@ fn words_ask(rt: HostRuntime, words: &[&str], request: &str) -> bool {
     let Ok(asked) = parse(rt.alloc(), words) else {
         return false;
     };
-    match format!(in rt.alloc(); "{asked:?}") {
+    let request_asked = asked.request;
+    match format!(in rt.alloc(); "{request_asked:?}") {
         Ok(text) => text.as_str() == request,
         Err(_) => false,
     }
@@ -191,6 +192,49 @@ const FILES: [(&str, &str); 9] = [
     ),
 ];
 
+/// Words, and the folder that they name.
+const FOLDERS: [(&str, Option<&str>); 12] = [
+    ("check --ring 0.125 --gap 0.2 m.csv", None),
+    (
+        "check --ring 0.125 --gap 0.2 --in boards m.csv",
+        Some("boards"),
+    ),
+    (
+        "check --in=/a/b/ --ring 0.125 --gap 0.2 m.csv",
+        Some("/a/b/"),
+    ),
+    ("check m.csv --ring 0.125 --gap 0.2 --in=", Some("")),
+    (
+        "report --ring 0.125 --gap 0.2 m.csv --in boards",
+        Some("boards"),
+    ),
+    ("measure --in boards m.csv", Some("boards")),
+    ("draw m.csv --in boards --profile wide", Some("boards")),
+    ("show --kind layer --in boards top.gbr", Some("boards")),
+    ("rewrite --kind drill --in boards pth.drl", Some("boards")),
+    ("manifest --in boards top.gbr pth.drl", Some("boards")),
+    ("manifest top.gbr --why pth.drl --in=boards", Some("boards")),
+    ("explain Routed", None),
+];
+
+/// Whether the words of a line name this folder.
+fn names_folder(rt: HostRuntime, line: &str, folder: Option<&str>) -> bool {
+    match words_of(rt, line) {
+        Ok(words) => match parse(rt.alloc(), &words) {
+            Ok(asked) => asked.folder == folder,
+            Err(_) => false,
+        },
+        Err(_) => false,
+    }
+}
+
+#[test]
+fn a_folder_is_kept_as_it_is_written(rt: HostRuntime) {
+    for &(line, folder) in &FOLDERS {
+        assert!(rt; names_folder(rt, line, folder), "{line}");
+    }
+}
+
 #[test]
 fn a_table_and_a_canonical_text_are_asked_for(rt: HostRuntime) {
     for &(line, request) in &FILES {
@@ -198,8 +242,13 @@ fn a_table_and_a_canonical_text_are_asked_for(rt: HostRuntime) {
     }
 }
 
-const REFUSED: [&str; 66] = [
+const REFUSED: [&str; 70] = [
     "check --ring -1 --gap 0.2 m.csv",
+    // a folder is named once, with its value, and not of explain
+    "check --ring=0.125 --gap=0.2 m.csv --in",
+    "check --ring=0.125 --gap=0.2 --in a --in b m.csv",
+    "manifest --in boards",
+    "explain --in boards Routed",
     // other words
     "",
     "Check --ring 0.125 --gap 0.2 m.csv",
@@ -295,11 +344,12 @@ const COMMANDS: [&str; 10] = [
 ];
 
 /// The values of a check.
-const VALUES: [&str; 7] = [
+const VALUES: [&str; 8] = [
     "--ring <MM>",
     "--gap <MM>",
     "[--profile <strict|wide>]",
     "--profile <NAME>  strict (default): ",
+    "--in <FOLDER>     Folder that file names are relative to",
     "<MANIFEST>",
     "in mm",
     "role,name,file",
@@ -315,7 +365,8 @@ const HELP: [(&str, Parts); 10] = [
     (
         "show --help",
         &[
-            "ringcheck show --kind <layer|drill> [--profile <strict|wide>] <FILE>\n",
+            "ringcheck show --kind <layer|drill> [--profile <strict|wide>]\n",
+            " [--in <FOLDER>] <FILE>\n",
             "--kind <layer|drill>  ",
             "--profile <NAME>      strict (default): ",
         ],
@@ -325,7 +376,7 @@ const HELP: [(&str, Parts); 10] = [
         "measure --help",
         &[
             "ringcheck measure [--profile <strict|wide>] [--format <text|json>]\n",
-            " <MANIFEST>",
+            " [--in <FOLDER>] <MANIFEST>",
             "--profile <NAME>      strict (default): ",
             "--format <text|json>  text for people, or json, one JSON object\n",
             "Example:  ringcheck measure ",
@@ -335,8 +386,8 @@ const HELP: [(&str, Parts); 10] = [
         "report --help",
         &[
             "ringcheck report --ring <MM> --gap <MM> [--max <N>] [--waive <FILE>]\n",
-            " [--outline <FILE>] [--format <text|html|json|waivers>]\n",
-            " [--profile <strict|wide>] [--exit-zero] <MANIFEST>\n",
+            " [--outline <FILE>] [--format <NAME>] [--profile <NAME>]\n",
+            " [--exit-zero] [--in <FOLDER>] <MANIFEST>\n",
             "Explain each finding: how far below the rule, and why",
             "--ring <MM>       Minimum annular ring in mm, e.g. 0.125\n",
             "--gap <MM>        Minimum distance between hole edges, in mm, e.g. 0.25\n",
@@ -345,6 +396,7 @@ const HELP: [(&str, Parts); 10] = [
             "--outline <FILE>  Gerber file of the board outline, for --format html\n",
             "--format <NAME>   text (default), for people; html, a page for browsers;\n",
             "--exit-zero       Exit with status 0 even if there are findings\n",
+            "--in <FOLDER>     Folder that file names are relative to\n",
         ],
     ),
     (

@@ -1,6 +1,6 @@
 //! What the names and the texts of files say of them.
 
-use proposals::*;
+use manifest::*;
 use std::alloc::Global;
 
 /// A text, and the kind of file that it is.

@@ -7,7 +7,7 @@ use Rattle.grid_units.specs.Lists.{last_set, with_prefixes}
 use Rattle.grid_units.proofs.LookbackLemmas.{last_or-more, last_set-more, with_prefixes-append}
 use Rattle.gerber_commands.specs.declared.command.Command.{Command}
 use Rattle.gerber_commands.specs.declared.command.Interpolation.TheVariants.{Linear}
-use Rattle.gerber_extended.specs.Pieces.{unit_scale}
+use Rattle.gerber_items.specs.Pieces.{unit_scale}
 use Rattle.layer_image.specs.declared.drawn.Drawn.{Drawn}
 use Rattle.layer_image.specs.declared.drawn_apertures.DrawnAperture.{DrawnAperture}
 use Rattle.layer_image.specs.Lookback.{aperture_selected, region_set, scale_set, turn_set, unit_set, x_set, y_set}

@@ -11,7 +11,7 @@ use Rattle.layer_image.specs.Flashes.{added_flashes, flashes_of, pads_of, other_
 use Rattle.layer_image.specs.Inner.IsStateAfter.{IsStateAfter, Applies, after, state_of}
 use Rattle.layer_image.proofs.KeptFlashesLemmas.{kept_append, kept_pads, others_append}
 use Rattle.grid_units.proofs.LookbackLemmas.{last_set-more, last_or-more, list_any-more, flat_positions-more}
-use Rattle.gerber_extended.specs.Pieces.{unit_scale}
+use Rattle.gerber_items.specs.Pieces.{unit_scale}
 
 -- the state after one more command
 pub state_after-more : (before : List Command) (c : Command) → state_after (before ++ c ∷ []) ≡ after c (state_after before)

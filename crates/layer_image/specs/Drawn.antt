@@ -24,7 +24,7 @@ use Rattle.gerber_commands.specs.declared.command.Template.{Template}
 use Rattle.gerber_commands.specs.declared.command.Template.TheVariants as template
 use Rattle.gerber_commands.specs.declared.command.Command.{Command}
 use Rattle.gerber_commands.specs.declared.command.Command.TheVariants as command
-use Rattle.gerber_extended.specs.Pieces.{unit_scale}
+use Rattle.gerber_items.specs.Pieces.{unit_scale}
 use Rattle.layer_image.specs.Lookback.{aperture_selected, has_hole, region_set, scale_set, size_at, turn_set, unit_set, x_set, y_set}
 use Rattle.layer_image.specs.Numbers.{dec_length}
 use Rattle.layer_image.specs.declared.drawn.Drawn.{Drawn}

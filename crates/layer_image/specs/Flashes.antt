@@ -27,7 +27,7 @@ use Rattle.layer_image.specs.declared.flash.What.TheVariants as what
 use Rattle.layer_image.specs.declared.flash.Flash.{Flash}
 use Rattle.layer_image.specs.Lookback.{GraphicsState, state_after, current_aperture}
 use Rattle.layer_image.specs.Numbers.{dec_length, half_length}
-use Rattle.gerber_extended.specs.Pieces.{unit_scale}
+use Rattle.gerber_items.specs.Pieces.{unit_scale}
 
 -- ---- copies
 

@@ -14,3 +14,4 @@ pub mod RectangleLemmas
 pub mod OutlineLemmas
 pub mod RunsOfPoints
 pub mod OneAnswer
+pub mod TakenPieces

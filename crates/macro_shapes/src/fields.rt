@@ -16,7 +16,7 @@ use std::alloc::{AllocError, Global};
 use std::marker::Model;
 
 /// The values of the fields of a primitive. Contracts see the list of the values, each in units of 10^-8.
-#[derive(Debug, Drop)]
+#[derive(Drop)]
 pub struct Values {
     values: Vec<Dec>,
 }
@@ -41,14 +41,14 @@ impl Values {
 }
 
 /// A primitive as it is written: its code, and the values of the fields after it.
-#[derive(Debug, Drop)]
+#[derive(Drop)]
 pub struct Fields {
     pub code: Code,
     pub values: Values,
 }
 
 /// The primitives of a macro, as they are written. Contracts see the list of them.
-#[derive(Debug, Drop)]
+#[derive(Drop)]
 pub struct Macro {
     primitives: Vec<Fields>,
 }

@@ -6,7 +6,7 @@ use std::marker::Model;
 
 /// What stands before an operand, back to the bracket that opened last: the terms and the sign after them, and the factors
 /// of its own term and the sign after these.
-#[derive(Clone, Copy, Debug, Default)]
+#[derive(Clone, Copy, Default)]
 pub(crate) struct Frame {
     pub(crate) before_term: Option<(Dec, Addition)>,
     pub(crate) before_factor: Option<(Dec, Multiplication)>,
@@ -14,7 +14,7 @@ pub(crate) struct Frame {
 
 /// A stack of at most 16 frames, one for each open bracket. Contracts see the list of them, that of the innermost bracket
 /// first.
-#[derive(Debug, Drop)]
+#[derive(Drop)]
 pub(crate) struct Frames {
     frames: [Frame; 16],
     depth: usize,

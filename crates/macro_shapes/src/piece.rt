@@ -8,7 +8,7 @@ ghost use Rattle.macro_shapes.specs.Inner.Parts.{split_by_if};
 use grid_units::numbers::{capped_value, digit_run_len, is_digits, is_number_char};
 
 /// The code of a primitive that is judged (Gerber format, Aperture macro AM).
-#[derive(Clone, Copy, Debug, PartialEq, Eq)]
+#[derive(Clone, Copy, PartialEq, Eq)]
 pub enum Code {
     /// 1: a circle.
     Circle,

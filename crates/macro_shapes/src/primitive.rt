@@ -12,7 +12,7 @@ use std::alloc::{AllocError, Global};
 use std::marker::Model;
 
 /// A dark primitive of a macro (Gerber format, Aperture macro AM). Lengths are in pm, and points lie about the point of the flash.
-#[derive(Debug, Drop)]
+#[derive(Drop)]
 pub enum Primitive {
     /// All points no further from the centre than half of the diameter.
     Circle {
@@ -36,7 +36,7 @@ pub enum Primitive {
 }
 
 /// The primitives of a macro. Contracts see the list of them.
-#[derive(Debug, Drop)]
+#[derive(Drop)]
 pub struct Primitives {
     primitives: Vec<Primitive>,
 }

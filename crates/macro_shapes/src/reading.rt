@@ -12,7 +12,7 @@ use crate::variables::Variables;
 use grid_units::Dec;
 
 /// What was read of an expression up to the operand at hand.
-#[derive(Debug, Drop)]
+#[derive(Drop)]
 pub(crate) struct Reading {
     /// What stands before each bracket that is open.
     pub(crate) outer: Frames,

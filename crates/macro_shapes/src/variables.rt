@@ -16,7 +16,7 @@ use std::marker::Model;
 pub const MAX_VARIABLES: usize = 999;
 
 /// The values of the variables `$1` to `$999` that have one. Contracts see the list of the values, that of `$1` first.
-#[derive(Debug, Drop)]
+#[derive(Drop)]
 pub struct Variables {
     values: Vec<Option<Dec>>,
 }

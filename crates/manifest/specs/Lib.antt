@@ -1,2 +1,12 @@
 pub mod Manifest
 pub mod Inner
+pub mod Decisions
+pub mod MixedFiles
+pub mod ProposalList
+pub mod Manifests
+pub mod Stack
+pub mod Places
+pub mod Omission
+pub mod ReadBack
+pub mod Contents
+pub mod Names

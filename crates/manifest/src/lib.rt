@@ -3,20 +3,54 @@
 //! A manifest is CSV text. Its first record is `role,name,file`, or `role,name,file,first,last` in version 2. Each further record
 //! is one file of the package: `copper,top,top.gbr`. In version 2 it also has the numbers of the first and the last layer that a
 //! drill file's holes go through: `plated,vias,vias.drl,2,3`.
+//!
+//! A manifest can be proposed for a folder: which of its files are copper layers and drill files, and why.
+//!
+//! The text of a file decides what kind it is, its file function what it is for, and its name comes last. A proposal may be
+//! wrong: the user has to read it. Where nothing identifies a Gerber file, or its name is ambiguous, it has the role `?`.
+//! So has a drill file whose plating or whose layers are not clear, and each of two copper files at one place in the stack. A drill
+//! file with both plated and unplated holes is `mixed` in the wide profile, where that reads it as a mixed file.
 #![tactic(auto)]
 
 ghost use Rattle.std.specs.Prelude.{◌≡◌};
 ghost use Rattle.grid_units.specs.Results.{Answers};
 ghost use Rattle.manifest.specs.Manifest.{manifest, manifest_in};
 
+mod contents;
+mod decisions;
+mod file_names;
 pub mod laws;
+mod manifests;
+mod mixed_files;
+mod model;
 mod names;
+mod naming;
+mod order;
+mod places;
+pub mod proposal_laws;
+mod proposal_list;
+mod reasons;
 pub mod rows;
+mod stack;
 pub mod table;
 mod validation;
 
+pub use contents::{
+    FileKind, FunctionFields, fields_of, function_of, has_line, is_archive, kind_of,
+};
+pub use file_names::{
+    base_name, ends_in_copper, extension_of, has_dot, is_one_of, last_other_word, layer_number,
+    lower_base_name, number_suffix, says_unplated, stem_of, word_runs,
+};
 use grid_units::{Fail, Profile, Span};
+pub use manifests::write_proposal;
+pub use model::{
+    FileContent, HoleKind, InputFile, LayerRange, Proposal, ProposalReason, ProposedRole,
+    StackPosition,
+};
 pub use names::Name;
+pub use proposal_list::propose;
+pub use reasons::write_reasons;
 use std::alloc::Global;
 
 /// What kind of file a file of a package is.

@@ -1,13 +1,13 @@
 //! Which records name files, and by which rule the first wrong one is refused.
 
-ghost use Rattle.std.specs.Prelude.{◌≡◌, ◌≤◌, map, not, true, false, MatchOption, IfSome};
+ghost use Rattle.std.specs.Prelude.{◌≡◌, ◌≤◌, map, not, true, false, MatchOption, IfErr, IfOk, IfSome, Ok, Err};
 ghost use Rattle.std.specs.List.{count_by, list_any};
 ghost use Rattle.csv.specs.Records.{fields_of};
 ghost use Rattle.grid_units.specs.Results.{Answers, with_place, fault};
 ghost use Rattle.manifest.specs.Manifest as naming;
 ghost use Rattle.manifest.specs.Manifest.{field, is_well_formed, parse_manifest_records};
 ghost use Rattle.manifest.specs.Inner.RecordEntry as reading;
-ghost use Rattle.manifest.specs.Inner.RecordEntry.{checked_entry};
+ghost use Rattle.manifest.specs.Inner.RecordEntry.{checked_entry, entry_with};
 
 use crate::names::Name;
 use crate::rows::{has_field, text_field};
@@ -79,6 +79,52 @@ fn name_of(row: &ByteRecord) -> &[u8]
     }
 }
 
+/// What a record says of a file: its role, its two names and its span.
+#[derive(Clone, Copy)]
+struct NamedFile<'a> {
+    role: Role,
+    name: &'a str,
+    file: &'a str,
+    span: Option<Span>,
+}
+
+/// What a record says in a profile, or the first rule that it breaks; `repeated` says whether an earlier file has its name.
+fn named_file<'a>(
+    profile: Profile,
+    width: usize,
+    repeated: bool,
+    row: &'a ByteRecord,
+) -> Result<NamedFile<'a>, Reason>
+    requires { width ≤ 5 }
+    ensures ok { IfOk result (λ named. checked_entry profile width repeated (fields_of row.now) ≡ Ok (entry_with named)) }
+    ensures err { IfErr result (λ why. checked_entry profile width repeated (fields_of row.now) ≡ Err why) }
+{
+    let Some(fields) = text_fields(row, width) else {
+        return Err(Reason::BadManifest);
+    };
+    let Some(role) = role_of_word(fields.role) else {
+        return Err(Reason::BadRole);
+    };
+    if !is_role_in(profile, role) {
+        return Err(Reason::BadRole);
+    }
+    if fields.name.is_empty() || fields.file.is_empty() {
+        return Err(Reason::EmptyName);
+    }
+    if repeated {
+        return Err(Reason::RepeatedName);
+    }
+    let Ok(span) = span_or_reason(role, fields.first, fields.last) else {
+        return Err(Reason::BadSpan);
+    };
+    Ok(NamedFile {
+        role,
+        name: fields.name,
+        file: fields.file,
+        span,
+    })
+}
+
 /// The file that a record names in a profile; `repeated` says whether an earlier file has its name.
 fn read_entry(
     alloc: Global,
@@ -91,30 +137,15 @@ fn read_entry(
     requires { width ≤ 5 }
     ensures { Answers (λ entry. entry) (λ answer. answer ≡ with_place place 0 (checked_entry profile width repeated (fields_of row.now))) result }
 {
-    let Some(fields) = text_fields(row, width) else {
-        return Err(refused(place, Reason::BadManifest));
-    };
-    let Some(role) = role_of_word(fields.role) else {
-        return Err(refused(place, Reason::BadRole));
-    };
-    if !is_role_in(profile, role) {
-        return Err(refused(place, Reason::BadRole));
+    match named_file(profile, width, repeated, row) {
+        Ok(named) => Ok(Entry {
+            role: named.role,
+            name: Name::new(alloc, named.name)?,
+            file: Name::new(alloc, named.file)?,
+            span: named.span,
+        }),
+        Err(reason) => Err(refused(place, reason)),
     }
-    if fields.name.is_empty() || fields.file.is_empty() {
-        return Err(refused(place, Reason::EmptyName));
-    }
-    if repeated {
-        return Err(refused(place, Reason::RepeatedName));
-    }
-    let Ok(span) = span_or_reason(role, fields.first, fields.last) else {
-        return Err(refused(place, Reason::BadSpan));
-    };
-    Ok(Entry {
-        role,
-        name: Name::new(alloc, fields.name)?,
-        file: Name::new(alloc, fields.file)?,
-        span,
-    })
 }
 
 /// The fields of a record, each of plain text. A field that it lacks is empty.

@@ -10,9 +10,8 @@ ghost use Rattle.margins.specs.Inner.Zones.{CoversNothing};
 use crate::best::BestPad;
 use crate::bests::best_pads;
 use crate::deep::DepthShape;
-use crate::zones::zone_of_all;
 use pad_shapes::Zone;
-use ring_rules::Drilled;
+use ring_rules::{Drilled, entry_zone};
 use std::alloc::{AllocError, Global};
 
 /// Which holes have no best pad.
@@ -73,7 +72,7 @@ pub fn bare_holes<S: DepthShape>(
 ) -> Result<Vec<bool>, AllocError>
     ensures { IfOk result (λ bare. AreBare S.covers pads.now holes.now bare.items) }
 {
-    let zone = zone_of_all(holes);
+    let zone = entry_zone(holes);
     if may_cover_any(pads, &zone) {
         bare_by_bests(alloc, pads, holes)
     } else {

@@ -13,9 +13,8 @@ use crate::best::BestPad;
 use crate::better::better;
 use crate::deep::DepthShape;
 use crate::large::try_large;
-use crate::zones::zone_of_all;
 use pad_shapes::Zone;
-use ring_rules::{Drilled, HoleIndex, mean_zone_size};
+use ring_rules::{Drilled, HoleIndex, entry_zone, mean_zone_size};
 use std::alloc::{AllocError, Global};
 
 /// Pads of a layer, and the holes of the board at which they are tried.
@@ -153,7 +152,7 @@ pub fn best_pads<S: DepthShape>(
         pads,
         holes,
         index: &index,
-        whole: zone_of_all(holes),
+        whole: entry_zone(holes),
         few: holes.len().isqrt(),
     };
     board.best_pads(alloc)

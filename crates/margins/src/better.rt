@@ -2,7 +2,6 @@
 
 ghost use Rattle.std.specs.Prelude.{◌≡◌, ◌<◌, ◌≤◌, ℕ, Some, true, pos, length, get_or};
 ghost use Rattle.pad_shapes.specs.Shapes.{covers_both_ends, IsReach};
-ghost use Rattle.margins.specs.BestPads.{IsBestPad};
 ghost use Rattle.margins.specs.Inner.BestPads.{required, IsDepthInPad, IsNoBetter, Improves, IsTriedAt};
 
 use crate::best::BestPad;
@@ -66,15 +65,4 @@ pub(crate) fn better<S: DepthShape>(
         return best;
     }
     Some(best_in(pads, place, pad, hole, best))
-}
-
-/// The first of the pads in which a hole lies deepest. There is none where no pad covers both of its ends with any reach.
-pub fn best_pad<S: DepthShape>(pads: &[S], hole: &Hole) -> Option<BestPad>
-    ensures { IsBestPad S.covers pads.now hole.now result }
-{
-    let mut best = None;
-    for place in 0..pads.len() {
-        best = better(best, pads, place, hole);
-    }
-    best
 }

@@ -4,9 +4,8 @@ ghost use Rattle.std.specs.Prelude.{◌≡◌, ℕ, true, IfSome};
 ghost use Rattle.grid_units.specs.Points.{GridPoint};
 ghost use Rattle.margins.specs.Hulls.{IsDeepIn, IsWiderThan};
 
-use crate::apart::{apart_x, apart_y};
 use crate::hull::Hull;
-use crate::roots::length_rounded_up;
+use crate::roots::{apart_x, apart_y, length_rounded_up};
 use grid_units::{Point, square, square_length};
 
 /// The greatest half of a side, and the greatest radius, of a hull, in pm: five metres.

@@ -4,7 +4,6 @@
 //! All lengths are whole picometres (pm).
 #![tactic(auto)]
 
-mod apart;
 mod bare;
 mod best;
 mod bests;
@@ -22,19 +21,14 @@ mod order;
 mod roots;
 mod row;
 mod shapes;
-mod zones;
 
 pub use bare::bare_holes;
 pub use best::BestPad;
 pub use bests::best_pads;
-pub use better::best_pad;
 pub use deep::{DepthShape, depth_of_hole};
 pub use gap::gap_between;
 pub use hull::Hull;
 pub use lacking::ring_findings_from_bests;
-pub use met::{
-    Met, RingsMet, gap_met, gap_met_of_nearest, met_with_layer, met_without_layers, needs_ring,
-    ring_in_pads_met, ring_met, rings_met,
-};
+pub use met::{Met, RingsMet, gap_met_of_nearest, met_with_layer, met_without_layers, needs_ring};
 pub use nearest::{Nearest, nearest_holes};
 pub use row::{RingRow, RowLeast, ring_row};

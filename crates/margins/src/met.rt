@@ -1,20 +1,18 @@
 //! The greatest ring and the greatest gap that a whole board meets.
 
-ghost use Rattle.std.specs.Prelude.{◌≡◌, ◌+◌, ◌<◌, [], None, Some, length, map, get_or, IfOk};
+ghost use Rattle.std.specs.Prelude.{◌≡◌, ◌+◌, ◌<◌, [], length, map, get_or};
 ghost use Rattle.margins.specs.BestPads.{AreBestPads};
 ghost use Rattle.margins.specs.NearestHoles.{IsNearestOf, IsPair};
-ghost use Rattle.margins.specs.Meets.{needs_ring, MeetsOnLayers, MeetsRings, MeetsRingsInPads, MeetsGaps, RingsPass, GapsPass};
+ghost use Rattle.margins.specs.Meets.{needs_ring, MeetsOnLayers, MeetsGaps, GapsPass};
 ghost use Rattle.margins.specs.Rows.{ring_from_best};
 ghost use Rattle.margins.specs.Inner.Meets.{with_length, with_length_in_pads};
 
 use crate::best::BestPad;
-use crate::bests::best_pads;
 use crate::deep::DepthShape;
-use crate::nearest::{Nearest, nearest_holes};
+use crate::nearest::Nearest;
 use crate::row::ring_of;
 use grid_units::{Profile, is_in_span};
 use ring_rules::Drilled;
-use std::alloc::{AllocError, Global};
 
 /// The rules that a board meets.
 #[derive(Clone, Copy, Debug, PartialEq, Eq)]
@@ -110,70 +108,6 @@ pub fn met_with_layer<S: DepthShape>(
     met
 }
 
-/// The greatest rings that a board meets: at all holes that need one (`ring`), and at those that are not bare
-/// (`held`). Each is any where no hole needs a ring. One bare hole makes `ring` none; `held` is none where all are
-/// bare. Else each is the least that a hole has in its best pad on a layer of its span.
-///
-/// # Errors
-///
-/// Where there is no memory.
-pub fn rings_met<S: DepthShape>(
-    alloc: Global,
-    layers: &[&[S]],
-    holes: &[Drilled],
-    profile: Profile,
-) -> Result<RingsMet, AllocError>
-    ensures ring { IfOk result (λ met. MeetsRings S.covers profile (map (λ pads. pads.now) layers.now) holes.now met.ring) }
-    ensures held { IfOk result (λ met. MeetsRingsInPads S.covers profile (map (λ pads. pads.now) layers.now) holes.now met.in_pads) }
-    ensures passes { IfOk result (λ met. RingsPass S.covers profile (map (λ pads. pads.now) layers.now) holes.now met.ring) }
-{
-    let mut met = met_without_layers(layers, holes);
-    for layer in 0..layers.len() {
-        let bests = best_pads(alloc, layers[layer], holes)?;
-        met = met_with_layer(layers, layer, &bests, holes, profile, met);
-    }
-    Ok(met)
-}
-
-/// The greatest ring that a board meets. It is any where no hole needs one, and none where a hole that needs one is
-/// bare. Else it is the least that a hole has in its best pad on a layer of its span. Under just these rings nothing
-/// is found.
-///
-/// # Errors
-///
-/// Where there is no memory.
-pub fn ring_met<S: DepthShape>(
-    alloc: Global,
-    layers: &[&[S]],
-    holes: &[Drilled],
-    profile: Profile,
-) -> Result<Met, AllocError>
-    ensures exact { IfOk result (λ met. MeetsRings S.covers profile (map (λ pads. pads.now) layers.now) holes.now met) }
-    ensures passes { IfOk result (λ met. RingsPass S.covers profile (map (λ pads. pads.now) layers.now) holes.now met) }
-{
-    let met = rings_met(alloc, layers, holes, profile)?;
-    Ok(met.ring)
-}
-
-/// The greatest ring that a board meets at the holes that are not bare where they need one. It is any where no hole
-/// needs one, and none where all that need one are bare. Else it is the least that a hole has in its best pad on a
-/// layer of its span.
-///
-/// # Errors
-///
-/// Where there is no memory.
-pub fn ring_in_pads_met<S: DepthShape>(
-    alloc: Global,
-    layers: &[&[S]],
-    holes: &[Drilled],
-    profile: Profile,
-) -> Result<Met, AllocError>
-    ensures { IfOk result (λ met. MeetsRingsInPads S.covers profile (map (λ pads. pads.now) layers.now) holes.now met) }
-{
-    let met = rings_met(alloc, layers, holes, profile)?;
-    Ok(met.in_pads)
-}
-
 /// The gaps that a board meets, by its nearest holes.
 fn most(nearest: Nearest) -> Met
     ensures { result ≡ Met.UpTo nearest.gap }
@@ -192,18 +126,4 @@ pub fn gap_met_of_nearest(holes: &[Drilled], nearest: Option<Nearest>) -> Met
         Some(nearest) => most(nearest),
         None => Met::Any,
     }
-}
-
-/// The greatest gap that a board meets: any where there are fewer than two holes, else the least gap of two holes.
-/// Under just these gaps nothing is found.
-///
-/// # Errors
-///
-/// Where there is no memory.
-pub fn gap_met(alloc: Global, holes: &[Drilled]) -> Result<Met, AllocError>
-    ensures exact { IfOk result (MeetsGaps holes.now) }
-    ensures passes { IfOk result (GapsPass holes.now) }
-{
-    let nearest = nearest_holes(alloc, holes)?;
-    Ok(gap_met_of_nearest(holes, nearest))
 }

@@ -1,9 +1,9 @@
-//! Whole square roots, and differences of lengths.
+//! Whole square roots, and differences of lengths and of coordinates.
 
 ghost use Rattle.std.specs.Prelude.{◌≡◌, ℕ, pos, ◌+◌, ◌*◌, ◌^◌, ◌≤◌, ◌<◌, ◌-ℤ◌, ◌↔◌};
-ghost use Rattle.grid_units.specs.Points.{square};
+ghost use Rattle.grid_units.specs.Points.{abs_diff, square};
 
-use grid_units::square_length;
+use grid_units::{Point, square_length};
 
 /// The greatest number whose square is at most `n`. The roots of small numbers are quicker.
 pub(crate) fn floor_root(n: u128) -> u64
@@ -56,4 +56,20 @@ pub(crate) fn less(length: u64, other: u64) -> i64
     ensures { result ≡ pos length -ℤ pos other }
 {
     length as i64 - other as i64
+}
+
+/// How far two points are apart along x, in pm.
+pub(crate) fn apart_x(p: Point, q: Point) -> u64
+    ensures value { result ≡ abs_diff p.x q.x }
+    ensures in_range { result ≤ 20000000000000 }
+{
+    p.x().abs_diff(q.x())
+}
+
+/// How far two points are apart along y, in pm.
+pub(crate) fn apart_y(p: Point, q: Point) -> u64
+    ensures value { result ≡ abs_diff p.y q.y }
+    ensures in_range { result ≤ 20000000000000 }
+{
+    p.y().abs_diff(q.y())
 }

@@ -3,10 +3,9 @@
 ghost use Rattle.margins.specs.Depths.{pad_middle, wide_pad_middle};
 ghost use Rattle.margins.specs.Inner.DepthLaws.{disc_covers_less, rect_covers_less, obround_covers_less, pad_covers_less, rounded_covers_less, wide_pad_covers_less};
 
-use crate::apart::{apart_x, apart_y};
 use crate::deep::DepthShape;
 use crate::hull::Hull;
-use crate::roots::{length_rounded_up, less};
+use crate::roots::{apart_x, apart_y, length_rounded_up, less};
 use grid_units::Point;
 use pad_shapes::{Disc, Obround, Pad, PlacedRounded, Rect, WidePad};
 

@@ -26,7 +26,7 @@ use Rattle.package_check.specs.declared.PackageFault.{PackageFault}
 use Rattle.package_check.specs.declared.PackageFault.TheVariants as stop
 use Rattle.package_check.specs.declared.contents.Content.{Content}
 use Rattle.package_check.specs.declared.contents.Content.TheVariants as content
-use Rattle.package_check.specs.declared.judged.Judged.{Judged}
+use Rattle.package_check.specs.declared.checking.Judged.{Judged}
 use Rattle.package_check.proofs.ContentIsReading.{content_read}
 use Rattle.package_check.proofs.FileKinds.{drill_is_no_copper, mixed_is_no_copper, either}
 use Rattle.package_check.proofs.GrowingLists.{any_name}

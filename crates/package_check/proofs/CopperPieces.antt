@@ -15,7 +15,7 @@ use Rattle.package_check.specs.Judging.{Judges}
 use Rattle.package_check.specs.OpenFiles.{CopperStandsIn, HasFailed, HasOpenedCopper, HasReadCopper, HasReadLayer}
 use Rattle.package_check.specs.Package.{Setting, FileView, is_bad_span, unnamed_file}
 use Rattle.package_check.specs.declared.PackageFault.{PackageFault}
-use Rattle.package_check.specs.declared.judged.Judged.{Judged}
+use Rattle.package_check.specs.declared.checking.Judged.{Judged}
 use Rattle.grid_units.specs.declared.profile.Profile.{Profile}
 use Rattle.layer_image.specs.declared.keep.Keep.TheVariants as keep
 use Rattle.package_check.specs.declared.copper_reader.CopperReader.{CopperReader}

@@ -20,7 +20,7 @@ use Rattle.package_check.specs.SoundnessAsRead.{drilled_in}
 use Rattle.package_check.specs.declared.PackageFault.{PackageFault}
 use Rattle.package_check.specs.declared.contents.Content.{Content}
 use Rattle.package_check.specs.declared.contents.Content.TheVariants as content
-use Rattle.package_check.specs.declared.judged.Judged.{Judged}
+use Rattle.package_check.specs.declared.checking.Judged.{Judged}
 use Rattle.package_check.specs.declared.package_reader.PackageReader.{PackageReader}
 use Rattle.package_check.specs.declared.slots.Kept.{Kept}
 use Rattle.package_check.proofs.BoardsLemmas.{all_listed}

@@ -4,7 +4,7 @@ use Rattle.grid_units.specs.Spans.{LayerSpan}
 use Rattle.grid_units.specs.Holes.{GridRules}
 use Rattle.grid_units.specs.declared.fault.Fault.{Fault}
 use Rattle.drill_text.specs.Faults.{HasAnswer, IsFirstFault}
-use Rattle.drill_text.specs.Reading as drills
+use Rattle.drill_text.specs.Profiles as drills
 use Rattle.drill_text.specs.Profiles.{Kind, ReadsBy, mixed_in}
 use Rattle.drill_lines.specs.declared.command.DrillCommand.{DrillCommand}
 use Rattle.gerber_text.specs.Writing.{without_places}

@@ -42,7 +42,7 @@ use Rattle.package_check.specs.Judging.{HasTriedFeaturesOf, HasTriedIn, HasTried
 use Rattle.package_check.specs.Package.{not_copper}
 use Rattle.package_check.specs.declared.contents.Content.TheVariants as content
 use Rattle.package_check.specs.declared.FileSum.TheVariants as sum
-use Rattle.package_check.specs.declared.judged.Judged.{Judged}
+use Rattle.package_check.specs.declared.checking.Judged.{Judged}
 
 -- the fault that the text so far shows is that of the whole text
 pub fault_of_longer : ((text more : List ℕ) (f : Fault) → ShowsLayerFault text f → layers.ReadsLayer (text ++ more) (Err f)) → (text more whole : List ℕ) (e : Fail) → text ++ more ≡ whole → IfFault (ShowsLayerFault text) e

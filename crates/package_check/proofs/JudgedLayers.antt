@@ -25,7 +25,7 @@ use Rattle.package_check.specs.declared.PackageFault.{PackageFault}
 use Rattle.package_check.specs.declared.PackageFault.TheVariants as stop
 use Rattle.package_check.specs.declared.contents.Content.{Content}
 use Rattle.package_check.specs.declared.contents.Content.TheVariants as content
-use Rattle.package_check.specs.declared.judged.Judged.{Judged}
+use Rattle.package_check.specs.declared.checking.Judged.{Judged}
 use Rattle.package_check.proofs.AnswerUniqueness.{same_contents}
 use Rattle.package_check.proofs.BoardsLemmas.{numbered_all}
 use Rattle.package_check.proofs.ContentIsReading.{content_read}

@@ -93,7 +93,7 @@ module _ {X : Type 0} (seen : X → FileView) (role_of : X → Role) (n : Settin
       let place = kept (λ (f : FileView). not (is_copper f.role)) (map seen xs) file among.0 among.1 among.2 is_drill in
       let other = said_by files sound.drills sound.holes file place.0 place.1 place.2 in
       let setting_is : file.setting ≡ n = setting_of_file xs file among.0 among.1 among.2 in
-      let listed : Contains other.0 d = subst (λ (ds : List Drilled). Contains ds d) (once file drilled other.0 (ap (λ (m : Setting). m.profile) setting_is ∙ reads) said other.2) inside in
+      let listed : Contains other.0 d = subst (λ (ds : List Drilled). Contains ds d) (once file drilled other.0 said other.2) inside in
       let at = other.1 in
       let far : at.0 < length sound.drills = at.1 in
       let spot : get_or sound.drills at.0 other.0 ≡ other.0 = at.2 in

@@ -11,11 +11,12 @@ use Rattle.drill_lines.specs.declared.command.DrillCommand.{DrillCommand}
 use Rattle.drill_text.specs.Outcome.{DrillFile, file_of}
 use Rattle.drill_text.specs.Plating.{says_otherwise}
 use Rattle.drill_text.specs.Profiles.{Kind, ReadsAsBy, ReadsBy, ShowsBy, mixed_in}
-use Rattle.drill_text.proofs.ProfileLemmas.{reads_strictly}
 use Rattle.drill_text.proofs.SpellsTextLemmas.{reads_drill_text}
 use Rattle.grid_units.specs.declared.profile.Profile.{Profile}
 use Rattle.grid_units.specs.declared.profile.Profile.TheVariants.{Strict, Wide}
 use Rattle.drill_text.specs.declared.kept.Keep.TheVariants as drill_keep
+use Rattle.drill_text.specs.declared.platings.PlatingKind.{PlatingKind}
+use Rattle.drill_text.specs.declared.platings.PlatingKind.TheVariants as plating
 use Rattle.layer_image.specs.Holding.{ShowsLayerFaultIn}
 use Rattle.layer_image.specs.Layers as layers
 use Rattle.layer_image.specs.Layers.{LayerImage, ReadsKeptIn}
@@ -25,7 +26,7 @@ use Rattle.manifest.specs.declared.Role.{Role}
 use Rattle.manifest.specs.declared.Role.TheVariants as role
 use Rattle.ring_rules.specs.declared.finding.Drilled.{Drilled}
 use Rattle.package_check.specs.DrillViews.{DrillView}
-use Rattle.package_check.specs.FileTexts.{ReadsDrill, ReadsLayer, ReadsMixed, drill_kind, drill_view, marked}
+use Rattle.package_check.specs.FileTexts.{ReadsDrill, ReadsLayer, ReadsMixed, drill_kind, drill_view, marked, plating_in}
 use Rattle.package_check.specs.LayerViews.{LayerView}
 use Rattle.package_check.specs.Holding.{TakesFile, is_wanted, setting_of}
 use Rattle.package_check.specs.OpenFiles.{HasFailed, HasOpened, HasReadText, drill_role}
@@ -85,7 +86,7 @@ span_failed of span setting text e bad is =
 
 -- the fault of a drill text is that of its file
 drill_refused : (profile : Profile) (plated : Bool) (span : Option LayerSpan) (text : List ℕ) (f : Fault) → ReadsBy (drill_kind profile plated) text (Err f) → ReadsHoles profile plated span text (Err f)
-drill_refused Strict plated span text f h = reads_strictly text (Err f) h
+drill_refused Strict plated span text f h = h
 drill_refused Wide plated span text f h = h
 
 -- the fault that the text of a layer shows stays
@@ -160,31 +161,31 @@ pub wide_fault : (text : List ℕ) (e : Fail) → Answers {T = WideImage} (λ la
 wide_fault text fails.Memory h = tt
 wide_fault text (fails.Refused f) h = h
 
-pub drill_fault : (profile : Profile) (plated : Bool) (text : List ℕ) (e : Fail) → Answers {T = DrillFile} (λ drill. drill) (ReadsAsBy (drill_kind profile plated) (file_of drill_keep.Holes) text) (Err e) → Answers {T = DrillView} (λ x. x) (ReadsDrill profile plated text) (Err e)
+pub drill_fault : (profile : Profile) (plated : Bool) (text : List ℕ) (e : Fail) → Answers {T = DrillFile} (λ drill. drill) (ReadsAsBy (drill_kind profile plated) (file_of (plating_in profile plated) drill_keep.Holes) text) (Err e) → Answers {T = DrillView} (λ x. x) (ReadsDrill profile plated text) (Err e)
 drill_fault profile plated text fails.Memory h = tt
-drill_fault Strict plated text (fails.Refused f) h = reads_strictly text (Err f) h
+drill_fault Strict plated text (fails.Refused f) h = h
 drill_fault Wide plated text (fails.Refused f) h = h
 
 -- the view of a drill file is that of its commands
-viewed : (plated : Bool) (d : DrillFile) (commands : List DrillCommand) → d ≡ file_of drill_keep.Holes commands
+viewed : (known : PlatingKind) (plated : Bool) (d : DrillFile) (commands : List DrillCommand) → d ≡ file_of known drill_keep.Holes commands
     → (let v : DrillView = record { holes = d.holes; contradicted = says_otherwise plated d.calls_plated d.calls_unplated } in v) ≡ drill_view plated commands
-viewed plated d commands e = ap (λ (d : DrillFile). let v : DrillView = record { holes = d.holes; contradicted = says_otherwise plated d.calls_plated d.calls_unplated } in v) e
+viewed known plated d commands e = ap (λ (d : DrillFile). let v : DrillView = record { holes = d.holes; contradicted = says_otherwise plated d.calls_plated d.calls_unplated } in v) e
 
 -- the view of a text is that of what is kept of it
-pub drill_read : (profile : Profile) (plated : Bool) (text : List ℕ) (d : DrillFile) → ReadsAsBy (drill_kind profile plated) (file_of drill_keep.Holes) text (Ok d) → ReadsDrill profile plated text (Ok (record { holes = d.holes; contradicted = says_otherwise plated d.calls_plated d.calls_unplated }))
-drill_read Strict plated text d h = (h.0, reads_drill_text text h.0 (reads_strictly text (Ok h.0) h.1), viewed plated d h.0 h.2)
-drill_read Wide plated text d h = (h.0, h.1, viewed plated d h.0 h.2)
+pub drill_read : (profile : Profile) (plated : Bool) (text : List ℕ) (d : DrillFile) → ReadsAsBy (drill_kind profile plated) (file_of (plating_in profile plated) drill_keep.Holes) text (Ok d) → ReadsDrill profile plated text (Ok (record { holes = d.holes; contradicted = says_otherwise plated d.calls_plated d.calls_unplated }))
+drill_read Strict plated text d h = (h.0, reads_drill_text text h.0 h.1, viewed (plating_in Strict plated) plated d h.0 h.2)
+drill_read Wide plated text d h = (h.0, h.1, viewed (plating_in Wide plated) plated d h.0 h.2)
 
 pub holes_fault : (profile : Profile) (plated : Bool) (span : Option LayerSpan) (text : List ℕ) (e : Fail) → Answers {T = DrillView} (λ x. x) (ReadsDrill profile plated text) (Err e) → Answers {T = Content} (λ x. x) (ReadsHoles profile plated span text) (Err e)
 holes_fault profile plated span text fails.Memory h = tt
 holes_fault profile plated span text (fails.Refused f) h = h
 
 -- the holes of a mixed text, each plated or not, are those of what is kept of it
-pub mixed_fault : (profile : Profile) (span : Option LayerSpan) (text : List ℕ) (e : Fail) → Answers {T = DrillFile} (λ drill. drill) (ReadsAsBy (mixed_in profile) (file_of drill_keep.Holes) text) (Err e) → Answers {T = List Drilled} (λ x. x) (ReadsMixed profile span text) (Err e)
+pub mixed_fault : (profile : Profile) (span : Option LayerSpan) (text : List ℕ) (e : Fail) → Answers {T = DrillFile} (λ drill. drill) (ReadsAsBy (mixed_in profile) (file_of plating.Mixed drill_keep.Holes) text) (Err e) → Answers {T = List Drilled} (λ x. x) (ReadsMixed profile span text) (Err e)
 mixed_fault profile span text fails.Memory h = tt
 mixed_fault profile span text (fails.Refused f) h = h
 
-pub mixed_read : (profile : Profile) (span : Option LayerSpan) (text : List ℕ) (d : DrillFile) → ReadsAsBy (mixed_in profile) (file_of drill_keep.Holes) text (Ok d) → ReadsMixed profile span text (Ok (marked span d.holes d.plated))
+pub mixed_read : (profile : Profile) (span : Option LayerSpan) (text : List ℕ) (d : DrillFile) → ReadsAsBy (mixed_in profile) (file_of plating.Mixed drill_keep.Holes) text (Ok d) → ReadsMixed profile span text (Ok (marked span d.holes d.plated))
 mixed_read profile span text d h = (h.0, h.1, ap (λ (d : DrillFile). marked span d.holes d.plated) h.2)
 
 pub mixed_holes_fault : (profile : Profile) (span : Option LayerSpan) (text : List ℕ) (e : Fail) → Answers {T = List Drilled} (λ x. x) (ReadsMixed profile span text) (Err e) → Answers {T = Content} (λ x. x) (ReadsMixedHoles profile span text) (Err e)

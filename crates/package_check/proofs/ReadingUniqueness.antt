@@ -2,7 +2,7 @@
 use Rattle.std.proofs.Common.{◌≡◌, ◌↔◌, ℕ, Bool, true, false, List, Result, Ok, Err, sym, ap, ◌∙◌, inl, inr}
 use Rattle.grid_units.specs.declared.fault.Fault.{Fault}
 use Rattle.drill_lines.specs.declared.command.DrillCommand.{DrillCommand}
-use Rattle.drill_text.specs.Reading as drills
+use Rattle.drill_text.specs.Profiles as drills
 use Rattle.drill_text.specs.Texts.{IsDrillText}
 use Rattle.drill_text.specs.Profiles.{Kind, ReadsBy, mixed_in}
 use Rattle.ring_rules.specs.declared.finding.Drilled.{Drilled}

@@ -18,7 +18,7 @@ use Rattle.layer_image.specs.PadLaws.{PadsAreUnique}
 use Rattle.drill_lines.specs.declared.command.DrillCommand.{DrillCommand}
 use Rattle.drill_text.specs.Drilling.{AreHoles}
 use Rattle.drill_text.specs.Laws.{DrillsAtMostOneList, IsTextOfAtMostOne}
-use Rattle.package_check.specs.Soundness.{AreDrilledBy, HolesAreSaidOnce, IsDrillText, MakePads, PadsAreSaidOnce}
+use Rattle.package_check.specs.Soundness.{AreDrilledBy, HolesAreSaidOnce, MakePads, PadsAreSaidOnce}
 
 makes_once : PadsAreUnique → (profile : Profile) (commands : List Command) (a b : List WidePad) → MakePads profile commands a → MakePads profile commands b → a ≡ b
 makes_once one_list Strict commands a b h k = h.2 ∙ (ap (map plain) (one_list commands h.0 k.0 h.1 k.1) ∙ sym k.2)
@@ -29,10 +29,6 @@ pads_once one_text one_list file a b s t =
     let same : s.commands ≡ t.commands = one_text file.setting.profile file.bytes s.commands t.commands s.written t.written in
     makes_once one_list file.setting.profile t.commands a b (subst (λ (cs : List Command). MakePads file.setting.profile cs a) same s.made) t.made
 
-one_drill_text : IsTextOfAtMostOne → (profile : Profile) (bytes : List ℕ) (a b : List DrillCommand) → profile ≡ Strict → IsDrillText profile bytes a → IsDrillText profile bytes b → a ≡ b
-one_drill_text one Strict bytes a b is h k = one bytes a b h k
-one_drill_text one Wide bytes a b is h k = absurd cc
-
 -- the platings of the holes of these commands are said once
 drilled_once : CalledIsListed → (q : Role) (span : Option LayerSpan) (commands : List DrillCommand) (holes : List GridHole) (a b : List Drilled) → AreDrilledBy q span commands holes a → AreDrilledBy q span commands holes b → a ≡ b
 drilled_once listed role.Copper span commands holes a b h k = h ∙ sym k
@@ -41,8 +37,8 @@ drilled_once listed role.Unplated span commands holes a b h k = h ∙ sym k
 drilled_once listed role.Mixed span commands holes a b h k = h.2 ∙ (ap (marked span holes) (listed commands h.0 h.1 ∙ sym (listed commands k.0 k.1)) ∙ sym k.2)
 
 pub holes_once : IsTextOfAtMostOne → DrillsAtMostOneList → CalledIsListed → HolesAreSaidOnce
-holes_once one_text one_list listed file a b strict s t =
-    let same : s.commands ≡ t.commands = one_drill_text one_text file.setting.profile file.bytes s.commands t.commands strict s.written t.written in
+holes_once one_text one_list listed file a b s t =
+    let same : s.commands ≡ t.commands = one_text file.setting.profile file.bytes s.commands t.commands s.written t.written in
     let holes : s.holes ≡ t.holes = one_list t.commands s.holes t.holes (subst (λ (cs : List DrillCommand). AreHoles cs s.holes) same s.made) t.made in
     let moved : AreDrilledBy file.role file.span t.commands s.holes a = subst (λ (cs : List DrillCommand). AreDrilledBy file.role file.span cs s.holes a) same s.is in
     drilled_once listed file.role file.span t.commands t.holes a b (subst (λ (hs : List GridHole). AreDrilledBy file.role file.span t.commands hs a) holes moved) t.is

@@ -9,7 +9,7 @@ use Rattle.drill_lines.specs.declared.command.DrillCommand.{DrillCommand}
 use Rattle.drill_text.specs.MixedLaws.{KindsReadTheSame, UncontradictedIsLegal}
 use Rattle.drill_text.specs.Plating.{calls_plated}
 use Rattle.drill_text.specs.Profiles.{ReadsIn, unplated_in}
-use Rattle.drill_text.specs.Reading as drills
+use Rattle.drill_text.specs.Profiles as drills
 use Rattle.drill_text.specs.Texts.{IsDrillText}
 use Rattle.manifest.specs.declared.Role.{Role}
 use Rattle.manifest.specs.declared.Role.TheVariants as role

@@ -9,7 +9,7 @@ use Rattle.grid_units.specs.declared.profile.Profile.TheVariants.{Strict, Wide}
 use Rattle.drill_lines.specs.declared.command.DrillCommand.{DrillCommand}
 use Rattle.drill_text.specs.Plating.{calls_plated}
 use Rattle.drill_text.specs.Profiles.{ReadsBy, ReadsIn, mixed_in, unplated_in}
-use Rattle.drill_text.specs.Reading as drills
+use Rattle.drill_text.specs.Profiles as drills
 use Rattle.drill_text.specs.Texts.{IsDrillText}
 use Rattle.wide_layers.specs.WideLayers.{StrictLayers, plain_pad, plain_pads}
 use Rattle.further_copper.specs.declared.feature.Feature.{Feature}

@@ -19,14 +19,13 @@ use Rattle.gerber_text.specs.Laws.{SpelledTextsAreWrittenIn}
 use Rattle.gerber_text.specs.Writing.{without_places}
 use Rattle.layer_image.specs.PadLaws.{LayerPads}
 use Rattle.layer_image.specs.FileFunction.{function_set}
-use Rattle.drill_text.specs.Laws.{ListedHolesAreDrilled, SpelledIsWritten}
+use Rattle.drill_text.specs.Laws.{ListedHolesAreDrilled, ReadIsWritten, SpelledIsWritten, WideHolesAreDrilled}
 use Rattle.drill_text.specs.Drilling.{AreHoles}
-use Rattle.drill_text.specs.WideGrammar.{ReadIsWritten, WideHolesAreDrilled}
+use Rattle.drill_text.specs.Grammar.{IsText}
 use Rattle.drill_text.specs.Holes.{holes_of}
 use Rattle.drill_text.specs.MixedLaws.{KindsReadTheSame, ListedIsCalled}
 use Rattle.drill_text.specs.Plating.{plated_of}
-use Rattle.drill_text.specs.Profiles.{ReadsIn, mixed_in}
-use Rattle.drill_text.specs.Reading.{Reads}
+use Rattle.drill_text.specs.Profiles.{Reads, ReadsIn, mixed_in}
 use Rattle.drill_text.specs.Texts.{IsDrillText as IsLegalText}
 use Rattle.grid_units.specs.declared.fault.Fault.{Fault}
 use Rattle.drill_lines.specs.declared.command.DrillCommand.{DrillCommand}
@@ -38,7 +37,7 @@ use Rattle.package_check.specs.FileTexts.{HasLayerView, ReadsDrill, drill_kind, 
 use Rattle.package_check.specs.declared.contents.Content.{Content}
 use Rattle.package_check.specs.declared.contents.Content.TheVariants as content
 use Rattle.package_check.specs.Package.{FileView, Setting, HasContent, HasDrillContent, HasMixedContent, HaveContents, is_bad_span, is_copper, layers, pads_of}
-use Rattle.package_check.specs.Soundness.{AreDrilledBy, IsDrillText, IsRun, MakePads, SaysHoles, SaysPads}
+use Rattle.package_check.specs.Soundness.{AreDrilledBy, IsRun, MakePads, SaysHoles, SaysPads}
 use Rattle.package_check.specs.SoundnessAsRead.{IsPlatedThrough, SoundAsReadIsSound, drilled_in}
 
 -- ---- spans
@@ -139,7 +138,7 @@ module _ (texts : SpelledTextsAreWrittenIn) (layer_pads : LayerPads) (lines : Sp
       let made = made_by s.setting.profile s.bytes image h in
       record { commands = made.0; written = made.1; made = made.2; copper = made.3 ∙ copper; spanless = none }
 
-  drilled_by : (profile : Profile) (plated : Bool) (bytes : List ℕ) (drill : DrillView) → ReadsDrill profile plated bytes (Ok drill) → (commands : List DrillCommand) × IsDrillText profile bytes commands × AreHoles commands drill.holes
+  drilled_by : (profile : Profile) (plated : Bool) (bytes : List ℕ) (drill : DrillView) → ReadsDrill profile plated bytes (Ok drill) → (commands : List DrillCommand) × IsText profile bytes commands × AreHoles commands drill.holes
   drilled_by Strict plated bytes drill h = (h.0, ((lines bytes h.0).0 h.1.spells).1, subst (λ (d : DrillView). AreHoles h.0 d.holes) (sym h.2) (listed bytes h.0 h.1))
   drilled_by Wide plated bytes drill h =
       let written = wide_lines bytes h.0 ((same (drill_kind Wide plated) bytes h.0).0 h.1).0 in
@@ -160,7 +159,7 @@ module _ (texts : SpelledTextsAreWrittenIn) (layer_pads : LayerPads) (lines : Sp
       }
 
   -- the commands of a mixed file are those of its text, and drill its holes
-  mixed_by : (profile : Profile) (bytes : List ℕ) (commands : List DrillCommand) → ReadsIn profile bytes (Ok commands) → IsDrillText profile bytes commands × AreHoles commands (holes_of commands)
+  mixed_by : (profile : Profile) (bytes : List ℕ) (commands : List DrillCommand) → ReadsIn profile bytes (Ok commands) → IsText profile bytes commands × AreHoles commands (holes_of commands)
   mixed_by Strict bytes commands h = let d = (drill_texts bytes commands).0 ((strictly bytes (Ok commands)).0 h) in (((lines bytes commands).0 d.spells).1, listed bytes commands d)
   mixed_by Wide bytes commands h = let written = wide_lines bytes commands h in (written.1, wide_listed bytes commands written.1 written.2)
 

@@ -10,7 +10,7 @@ use Rattle.package_check.specs.Package.{Setting}
 use Rattle.package_check.specs.declared.FileSum.{FileSum}
 use Rattle.package_check.specs.declared.FileSum.TheVariants as sum
 use Rattle.package_check.specs.declared.PackageFault.{PackageFault}
-use Rattle.package_check.specs.declared.judged.Judged.{Judged}
+use Rattle.package_check.specs.declared.checking.Judged.{Judged}
 
 -- a check: how many copper files the package has, the holes of all drill files, the rules, an index of the holes, the search on the layer that is being
 -- read, what is left of each file in the slot at its index, and where it stopped

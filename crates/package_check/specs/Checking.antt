@@ -9,7 +9,7 @@ use Rattle.package_check.specs.Judging.{Judges}
 use Rattle.package_check.specs.Package.{FileView, HaveContents, is_copper}
 use Rattle.package_check.specs.SoundnessAsRead.{drilled_in}
 use Rattle.package_check.specs.declared.contents.Content.{Content}
-use Rattle.package_check.specs.declared.judged.Judged.{Judged}
+use Rattle.package_check.specs.declared.checking.Judged.{Judged}
 
 -- the number of the layer of the copper file at an index, from 0: how many of the files before it are copper
 abbrev pub layer_number : List FileView → ℕ → ℕ

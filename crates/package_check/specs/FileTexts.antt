@@ -92,9 +92,8 @@ ReadsDrill Wide plated bytes answer = ReadsAsBy (drill_kind Wide plated) (drill_
 
 -- holes with this span, each plated or not as the other list says, as long as both lists go on
 abbrev pub marked : Option LayerSpan → List GridHole → List Bool → List Drilled
-marked span [] plated = []
-marked span (hole ∷ holes) [] = []
 marked span (hole ∷ holes) (one ∷ plated) = record { hole = hole; plated = one; span = span } ∷ marked span holes plated
+marked span holes plated = []
 
 -- the holes of the commands of a mixed file, each plated as its tool is called, with this span
 abbrev pub mixed_holes : Option LayerSpan → List DrillCommand → List Drilled

@@ -23,7 +23,7 @@ use Rattle.package_check.specs.LayerViews.{plain}
 use Rattle.package_check.specs.Package.{FileView, Reads, ReadsCopper, sum_of}
 use Rattle.package_check.specs.declared.contents.Content.{Content}
 use Rattle.package_check.specs.declared.contents.Content.TheVariants as content
-use Rattle.package_check.specs.declared.judged.Judged.{Judged}
+use Rattle.package_check.specs.declared.checking.Judged.{Judged}
 
 -- just these pads of a layer were tried at the holes of an index; none where no search has begun
 abbrev pub HasTriedIn : List Drilled → RingIndex → ℕ → List WidePad → Option LayerSearch → Type 0

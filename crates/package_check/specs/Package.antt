@@ -44,9 +44,7 @@ pub record FileView : Type 0 where
 -- whether a role is that of a copper file
 abbrev pub is_copper : Role → Bool
 is_copper role.Copper = true
-is_copper role.Plated = false
-is_copper role.Unplated = false
-is_copper role.Mixed = false
+is_copper _ = false
 
 -- the source for a file of the code
 abbrev pub file_view : Setting → File → FileView

@@ -19,13 +19,12 @@ use Rattle.layer_image.specs.FileFunction.{function_set}
 use Rattle.layer_image.specs.Pads.{ArePads}
 use Rattle.drill_lines.specs.declared.command.DrillCommand.{DrillCommand}
 use Rattle.drill_text.specs.Grammar as drill
-use Rattle.drill_text.specs.WideGrammar.{IsWideText}
 use Rattle.drill_text.specs.Drilling.{AreHoles}
 use Rattle.drill_text.specs.Plating.{AreCalled}
 use Rattle.manifest.specs.declared.Role.{Role}
 use Rattle.manifest.specs.declared.Role.TheVariants as role
 use Rattle.package_check.specs.FileTexts.{is_copper_function, marked}
-use Rattle.package_check.specs.LayerViews.{plain}
+use Rattle.pad_shapes.specs.declared.wide_pad.WidePad.TheVariants.{Plain}
 use Rattle.package_check.specs.Package.{FileView, IsReport, is_copper}
 use Rattle.package_check.specs.Reports.{ReportView}
 
@@ -37,7 +36,7 @@ IsRun layers (Some span) = (1 ≤ span.first) × (span.first ≤ span.last) × (
 -- Commands make just these pads. In the strict profile they are the flashes of standard apertures. In the wide one they are these, the flashes of macros that have a
 -- shape, and the closed convex contours of regions, in the order of the commands: those that no clear polarity takes away.
 abbrev pub MakePads : Profile → List Command → List WidePad → Type 0
-MakePads Strict commands made = (pads : List Pad) × ArePads commands pads × (made ≡ map plain pads)
+MakePads Strict commands made = (pads : List Pad) × ArePads commands pads × (made ≡ map Plain pads)
 MakePads Wide commands made = made ≡ pads_of (features_of commands)
 
 -- a copper file says these pads: its bytes are a Gerber text of commands that make just these, and the last file function among the commands, if any, is that of copper
@@ -48,23 +47,18 @@ pub record SaysPads (file : FileView) (pads : List WidePad) : Type 0 where
   pub copper : is_copper_function (last_set function_set commands) ≡ true
   pub spanless : file.span ≡ None
 
--- bytes are a drill text of these commands by the grammar of the profile; in the wide one slots may be routed by four lines, and a file may have no header and no hole
-abbrev pub IsDrillText : Profile → List ℕ → List DrillCommand → Type 0
-IsDrillText Strict bytes commands = drill.IsText bytes commands
-IsDrillText Wide bytes commands = IsWideText bytes commands
-
 -- Holes of a drill file with their platings and its span: each hole of a file has the plating that the file's role says, and each of a mixed file is plated or unplated
 -- as the comment before the definition of its tool calls it.
 abbrev pub AreDrilledBy : Role → Option LayerSpan → List DrillCommand → List GridHole → List Drilled → Type 0
 AreDrilledBy role.Mixed span commands holes drilled = (plated : List Bool) × AreCalled commands plated × (drilled ≡ marked span holes plated)
-AreDrilledBy role.Copper span commands holes drilled = drilled ≡ map (λ hole. record { hole = hole; plated = false; span = span }) holes
 AreDrilledBy role.Plated span commands holes drilled = drilled ≡ map (λ hole. record { hole = hole; plated = true; span = span }) holes
-AreDrilledBy role.Unplated span commands holes drilled = drilled ≡ map (λ hole. record { hole = hole; plated = false; span = span }) holes
+AreDrilledBy _ span commands holes drilled = drilled ≡ map (λ hole. record { hole = hole; plated = false; span = span }) holes
 
--- a drill file says these holes: its bytes are a drill text of commands that drill just these, and they have their platings and the span of the file
+-- a drill file says these holes: its bytes are a text of commands by the grammar of the profile, these drill just the holes, and they have their platings and the span of
+-- the file
 pub record SaysHoles (file : FileView) (drilled : List Drilled) : Type 0 where
   pub commands : List DrillCommand
-  pub written : IsDrillText file.setting.profile file.bytes commands
+  pub written : drill.IsText file.setting.profile file.bytes commands
   pub holes : List GridHole
   pub made : AreHoles commands holes
   pub run : IsRun file.setting.layers file.span
@@ -96,9 +90,9 @@ AreStraight sources =
 abbrev pub PadsAreSaidOnce : Type 0
 PadsAreSaidOnce = (file : FileView) (a b : List WidePad) → SaysPads file a → SaysPads file b → a ≡ b
 
--- in the strict profile a drill file says at most one list of holes
+-- a drill file says at most one list of holes
 abbrev pub HolesAreSaidOnce : Type 0
-HolesAreSaidOnce = (file : FileView) (a b : List Drilled) → file.setting.profile ≡ Strict → SaysHoles file a → SaysHoles file b → a ≡ b
+HolesAreSaidOnce = (file : FileView) (a b : List Drilled) → SaysHoles file a → SaysHoles file b → a ≡ b
 
 -- a package whose report has no finding is sound
 abbrev pub PassingIsSound : Type 0

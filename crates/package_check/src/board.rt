@@ -10,8 +10,8 @@ ghost use Rattle.package_check.specs.SoundnessAsRead.{drilled_in};
 
 use crate::FileSum;
 use crate::contents::Content;
-use crate::lists::push;
 use crate::readers::Shown;
+use crate::slots::push;
 use further_copper::FeatureRow;
 use grid_units::{Hole, Rules};
 use layer_image::Drawn;

@@ -18,18 +18,16 @@ ghost use Rattle.package_check.specs.Reports.{ReportView};
 ghost use Rattle.package_check.specs.Soundness.{IsSound};
 ghost use Rattle.package_check.specs.SoundnessAsRead.{AreLegal};
 ghost use Rattle.package_check.specs.declared.PackageFault.TheVariants as stop;
-ghost use Rattle.package_check.specs.declared.judged.Judged.{Judged as TheJudged};
+ghost use Rattle.package_check.specs.declared.checking.Judged.{Judged as TheJudged};
 ghost use Rattle.ring_rules.specs.Findings.{gap_findings};
 
 use crate::board::{len_of, push_holes, sum_of};
 use crate::indexed_holes::IndexedHoles;
-use crate::judged::Judged;
 use crate::laws::{findings_name_their_places, passing_is_sound, unique_answer, unique_reading};
-use crate::lists::push;
 use crate::open_copper::{CopperReading, OpenCopper};
 use crate::package_reader::{is_wanted, next_stop, outcome};
 use crate::report::report_of;
-use crate::slots::{Kept, put};
+use crate::slots::{Kept, push, put};
 use crate::{FileSum, PackageFault, PackageReader, Report};
 use grid_units::{Fail, Rules};
 use ring_rules::{Drilled, Finding, Span};
@@ -372,7 +370,7 @@ fn left_with_gaps(
     gaps: Vec<Finding>,
 ) -> Result<(Vec<FileSum>, Vec<Finding>), AllocError>
     ensures files { IfOk result (λ left. left.0.items ≡ flat_map sums_in slots.items) }
-    ensures findings { IfOk result (λ left. left.1.items ≡ flat_map rings_in slots.items ++ gaps.items) }
+    ensures findings { IfOk result (λ l. l.1.items ≡ flat_map rings_in slots.items ++ gaps.items) }
 {
     let mut files = Vec::with_capacity(alloc, slots.len())?;
     let mut findings = Vec::new(alloc);
@@ -409,4 +407,11 @@ fn report_on_slots(
 {
     let (rules, gaps) = (holes.rules(), holes.gap_findings(alloc));
     report_with_gaps(alloc, rules, holes.into_holes(), slots, gaps?)
+}
+
+/// What is left of a file: its counts, and the findings of rings on its layer.
+#[derive(Drop)]
+pub(crate) struct Judged {
+    pub(crate) sum: FileSum,
+    pub(crate) rings: Vec<Finding>,
 }

@@ -20,9 +20,9 @@ ghost use Rattle.ring_rules.specs.Findings.{gap_findings, layer_findings};
 ghost use Rattle.ring_rules.specs.Search.{HasTried, IsRingIndexOf, IsSearchOver};
 
 use crate::FileSum;
+use crate::checking::Judged;
 use crate::contents::not_copper;
 use crate::copper_reader::{CopperReader, PIECE};
-use crate::judged::Judged;
 use crate::pad_size::{PadSize, are_unlike, likely_size, mean_size};
 use crate::readers::is_copper_function;
 use further_copper::{NextFeatures, into_pads};

@@ -42,8 +42,7 @@ pub fn passing_is_sound()
     sound_as_read_is_sound();
 }
 
-/// By the grammars of the formats a copper file says at most one list of pads, and in the strict profile a drill file says at most one
-/// list of holes.
+/// By the grammars of the formats a copper file says at most one list of pads, and a drill file at most one list of holes.
 pub fn files_say_once()
     ensures pads { PadsAreSaidOnce }
     ensures holes { HolesAreSaidOnce }

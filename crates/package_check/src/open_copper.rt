@@ -10,10 +10,10 @@ ghost use Rattle.package_check.specs.Judging.{Judges};
 ghost use Rattle.package_check.specs.OpenFiles.{HasFailed, HasReadCopper};
 ghost use Rattle.package_check.specs.Package.{unnamed_file};
 
+use crate::checking::Judged;
 use crate::contents::bad_span;
 use crate::copper_reader::CopperReader;
 use crate::indexed_holes::IndexedHoles;
-use crate::judged::Judged;
 use grid_units::{Fail, Profile};
 use layer_image::{Keep, readings_in_profiles};
 use ring_rules::Span;

@@ -1,6 +1,6 @@
 //! What a reader keeps of the files of a package, each in a slot at its index.
 
-ghost use Rattle.std.specs.Prelude.{◌≡◌, ◌≤◌, ◌<◌, ◌++◌, ℕ, IfOk, OnErr, OnOk, length};
+ghost use Rattle.std.specs.Prelude.{◌≡◌, ◌≤◌, ◌<◌, ◌++◌, ℕ, IfOk, OnErr, OnOk, length, ◌∷◌, []};
 ghost use Rattle.std.specs.List.{flat_map};
 ghost use Rattle.package_check.specs.Boards.{board_of};
 ghost use Rattle.package_check.specs.Holding.{IsPutAt, all_drawn, all_rows, contents_in, kept_at, shown_in};
@@ -8,7 +8,6 @@ ghost use Rattle.package_check.specs.Holding.{IsPutAt, all_drawn, all_rows, cont
 use crate::Board;
 use crate::board::board_of;
 use crate::contents::Content;
-use crate::lists::push;
 use crate::readers::Shown;
 use std::alloc::{AllocError, Global};
 
@@ -92,4 +91,15 @@ pub(crate) fn board_of_slots(alloc: Global, slots: Vec<Option<Kept>>) -> Result<
     let mut shown = Vec::with_capacity(alloc, slots.len())?;
     add_slots(&mut contents, &mut shown, slots)?;
     board_of(alloc, contents, shown)
+}
+
+/// Appends an element. Where there is no memory the list stays, and the element is freed.
+pub(crate) fn push<T: Drop>(list: &mut Vec<T>, element: T) -> Result<(), AllocError>
+    ensures ok { OnOk result (list.new.items ≡ list.old.items ++ element ∷ []) }
+    ensures err { OnErr result (list.new.items ≡ list.old.items) }
+{
+    if list.push(element).is_err() {
+        return Err(AllocError);
+    }
+    Ok(())
 }

@@ -1,6 +1,12 @@
-//! Tests of the check of a package.
+//! Tests of the check of a package, and of what is measured, reported and drawn of a whole board.
 #![tactic(auto)]
 
+#[cfg(test)]
+mod board_report_calls;
+#[cfg(test)]
+mod flashes_calls;
+#[cfg(test)]
+mod measure_calls;
 #[cfg(test)]
 mod mixed_calls;
 #[cfg(test)]

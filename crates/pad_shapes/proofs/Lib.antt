@@ -5,3 +5,4 @@ pub mod MovedShapes
 pub mod PlacedLemmas
 pub mod FrameLemmas
 pub mod HoleLawsLemmas
+pub mod SumLemmas

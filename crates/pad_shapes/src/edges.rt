@@ -3,7 +3,7 @@
 ghost use Rattle.std.specs.Prelude.{◌≡◌, ◌+◌, ◌*◌, ◌<◌, ◌≤◌, ◌*ℤ◌, pos, unsigned_abs, nat_le};
 ghost use Rattle.std.specs.Ordering.{MatchOrdering};
 ghost use Rattle.grid_units.specs.Points.{square, square_distance};
-ghost use Rattle.pad_shapes.specs.Rounded.{cross, along, is_deep_left, is_beside};
+ghost use Rattle.pad_shapes.specs.Rounded.{cross, along, square_edge, is_deep_left, is_beside};
 
 use crate::relative::RelativePoint;
 use grid_units::{Point, square_distance, square_length};
@@ -135,16 +135,11 @@ pub(crate) fn is_deep_left(from: Point, to: Point, depth: u64, point: RelativePo
     }
 }
 
-/// Whether a point lies beside an edge, between its ends, no further from its line than the distance, which is at most
-/// 5,000,000,000,000 pm.
-pub(crate) fn is_beside(from: Point, to: Point, distance: u64, point: RelativePoint) -> bool
+/// Whether a point is no further from the line of an edge than the distance, which is at most 5,000,000,000,000 pm.
+fn is_near_line(from: Point, to: Point, distance: u64, point: RelativePoint) -> bool
     requires { distance ≤ 5000000000000 }
-    ensures { result ≡ is_beside (record { from = from; to = to }) distance point }
+    ensures { result ≡ nat_le (square (unsigned_abs (cross (record { from = from; to = to }) point))) (square distance * square_edge (record { from = from; to = to })) }
 {
-    let foot = along(from, to, point);
-    if foot <= 0 || square_distance(to, from) <= foot {
-        return false;
-    }
     match compare_areas(
         cross(from, to, point).unsigned_abs(),
         u128::from(distance),
@@ -154,4 +149,14 @@ pub(crate) fn is_beside(from: Point, to: Point, distance: u64, point: RelativePo
         Ordering::Equal => true,
         Ordering::Greater => false,
     }
+}
+
+/// Whether a point lies beside an edge, between its ends, no further from its line than the distance, which is at most
+/// 5,000,000,000,000 pm.
+pub(crate) fn is_beside(from: Point, to: Point, distance: u64, point: RelativePoint) -> bool
+    requires { distance ≤ 5000000000000 }
+    ensures { result ≡ is_beside (record { from = from; to = to }) distance point }
+{
+    let foot = along(from, to, point);
+    0 < foot && foot < square_distance(to, from) && is_near_line(from, to, distance, point)
 }

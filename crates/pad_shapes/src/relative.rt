@@ -6,7 +6,7 @@ use grid_units::Point;
 use std::marker::Model;
 
 /// A point relative to an offset, in pm. Each coordinate is at most 30,000,000,000,000 in absolute value.
-#[derive(Clone, Copy, Debug)]
+#[derive(Clone, Copy)]
 pub(crate) struct RelativePoint {
     x: i64,
     y: i64,

@@ -74,9 +74,9 @@ unfoldable pub drawn_line : ℤ → ℤ → ℤ → ℤ → ℤ → List ℕ
 drawn_line width x y end_x end_y =
     after (codes "<path stroke-width=\"") width ++ (after (codes "\" d=\"M") x ++ (after (codes " ") y ++ (after (codes "L") end_x ++ (after (codes " ") end_y ++ codes "\"/>\n"))))
 
--- the first corner of a contour: the path before it ends, and its own begins: `"/>`, LF, `<path d="M1 -2`
-unfoldable pub first_corner : ℤ → ℤ → List ℕ
-first_corner x y = after (codes "\"/>\n<path d=\"M") x ++ after (codes " ") y
+-- where a line, an arc or a contour begins: `M1 -2`
+abbrev pub path_start : GridPoint → List ℕ
+path_start at = after (codes "M") at.x ++ after (codes " ") (neg_ℤ at.y)
 
 -- the next corner of a contour: `L3 -4`
 unfoldable pub next_corner : ℤ → ℤ → List ℕ
@@ -135,27 +135,35 @@ line_text (drawn.Contour at) = []
 line_text (drawn.Corner at) = []
 line_text (drawn.Bend from to centre clockwise) = []
 
--- a corner of a contour, or its way along an arc; nothing of what is drawn outside of regions
-abbrev pub corner_text : Drawn → List ℕ
-corner_text (drawn.Line from to width) = []
-corner_text (drawn.Arc from to centre width clockwise) = []
-corner_text (drawn.Flash at shape) = []
-corner_text (drawn.Contour at) = first_corner at.x (neg_ℤ at.y)
-corner_text (drawn.Corner at) = next_corner at.x (neg_ℤ at.y)
-corner_text (drawn.Bend from to centre clockwise) = arc_way from to centre clockwise
+-- a corner of a contour, before its first one these words, or its way along an arc; nothing of what is drawn outside of regions
+abbrev pub corner_text : List ℕ → Drawn → List ℕ
+corner_text before (drawn.Line from to width) = []
+corner_text before (drawn.Arc from to centre width clockwise) = []
+corner_text before (drawn.Flash at shape) = []
+corner_text before (drawn.Contour at) = before ++ path_start at
+corner_text before (drawn.Corner at) = next_corner at.x (neg_ℤ at.y)
+corner_text before (drawn.Bend from to centre clockwise) = arc_way from to centre clockwise
 
--- the start of a picture within the panel, by the box that it fills, at which all in it is cut: `<svg class="drawn" x="1.4" y="-88.6" width="107.2" height="87.2`
-unfoldable pub cut_start : ℤ → ℤ → ℤ → ℤ → List ℕ
-cut_start x y width height =
-    after (codes "<svg class=\"drawn\" x=\"") x ++ (after (codes "\" y=\"") y ++ (after (codes "\" width=\"") width ++ after (codes "\" height=\"") height))
+-- the end of the path of a contour, and the start of the path of the next one
+abbrev pub next_path : List ℕ
+next_path = codes "\"/>\n<path d=\""
 
--- the part of the board that it shows, by its box; where that is the box that it fills, nothing is moved or scaled: `" viewBox="1.4 -88.6 107.2 87.2`
+-- the start of an element with a box, by its upper left corner and its sides: `<rect class="board" x="1.4" y="-88.6" width="107.2" height="87.2`
+unfoldable pub box_start : List ℕ → ℤ → ℤ → ℤ → ℤ → List ℕ
+box_start element x y width height =
+    element ++ (after (codes " x=\"") x ++ (after (codes "\" y=\"") y ++ (after (codes "\" width=\"") width ++ after (codes "\" height=\"") height)))
+
+-- the start of an element with the box of the board
+abbrev pub frame_start : List ℕ → Frame → List ℕ
+frame_start element f = box_start element f.left (neg_ℤ f.top) f.width f.height
+
+-- the part of the board that a picture shows, by its box; where that is the box that it fills, nothing is moved or scaled: `" viewBox="1.4 -88.6 107.2 87.2`
 unfoldable pub view_box : ℤ → ℤ → ℤ → ℤ → List ℕ
 view_box x y width height = after (codes "\" viewBox=\"") x ++ (after (codes " ") y ++ (after (codes " ") width ++ after (codes " ") height))
 
--- the box of the board, at which what is drawn is cut
-abbrev pub cut_at : Frame → List ℕ
-cut_at f = cut_start f.left (neg_ℤ f.top) f.width f.height ++ view_box f.left (neg_ℤ f.top) f.width f.height
+-- the start of a picture within the panel, in the box of the board, at which what is drawn is cut
+unfoldable pub cut_at : Frame → List ℕ
+cut_at f = frame_start (codes "<svg class=\"drawn\"") f ++ view_box f.left (neg_ℤ f.top) f.width f.height
 
 -- the colours of what is drawn, which is pale, since it is not judged
 abbrev pub copper_colours : List ℕ
@@ -173,7 +181,11 @@ contours_start = codes "<g fill=\"#f0dcc0\" fill-rule=\"evenodd\" stroke=\"none\
 abbrev pub copper_end : List ℕ
 copper_end = codes "\"/>\n</g>\n</svg>\n"
 
+-- the contours, each a path of its own, and the end of what is drawn
+abbrev pub copper_contours : List Drawn → List ℕ
+copper_contours parts = flat_map (corner_text next_path) parts ++ copper_end
+
 -- what is drawn, cut at the box of the board: the lines, arcs and flashes, then the contours, each a path of its own; nothing where nothing is drawn
 abbrev pub copper : Frame → List Drawn → List ℕ
 copper f parts =
-    if length parts == 0 then [] else (((copper_start f ++ flat_map line_text parts) ++ contours_start) ++ flat_map corner_text parts) ++ copper_end
+    if length parts == 0 then [] else ((copper_start f ++ flat_map line_text parts) ++ contours_start) ++ copper_contours parts

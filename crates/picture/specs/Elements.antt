@@ -10,8 +10,8 @@ use Rattle.grid_units.specs.HoleWords.{drilled_words}
 use Rattle.grid_units.specs.LengthWords.{short_millimetres}
 use Rattle.ring_rules.specs.declared.finding.Drilled.{Drilled}
 use Rattle.picture.specs.Escapes.{escaped}
-use Rattle.picture.specs.declared.pen.Pen.{Pen}
-use Rattle.picture.specs.declared.place.Place.{Place}
+use Rattle.picture.specs.declared.frame.Pen.{Pen}
+use Rattle.picture.specs.declared.frame.Place.{Place}
 use Rattle.picture.specs.declared.scene.DrawnFinding.{DrawnFinding}
 use Rattle.picture.specs.declared.scene.DrawnFinding.TheVariants.{Ring, Gap}
 

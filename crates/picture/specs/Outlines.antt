@@ -5,10 +5,10 @@ use Rattle.std.specs.List.{flat_map}
 use Rattle.grid_units.specs.Points.{GridPoint}
 use Rattle.layer_image.specs.declared.drawn.Drawn.{Drawn}
 use Rattle.layer_image.specs.declared.drawn.Drawn.TheVariants as drawn
-use Rattle.picture.specs.Copper.{arc_radius, arc_way, is_left, next_corner}
+use Rattle.picture.specs.Copper.{arc_radius, arc_way, corner_text, is_left, next_corner, path_start}
 use Rattle.picture.specs.Elements.{after}
 use Rattle.picture.specs.Scenes.{shown_copper}
-use Rattle.picture.specs.declared.pen.Pen.{Pen}
+use Rattle.picture.specs.declared.frame.Pen.{Pen}
 
 -- what is shown of the parts of an outline: all of them, or nothing where they are more than 100,000
 abbrev pub shown_outline : List Drawn → List Drawn
@@ -26,27 +26,14 @@ long_radius from to centre clockwise = if is_short from to centre clockwise then
 
 -- ---- the parts
 
--- where a line, an arc or a contour begins: `M1 -2`
-abbrev pub edge_start : GridPoint → List ℕ
-edge_start at = after (codes "M") at.x ++ after (codes " ") (neg_ℤ at.y)
-
 -- a line or an arc as a part of a path: `M1 -2L3 -4`; nothing of a flash or a contour
 abbrev pub edge_text : Drawn → List ℕ
-edge_text (drawn.Line from to width) = edge_start from ++ next_corner to.x (neg_ℤ to.y)
-edge_text (drawn.Arc from to centre width clockwise) = edge_start from ++ arc_way from to centre clockwise
+edge_text (drawn.Line from to width) = path_start from ++ next_corner to.x (neg_ℤ to.y)
+edge_text (drawn.Arc from to centre width clockwise) = path_start from ++ arc_way from to centre clockwise
 edge_text (drawn.Flash at shape) = []
 edge_text (drawn.Contour at) = []
 edge_text (drawn.Corner at) = []
 edge_text (drawn.Bend from to centre clockwise) = []
-
--- a part of a contour: its first corner, before which the contour before it is closed, `zM1 -2`; its next corner, or its way along an arc
-abbrev pub contour_text : Drawn → List ℕ
-contour_text (drawn.Line from to width) = []
-contour_text (drawn.Arc from to centre width clockwise) = []
-contour_text (drawn.Flash at shape) = []
-contour_text (drawn.Contour at) = codes "z" ++ edge_start at
-contour_text (drawn.Corner at) = next_corner at.x (neg_ℤ at.y)
-contour_text (drawn.Bend from to centre clockwise) = arc_way from to centre clockwise
 
 -- ---- the outline
 
@@ -71,9 +58,9 @@ outline_end = codes "z\"/>\n</g>\n"
 abbrev pub edge_path : Pen → List Drawn → List ℕ
 edge_path pen parts = outline_start (pos (outline_width pen)) ++ flat_map edge_text parts
 
--- the contours, as one path, and the end of the group
+-- the contours, as one path in which each is closed before the next one begins, `zM1 -2`, and the end of the group
 abbrev pub contour_path : List Drawn → List ℕ
-contour_path parts = (contours_begin ++ flat_map contour_text parts) ++ outline_end
+contour_path parts = (contours_begin ++ flat_map (corner_text (codes "z")) parts) ++ outline_end
 
 -- the outline: the lines and arcs, then the contours, which are closed and not filled; nothing where there is no part
 unfoldable pub outline_text : Pen → List Drawn → List ℕ

@@ -7,12 +7,12 @@ use Rattle.pad_shapes.specs.Rounded.{GridRounded}
 use Rattle.pad_shapes.specs.declared.pad.Pad.{Pad}
 use Rattle.ring_rules.specs.declared.finding.Drilled.{Drilled}
 use Rattle.picture.specs.declared.frame.Frame.{Frame}
-use Rattle.picture.specs.declared.pen.Pen.{Pen}
-use Rattle.picture.specs.declared.place.Place.{Place}
+use Rattle.picture.specs.declared.frame.Pen.{Pen}
+use Rattle.picture.specs.declared.frame.Place.{Place}
 use Rattle.picture.specs.declared.scene.DrawnFinding.{DrawnFinding}
 use Rattle.picture.specs.declared.scene.DrawnFinding.TheVariants.{Ring, Gap}
 use Rattle.picture.specs.declared.scene.Scene.{Scene}
-use Rattle.picture.specs.Copper.{copper}
+use Rattle.picture.specs.Copper.{copper, frame_start}
 use Rattle.picture.specs.Escapes.{escaped}
 use Rattle.picture.specs.Outlines.{outline_text}
 use Rattle.picture.specs.Elements.{after, crosses, finding_text, hole_paths, mark, number, text_start}
@@ -27,14 +27,9 @@ unfoldable pub panel_start : Place → List ℕ
 panel_start p =
     (codes "<g class=\"layer\" data-file=\"" ++ decimal p.file) ++ translated p.x p.y
 
--- a box, by its upper left corner and its sides: `<rect class="board" x="1.4" y="-88.6" width="107.2" height="87.2"/>`
-unfoldable pub board_rect : ℤ → ℤ → ℤ → ℤ → List ℕ
-board_rect x y width height =
-    after (codes "<rect class=\"board\" x=\"") x ++ (after (codes "\" y=\"") y ++ (after (codes "\" width=\"") width ++ (after (codes "\" height=\"") height ++ codes "\"/>\n")))
-
--- the box of the board
+-- the box of the board: `<rect class="board" x="1.4" y="-88.6" width="107.2" height="87.2"/>`
 abbrev pub board_box : Frame → List ℕ
-board_box f = board_rect f.left (neg_ℤ f.top) f.width f.height
+board_box f = frame_start (codes "<rect class=\"board\"") f ++ codes "\"/>\n"
 
 -- the start of a panel's name, 2.5 units above the box: `<text class="name" transform="translate(1.4 -94.4) scale(2.3)">`
 abbrev pub name_start : Pen → Frame → List ℕ

@@ -1,10 +1,10 @@
 //! What a layer draws, in a picture: its lines and arcs, its flashes of macros, and the contours of its regions. Coordinates and widths are in pm.
 
-ghost use Rattle.std.specs.Prelude.{◌≡◌, ◌≤◌, ◌+ℤ◌, ◌-ℤ◌, ◌*ℤ◌, neg_ℤ, pos, unsigned_abs, false, Some};
+ghost use Rattle.std.specs.Prelude.{◌≡◌, ◌≤◌, ◌++◌, ◌+ℤ◌, ◌-ℤ◌, ◌*ℤ◌, neg_ℤ, pos, unsigned_abs, false, Some};
 ghost use Rattle.std.specs.Fmt.{DisplaysOnOk};
 ghost use Rattle.std.specs.List.{flat_map};
 ghost use Rattle.grid_units.specs.Points.{IsCoordinate};
-ghost use Rattle.picture.specs.Copper.{arc_radius, arc_to, arc_way, copper, corner_text, corner_x, corner_y, drawn_arc, drawn_dot, drawn_flash, drawn_line, drawn_polygon, first_corner, flag, flash_corner, flash_ink, flash_width, floor_root, is_circle, is_large, is_left, line_text, next_corner, open_way, opposite, shape_path};
+ghost use Rattle.picture.specs.Copper.{arc_radius, arc_to, arc_way, copper, copper_contours, corner_text, corner_x, corner_y, drawn_arc, drawn_dot, drawn_flash, drawn_line, drawn_polygon, flag, flash_corner, flash_ink, flash_width, floor_root, is_circle, is_large, is_left, line_text, next_corner, open_way, opposite, path_start, shape_path};
 
 use crate::cut::Cut;
 use crate::elements::down;
@@ -410,13 +410,20 @@ impl Line<LineElements> for Drawn {
     }
 }
 
-/// Writes the first corner of a contour: the path before it ends, and its own begins.
-#[tactic(auto, unfolding(crate::specs::Copper::first_corner))]
-fn write_first_corner<W: fmt::Write>(f: &mut Formatter<W>, at: &Point) -> fmt::Result
-    ensures { DisplaysOnOk W.write_str_gives f.old result (Some (first_corner at.now.x (neg_ℤ at.now.y))) f.new }
+/// Writes where a line, an arc or a contour begins.
+pub(crate) fn write_path_start<W: fmt::Write>(f: &mut Formatter<W>, at: &Point) -> fmt::Result
+    ensures { DisplaysOnOk W.write_str_gives f.old result (Some (path_start at.now)) f.new }
 {
     let (x, y) = (ShortMillimetres(at.x()), ShortMillimetres(down(at.y())));
-    write!(f, "\"/>\n<path d=\"M{x} {y}")
+    write!(f, "M{x} {y}")
+}
+
+/// Writes the first corner of a contour, after these words.
+fn write_first_corner<W: fmt::Write>(f: &mut Formatter<W>, before: &str, at: &Point) -> fmt::Result
+    ensures { DisplaysOnOk W.write_str_gives f.old result (Some (before.now ++ path_start at.now)) f.new }
+{
+    f.write_str(before)?;
+    write_path_start(f, at)
 }
 
 /// Writes the next corner of a contour.
@@ -428,18 +435,21 @@ pub(crate) fn write_next_corner<W: fmt::Write>(f: &mut Formatter<W>, at: &Point)
     write!(f, "L{x} {y}")
 }
 
-/// The contours of what is drawn, as paths.
+/// The contours of what is drawn, as paths or as parts of one.
 #[derive(Clone, Copy)]
-struct ContourPaths;
+pub(crate) struct Contours {
+    /// What stands before the first corner of each: it ends the contour before.
+    pub(crate) before: &'static str,
+}
 
 /// A corner of a contour, or its way along an arc; nothing of what is drawn outside of regions.
-impl Line<ContourPaths> for Drawn {
-    ghost text = { λ _ part. corner_text part };
+impl Line<Contours> for Drawn {
+    ghost text = { λ page part. corner_text page.before.now part };
 
-    fn fmt_on<W: fmt::Write>(&self, _page: &ContourPaths, f: &mut Formatter<W>) -> fmt::Result {
+    fn fmt_on<W: fmt::Write>(&self, page: &Contours, f: &mut Formatter<W>) -> fmt::Result {
         match self {
             Drawn::Line { .. } | Drawn::Arc { .. } | Drawn::Flash { .. } => Ok(()),
-            Drawn::Contour(at) => write_first_corner(f, at),
+            Drawn::Contour(at) => write_first_corner(f, page.before, at),
             Drawn::Corner(at) => write_next_corner(f, at),
             Drawn::Bend {
                 from,
@@ -449,6 +459,20 @@ impl Line<ContourPaths> for Drawn {
             } => write!(f, "{}", way_of(from, to, centre, *clockwise)),
         }
     }
+}
+
+/// Writes the contours of what is drawn, each a path of its own, and the end of the picture.
+fn write_contours<W: fmt::Write>(f: &mut Formatter<W>, drawn: &[Drawn]) -> fmt::Result
+    ensures { DisplaysOnOk W.write_str_gives f.old result (Some (copper_contours drawn.now)) f.new }
+{
+    let page = Contours {
+        before: "\"/>\n<path d=\"",
+    };
+    let contours = Lines {
+        page: &page,
+        lines: drawn,
+    };
+    write!(f, "{contours}\"/>\n</g>\n</svg>\n")
 }
 
 /// What a layer draws, cut at the box of the board: its lines, arcs and flashes, then its contours; nothing where it draws nothing.
@@ -470,13 +494,10 @@ impl Display for Copper<'_> {
             page: &LineElements,
             lines: self.drawn,
         };
-        let contours = Lines {
-            page: &ContourPaths,
-            lines: self.drawn,
-        };
         write!(
             f,
-            "{cut}\" fill=\"none\" stroke=\"#f0dcc0\" stroke-linecap=\"round\"><title>drawn copper, not judged</title>\n{lines}<g fill=\"#f0dcc0\" fill-rule=\"evenodd\" stroke=\"none\">\n<path d=\"{contours}\"/>\n</g>\n</svg>\n"
-        )
+            "{cut}\" fill=\"none\" stroke=\"#f0dcc0\" stroke-linecap=\"round\"><title>drawn copper, not judged</title>\n{lines}<g fill=\"#f0dcc0\" fill-rule=\"evenodd\" stroke=\"none\">\n<path d=\""
+        )?;
+        write_contours(f, self.drawn)
     }
 }

@@ -1,7 +1,7 @@
-//! Where a picture is cut: at the box of the board.
+//! The box of the board, and a picture that is cut there.
 
 ghost use Rattle.std.specs.Prelude.{Some, neg_ℤ};
-ghost use Rattle.picture.specs.Copper.{cut_at, cut_start, view_box};
+ghost use Rattle.picture.specs.Copper.{cut_at, frame_start, view_box};
 
 use crate::elements::down;
 use crate::frame::Frame;
@@ -9,16 +9,20 @@ use grid_units::ShortMillimetres;
 use std::fmt;
 use std::fmt::{Display, Formatter};
 
-/// The start of a picture within the panel, by the box that it fills.
+/// The start of an element with the box of the board: `<rect class="board" x="1.4" y="-88.6" width="107.2" height="87.2`.
 #[derive(Clone, Copy)]
-struct CutStart<'a>(&'a Frame);
+pub(crate) struct BoxStart<'a> {
+    /// The element, up to its box: `<rect class="board"`.
+    pub(crate) element: &'a str,
+    pub(crate) frame: &'a Frame,
+}
 
-impl Display for CutStart<'_> {
-    ghost output = { λ start. Some (cut_start start.0.now.left (neg_ℤ start.0.now.top) start.0.now.width start.0.now.height) };
+impl Display for BoxStart<'_> {
+    ghost output = { λ start. Some (frame_start start.element.now start.frame.now) };
 
-    #[tactic(auto, unfolding(crate::specs::Copper::cut_start))]
+    #[tactic(auto, unfolding(crate::specs::Copper::box_start))]
     fn fmt<W: fmt::Write>(&self, f: &mut Formatter<W>) -> fmt::Result {
-        let frame = self.0;
+        let (element, frame) = (self.element, self.frame);
         let (x, y) = (
             ShortMillimetres(frame.left),
             ShortMillimetres(down(frame.top)),
@@ -29,7 +33,7 @@ impl Display for CutStart<'_> {
         );
         write!(
             f,
-            "<svg class=\"drawn\" x=\"{x}\" y=\"{y}\" width=\"{width}\" height=\"{height}"
+            "{element} x=\"{x}\" y=\"{y}\" width=\"{width}\" height=\"{height}"
         )
     }
 }
@@ -63,7 +67,12 @@ pub(crate) struct Cut<'a>(pub(crate) &'a Frame);
 impl Display for Cut<'_> {
     ghost output = { λ cut. Some (cut_at cut.0.now) };
 
+    #[tactic(auto, unfolding(crate::specs::Copper::cut_at))]
     fn fmt<W: fmt::Write>(&self, f: &mut Formatter<W>) -> fmt::Result {
-        write!(f, "{}{}", CutStart(self.0), ViewBox(self.0))
+        let start = BoxStart {
+            element: "<svg class=\"drawn\"",
+            frame: self.0,
+        };
+        write!(f, "{start}{}", ViewBox(self.0))
     }
 }

@@ -3,7 +3,7 @@
 ghost use Rattle.std.specs.Prelude.{◌≡◌, ◌≤◌, ◌^◌, Some, neg_ℤ, unsigned_abs};
 ghost use Rattle.picture.specs.Elements.{box, circle, half_circle, horizontal_line, line, round_part, text_start, vertical_line};
 
-use crate::pen::Pen;
+use crate::frame::Pen;
 use crate::widths::unit;
 use grid_units::ShortMillimetres;
 use std::fmt;

@@ -7,8 +7,8 @@ ghost use Rattle.picture.specs.Elements.{circle, finding_text, gap, halfway, lac
 ghost use Rattle.picture.specs.Panels.{lacks_text, marked};
 
 use crate::elements::{Circle, StraightLine, TextStart, down};
+use crate::frame::Pen;
 use crate::holes::slot_line;
-use crate::pen::Pen;
 use crate::scene::DrawnFinding;
 use crate::titles::{FindingPage, FindingWords, number_of, write_finding_start};
 use crate::widths::{gap_width, mark_line_width, ring_rim};

@@ -5,7 +5,7 @@ ghost use Rattle.std.specs.Fmt.{DisplaysOnOk};
 ghost use Rattle.picture.specs.Elements.{are_alike_holes, arm, begins_holes, cross, crosses, ends_holes, hole, hole_class, hole_paths, hole_words, holes_end, holes_end_at, holes_start, holes_start_at, line, round_hole, round_part, slot};
 
 use crate::elements::{Across, Along, RoundPart, StraightLine, down};
-use crate::pen::Pen;
+use crate::frame::Pen;
 use crate::widths::{arm, mark_line_width, rim};
 use grid_units::{Hole, Line, Lines, Point, ShortMillimetres};
 use ring_rules::Drilled;

@@ -1,13 +1,12 @@
 //! The outline of the board, in a picture: what a file of the board's edge draws. Coordinates are in pm.
 
-ghost use Rattle.std.specs.Prelude.{◌≡◌, ◌++◌, neg_ℤ, pos, Some, codes};
+ghost use Rattle.std.specs.Prelude.{◌≡◌, ◌++◌, neg_ℤ, pos, Some};
 ghost use Rattle.std.specs.Fmt.{DisplaysOnOk};
-ghost use Rattle.picture.specs.Copper.{arc_way, next_corner};
-ghost use Rattle.picture.specs.Outlines.{contour_path, contour_text, edge_path, edge_start, edge_text, is_short, long_radius, outline_start, outline_text, outline_width, shown_outline};
+ghost use Rattle.picture.specs.Copper.{arc_way, next_corner, path_start};
+ghost use Rattle.picture.specs.Outlines.{contour_path, edge_path, edge_text, is_short, long_radius, outline_start, outline_text, outline_width, shown_outline};
 
-use crate::copper::{arc_radius, is_left, way_of, write_next_corner};
-use crate::elements::down;
-use crate::pen::Pen;
+use crate::copper::{Contours, arc_radius, is_left, way_of, write_next_corner, write_path_start};
+use crate::frame::Pen;
 use crate::scene::shown_copper;
 use crate::widths::outline_width;
 use grid_units::{Line, Lines, Point, ShortMillimetres};
@@ -45,19 +44,11 @@ pub fn long_radius(from: &Point, to: &Point, centre: &Point, clockwise: bool) ->
     }
 }
 
-/// Writes where a line, an arc or a contour begins.
-fn write_edge_start<W: fmt::Write>(f: &mut Formatter<W>, at: &Point) -> fmt::Result
-    ensures { DisplaysOnOk W.write_str_gives f.old result (Some (edge_start at.now)) f.new }
-{
-    let (x, y) = (ShortMillimetres(at.x()), ShortMillimetres(down(at.y())));
-    write!(f, "M{x} {y}")
-}
-
 /// Writes a line of an outline.
 fn write_edge<W: fmt::Write>(f: &mut Formatter<W>, from: &Point, to: &Point) -> fmt::Result
-    ensures { DisplaysOnOk W.write_str_gives f.old result (Some (edge_start from.now ++ next_corner to.now.x (neg_ℤ to.now.y))) f.new }
+    ensures { DisplaysOnOk W.write_str_gives f.old result (Some (path_start from.now ++ next_corner to.now.x (neg_ℤ to.now.y))) f.new }
 {
-    write_edge_start(f, from)?;
+    write_path_start(f, from)?;
     write_next_corner(f, to)
 }
 
@@ -69,18 +60,10 @@ fn write_edge_arc<W: fmt::Write>(
     centre: &Point,
     clockwise: bool,
 ) -> fmt::Result
-    ensures { DisplaysOnOk W.write_str_gives f.old result (Some (edge_start from.now ++ arc_way from.now to.now centre.now clockwise)) f.new }
+    ensures { DisplaysOnOk W.write_str_gives f.old result (Some (path_start from.now ++ arc_way from.now to.now centre.now clockwise)) f.new }
 {
-    write_edge_start(f, from)?;
+    write_path_start(f, from)?;
     write!(f, "{}", way_of(from, to, centre, clockwise))
-}
-
-/// Writes the first corner of a contour: the contour before it is closed.
-fn write_contour_start<W: fmt::Write>(f: &mut Formatter<W>, at: &Point) -> fmt::Result
-    ensures { DisplaysOnOk W.write_str_gives f.old result (Some (codes "z" ++ edge_start at.now)) f.new }
-{
-    f.write_str("z")?;
-    write_edge_start(f, at)
 }
 
 /// The lines and arcs of an outline, as parts of a path.
@@ -104,29 +87,6 @@ impl Line<OutlineEdges> for Drawn {
             Drawn::Flash { .. } | Drawn::Contour(_) | Drawn::Corner(_) | Drawn::Bend { .. } => {
                 Ok(())
             }
-        }
-    }
-}
-
-/// The contours of an outline, as parts of a path.
-#[derive(Clone, Copy)]
-struct OutlineContours;
-
-/// A corner of a contour, or its way along an arc; nothing of what is drawn outside of regions.
-impl Line<OutlineContours> for Drawn {
-    ghost text = { λ _ part. contour_text part };
-
-    fn fmt_on<W: fmt::Write>(&self, _page: &OutlineContours, f: &mut Formatter<W>) -> fmt::Result {
-        match self {
-            Drawn::Line { .. } | Drawn::Arc { .. } | Drawn::Flash { .. } => Ok(()),
-            Drawn::Contour(at) => write_contour_start(f, at),
-            Drawn::Corner(at) => write_next_corner(f, at),
-            Drawn::Bend {
-                from,
-                to,
-                centre,
-                clockwise,
-            } => write!(f, "{}", way_of(from, to, centre, *clockwise)),
         }
     }
 }
@@ -183,7 +143,7 @@ impl Display for ContourPath<'_> {
 
     fn fmt<W: fmt::Write>(&self, f: &mut Formatter<W>) -> fmt::Result {
         let contours = Lines {
-            page: &OutlineContours,
+            page: &Contours { before: "z" },
             lines: self.0,
         };
         write!(

@@ -3,17 +3,16 @@
 ghost use Rattle.std.specs.Prelude.{◌≡◌, ◌≤◌, ◌^◌, ◌++◌, ◌+ℤ◌, ◌==◌, neg_ℤ, pos, Some, if◌then◌else◌};
 ghost use Rattle.std.specs.Fmt.{DisplaysOnOk};
 ghost use Rattle.picture.specs.Escapes.{escaped};
-ghost use Rattle.picture.specs.Panels.{after_name, board_box, drawn_words, ground_text, lacking_words, name_start, note, pad_count, panel_start, panel_text, ring_count, scene_text};
+ghost use Rattle.picture.specs.Panels.{after_name, drawn_words, ground_text, lacking_words, name_start, note, pad_count, panel_start, panel_text, ring_count, scene_text};
 
 use crate::copper::Copper;
+use crate::cut::BoxStart;
 use crate::elements::{TextStart, down};
 use crate::findings::Findings;
-use crate::frame::Frame;
+use crate::frame::{Frame, Pen, Place};
 use crate::holes::{Crosses, HolePaths};
 use crate::names::Escaped;
 use crate::outlines::Outline;
-use crate::pen::Pen;
-use crate::place::Place;
 use crate::rounded_pads::PanelPads;
 use crate::scene::{DrawnFinding, Scene};
 use crate::titles::FindingPage;
@@ -34,31 +33,6 @@ impl Display for PanelStart<'_> {
             f,
             "<g class=\"layer\" data-file=\"{}\" transform=\"translate({x} {y})\">\n",
             self.0.file
-        )
-    }
-}
-
-/// The box of the board.
-#[derive(Clone, Copy)]
-struct BoardBox<'a>(&'a Frame);
-
-impl Display for BoardBox<'_> {
-    ghost output = { λ frame. Some (board_box frame.0.now) };
-
-    #[tactic(auto, unfolding(crate::specs::Panels::board_rect))]
-    fn fmt<W: fmt::Write>(&self, f: &mut Formatter<W>) -> fmt::Result {
-        let frame = self.0;
-        let (x, y) = (
-            ShortMillimetres(frame.left),
-            ShortMillimetres(down(frame.top)),
-        );
-        let (width, height) = (
-            ShortMillimetres(frame.width),
-            ShortMillimetres(frame.height),
-        );
-        write!(
-            f,
-            "<rect class=\"board\" x=\"{x}\" y=\"{y}\" width=\"{width}\" height=\"{height}\"/>\n"
         )
     }
 }
@@ -243,7 +217,11 @@ impl Display for AfterName<'_> {
             y: above(frame, pen.unit * 4 / 5),
         };
         let note = Note { pen, scene };
-        write!(f, "</text>\n{start}{note}{}", BoardBox(frame))
+        let board = BoxStart {
+            element: "<rect class=\"board\"",
+            frame,
+        };
+        write!(f, "</text>\n{start}{note}{board}\"/>\n")
     }
 }
 

@@ -292,7 +292,7 @@ pub fn scene_of<'a>(
     holes: &'a [Drilled],
     findings: &[Finding],
 ) -> Result<Scene<'a>, AllocError>
-    ensures crowded { IfOk result (λ scene. scene.crowded ≡ is_crowded copper.entry.rows.now holes.now) }
+    ensures crowded { IfOk result (λ s. s.crowded ≡ is_crowded copper.entry.rows.now holes.now) }
     ensures drawn { IfOk result (λ scene. scene.drawn.now ≡ shown_copper scene.crowded copper.entry.drawn.now) }
     ensures outline { IfOk result (λ scene. scene.outline.now ≡ outline.entry.now) }
     ensures pads { IfOk result (λ scene. IsPermutation (plain_pads (unless_crowded scene.crowded copper.entry.pads.now)) scene.pads.items) }

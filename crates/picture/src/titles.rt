@@ -5,9 +5,8 @@ ghost use Rattle.std.specs.Fmt.{DisplaysOnOk};
 ghost use Rattle.picture.specs.Escapes.{escaped};
 ghost use Rattle.picture.specs.Elements.{finding_start, finding_words, gap_words, lack_words, naming, number_of, ring_words};
 
+use crate::frame::{Pen, Place};
 use crate::names::Escaped;
-use crate::pen::Pen;
-use crate::place::Place;
 use crate::scene::DrawnFinding;
 use grid_units::{DrilledWords, Hole, ShortMillimetres};
 use std::fmt;

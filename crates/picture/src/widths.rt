@@ -4,7 +4,7 @@ ghost use Rattle.std.specs.Prelude.{◌≡◌, ◌≤◌, ◌^◌, ◌*◌, ◌/
 ghost use Rattle.picture.specs.Elements.{arm, rim, ring_rim};
 ghost use Rattle.picture.specs.Outlines.{outline_width};
 
-use crate::pen::Pen;
+use crate::frame::Pen;
 
 /// The length of an arm of a cross: a third of a unit.
 pub(crate) fn arm(pen: &Pen) -> i64

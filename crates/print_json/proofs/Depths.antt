@@ -25,7 +25,7 @@ use Rattle.report.specs.declared.PlacedHole.{PlacedHole}
 use Rattle.report.specs.declared.LayerHead.{LayerHead}
 use Rattle.report.specs.declared.RingLack.{RingLack}
 use Rattle.report.specs.declared.BoardReport.{BoardReport}
-use Rattle.print_text.specs.declared.particulars.Particulars.{Particulars}
+use Rattle.print_text.specs.declared.report_text.Particulars.{Particulars}
 use Rattle.grid_units.specs.HoleWords.{name_of}
 use Rattle.report.specs.Acceptances.{acceptance_at}
 use Rattle.ring_rules.specs.declared.finding.Drilled.{Drilled}

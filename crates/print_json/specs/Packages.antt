@@ -18,7 +18,7 @@ use Rattle.report.specs.declared.LayerHead.{LayerHead}
 use Rattle.report.specs.declared.RingLack.{RingLack}
 use Rattle.report.specs.declared.BoardReport.{BoardReport}
 use Rattle.report.specs.declared.Acceptances.{Acceptances}
-use Rattle.print_text.specs.declared.particulars.Particulars.{Particulars}
+use Rattle.print_text.specs.declared.report_text.Particulars.{Particulars}
 use Rattle.print_json.specs.Values.{array_of, file_value, gap_value, or_null, least_gap_value, meets_value, object_of, ring_value, row_value, rules_value, scale_value, whole, word}
 use Rattle.print_json.specs.declared.refused.InputError.{InputError}
 use Rattle.print_json.specs.declared.refused.InputError.TheVariants as stops

@@ -179,11 +179,7 @@ abbrev pub ring_of : RingCause → Option ℤ
 ring_of (causes.TooSmall place) = Some place.ring
 ring_of (causes.OffCentre place) = Some place.ring
 ring_of (causes.Edge at_edge) = Some at_edge.ring
-ring_of (causes.Other why flash) = None
-ring_of (causes.Clear flash) = None
-ring_of (causes.Cleared flash) = None
-ring_of causes.NoFlash = None
-ring_of causes.Oblique = None
+ring_of _ = None
 
 -- the number of the flash of a hole: that of its best pad, which may be a contour, or of the flash that is no pad
 abbrev pub flash_of : RingCause → Option ℕ

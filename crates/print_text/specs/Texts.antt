@@ -237,11 +237,7 @@ abbrev pub ring_of : RingCause → Option ℤ
 ring_of (causes.TooSmall place) = Some place.ring
 ring_of (causes.OffCentre place) = Some place.ring
 ring_of (causes.Edge at_edge) = Some at_edge.ring
-ring_of (causes.Other why flash) = None
-ring_of (causes.Clear flash) = None
-ring_of (causes.Cleared flash) = None
-ring_of causes.NoFlash = None
-ring_of causes.Oblique = None
+ring_of _ = None
 
 -- the smallest of some lengths; nothing where there is none
 abbrev pub smallest : List ℤ → Option ℤ
@@ -260,16 +256,16 @@ size_words factors.Tenth = codes "10 times too large"
 size_words factors.Inch = codes "25.4 times too small"
 size_words factors.PerInch = codes "25.4 times too large"
 
--- the line of a drill file by its name: `pth: coordinates look 10 times too small: 3 holes have no pad; with coordinates times 10 it would be 0`
+-- the line of a drill file by its name: `pth: coordinates look 10 times too small: 3 holes have no pad; with coordinates multiplied by 10, 0 would have none`
 unfoldable pub scale_words : List ℕ → List ℕ → ℕ → List ℕ → ℕ → List ℕ
 scale_words name size bare factor still =
-    name ++ (codes ": coordinates look " ++ (size ++ (codes ": " ++ (decimal bare ++ (codes " holes have no pad; with coordinates times " ++ (factor ++ (codes " it would be " ++ (decimal still ++ ascii.line_feed ∷ []))))))))
+    name ++ (codes ": coordinates look " ++ (size ++ (codes ": " ++ (decimal bare ++ (codes " holes have no pad; with coordinates multiplied by " ++ (factor ++ (codes ", " ++ (decimal still ++ codes " would have none\n"))))))))
 
 -- the line of a drill file whose coordinates seem to be off by a factor
 abbrev pub scale_line : List (List ℕ) → UnitMistake → List ℕ
 scale_line names line = scale_words (name_of names line.drill) (size_words line.factor) line.bare (factor_word line.factor) line.then
 
--- a warning of a drill file by its name, and what comes after it: `warning: npth: its role is unplated, and it says that holes are plated`
+-- a warning of a drill file by its name, and what comes after it: `warning: npth: its role is unplated, but its comments say that holes are plated`
 unfoldable pub warning_words : List ℕ → List ℕ → List ℕ → List ℕ
 warning_words name says after = codes "warning: " ++ (name ++ (codes ": " ++ (says ++ after)))
 
@@ -332,11 +328,13 @@ abbrev pub profile_words : Profile → List ℕ
 profile_words Strict = []
 profile_words Wide = codes ", profile wide"
 
+-- the rules of the check: `rules: annular ring 0.15 mm, hole to hole 0.25 mm`
+abbrev pub rules_words : GridRules → List ℕ
+rules_words rules = rule_words (codes "rules: annular ring ") (pos rules.ring) ++ rule_words (codes ", hole to hole ") (pos rules.gap)
+
 -- the line of the rules of the check: `rules: annular ring 0.15 mm, hole to hole 0.25 mm`, in the wide profile with `, profile wide`
 abbrev pub rules_line : GridRules → List ℕ
-rules_line rules =
-    rule_words (codes "rules: annular ring ") (pos rules.ring)
-    ++ (rule_words (codes ", hole to hole ") (pos rules.gap) ++ (profile_words rules.profile ++ ascii.line_feed ∷ []))
+rules_line rules = rules_words rules ++ (profile_words rules.profile ++ ascii.line_feed ∷ [])
 
 -- the line of a waiver that waives no finding, by the number of its record: `waiver 8 matches no finding`
 abbrev pub idle_line : ℕ → List ℕ

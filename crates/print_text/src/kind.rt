@@ -54,7 +54,7 @@ pub(crate) fn flash_kind(why: Why) -> CauseKind
 }
 
 /// The kind of a cause.
-fn kind_of(cause: &RingCause) -> CauseKind
+pub(crate) fn kind_of(cause: &RingCause) -> CauseKind
     ensures { result ≡ kind_of cause.now }
 {
     match cause {
@@ -86,7 +86,7 @@ pub(crate) fn kind_words(kind: CauseKind) -> &'static str
         CauseKind::Edge => "in a rounded pad or contour, too near its edge",
         CauseKind::Macro => "only a macro flash",
         CauseKind::Polygon => "only a polygon flash",
-        CauseKind::Holed => "only a holed flash",
+        CauseKind::Holed => "only a flash with a hole",
         CauseKind::Scaled => "only a scaled flash",
         CauseKind::Turned => "only a turned flash",
         CauseKind::Clear => "only a clear flash",
@@ -137,10 +137,10 @@ pub(crate) fn hint(profile: Profile, kind: CauseKind) -> &'static str
         CauseKind::Scaled => "scaled flashes are not judged",
         CauseKind::Turned => "flashes turned by anything but quarter turns are not judged",
         CauseKind::Clear => "a flash in clear polarity takes copper away",
-        CauseKind::Cleared => "copper drawn before a clear object does not count",
+        CauseKind::Cleared => "a flash that clear polarity may remove does not count",
         CauseKind::Bare => {
-            "none was flashed here, or its copper is drawn or of a shape that is not judged, or origin or format differ: see `ringcheck explain none`"
+            "no pad was flashed here, or it is drawn or of a shape that is not judged, or the drill file has another origin or format: see `ringcheck explain none`"
         }
-        CauseKind::Oblique => "plated slots that lie along no axis are not judged",
+        CauseKind::Oblique => "plated slots parallel to neither axis are not judged",
     }
 }

@@ -9,7 +9,6 @@ mod lines;
 mod measure_lines;
 mod measures;
 mod met_lines;
-mod particulars;
 mod report_text;
 mod runs;
 mod summary;
@@ -19,8 +18,7 @@ mod words;
 
 pub use fewer::FewerWords;
 pub use kind::words_for_cause;
-pub use lines::RuleWords;
+pub use lines::{RulesWords, WaivedWords};
 pub use measures::MeasureText;
-pub use particulars::Particulars;
-pub use report_text::ReportText;
+pub use report_text::{Particulars, ReportText};
 pub use waived::no_acceptances;

@@ -1,7 +1,7 @@
 //! The lines of a report, one by one.
 
 ghost use Rattle.std.specs.Prelude.{◌≡◌, ◌≤◌, map, Some};
-ghost use Rattle.print_text.specs.Texts.{conflict_line, gap_line, gaps_line, profile_words, idle_line, kind_line, last_line, layer_line, more_line, pair_words, ring_line, rule_words, rules_line, scale_line, size_words, smallest_line, too_small_words, waived_words, acceptance_words};
+ghost use Rattle.print_text.specs.Texts.{conflict_line, gap_line, gaps_line, profile_words, idle_line, kind_line, last_line, layer_line, more_line, pair_words, ring_line, rule_words, rules_line, rules_words, scale_line, size_words, smallest_line, too_small_words, waived_words, acceptance_words, ring_words};
 
 use crate::kind::{CauseKind, hint, kind_words};
 use crate::tallies::rings_of_kind;
@@ -20,11 +20,9 @@ pub(crate) struct FileNames<'a>(pub(crate) &'a [&'a str]);
 
 /// A rule, in pm, after its words: `rules: annular ring 0.15 mm`.
 #[derive(Clone, Copy)]
-pub struct RuleWords<'a> {
-    /// The words before it.
-    pub words: &'a str,
-    /// The rule in pm.
-    pub rule: i64,
+struct RuleWords<'a> {
+    words: &'a str,
+    rule: i64,
 }
 
 impl Display for RuleWords<'_> {
@@ -33,6 +31,26 @@ impl Display for RuleWords<'_> {
     #[tactic(auto, unfolding(crate::specs::Texts::rule_words))]
     fn fmt<W: fmt::Write>(&self, f: &mut Formatter<W>) -> fmt::Result {
         write!(f, "{}{} mm", self.words, ShortMillimetres(self.rule))
+    }
+}
+
+/// The rules of the check: `rules: annular ring 0.15 mm, hole to hole 0.25 mm`.
+#[derive(Clone, Copy)]
+pub struct RulesWords<'a>(pub &'a Rules);
+
+impl Display for RulesWords<'_> {
+    ghost output = { λ words. Some (rules_words words.0.now) };
+
+    fn fmt<W: fmt::Write>(&self, f: &mut Formatter<W>) -> fmt::Result {
+        let ring = RuleWords {
+            words: "rules: annular ring ",
+            rule: self.0.ring(),
+        };
+        let gap = RuleWords {
+            words: ", hole to hole ",
+            rule: self.0.gap(),
+        };
+        write!(f, "{ring}{gap}")
     }
 }
 
@@ -54,22 +72,14 @@ impl Display for RulesLine<'_> {
     ghost output = { λ line. Some (rules_line line.0.now) };
 
     fn fmt<W: fmt::Write>(&self, f: &mut Formatter<W>) -> fmt::Result {
-        let ring = RuleWords {
-            words: "rules: annular ring ",
-            rule: self.0.ring(),
-        };
-        let gap = RuleWords {
-            words: ", hole to hole ",
-            rule: self.0.gap(),
-        };
         let profile = profile_words(self.0.profile());
-        write!(f, "{ring}{gap}{profile}\n")
+        write!(f, "{}{profile}\n", RulesWords(self.0))
     }
 }
 
 /// The number of waived findings, if it is not 0: `, 3 waived`.
 #[derive(Clone, Copy)]
-struct WaivedWords(usize);
+pub struct WaivedWords(pub u128);
 
 impl Display for WaivedWords {
     ghost output = { λ waived. Some (waived_words waived.0) };
@@ -118,7 +128,34 @@ impl Display for LayerLine<'_> {
             f,
             "annular ring on {name}: {below} of {needed} holes below the rule"
         )?;
-        write!(f, "{}\n", WaivedWords(self.waived))
+        write!(f, "{}\n", WaivedWords(self.waived as u128))
+    }
+}
+
+/// A hole that lacks its ring, by the number of the finding: `  #7 hole 1 of pth, 0.4 at 0,0: annular ring not judged, only a macro flash: flash 156`.
+#[derive(Clone, Copy)]
+struct RingWords<'a> {
+    names: &'a [&'a str],
+    rules: &'a Rules,
+    number: u128,
+    lack: &'a RingLack,
+}
+
+impl Display for RingWords<'_> {
+    ghost output = { λ words. Some (ring_words (map (λ name. name.now) words.names.now) words.rules.now words.number words.lack.now) };
+
+    #[tactic(auto, unfolding(crate::specs::Texts::ring_words))]
+    fn fmt<W: fmt::Write>(&self, f: &mut Formatter<W>) -> fmt::Result {
+        let at = HoleWords {
+            names: self.names,
+            at: &self.lack.at,
+        };
+        let cause = CauseWords {
+            rule: self.rules.ring(),
+            hole: &self.lack.at.hole,
+            cause: &self.lack.cause,
+        };
+        write!(f, "  #{} {at}: {cause}", self.number)
     }
 }
 
@@ -136,19 +173,15 @@ pub(crate) struct RingLine<'a> {
 impl Display for RingLine<'_> {
     ghost output = { λ line. Some (ring_line (map (λ name. name.now) line.names.now) line.rules.now line.number line.lack.now line.why) };
 
-    #[tactic(auto, unfolding(crate::specs::Texts::ring_line, crate::specs::Texts::ring_words))]
+    #[tactic(auto, unfolding(crate::specs::Texts::ring_line))]
     fn fmt<W: fmt::Write>(&self, f: &mut Formatter<W>) -> fmt::Result {
-        let at = HoleWords {
+        let words = RingWords {
             names: self.names,
-            at: &self.lack.at,
+            rules: self.rules,
+            number: self.number,
+            lack: self.lack,
         };
-        let cause = CauseWords {
-            rule: self.rules.ring(),
-            hole: &self.lack.at.hole,
-            cause: &self.lack.cause,
-        };
-        let (number, why) = (self.number, WhyWords(self.why));
-        write!(f, "  #{number} {at}: {cause}{why}\n")
+        write!(f, "{words}{}\n", WhyWords(self.why))
     }
 }
 
@@ -194,7 +227,7 @@ impl Display for GapsLine {
         write!(
             f,
             "hole to hole: {gaps}{words}{}\n",
-            WaivedWords(self.waived)
+            WaivedWords(self.waived as u128)
         )
     }
 }
@@ -317,7 +350,7 @@ fn size_words(factor: UnitFactor) -> &'static str
 }
 
 /// The line of a drill file whose coordinates seem to be off by a factor:
-/// `pth: coordinates look 10 times too small: 3 holes have no pad; with coordinates times 10 it would be 0`.
+/// `pth: coordinates look 10 times too small: 3 holes have no pad; with coordinates multiplied by 10, 0 would have none`.
 impl Line<FileNames<'_>> for UnitMistake {
     ghost text = { λ names line. scale_line (map (λ name. name.now) names.0.now) line };
 
@@ -327,13 +360,13 @@ impl Line<FileNames<'_>> for UnitMistake {
         let (bare, factor, then) = (self.bare, factor_word(self.factor), self.then);
         write!(
             f,
-            "{name}: coordinates look {size}: {bare} holes have no pad; with coordinates times {factor} it would be {then}\n"
+            "{name}: coordinates look {size}: {bare} holes have no pad; with coordinates multiplied by {factor}, {then} would have none\n"
         )
     }
 }
 
 /// The line of a drill file whose own comments contradict its role:
-/// `warning: npth: its role is unplated, and it says that holes are plated`.
+/// `warning: npth: its role is unplated, but its comments say that holes are plated`.
 impl Line<FileNames<'_>> for RoleConflict {
     ghost text = { λ names line. conflict_line (map (λ name. name.now) names.0.now) line };
 

@@ -5,7 +5,7 @@ ghost use Rattle.grid_units.specs.Points.{IsCoordinate};
 ghost use Rattle.print_text.specs.Causes.{kind_words};
 ghost use Rattle.print_text.specs.Texts.{at_edge_words, cause_words, halfway, height_of, hole_middle, hole_words, in_pad_words, measured_words, other_words, pad_words, place_words, shape_word, width_of};
 
-use crate::kind::{CauseKind, flash_kind, kind_words};
+use crate::kind::{CauseKind, kind_of, kind_words};
 use grid_units::{DrilledWords, Hole, Point, ShortMillimetres, name_of};
 use margins::DepthShape;
 use pad_shapes::Pad;
@@ -233,10 +233,10 @@ impl Display for CauseWords<'_> {
     ghost output = { λ words. Some (cause_words words.rule words.hole.now words.cause.now) };
 
     fn fmt<W: fmt::Write>(&self, f: &mut Formatter<W>) -> fmt::Result {
+        let kind = kind_of(self.cause);
         let (rule, hole) = (self.rule, self.hole);
         match self.cause {
-            RingCause::TooSmall(place) => {
-                let kind = CauseKind::TooSmall;
+            RingCause::TooSmall(place) | RingCause::OffCentre(place) => {
                 let words = InPadWords {
                     kind,
                     rule,
@@ -245,30 +245,12 @@ impl Display for CauseWords<'_> {
                 };
                 write!(f, "{words}")
             }
-            RingCause::OffCentre(place) => {
-                let kind = CauseKind::OffCentre;
-                let words = InPadWords {
-                    kind,
-                    rule,
-                    hole,
-                    place,
-                };
-                write!(f, "{words}")
-            }
-            RingCause::Edge(place) => {
-                let kind = CauseKind::Edge;
-                write!(f, "{}", AtEdgeWords { kind, rule, place })
-            }
-            RingCause::Other { why, flash } => {
-                write!(f, "{}", OtherWords(flash_kind(*why), *flash))
-            }
-            RingCause::Clear { flash } => write!(f, "{}", OtherWords(CauseKind::Clear, *flash)),
-            RingCause::Cleared { flash } => write!(f, "{}", OtherWords(CauseKind::Cleared, *flash)),
-            RingCause::NoFlash => f.write_str(kind_words(CauseKind::Bare)),
-            RingCause::Oblique => {
-                let words = kind_words(CauseKind::Oblique);
-                write!(f, "annular ring not judged, {words}")
-            }
+            RingCause::Edge(place) => write!(f, "{}", AtEdgeWords { kind, rule, place }),
+            RingCause::Other { flash, .. }
+            | RingCause::Clear { flash }
+            | RingCause::Cleared { flash } => write!(f, "{}", OtherWords(kind, *flash)),
+            RingCause::NoFlash => f.write_str(kind_words(kind)),
+            RingCause::Oblique => write!(f, "annular ring not judged, {}", kind_words(kind)),
         }
     }
 }

@@ -1,6 +1,6 @@
 //! Every word has a page that fits a screen.
 
-use explanations::{explanation, words};
+use ringcheck_files::{explanation, words};
 
 /// Whether a page begins with its word and a colon.
 fn is_headed(page: &str, word: &str) -> bool {
@@ -51,7 +51,7 @@ fn there_are_so_many_words(rt: HostRuntime) {
 /// A word, and a setting that its page names.
 const SETTINGS: [(&str, &str); 9] = [
     ("Routed", "use alternate drill mode"),
-    ("ring", "less 0.001 mm"),
+    ("ring", "minus 0.001 mm"),
     ("none", "keep pads on all layers"),
     ("none", "no flash lies in the hole"),
     ("BadManifest", "as in ringcheck manifest gerbers/*"),

@@ -9,5 +9,3 @@ mod rewrite_calls;
 mod ringcheck_calls;
 #[cfg(test)]
 mod ringcheck_files_calls;
-#[cfg(test)]
-mod show_calls;

@@ -1,13 +1,13 @@
-//! Texts that are refused, and a long one. What short texts are rewritten as is in the data of `worked_examples`.
+//! A long text that is rewritten. What short texts are rewritten as, and which are refused, is in the data of `worked_examples`.
 
 use grid_units::{Fail, Fault, Reason};
-use single_files::{Kind, rewrite_bytes};
+use ringcheck_files::{Kind, rewrite_bytes};
 use std::alloc::{AllocError, Global};
 use std::test::Fail as TestFail;
 
-/// The fault of a text of this kind that is refused.
-fn fault_of(alloc: Global, kind: Kind, text: &[u8]) -> Option<Fault> {
-    match rewrite_bytes(alloc, kind, text) {
+/// The fault of a layer that is refused.
+fn fault_of(alloc: Global, text: &[u8]) -> Option<Fault> {
+    match rewrite_bytes(alloc, Kind::Layer, text) {
         Err(Fail::Refused(fault)) => Some(fault),
         _ => None,
     }
@@ -18,29 +18,6 @@ fn is_kept(alloc: Global, text: &[u8]) -> bool {
     match rewrite_bytes(alloc, Kind::Layer, text) {
         Ok(written) => written.as_slice() == text,
         Err(_) => false,
-    }
-}
-
-const REFUSED: [(Kind, &str, Reason); 3] = [
-    (Kind::Layer, "M02*", Reason::NoFormat),
-    (Kind::Layer, "", Reason::Truncated),
-    (Kind::Drill, "M4", Reason::OldFormat),
-];
-
-/// A refused text gives its fault, as its kind reads it.
-#[test]
-fn refused_texts_are_not_written(rt: HostRuntime) {
-    for &(kind, text, reason) in &REFUSED {
-        let (place, byte) = (1, 0);
-        let fault = Some(Fault {
-            place,
-            byte,
-            reason,
-        });
-        assert!(rt;
-            fault_of(rt.alloc(), kind, text.as_bytes()) == fault,
-            "of {text}"
-        );
     }
 }
 
@@ -65,6 +42,6 @@ fn a_layer_of_many_pieces(rt: HostRuntime) -> Result<(), TestFail> {
         byte: 280_047,
         reason: Reason::AfterEnd,
     });
-    assert!(rt; is_kept && fault_of(rt.alloc(), Kind::Layer, &text) == fault);
+    assert!(rt; is_kept && fault_of(rt.alloc(), &text) == fault);
     Ok(())
 }

@@ -18,9 +18,6 @@ module _ {X : Type 0} (xs : List X) where
   pub slice_at : (a b k : ℕ) (d : X) → k < b - a → get_or (slice_range xs a b) k d ≡ get_or xs (a + k) d
   slice_at a b k d less = get_or-take (b - a) (drop a xs) k d less ∙ get_or-drop a xs k d
 
-  pub slice_whole : slice_range xs 0 (length xs) ≡ xs
-  slice_whole = take_all (length xs - 0) xs (omega arith)
-
   module _ (ys : List X) where
     -- a part of the first list
     pub slice_front : (a b : ℕ) → a ≤ b → b ≤ length xs → slice_range (xs ++ ys) a b ≡ slice_range xs a b

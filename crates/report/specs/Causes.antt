@@ -168,8 +168,4 @@ abbrev pub lack_of : RingCause → Option ℤ
 lack_of (cause.TooSmall place) = Some place.lack
 lack_of (cause.OffCentre place) = Some place.lack
 lack_of (cause.Edge place) = Some place.lack
-lack_of (cause.Other why flash) = None
-lack_of (cause.Clear flash) = None
-lack_of (cause.Cleared flash) = None
-lack_of cause.NoFlash = None
-lack_of cause.Oblique = None
+lack_of _ = None

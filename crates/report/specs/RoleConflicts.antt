@@ -4,4 +4,4 @@ use Rattle.std.specs.Prelude.{ℕ, Bool, List, codes, if◌then◌else◌}
 -- what a file's role is and what its comments say, by whether its role calls its holes plated
 abbrev pub conflict_words : Bool → List ℕ
 conflict_words plated =
-    if plated then codes "its role is plated, and it says that holes are not plated" else codes "its role is unplated, and it says that holes are plated"
+    if plated then codes "its role is plated, but its comments say that holes are not plated" else codes "its role is unplated, but its comments say that holes are plated"

@@ -136,25 +136,3 @@ pub(crate) fn counts_by(
     let bare = bare_of(alloc, pads, &all.holes)?;
     counts_in(alloc, holes, ranges, &all, &bare)
 }
-
-/// How many of some holes are round and would be bare among the pads with their coordinates times a factor, rounded
-/// down. A place beyond ten metres counts as bare.
-///
-/// # Errors
-///
-/// Where there is no memory.
-pub fn bare_with_factor(
-    alloc: Global,
-    pads: &[WidePad],
-    holes: &[Drilled],
-    factor: UnitFactor,
-) -> Result<usize, AllocError>
-    ensures { IfOk result (λ count. count ≡ bare_count_with pads.now holes.now factor) }
-{
-    let all = HoleRange {
-        start: 0,
-        end: holes.len(),
-    };
-    let counts = counts_by(alloc, pads, holes, &[all], factor)?;
-    Ok(counts[0])
-}

@@ -35,13 +35,13 @@ pub fn factor_word(factor: UnitFactor) -> &'static str
 }
 
 /// What the role of a drill file is and what its comments say, by whether its role calls its holes plated:
-/// `its role is unplated, and it says that holes are plated`.
+/// `its role is unplated, but its comments say that holes are plated`.
 pub fn conflict_words(plated: bool) -> &'static str
     ensures { result.now ≡ conflict_words plated }
 {
     if plated {
-        "its role is plated, and it says that holes are not plated"
+        "its role is plated, but its comments say that holes are not plated"
     } else {
-        "its role is unplated, and it says that holes are plated"
+        "its role is unplated, but its comments say that holes are plated"
     }
 }

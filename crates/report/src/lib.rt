@@ -6,26 +6,24 @@
 mod bare;
 mod bounds;
 mod cause;
-pub mod cause_laws;
 mod counts;
 mod fewest;
 mod figures;
 mod groups;
+pub mod laws;
 mod layer;
 mod mistakes;
 mod other;
-pub mod scale_laws;
 mod scaled;
 mod waived;
 
 pub use bare::bare_among;
-pub use counts::bare_with_factor;
 pub use figures::{conflict_words, factor_word, lack_of};
 use grid_units::{Hole, Rules};
 pub use layer::CauseFinder;
 use layer_image::Why;
 pub use margins::Met;
-pub use mistakes::{FileRange, unit_mistake, unit_mistakes};
+pub use mistakes::{FileRange, unit_mistakes};
 use pad_shapes::Pad;
 pub use scaled::scaled_point;
 pub use waived::{acceptance_of, count_waived, count_waived_first, is_waived};
@@ -185,7 +183,7 @@ pub enum RingCause {
     },
     /// The hole lies in no pad, and no other flash has its point in it.
     NoFlash,
-    /// The hole is a plated slot that lies along no axis, which the strict profile refuses.
+    /// The hole is a plated slot that is parallel to neither axis, which the strict profile refuses.
     Oblique,
 }
 

@@ -164,27 +164,3 @@ pub fn unit_mistakes(
     let tried = try_factors(alloc, pads, holes, &ranges)?;
     lines_by(alloc, files, &suspects, &tried)
 }
-
-/// The line of one drill file, as [`unit_mistakes`] says, by its own holes and the best pad for each of them.
-///
-/// # Errors
-///
-/// Where there is no memory.
-pub fn unit_mistake(
-    alloc: Global,
-    drill: usize,
-    pads: &[WidePad],
-    holes: &[Drilled],
-    bests: &[Option<BestPad>],
-) -> Result<Option<UnitMistake>, AllocError>
-    requires { AreBestPads wide_pad_covers pads.now holes.now bests.now }
-    ensures { IfOk result (IsUnitMistakeOrNone pads.now holes.now drill) }
-{
-    let file = FileRange {
-        drill,
-        start: 0,
-        end: holes.len(),
-    };
-    let lines = unit_mistakes(alloc, pads, holes, bests, &[file])?;
-    Ok(lines[0])
-}

@@ -30,8 +30,8 @@ use Rattle.picture.specs.Outlines.{shown_outline}
 use Rattle.picture.specs.Panels.{lacks_text, panel_text}
 use Rattle.picture.specs.Scenes.{drawn_finding, drawn_findings, drawn_gap, drawn_ring}
 use Rattle.picture.specs.declared.frame.Frame.{Frame}
-use Rattle.picture.specs.declared.pen.Pen.{Pen}
-use Rattle.picture.specs.declared.place.Place.{Place}
+use Rattle.picture.specs.declared.frame.Pen.{Pen}
+use Rattle.picture.specs.declared.frame.Place.{Place}
 use Rattle.picture.specs.declared.scene.DrawnFinding.{DrawnFinding}
 use Rattle.picture.specs.declared.scene.DrawnFinding.TheVariants.{Ring, Gap}
 use Rattle.picture.specs.declared.scene.Scene.{Scene}

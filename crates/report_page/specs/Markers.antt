@@ -8,7 +8,7 @@ use Rattle.layer_image.specs.declared.drawn.Drawn.{Drawn}
 use Rattle.package_check.specs.Boards.{BoardView, IsBoard}
 use Rattle.package_check.specs.Package.{FileView}
 use Rattle.board_report.specs.BoardReport.{IsBoardReport}
-use Rattle.print_text.specs.declared.particulars.Particulars.{Particulars}
+use Rattle.print_text.specs.declared.report_text.Particulars.{Particulars}
 use Rattle.report_page.specs.Pages.{IsHtmlPage, row_numbers}
 
 -- the start of the marker of a finding, by its number; the link of its row leads to this id: `<g class="finding" id="f27">`

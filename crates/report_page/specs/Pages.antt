@@ -24,8 +24,8 @@ use Rattle.report.specs.declared.RingLack.{RingLack}
 use Rattle.report.specs.declared.RingLine.{RingLine}
 use Rattle.report.specs.declared.RoleConflict.{RoleConflict}
 use Rattle.print_text.specs.Causes.{kind_of, kind_words}
-use Rattle.print_text.specs.Texts.{fewer_words, number_of, rule_words, waived_words, warning_words}
-use Rattle.print_text.specs.declared.particulars.Particulars.{Particulars}
+use Rattle.print_text.specs.Texts.{fewer_words, number_of, rules_words, waived_words, warning_words}
+use Rattle.print_text.specs.declared.report_text.Particulars.{Particulars}
 use Rattle.board_report.specs.Measures.{IsMeasure}
 use Rattle.package_check.specs.Boards.{BoardView}
 use Rattle.package_check.specs.declared.FileSum.{FileSum}
@@ -57,11 +57,6 @@ abbrev pub profile_words : Profile → List ℕ
 profile_words Strict = codes ", profile strict"
 profile_words Wide = codes ", profile wide"
 
--- the rules and the profile: `rules: annular ring 0.15 mm, hole to hole 0.25 mm, profile strict`
-abbrev pub rules_words : GridRules → List ℕ
-rules_words rules =
-    rule_words (codes "rules: annular ring ") (pos rules.ring) ++ (rule_words (codes ", hole to hole ") (pos rules.gap) ++ profile_words rules.profile)
-
 -- how many findings disappear in the wide profile, as in the text of a report, and what comes before the next paragraph; nothing for none
 abbrev pub fewer_note : ℕ → ℕ → List ℕ
 fewer_note findings fewer = if fewer == 0 then [] else fewer_words findings fewer ++ codes "</p>\n<p>"
@@ -78,7 +73,7 @@ program_words program = codes "</p>\n<p>program: " ++ program
 abbrev pub particulars_text : Particulars → GridRules → ℕ → List ℕ
 particulars_text about rules findings =
     fewer_note findings about.fewer
-    ++ (board_words (escaped about.manifest.now) ++ (rules_words rules ++ program_words (escaped about.program.now)))
+    ++ (board_words (escaped about.manifest.now) ++ ((rules_words rules ++ profile_words rules.profile) ++ program_words (escaped about.program.now)))
 
 -- ---- the drill files whose own comments contradict their role
 

@@ -76,13 +76,13 @@ impl Display for EndsWords<'_> {
 
 /// A hole with its place in the package: `hole 17 of board-PTH.drl at 15.001,13`.
 #[derive(Clone, Copy)]
-pub(crate) struct HoleWords<'a> {
+pub(crate) struct HoleCell<'a> {
     /// The names of the files of the package.
     pub(crate) names: &'a [&'a str],
     pub(crate) at: &'a PlacedHole,
 }
 
-impl Display for HoleWords<'_> {
+impl Display for HoleCell<'_> {
     ghost output = { λ words. Some (hole_words (map (λ name. name.now) words.names.now) words.at.now) };
 
     #[tactic(auto, unfolding(crate::specs::Pages::hole_at_words))]
@@ -115,9 +115,9 @@ impl Display for DiameterWords<'_> {
 
 /// The ring that a hole has in its pad: a length, `no pad`, or `not judged`.
 #[derive(Clone, Copy)]
-pub(crate) struct RingWords<'a>(pub(crate) &'a RingCause);
+pub(crate) struct RingCell<'a>(pub(crate) &'a RingCause);
 
-impl Display for RingWords<'_> {
+impl Display for RingCell<'_> {
     ghost output = { λ words. Some (ring_words words.0.now) };
 
     fn fmt<W: fmt::Write>(&self, f: &mut Formatter<W>) -> fmt::Result {
@@ -150,9 +150,9 @@ fn write_flash<W: fmt::Write>(f: &mut Formatter<W>, cause: &RingCause) -> fmt::R
 
 /// A cause, and the flash that it names: `off centre: flash 17`.
 #[derive(Clone, Copy)]
-pub(crate) struct CauseWords<'a>(pub(crate) &'a RingCause);
+pub(crate) struct CauseCell<'a>(pub(crate) &'a RingCause);
 
-impl Display for CauseWords<'_> {
+impl Display for CauseCell<'_> {
     ghost output = { λ words. Some (cause_words words.0.now) };
 
     fn fmt<W: fmt::Write>(&self, f: &mut Formatter<W>) -> fmt::Result {

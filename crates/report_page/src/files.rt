@@ -32,12 +32,12 @@ impl Display for Amount {
 
 /// The contours of a copper file that count as pads; nothing in the strict profile.
 #[derive(Clone, Copy)]
-struct ContourWords {
+struct ContourCount {
     profile: Profile,
     contours: usize,
 }
 
-impl Display for ContourWords {
+impl Display for ContourCount {
     ghost output = { λ it. Some (contour_words it.profile it.contours) };
 
     fn fmt<W: fmt::Write>(&self, f: &mut Formatter<W>) -> fmt::Result {
@@ -76,7 +76,7 @@ impl Display for CopperWords {
             one: " other flash",
             many: " other flashes",
         };
-        let contours = ContourWords {
+        let contours = ContourCount {
             profile: self.profile,
             contours: self.contours,
         };
@@ -130,9 +130,9 @@ impl Display for MixedWords {
 
 /// The layers that the holes of a drill file go through, if the manifest names them.
 #[derive(Clone, Copy)]
-struct SpanWords(Option<Span>);
+struct SpanPhrase(Option<Span>);
 
-impl Display for SpanWords {
+impl Display for SpanPhrase {
     ghost output = { λ it. Some (span_words it.0) };
 
     fn fmt<W: fmt::Write>(&self, f: &mut Formatter<W>) -> fmt::Result {
@@ -189,7 +189,7 @@ impl Display for FileItem<'_> {
                 ..
             } => {
                 let (role, counts) = (drill_role(plated), DrillWords { round, slots });
-                let span = SpanWords(span);
+                let span = SpanPhrase(span);
                 write!(f, "<li>{role} {name}: {counts}{span}</li>\n")
             }
             FileSum::Mixed {
@@ -203,7 +203,7 @@ impl Display for FileItem<'_> {
                     slots,
                     unplated,
                 };
-                let span = SpanWords(span);
+                let span = SpanPhrase(span);
                 write!(f, "<li>mixed {name}: {counts}{span}</li>\n")
             }
         }

@@ -77,7 +77,7 @@ pub const TOOLS: &str = "\
 <button type=\"button\" id=\"nearer\">zoom in</button>
 <button type=\"button\" id=\"further\">zoom out</button>
 <button type=\"button\" id=\"whole\">fit</button>
-<details><summary>keys</summary><p id=\"keys\">In the picture plus and minus zoom, 0 fits, and arrows move. Tab goes on to the markers of a layer: there arrows go from marker to marker, and Enter chooses a finding, or zooms in on findings that stand together. In the table arrows go from row to row.</p></details>
+<details><summary>keys</summary><p id=\"keys\">In the picture plus and minus zoom, 0 fits, and arrows move. Tab goes on to the markers of a layer: there arrows go from marker to marker, and Enter chooses a finding, or zooms in on findings that are close together. In the table arrows go from row to row.</p></details>
 </div>
 <div class=\"tools\" role=\"group\" aria-label=\"layers\">
 ";

@@ -32,14 +32,14 @@ use std::fmt::{Display, Formatter};
 
 /// The names of the files of the package.
 #[derive(Clone, Copy)]
-struct FileNames<'a>(&'a [&'a str]);
+struct PageNames<'a>(&'a [&'a str]);
 
 /// The button of a layer.
-impl Line<FileNames<'_>> for LayerHead {
+impl Line<PageNames<'_>> for LayerHead {
     ghost text = { λ names head. layer_button (map (λ name. name.now) names.0.now) head };
 
     #[tactic(auto, unfolding(crate::specs::Pages::button))]
-    fn fmt_on<W: fmt::Write>(&self, page: &FileNames<'_>, f: &mut Formatter<W>) -> fmt::Result {
+    fn fmt_on<W: fmt::Write>(&self, page: &PageNames<'_>, f: &mut Formatter<W>) -> fmt::Result {
         let name = Escaped(name_of(page.0, self.file));
         let number = self.file.saturating_add(1);
         write!(
@@ -50,11 +50,11 @@ impl Line<FileNames<'_>> for LayerHead {
 }
 
 /// The warning of a drill file whose own comments contradict its role, and what comes before the next paragraph.
-impl Line<FileNames<'_>> for RoleConflict {
+impl Line<PageNames<'_>> for RoleConflict {
     ghost text = { λ names line. conflict_warning (map (λ name. name.now) names.0.now) line };
 
     #[tactic(auto, unfolding(print_text::specs::Texts::warning_words))]
-    fn fmt_on<W: fmt::Write>(&self, page: &FileNames<'_>, f: &mut Formatter<W>) -> fmt::Result {
+    fn fmt_on<W: fmt::Write>(&self, page: &PageNames<'_>, f: &mut Formatter<W>) -> fmt::Result {
         let name = Escaped(name_of(page.0, self.drill));
         write!(
             f,
@@ -83,7 +83,7 @@ fn write_head<W: fmt::Write>(
     ensures { DisplaysOnOk W.write_str_gives f.old result (Some (head_text (map (λ name. name.now) names.now) about.now files.now report.now.conflicts.items report.now.rules verdict.now.findings verdict.now.waived)) f.new }
 {
     let warnings = Lines {
-        page: &FileNames(names),
+        page: &PageNames(names),
         lines: &report.conflicts,
     };
     write!(f, "{HEAD}{verdict}{BEFORE_STYLE}{STYLE}{BODY}")?;
@@ -111,7 +111,7 @@ fn write_picture<W: fmt::Write>(
     ensures { DisplaysOnOk W.write_str_gives f.old result (Some (picture_text (map (λ name. name.now) names.now) layers.now (svg_text drawing.now))) f.new }
 {
     let buttons = Lines {
-        page: &FileNames(names),
+        page: &PageNames(names),
         lines: layers,
     };
     write!(f, "{TOOLS}{buttons}{FIGURE}{}", Svg(drawing))

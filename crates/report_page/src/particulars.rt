@@ -1,11 +1,11 @@
 //! The particulars of a report: the findings that disappear in the wide profile, the manifest, the rules, the program.
 
 ghost use Rattle.std.specs.Prelude.{◌≡◌, Some};
-ghost use Rattle.report_page.specs.Pages.{fewer_note, particulars_text, profile_words, rules_words};
+ghost use Rattle.report_page.specs.Pages.{fewer_note, particulars_text, profile_words};
 
 use grid_units::{Profile, Rules};
 use picture::Escaped;
-use print_text::{FewerWords, Particulars, RuleWords};
+use print_text::{FewerWords, Particulars, RulesWords};
 use std::fmt;
 use std::fmt::{Display, Formatter};
 
@@ -16,27 +16,6 @@ fn profile_words(profile: Profile) -> &'static str
     match profile {
         Profile::Strict => ", profile strict",
         Profile::Wide => ", profile wide",
-    }
-}
-
-/// The rules and the profile: `rules: annular ring 0.15 mm, hole to hole 0.25 mm, profile strict`.
-#[derive(Clone, Copy)]
-struct RulesWords<'a>(&'a Rules);
-
-impl Display for RulesWords<'_> {
-    ghost output = { λ rules. Some (rules_words rules.0.now) };
-
-    fn fmt<W: fmt::Write>(&self, f: &mut Formatter<W>) -> fmt::Result {
-        let ring = RuleWords {
-            words: "rules: annular ring ",
-            rule: self.0.ring(),
-        };
-        let gap = RuleWords {
-            words: ", hole to hole ",
-            rule: self.0.gap(),
-        };
-        let profile = profile_words(self.0.profile());
-        write!(f, "{ring}{gap}{profile}")
     }
 }
 
@@ -73,10 +52,10 @@ impl Display for ParticularsText<'_> {
             fewer: self.about.fewer,
         });
         let (manifest, program) = (Escaped(self.about.manifest), Escaped(self.about.program));
-        let rules = RulesWords(self.rules);
+        let (rules, profile) = (RulesWords(self.rules), profile_words(self.rules.profile()));
         write!(
             f,
-            "{note}board: {manifest}</p>\n<p>{rules}</p>\n<p>program: {program}"
+            "{note}board: {manifest}</p>\n<p>{rules}{profile}</p>\n<p>program: {program}"
         )
     }
 }

@@ -8,7 +8,7 @@ ghost use Rattle.picture.specs.Escapes.{escaped};
 ghost use Rattle.report_page.specs.Pages.{cause_words, gap_end, gap_place, gap_row, gap_rows, hole_words, layer_name, next_cell, reason_words, ring_end, ring_place, ring_row, ring_rows, ring_words, table_rows};
 
 use crate::cells::{
-    CauseWords, DiameterWords, HoleWords, ReasonWords, RingWords, RowStart, layer_name,
+    CauseCell, DiameterWords, HoleCell, ReasonWords, RingCell, RowStart, layer_name,
 };
 use grid_units::{Rules, ShortMillimetres};
 use picture::Escaped;
@@ -30,7 +30,7 @@ impl Display for RingPlace<'_> {
     #[tactic(auto, unfolding(crate::specs::Pages::ring_place))]
     fn fmt<W: fmt::Write>(&self, f: &mut Formatter<W>) -> fmt::Result {
         let layer = Escaped(layer_name(self.names, self.layers, self.lack.layer));
-        let hole = HoleWords {
+        let hole = HoleCell {
             names: self.names,
             at: &self.lack.at,
         };
@@ -53,8 +53,8 @@ impl Display for RingEnd<'_> {
     #[tactic(auto, unfolding(crate::specs::Pages::ring_end))]
     fn fmt<W: fmt::Write>(&self, f: &mut Formatter<W>) -> fmt::Result {
         let cause = &self.lack.cause;
-        let (ring, rule) = (RingWords(cause), ShortMillimetres(self.rules.ring()));
-        let (cause, why) = (CauseWords(cause), ReasonWords(self.why));
+        let (ring, rule) = (RingCell(cause), ShortMillimetres(self.rules.ring()));
+        let (cause, why) = (CauseCell(cause), ReasonWords(self.why));
         write!(
             f,
             "{ring}</td><td>{rule}</td><td>{cause}</td><td>{why}</td></tr>\n"
@@ -112,8 +112,8 @@ impl Display for GapPlace<'_> {
         let (first, second) = (&lack.first, &lack.second);
         let (one, other) = (DiameterWords(&first.hole), DiameterWords(&second.hole));
         let (first, second) = (
-            HoleWords { names, at: first },
-            HoleWords { names, at: second },
+            HoleCell { names, at: first },
+            HoleCell { names, at: second },
         );
         write!(
             f,

@@ -42,9 +42,9 @@ fn mark_words(rule: i64, bare: usize, least: Option<LeastRing>) -> &'static str
 
 /// The smallest ring of the holes that lie in a pad: a length, or `none`.
 #[derive(Clone, Copy)]
-struct LeastWords(Option<LeastRing>);
+struct LeastCell(Option<LeastRing>);
 
-impl Display for LeastWords {
+impl Display for LeastCell {
     ghost output = { λ words. Some (least_words words.0) };
 
     fn fmt<W: fmt::Write>(&self, f: &mut Formatter<W>) -> fmt::Result {
@@ -106,7 +106,7 @@ impl Display for ToolEnd {
 
     #[tactic(auto, unfolding(crate::specs::Pages::tool_end))]
     fn fmt<W: fmt::Write>(&self, f: &mut Formatter<W>) -> fmt::Result {
-        let (least, rule) = (LeastWords(self.least), ShortMillimetres(self.rule));
+        let (least, rule) = (LeastCell(self.least), ShortMillimetres(self.rule));
         let mark = mark_words(self.rule, self.bare, self.least);
         write!(f, "{least}</td><td>{rule}</td><td>{mark}</td></tr>\n")
     }

@@ -1,9 +1,9 @@
 //! The verdict in words.
 
 ghost use Rattle.std.specs.Prelude.{◌≡◌, Some};
-ghost use Rattle.print_text.specs.Texts.{waived_words};
 ghost use Rattle.report_page.specs.Pages.{count_words, verdict, verdict_word};
 
+use print_text::WaivedWords;
 use std::fmt;
 use std::fmt::{Display, Formatter};
 
@@ -20,21 +20,6 @@ impl Display for CountWords {
         } else {
             write!(f, "{} findings", self.0)
         }
-    }
-}
-
-/// The number of waived findings, if it is not 0: `, 3 waived`.
-#[derive(Clone, Copy)]
-struct WaivedWords(u128);
-
-impl Display for WaivedWords {
-    ghost output = { λ waived. Some (waived_words waived.0) };
-
-    fn fmt<W: fmt::Write>(&self, f: &mut Formatter<W>) -> fmt::Result {
-        if self.0 == 0 {
-            return Ok(());
-        }
-        write!(f, ", {} waived", self.0)
     }
 }
 

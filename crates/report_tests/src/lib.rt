@@ -4,8 +4,6 @@
 #[cfg(test)]
 mod causes_calls;
 #[cfg(test)]
-mod measure_text_calls;
-#[cfg(test)]
 mod print_json_calls;
 #[cfg(test)]
 mod print_text_calls;

@@ -1,12 +1,11 @@
-//! Reports with the figures of the worked examples.
+//! Reports with the figures of the worked examples, such as no command gives, and writers that fail. Other reports are in the data of
+//! `worked_examples`.
 
-use crate::rows::{
-    CauseRow, Form, GapRow, HoleRow, ReportRow, RingRow, RowFail, add_ring, after, report_of,
-};
+use crate::rows::{CauseRow, Form, HoleRow, ReportRow, RingRow, RowFail, add_ring, report_of};
 use grid_units::Profile;
 use layer_image::Why;
 use print_text::*;
-use report::{UnitFactor, UnitMistake, *};
+use report::*;
 use std::alloc::{AllocError, Global};
 use std::fmt;
 use std::fmt::Write;
@@ -18,8 +17,6 @@ const NOTHING: ReportRow = ReportRow {
     layers: &[],
     rings: &[],
     gaps: &[],
-    scales: &[],
-    conflicts: &[],
     meets: (Met::UpTo(0), Met::UpTo(1), Met::UpTo(0)),
 };
 
@@ -187,201 +184,6 @@ fn a_limited_report_is_printed(rt: HostRuntime) {
     assert!(rt; is_limited_so(rt.alloc(), text));
 }
 
-fn text_begins_with(alloc: Global, names: &[&str], report: &BoardReport, parts: &[&str]) -> bool {
-    match text_of(alloc, names, report, None, &no_acceptances()) {
-        Ok(written) => after(written.as_str(), parts).is_some(),
-        Err(_) => false,
-    }
-}
-
-/// Whether the report of a row, on files of these names, begins with these parts.
-fn begins_with(alloc: Global, names: &[&str], row: &ReportRow, parts: &[&str]) -> bool {
-    match report_of(alloc, row) {
-        Ok(report) => text_begins_with(alloc, names, &report, parts),
-        Err(_) => false,
-    }
-}
-
-/// A hole: the name of its file, its number there, its ends and its diameter.
-type NamedHole = (&'static str, usize, (i64, i64), (i64, i64), i64);
-
-/// A slot of 0.5 mm from 0,0 to 2,0.
-const SLOT: NamedHole = ("pth", 1, (0, 0), (2_000_000_000, 0), 500_000_000);
-
-/// A slot of 0.5 mm that lies along no axis.
-const OBLIQUE: NamedHole = (
-    "pth",
-    3,
-    (0, 0),
-    (2_000_000_000, 1_000_000_000),
-    500_000_000,
-);
-
-/// Holes that lack their ring, why, and their lines. A slot is off by its middle.
-const LINES: [(NamedHole, CauseRow, &str); 14] = [
-    (
-        (
-            "drill",
-            213,
-            (50_546_000_000, 67_310_000_000),
-            (50_546_000_000, 67_310_000_000),
-            609_600_000,
-        ),
-        CauseRow::TooSmall(
-            947,
-            Form::Disc(203_200_000),
-            (50_546_000_000, 67_310_000_000),
-            -101_600_000,
-            201_600_000,
-        ),
-        "  #1 hole 213 of drill, 0.6096 at 50.546,67.31: annular ring -0.1016 (rule 0), pad too small: flash 947, disc 0.4064x0.4064, hole off by 0,0\n",
-    ),
-    (
-        (
-            "pic_programmer-PTH",
-            7,
-            (142_240_000_000, -97_790_000_000),
-            (142_240_000_000, -97_790_000_000),
-            750_000_000,
-        ),
-        CauseRow::Other(Why::Macro, 156),
-        "  #1 hole 7 of pic_programmer-PTH, 0.75 at 142.24,-97.79: annular ring not judged, only a macro flash: flash 156\n",
-    ),
-    (
-        ("pth", 1, (0, 0), (0, 0), 400_000_000),
-        CauseRow::OffCentre(
-            1,
-            Form::Rect(325_000_000, 325_000_000),
-            (1_000, 0),
-            124_999_000,
-            1_000,
-        ),
-        "  #1 hole 1 of pth, 0.4 at 0,0: annular ring 0.124999 (rule 0), off centre: flash 1, rect 0.65x0.65, hole off by -0.000001,0\n",
-    ),
-    (
-        OBLIQUE,
-        CauseRow::Oblique,
-        "  #1 hole 3 of pth, 0.5 at 0,0 to 2,1: annular ring not judged, oblique slot\n",
-    ),
-    (
-        OBLIQUE,
-        CauseRow::NoFlash,
-        "  #1 hole 3 of pth, 0.5 at 0,0 to 2,1: no pad at the hole\n",
-    ),
-    (
-        SLOT,
-        CauseRow::TooSmall(
-            1,
-            Form::Obround(1_370_000_000, 375_000_000),
-            (1_000_000_000, 0),
-            120_000_000,
-            5_000_000,
-        ),
-        "  #1 hole 1 of pth, 0.5 at 0,0 to 2,0: annular ring 0.12 (rule 0), pad too small: flash 1, obround 2.74x0.75, hole off by 0,0\n",
-    ),
-    (
-        SLOT,
-        CauseRow::OffCentre(
-            1,
-            Form::Disc(2_000_000_000),
-            (0, 0),
-            -250_000_000,
-            375_000_000,
-        ),
-        "  #1 hole 1 of pth, 0.5 at 0,0 to 2,0: annular ring -0.25 (rule 0), off centre: flash 1, disc 4x4, hole off by 1,0\n",
-    ),
-    (
-        SLOT,
-        CauseRow::Other(Why::Polygon, 7),
-        "  #1 hole 1 of pth, 0.5 at 0,0 to 2,0: annular ring not judged, only a polygon flash: flash 7\n",
-    ),
-    (
-        SLOT,
-        CauseRow::Other(Why::Holed, 7),
-        "  #1 hole 1 of pth, 0.5 at 0,0 to 2,0: annular ring not judged, only a holed flash: flash 7\n",
-    ),
-    (
-        SLOT,
-        CauseRow::Other(Why::Scaled, 7),
-        "  #1 hole 1 of pth, 0.5 at 0,0 to 2,0: annular ring not judged, only a scaled flash: flash 7\n",
-    ),
-    (
-        SLOT,
-        CauseRow::Other(Why::Turned, 7),
-        "  #1 hole 1 of pth, 0.5 at 0,0 to 2,0: annular ring not judged, only a turned flash: flash 7\n",
-    ),
-    // A hole of 0.4 mm in a rounded square of 1 mm: 0.5 - 0.175001 - 0.2.
-    (
-        ("pth", 1, (175_001_000, 0), (175_001_000, 0), 400_000_000),
-        CauseRow::Edge(1, 124_999_000, 1_000),
-        "  #1 hole 1 of pth, 0.4 at 0.175001,0: annular ring 0.124999 (rule 0), in a rounded pad or contour, too near its edge: flash 1\n",
-    ),
-    (
-        SLOT,
-        CauseRow::Clear(7),
-        "  #1 hole 1 of pth, 0.5 at 0,0 to 2,0: annular ring not judged, only a clear flash: flash 7\n",
-    ),
-    (
-        SLOT,
-        CauseRow::Cleared(7),
-        "  #1 hole 1 of pth, 0.5 at 0,0 to 2,0: annular ring not judged, only a cleared flash: flash 7\n",
-    ),
-];
-
-const ONE_RING: &str =
-    "rules: annular ring 0 mm, hole to hole 0.000000001 mm\nannular ring on top: 1 of 1 holes below the rule\n";
-
-/// Whether the line of a single hole that lacks its ring is this one.
-fn is_ring_line(alloc: Global, hole: NamedHole, cause: CauseRow, text: &str) -> bool {
-    let (drill, number, from, to, diameter) = hole;
-    let row = ReportRow {
-        layers: &[LayerHead { file: 0, needed: 1 }],
-        rings: &[(0, (1, number, from, to, diameter), cause)],
-        ..NOTHING
-    };
-    begins_with(alloc, &["top", drill], &row, &[ONE_RING, text])
-}
-
-#[test]
-fn lines_of_rings_have_their_cause(rt: HostRuntime) {
-    for &(hole, cause, text) in &LINES {
-        assert!(rt; is_ring_line(rt.alloc(), hole, cause, text), "{text}");
-    }
-}
-
-/// Whether the line of a drill file whose coordinates are off by a factor is this one.
-fn is_scale_line(alloc: Global, factor: UnitFactor, text: &str) -> bool {
-    let row = ReportRow {
-        scales: &[UnitMistake { factor, ..TENTH }],
-        ..NOTHING
-    };
-    let rules = "rules: annular ring 0 mm, hole to hole 0.000000001 mm\n";
-    begins_with(alloc, &["top", "pth"], &row, &[text, rules])
-}
-
-/// A factor, and the line of a drill file whose coordinates are off by it.
-const FACTORS: [(UnitFactor, &str); 3] = [
-    (
-        UnitFactor::Tenth,
-        "pth: coordinates look 10 times too large: 3 holes have no pad; with coordinates times 0.1 it would be 0\n",
-    ),
-    (
-        UnitFactor::Inch,
-        "pth: coordinates look 25.4 times too small: 3 holes have no pad; with coordinates times 25.4 it would be 0\n",
-    ),
-    (
-        UnitFactor::PerInch,
-        "pth: coordinates look 25.4 times too large: 3 holes have no pad; with coordinates times 1/25.4 it would be 0\n",
-    ),
-];
-
-#[test]
-fn factors_are_printed(rt: HostRuntime) {
-    for &(factor, text) in &FACTORS {
-        assert!(rt; is_scale_line(rt.alloc(), factor, text), "{text}");
-    }
-}
-
 /// Two layers; every other ring is on the second.
 const MIXED: ReportRow = ReportRow {
     rules: (100_000_000, 250_000_000),
@@ -411,7 +213,7 @@ fn mixed_layers_are_printed_one_by_one(rt: HostRuntime) {
         #3 hole 3 of StickHub-PTH, 0.3 at 0,0: no pad at the hole\n  \
         and 1 more\n\
         hole to hole: 0 gaps too small\n\
-        5 no pad at the hole: none was flashed here, or its copper is drawn or of a shape that is not judged, or origin or format differ: see `ringcheck explain none`\n\
+        5 no pad at the hole: no pad was flashed here, or it is drawn or of a shape that is not judged, or the drill file has another origin or format: see `ringcheck explain none`\n\
         annular ring 0 is met; hole to hole 0.25 is met\n\
         FINDINGS 5\n";
     assert!(rt; is_printed(rt.alloc(), &STICK, &MIXED, Some(4), text));
@@ -445,171 +247,6 @@ fn a_hole_hit_twice_is_printed(rt: HostRuntime) {
         annular ring 0.125 is met; hole to hole -0.4 is met\n\
         FINDINGS 1\n";
     assert!(rt; is_printed(rt.alloc(), &["top", "pth"], &HIT_TWICE, None, text));
-}
-
-/// A package that meets any rules.
-const ANY: ReportRow = ReportRow {
-    meets: (Met::Any, Met::Any, Met::Any),
-    ..NOTHING
-};
-
-/// Profiles, and the text of a package that passes in them.
-const PASSES: [(Profile, &str); 2] = [
-    (
-        Profile::Strict,
-        "rules: annular ring 0 mm, hole to hole 0.000000001 mm\nhole to hole: 0 gaps too small\nany annular ring is met; any hole to hole gap is met\nPASS\n",
-    ),
-    (
-        Profile::Wide,
-        "rules: annular ring 0 mm, hole to hole 0.000000001 mm, profile wide\nhole to hole: 0 gaps too small\nany annular ring is met; any hole to hole gap is met\nPASS\n",
-    ),
-];
-
-#[test]
-fn a_package_that_passes_is_printed(rt: HostRuntime) {
-    for &(profile, text) in &PASSES {
-        let row = ReportRow { profile, ..ANY };
-        assert!(rt; is_printed(rt.alloc(), &[], &row, Some(0), text), "{text}");
-    }
-}
-
-/// A drill file whose role calls its holes plated.
-const PLATED: RoleConflict = RoleConflict {
-    drill: 1,
-    plated: true,
-};
-
-/// A drill file whose role calls its holes unplated.
-const UNPLATED: RoleConflict = RoleConflict {
-    drill: 2,
-    plated: false,
-};
-
-/// Drill files whose comments contradict their role, and what the report begins with.
-const CONFLICTS: [(&[RoleConflict], &str); 3] = [
-    (
-        &[UNPLATED],
-        "warning: board-NPTH.drl: its role is unplated, and it says that holes are plated\nrules: ",
-    ),
-    (
-        &[PLATED],
-        "warning: board-PTH.drl: its role is plated, and it says that holes are not plated\nrules: ",
-    ),
-    (
-        &[PLATED, UNPLATED],
-        "warning: board-PTH.drl: its role is plated, and it says that holes are not plated\n\
-        warning: board-NPTH.drl: its role is unplated, and it says that holes are plated\nrules: ",
-    ),
-];
-
-#[test]
-fn contradicted_roles_are_told_before_the_rules(rt: HostRuntime) {
-    let names = ["top", "board-PTH.drl", "board-NPTH.drl"];
-    for &(conflicts, text) in &CONFLICTS {
-        let row = ReportRow {
-            conflicts,
-            ..NOTHING
-        };
-        assert!(rt; begins_with(rt.alloc(), &names, &row, &[text]), "{text}");
-    }
-}
-
-#[test]
-fn contradicted_roles_are_told_after_the_scales(rt: HostRuntime) {
-    let row = ReportRow {
-        scales: &[TENTH],
-        conflicts: &[UNPLATED],
-        ..NOTHING
-    };
-    let text =
-        "pth: coordinates look 10 times too small: 3 holes have no pad; with coordinates times 10 it would be 0\n\
-        warning: npth: its role is unplated, and it says that holes are plated\n\
-        rules: ";
-    assert!(rt; begins_with(rt.alloc(), &["top", "pth", "npth"], &row, &[text]));
-}
-
-/// A hole that lacks its ring.
-const UNSEEN: HoleRow = (1, 1, (0, 0), (0, 0), 400_000_000);
-
-/// A drill file whose coordinates are a tenth of the right ones.
-const TENTH: UnitMistake = UnitMistake {
-    drill: 1,
-    bare: 3,
-    factor: UnitFactor::Ten,
-    then: 0,
-};
-
-/// A hole for each cause, and two for a macro flash, on a layer without a head.
-const EACH_CAUSE: ReportRow = ReportRow {
-    rules: (150_000_000, 250_000_000),
-    rings: &[
-        (9, UNSEEN, CauseRow::Other(Why::Turned, 1)),
-        (9, UNSEEN, CauseRow::Other(Why::Scaled, 1)),
-        (9, UNSEEN, CauseRow::Other(Why::Holed, 1)),
-        (9, UNSEEN, CauseRow::Other(Why::Polygon, 1)),
-        (9, UNSEEN, CauseRow::Other(Why::Macro, 1)),
-        (9, UNSEEN, CauseRow::Other(Why::Macro, 1)),
-        (9, UNSEEN, CauseRow::Oblique),
-        (9, UNSEEN, CauseRow::NoFlash),
-        (9, UNSEEN, CauseRow::Cleared(1)),
-        (9, UNSEEN, CauseRow::Clear(1)),
-        (9, UNSEEN, CauseRow::Edge(1, 100_000_000, 50_000_000)),
-        (
-            9,
-            UNSEEN,
-            CauseRow::OffCentre(1, Form::Disc(250_000_000), (0, 0), 100_000_000, 50_000_000),
-        ),
-        (
-            9,
-            UNSEEN,
-            CauseRow::TooSmall(1, Form::Disc(250_000_000), (0, 0), 99_394_596, 50_605_404),
-        ),
-    ],
-    scales: &[TENTH],
-    meets: (Met::None, Met::UpTo(1_046_051_224), Met::UpTo(275_000_000)),
-    ..NOTHING
-};
-
-#[test]
-fn causes_and_scales_are_printed(rt: HostRuntime) {
-    let text =
-        "pth: coordinates look 10 times too small: 3 holes have no pad; with coordinates times 10 it would be 0\n\
-        rules: annular ring 0.15 mm, hole to hole 0.25 mm\n\
-        hole to hole: 0 gaps too small\n\
-        1 pad too small: the pad's own radius or half side is less than the hole's radius plus the ring\n\
-        1 off centre: the pad is large enough for a hole at its centre; drill files are rounded: see `ringcheck explain ring`\n\
-        1 in a rounded pad or contour, too near its edge: move the hole or enlarge the pad: rings in rounded pads and contours are measured to their edge\n\
-        2 only a macro flash: flashes by a macro are not judged: choose circle, oval or rectangle: see `ringcheck explain macro`\n\
-        1 only a polygon flash: polygon flashes are not judged\n\
-        1 only a holed flash: flashes with a hole are not judged\n\
-        1 only a scaled flash: scaled flashes are not judged\n\
-        1 only a turned flash: flashes turned by anything but quarter turns are not judged\n\
-        1 only a clear flash: a flash in clear polarity takes copper away\n\
-        1 only a cleared flash: copper drawn before a clear object does not count\n\
-        1 no pad at the hole: none was flashed here, or its copper is drawn or of a shape that is not judged, or origin or format differ: see `ringcheck explain none`\n\
-        1 oblique slot: plated slots that lie along no axis are not judged\n\
-        smallest ring 0.099394596 (rule 0.15)\n\
-        no annular ring is met: 10 findings are of holes with no pad that counts (without them: 0.275); hole to hole 1.046051224 is met\n\
-        FINDINGS 13\n";
-    assert!(rt; is_printed(rt.alloc(), &["top", "pth"], &EACH_CAUSE, None, text));
-}
-
-/// A hole in a flash by a macro, in the wide profile.
-const WIDE_MACRO: ReportRow = ReportRow {
-    profile: Profile::Wide,
-    rules: (150_000_000, 250_000_000),
-    rings: &[(9, UNSEEN, CauseRow::Other(Why::Macro, 1))],
-    ..ANY
-};
-
-#[test]
-fn macros_of_some_forms_are_judged_in_the_wide_profile(rt: HostRuntime) {
-    let text = "rules: annular ring 0.15 mm, hole to hole 0.25 mm, profile wide\n\
-        hole to hole: 0 gaps too small\n\
-        1 only a macro flash: macros of this form are not judged: choose circle, oval or rectangle: see `ringcheck explain macro`\n\
-        any annular ring is met; any hole to hole gap is met\n\
-        FINDINGS 1\n";
-    assert!(rt; is_printed(rt.alloc(), &["top", "pth"], &WIDE_MACRO, None, text));
 }
 
 const HOLED: [&str; 2] = ["top_layer", "pth"];
@@ -674,7 +311,7 @@ const WAIVED: [WaivedRow; 4] = [
         #4 hole 1 of pth, 0.4 at 0,0, and hole 1 of pth, 0.4 at 0,0: gap -0.4 (rule 0.25), waived: drilled \"twice\"\n  \
         #5 hole 2 of pth, 0.4 at 0,0, and hole 2 of pth, 0.4 at 0,0: gap -0.4 (rule 0.25), waived: x\n  \
         #6 hole 3 of pth, 0.4 at 0,0, and hole 3 of pth, 0.4 at 0,0: gap -0.4 (rule 0.25), waived: y\n\
-        3 no pad at the hole: none was flashed here, or its copper is drawn or of a shape that is not judged, or origin or format differ: see `ringcheck explain none`\n\
+        3 no pad at the hole: no pad was flashed here, or it is drawn or of a shape that is not judged, or the drill file has another origin or format: see `ringcheck explain none`\n\
         smallest gap -0.4 (rule 0.25)\n\
         annular ring 0.1 is met; hole to hole -0.4 is met\n\
         waiver 8 matches no finding\n\
@@ -695,7 +332,7 @@ const WAIVED: [WaivedRow; 4] = [
         and 1 more\n\
         hole to hole: 3 gaps too small, 3 waived\n  \
         and 3 more\n\
-        3 no pad at the hole: none was flashed here, or its copper is drawn or of a shape that is not judged, or origin or format differ: see `ringcheck explain none`\n\
+        3 no pad at the hole: no pad was flashed here, or it is drawn or of a shape that is not judged, or the drill file has another origin or format: see `ringcheck explain none`\n\
         smallest gap -0.4 (rule 0.25)\n\
         annular ring 0.1 is met; hole to hole -0.4 is met\n\
         waiver 2 matches no finding\n\
@@ -718,7 +355,7 @@ const WAIVED: [WaivedRow; 4] = [
         hole to hole: 3 gaps too small\n  \
         #4 hole 1 of pth, 0.4 at 0,0, and hole 1 of pth, 0.4 at 0,0: gap -0.4 (rule 0.25)\n  \
         and 2 more\n\
-        3 no pad at the hole: none was flashed here, or its copper is drawn or of a shape that is not judged, or origin or format differ: see `ringcheck explain none`\n\
+        3 no pad at the hole: no pad was flashed here, or it is drawn or of a shape that is not judged, or the drill file has another origin or format: see `ringcheck explain none`\n\
         smallest gap -0.4 (rule 0.25)\n\
         annular ring 0.1 is met; hole to hole -0.4 is met\n\
         FINDINGS 3\n",
@@ -736,7 +373,7 @@ const WAIVED: [WaivedRow; 4] = [
         and 3 more\n\
         hole to hole: 3 gaps too small, 1 waived\n  \
         and 3 more\n\
-        3 no pad at the hole: none was flashed here, or its copper is drawn or of a shape that is not judged, or origin or format differ: see `ringcheck explain none`\n\
+        3 no pad at the hole: no pad was flashed here, or it is drawn or of a shape that is not judged, or the drill file has another origin or format: see `ringcheck explain none`\n\
         smallest gap -0.4 (rule 0.25)\n\
         annular ring 0.1 is met; hole to hole -0.4 is met\n\
         FINDINGS 5\n",

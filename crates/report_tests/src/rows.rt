@@ -5,7 +5,7 @@ use layer_image::{What, Why};
 use pad_shapes::{Disc, Obround, Pad, Rect};
 use report::{
     BoardReport, GapLack, HolePlace, LayerHead, Meets, Met, PlacedHole, RingAtEdge, RingCause,
-    RingInPad, RingLack, RoleConflict, UnitMistake,
+    RingInPad, RingLack,
 };
 use std::alloc::{AllocError, Global};
 
@@ -59,7 +59,6 @@ pub(crate) fn pad_at(form: Form, centre: (i64, i64)) -> Option<Pad> {
 /// Why a hole lacks its ring. For a hole in a pad: the number of its flash, its form and centre unless it is rounded, the ring and the lack.
 #[derive(Clone, Copy)]
 pub(crate) enum CauseRow {
-    TooSmall(usize, Form, (i64, i64), i64, i64),
     OffCentre(usize, Form, (i64, i64), i64, i64),
     Edge(usize, i64, i64),
     Other(Why, usize),
@@ -81,9 +80,6 @@ fn in_pad(flash: usize, pad: Option<Pad>, ring: i64, lack: i64) -> Option<RingIn
 
 fn cause_of(row: CauseRow) -> Option<RingCause> {
     match row {
-        CauseRow::TooSmall(flash, form, centre, ring, lack) => {
-            Some(RingCause::TooSmall(in_pad(flash, pad_at(form, centre), ring, lack)?))
-        }
         CauseRow::OffCentre(flash, form, centre, ring, lack) => {
             Some(RingCause::OffCentre(in_pad(flash, pad_at(form, centre), ring, lack)?))
         }
@@ -135,8 +131,6 @@ pub(crate) struct ReportRow<'a> {
     pub(crate) layers: &'a [LayerHead],
     pub(crate) rings: &'a [RingRow],
     pub(crate) gaps: &'a [GapRow],
-    pub(crate) scales: &'a [UnitMistake],
-    pub(crate) conflicts: &'a [RoleConflict],
     pub(crate) meets: (Met, Met, Met),
 }
 
@@ -183,8 +177,6 @@ fn add_findings(report: &mut BoardReport, row: &ReportRow) -> Result<(), RowFail
 
 fn fill(report: &mut BoardReport, row: &ReportRow) -> Result<(), RowFail> {
     report.layers.extend_from_slice(row.layers)?;
-    report.scales.extend_from_slice(row.scales)?;
-    report.conflicts.extend_from_slice(row.conflicts)?;
     add_findings(report, row)
 }
 
@@ -194,13 +186,4 @@ pub(crate) fn report_of(alloc: Global, row: &ReportRow) -> Result<BoardReport, R
     let mut report = report_under(alloc, rules.in_profile(row.profile), row.meets);
     fill(&mut report, row)?;
     Ok(report)
-}
-
-/// What stands in a text after these parts, if it begins with them.
-pub(crate) fn after<'a>(text: &'a str, parts: &[&str]) -> Option<&'a str> {
-    let mut rest = text;
-    for part in parts {
-        rest = rest.strip_prefix(*part)?;
-    }
-    Some(rest)
 }

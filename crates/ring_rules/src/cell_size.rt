@@ -47,26 +47,17 @@ pub(crate) fn sample_index(draw: u64, count: usize) -> usize {
     ((u128::from(part) * count as u128) >> 64) as usize
 }
 
-/// Where most holes lie along x.
-pub(crate) fn spread_x(alloc: Global, holes: &[Drilled]) -> Result<Spread, AllocError> {
-    let mut values = Vec::new(alloc);
+/// Where most holes lie along x, and along y.
+pub(crate) fn spreads(alloc: Global, holes: &[Drilled]) -> Result<(Spread, Spread), AllocError> {
+    let (mut across, mut along) = (Vec::new(alloc), Vec::new(alloc));
     for draw in 0..(holes.len() as u64).min(1024) {
         if let Some(drilled) = holes.get(sample_index(draw, holes.len())) {
-            values.push(drilled.hole.from().x())?;
+            let from = drilled.hole.from();
+            across.push(from.x())?;
+            along.push(from.y())?;
         }
     }
-    Ok(spread_of(&mut values))
-}
-
-/// Where most holes lie along y.
-pub(crate) fn spread_y(alloc: Global, holes: &[Drilled]) -> Result<Spread, AllocError> {
-    let mut values = Vec::new(alloc);
-    for draw in 0..(holes.len() as u64).min(1024) {
-        if let Some(drilled) = holes.get(sample_index(draw, holes.len())) {
-            values.push(drilled.hole.from().y())?;
-        }
-    }
-    Ok(spread_of(&mut values))
+    Ok((spread_of(&mut across), spread_of(&mut along)))
 }
 
 /// The least bits of a row's height that leave no more cells than holes, with so many columns.

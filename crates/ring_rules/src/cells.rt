@@ -1,14 +1,14 @@
 //! Holes in the cells of a grid, by chains. Each cell has a link to the last of its holes in the list, and each hole
 //! one to the hole before it in its cell. Nothing is sorted or moved yet.
 
-ghost use Rattle.std.specs.Prelude.{◌≡◌, ◌+◌, ◌*◌, ◌^◌, ◌<◌, ◌≤◌, IfOk, length, get_or};
+ghost use Rattle.std.specs.Prelude.{◌≡◌, ◌+◌, ◌*◌, ◌^◌, ◌<◌, ◌≤◌, ◌++◌, ◌∷◌, [], IfOk, OnOk, length, get_or, set};
 ghost use Rattle.ring_rules.specs.Places.{IsChained};
 ghost use Rattle.ring_rules.specs.Cells.{cell_of, cell_at};
 
 use crate::axis::Axis;
 use crate::finding::Drilled;
 use crate::places::place;
-use grid_units::Point;
+use grid_units::{Hole, Point};
 use std::alloc::{AllocError, Global};
 
 /// The holes of a board in chains. A link is one more than a hole's place, or 0 at the end of a chain.
@@ -49,6 +49,45 @@ pub(crate) fn cell_of(x: &Axis, y: &Axis, at: Point) -> usize
     place(y, at.y()) * (x.last + 1) + place(x, at.x())
 }
 
+/// Puts the next hole at the end of the chain of its cell.
+fn chain_next(
+    x: &Axis,
+    y: &Axis,
+    hole: &Hole,
+    head: &mut Vec<u32>,
+    next: &mut Vec<u32>,
+) -> Result<(), AllocError>
+    requires few { (y.now.last + 1) * (x.now.last + 1) ≤ 2 ^ 62 }
+    requires all { length head.now.items ≡ (y.now.last + 1) * (x.now.last + 1) }
+    ensures head { OnOk result (head.new.items ≡ set head.old.items (cell_of x.now y.now hole.now.from) (length next.old.items + 1)) }
+    ensures next { OnOk result (next.new.items ≡ next.old.items ++ get_or head.old.items (cell_of x.now y.now hole.now.from) 0 ∷ []) }
+{
+    let cell = cell_of(x, y, hole.from());
+    let link = narrow(next.len() + 1)?;
+    next.push(head[cell])?;
+    head[cell] = link;
+    Ok(())
+}
+
+/// The links of the cells of a grid, and those of the holes, each in the cell of its entry point.
+fn links(
+    alloc: Global,
+    x: &Axis,
+    y: &Axis,
+    holes: &[Drilled],
+) -> Result<(Vec<u32>, Vec<u32>), AllocError>
+    requires { (y.now.last + 1) * (x.now.last + 1) ≤ 2 ^ 62 }
+    ensures count { IfOk result (λ (head, next). length head.items ≡ (y.now.last + 1) * (x.now.last + 1)) }
+    ensures chained { IfOk result (λ (head, next). IsChained (cell_at x.now y.now holes.now) (length holes.now) head.items next.items) }
+{
+    let mut head = vec![in alloc; 0; (y.last + 1) * (x.last + 1)]?;
+    let mut next = Vec::with_capacity(alloc, holes.len())?;
+    for drilled in holes {
+        chain_next(x, y, &drilled.hole, &mut head, &mut next)?;
+    }
+    Ok((head, next))
+}
+
 /// The holes in the cells of a grid, each in the cell of its entry point.
 pub(crate) fn chained(
     alloc: Global,
@@ -62,13 +101,12 @@ pub(crate) fn chained(
     ensures count { IfOk result (λ chains. length chains.head.items ≡ (y.last + 1) * (x.last + 1)) }
     ensures chained { IfOk result (λ chains. IsChained (cell_at x y holes.now) (length holes.now) chains.head.items chains.next.items) }
 {
-    let mut head = vec![in alloc; 0; (y.last + 1) * (x.last + 1)]?;
-    let mut next = Vec::with_capacity(alloc, holes.len())?;
-    for (place, drilled) in holes.iter().enumerate() {
-        let cell = cell_of(&x, &y, drilled.hole.from());
-        let link = narrow(place + 1)?;
-        next.push(head[cell])?;
-        head[cell] = link;
+    match links(alloc, &x, &y, holes) {
+        Ok((head, next)) => Ok(Chains { x, y, head, next }),
+        Err(error) => {
+            drop(x);
+            drop(y);
+            Err(error)
+        }
     }
-    Ok(Chains { x, y, head, next })
 }

@@ -8,7 +8,7 @@ ghost use Rattle.ring_rules.specs.Inner.Regions.{IsLaidOut};
 ghost use Rattle.ring_rules.specs.Inner.SpotLists.{IsSpotted};
 
 use crate::axis::Axis;
-use crate::cell_size::{Spread, shifts, spread_x, spread_y};
+use crate::cell_size::{Spread, shifts, spreads};
 use crate::cells::{Chains, chained};
 use crate::finding::Drilled;
 use crate::spots::{Cells, spotted};
@@ -41,7 +41,7 @@ pub(crate) fn no_zone() -> Zone {
 }
 
 /// A zone that contains the entry point of each hole.
-fn bounds(holes: &[Drilled]) -> Zone
+pub fn entry_zone(holes: &[Drilled]) -> Zone
     ensures { (k : ℕ) → k < length holes.now → IsInZone result (entry_at holes.now k) }
 {
     let mut zone = no_zone();
@@ -51,34 +51,18 @@ fn bounds(holes: &[Drilled]) -> Zone
     zone
 }
 
-/// An even scale along x for the points of a zone, with places of 2^shift pm.
-fn across(alloc: Global, zone: &Zone, spread: &Spread, shift: u32) -> Axis
-    ensures least { result.least ≡ zone.now.left }
-    ensures greatest { result.greatest ≡ zone.now.right }
+/// An even scale with these ends, with places of 2^shift pm.
+fn even_axis(alloc: Global, least: i64, greatest: i64, spread: &Spread, shift: u32) -> Axis
+    ensures least { result.least ≡ least }
+    ensures greatest { result.greatest ≡ greatest }
 {
     let shift = shift.min(63);
     Axis {
         low: spread.low,
         shift,
         last: (spread.span >> shift) as usize,
-        least: zone.left,
-        greatest: zone.right,
-        borders: Vec::new(alloc),
-    }
-}
-
-/// An even scale along y for the points of a zone, with places of 2^shift pm.
-fn along(alloc: Global, zone: &Zone, spread: &Spread, shift: u32) -> Axis
-    ensures least { result.least ≡ zone.now.bottom }
-    ensures greatest { result.greatest ≡ zone.now.top }
-{
-    let shift = shift.min(63);
-    Axis {
-        low: spread.low,
-        shift,
-        last: (spread.span >> shift) as usize,
-        least: zone.bottom,
-        greatest: zone.top,
+        least,
+        greatest,
         borders: Vec::new(alloc),
     }
 }
@@ -140,11 +124,10 @@ fn even_cells(
     requires { (k : ℕ) → k < length holes.now → IsInZone zone.now (entry_at holes.now k) }
     ensures { IfOk result (λ cells. IfSome cells (λ cells. IsSpotted cells.x cells.y cells.starts.items cells.spots holes.now)) }
 {
-    let spread_x = spread_x(alloc, holes)?;
-    let spread_y = spread_y(alloc, holes)?;
+    let (spread_x, spread_y) = spreads(alloc, holes)?;
     let (shift_x, shift_y) = shifts(&spread_x, &spread_y, holes.len(), width, height);
-    let x = across(alloc, zone, &spread_x, shift_x);
-    let y = along(alloc, zone, &spread_y, shift_y);
+    let x = even_axis(alloc, zone.left, zone.right, &spread_x, shift_x);
+    let y = even_axis(alloc, zone.bottom, zone.top, &spread_y, shift_y);
     let even = chains_on(alloc, holes, zone, x, y)?;
     if is_crowded(&even, holes) {
         return Ok(None);
@@ -163,7 +146,7 @@ pub(crate) fn fitting_cells(
 ) -> Result<Cells, AllocError>
     ensures { IfOk result (λ cells. IsSpotted cells.x cells.y cells.starts.items cells.spots holes.now) }
 {
-    let zone = bounds(holes);
+    let zone = entry_zone(holes);
     if let Some(cells) = even_cells(alloc, holes, &zone, width, height)? {
         return Ok(cells);
     }

@@ -35,6 +35,7 @@ pub use gaps::gap_findings;
 pub use grid_units::Span;
 pub use index::HoleIndex;
 pub use layer_search::LayerSearch;
+pub use layout::entry_zone;
 pub use limits::Limits;
 pub use near::{limits_of, near_zone};
 pub use ring_index::RingIndex;

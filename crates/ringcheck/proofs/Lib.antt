@@ -1,3 +1,4 @@
+pub mod Folders
 pub mod LoadSteps
 pub mod LoadedFiles
 pub mod NamedProfiles

@@ -20,9 +20,11 @@ use Rattle.ringcheck_files.specs.Outcomes.{HasRisen}
 use Rattle.ringcheck_files.specs.LoaderRelation.{file_limit, within}
 use Rattle.ringcheck.specs.declared.refusals.Halt.{Halt}
 use Rattle.ringcheck.specs.declared.refusals.Halt.TheVariants as halt
+use Rattle.ringcheck.specs.declared.refusals.NoTable.{NoTable}
+use Rattle.ringcheck.specs.declared.refusals.NoTable.TheVariants as none
 use Rattle.ringcheck.specs.declared.refusals.RefusalStyle.{RefusalStyle}
-use Rattle.ringcheck.specs.Inner.Halting.{AfterHalt, Halts, OfFiles, OfTaken, refusal, refusal_of}
-use Rattle.ringcheck.specs.Refusals.{Refusal, PrintsRefusal, of_archive}
+use Rattle.ringcheck.specs.Inner.Halting.{AfterHalt, AfterNoTable, Halts, HaltsTable, OfFiles, OfTaken, refusal, refusal_of, refusal_of_table}
+use Rattle.ringcheck.specs.Refusals.{Refusal, PrintsRefusal, of_archive, of_role}
 use Rattle.ringcheck.specs.CheckStatus.{HasFiles, HasTable, HoldsForPackage, RefusedFile, IsPackageRefusal, RefusedAmong, SaysPackage, Checks, IsCheckStatus, IsLegalStatus, bad_file, long_file, refused_file, refused_manifest, setting_in, sources, status_of}
 use Rattle.ringcheck.proofs.LoadSteps.{has_files_along, names_among, read_in, same_length}
 
@@ -91,14 +93,27 @@ halts_of Is Risen (halt.Archive what fault name) why same is = subst Is (sym (sa
 halts_of Is Risen (halt.Unread what) why same is = absurd (none-some why same)
 
 -- a halt was printed
-module _ (Is : Refusal → Type 0) (Risen : Type 0) (refusal_style : RefusalStyle) (path : List ℕ) (folder : Bool) (before after : Option (List ℕ)) (P : Status → Type 0) where
+module _ (Is : Refusal → Type 0) (Risen : Type 0) (refusal_style : RefusalStyle) (path : List ℕ) (before after : Option (List ℕ)) (P : Status → Type 0) where
   pub halted : (Risen → P status.Device) → ((why : Refusal) → Is why → PrintsRefusal refusal_style why before after → P status.Refused) → (h : Halt) → Halts Is Risen h
-      → (r : Result Status Failure) → IfOk r (AfterHalt refusal_style h path folder before after) → IfOk r P
+      → (r : Result Status Failure) → IfOk r (AfterHalt refusal_style h path before after) → IfOk r P
   halted device refused (halt.Refused what why) is r printed =
-      IfOk-weaker r (AfterHalt refusal_style (halt.Refused what why) path folder before after) P (λ s p. subst P (sym p.0) (refused (refusal what why) is p.1)) printed
+      IfOk-weaker r (AfterHalt refusal_style (halt.Refused what why) path before after) P (λ s p. subst P (sym p.0) (refused (refusal what why) is p.1)) printed
   halted device refused (halt.Archive what why name) is r printed =
-      IfOk-weaker r (AfterHalt refusal_style (halt.Archive what why name) path folder before after) P (λ s p. subst P (sym p.0) (refused (of_archive name.now (refusal what why)) is p.1)) printed
-  halted device refused (halt.Unread what) risen r printed = IfOk-weaker r (AfterHalt refusal_style (halt.Unread what) path folder before after) P (λ s p. subst P (sym p.0) (device risen)) printed
+      IfOk-weaker r (AfterHalt refusal_style (halt.Archive what why name) path before after) P (λ s p. subst P (sym p.0) (refused (of_archive name.now (refusal what why)) is p.1)) printed
+  halted device refused (halt.Unread what) risen r printed = IfOk-weaker r (AfterHalt refusal_style (halt.Unread what) path before after) P (λ s p. subst P (sym p.0) (device risen)) printed
+
+-- a table is lacking with this refusal
+pub table_halts_of : (Is : Refusal → Type 0) (Risen : Type 0) (h : NoTable) (why : Refusal) → refusal_of_table h ≡ Some why → Is why → HaltsTable Is Risen h
+table_halts_of Is Risen (none.Halted h) why same is = halts_of Is Risen h why same is
+table_halts_of Is Risen (none.Role fault row) why same is = subst Is (sym (same_Some (of_role row.role row.file fault) why same)) is
+
+-- it was printed why there is no table
+module _ (Is : Refusal → Type 0) (Risen : Type 0) (refusal_style : RefusalStyle) (path : List ℕ) (before after : Option (List ℕ)) (P : Status → Type 0) where
+  pub table_halted : (Risen → P status.Device) → ((why : Refusal) → Is why → PrintsRefusal refusal_style why before after → P status.Refused) → (h : NoTable) → HaltsTable Is Risen h
+      → (r : Result Status Failure) → IfOk r (AfterNoTable refusal_style h path before after) → IfOk r P
+  table_halted device refused (none.Halted h) is r printed = halted Is Risen refusal_style path before after P device refused h is r printed
+  table_halted device refused (none.Role why row) is r printed =
+      IfOk-weaker r (AfterNoTable refusal_style (none.Role why row) path before after) P (λ s p. subst P (sym p.0) (refused (of_role row.role row.file why) is p.1)) printed
 
 -- ---- what a loader has
 

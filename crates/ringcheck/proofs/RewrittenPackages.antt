@@ -11,15 +11,15 @@ use Rattle.drill_lines.specs.declared.command.DrillCommand.{DrillCommand}
 use Rattle.drill_text.specs.MixedLaws.{KindsReadTheSame, UncontradictedIsLegal}
 use Rattle.drill_text.specs.Plating.{calls_plated}
 use Rattle.drill_text.specs.Profiles.{Kind, ReadsBy, ReadsIn, unplated_in}
-use Rattle.drill_text.specs.Reading as drills
+use Rattle.drill_text.specs.Profiles as drills
 use Rattle.drill_text.specs.Texts.{IsDrillText}
 use Rattle.layer_image.specs.Layers as layers
 use Rattle.layer_image.specs.Layers.{LayerImage, EqualCommands}
 use Rattle.wide_layers.specs.WideLayers.{wide_image_of}
 use Rattle.manifest.specs.declared.Role.{Role}
 use Rattle.manifest.specs.declared.Role.TheVariants as role
-use Rattle.single_files.specs.declared.kind.Kind.TheVariants as kind
-use Rattle.single_files.specs.Rewriting.{HaveSameCommands, KeepsCommands}
+use Rattle.ringcheck_files.specs.declared.rewrite.Kind.TheVariants as kind
+use Rattle.ringcheck_files.specs.Rewriting.{HaveSameCommands, KeepsCommands}
 use Rattle.package_check.specs.declared.contents.Content.{Content}
 use Rattle.package_check.specs.declared.contents.Content.TheVariants as content
 use Rattle.package_check.specs.LayerViews.{LayerView}

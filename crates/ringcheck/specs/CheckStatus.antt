@@ -1,19 +1,20 @@
 -- What a loader has under names, and what a status says of a command on a package.
-use Rattle.std.specs.Prelude.{◌≡◌, ◌<◌, ◌≤◌, ◌⊎◌, ◌==◌, ℕ, Bool, true, false, List, [], ◌∷◌, length, take, slice_get, Result, Ok, Err, ⊤, Option, None, Some, if◌then◌else◌}
+use Rattle.std.specs.Prelude.{◌≡◌, ◌<◌, ◌≤◌, ◌⊎◌, ◌==◌, ◌&&◌, ◌-◌, ℕ, Bool, true, false, List, [], ◌∷◌, length, take, slice_get, Result, Ok, Err, ⊤, Option, None, Some, if◌then◌else◌}
 use Rattle.std.specs.List.{count_by}
 use Rattle.std.specs.Io.KnownBytes.{Appends}
 use Rattle.grid_units.specs.Holes.{GridRules}
 use Rattle.grid_units.specs.declared.profile.Profile.{Profile}
 use Rattle.grid_units.specs.declared.fault.Fault.{Fault}
 use Rattle.grid_units.specs.declared.fault.Reason.{Reason}
+use Rattle.grid_units.specs.declared.fault.Reason.TheVariants.{BadRole}
 use Rattle.manifest.specs.declared.Entry.{Entry}
-use Rattle.manifest.specs.Manifest.{manifest_in}
+use Rattle.manifest.specs.Manifest.{CsvRecord, csv_records, field, is_plain_text, manifest_in}
 use Rattle.ringcheck_files.specs.declared.Status.{Status}
 use Rattle.ringcheck_files.specs.declared.Status.TheVariants as status
 use Rattle.ringcheck.specs.declared.refusals.RefusalStyle.{RefusalStyle}
 use Rattle.ringcheck.specs.declared.refusals.RefusalStyle.TheVariants as style
-use Rattle.ringcheck.specs.Refusals.{Refusal, PrintsRefusal, of_archive, of_file, of_manifest}
-use Rattle.proposals.specs.Contents.{is_archive}
+use Rattle.ringcheck.specs.Refusals.{Refusal, PrintsRefusal, of_archive, of_file, of_manifest, of_role}
+use Rattle.manifest.specs.Contents.{is_archive}
 use Rattle.ringcheck_files.specs.LoaderRelation.{Relation, file_limit, too_long, within}
 use Rattle.ringcheck_files.specs.Words.{IsUsageStatus}
 use Rattle.package_check.specs.Reports.{ReportView}
@@ -52,9 +53,33 @@ manifest_limit = 1048576
 abbrev pub HasTable : {A : Type 0} → (List ℕ → Result (List A) Fault) → Relation → List ℕ → List A → Type 0
 HasTable parse has name rows = (text : List ℕ) × has name text × (length text ≤ manifest_limit) × (parse text ≡ Ok rows)
 
+-- a record's role and its file name, where both are plain text
+abbrev pub role_and_file : Option CsvRecord → Option (List ℕ × List ℕ)
+role_and_file None = None
+role_and_file (Some row) = if is_plain_text (field 0 row) && is_plain_text (field 2 row) then Some (field 0 row, field 2 row) else None
+
+-- the role and the file name of the record of this number, from 1, in the text of a manifest
+abbrev pub role_and_file_at : List ℕ → ℕ → Option (List ℕ × List ℕ)
+role_and_file_at text number = role_and_file (slice_get (csv_records text) (number - 1))
+
+-- whether a manifest is refused for this reason because of the role of a record
+abbrev pub is_of_role : Reason → Bool
+is_of_role BadRole = true
+is_of_role _ = false
+
+-- the refusal of a manifest with the role and the file name of its record, if these are known
+abbrev pub refusal_of_record : Option (List ℕ × List ℕ) → Fault → Refusal
+refusal_of_record None why = of_manifest why
+refusal_of_record (Some (role, file)) why = of_role role file why
+
+-- the refusal of a table of this text: of a manifest that is refused for a role it says which record has it
+abbrev pub naming_record : List ℕ → Refusal → Refusal
+naming_record text (of_manifest why) = if is_of_role why.reason then refusal_of_record (role_and_file_at text why.place) why else of_manifest why
+naming_record text why = why
+
 -- the refusal of a table of this text and this name: of a zip archive it says that it is one
 abbrev pub refusal_of_text : List ℕ → List ℕ → Refusal → Refusal
-refusal_of_text name text why = if is_archive text then of_archive name why else why
+refusal_of_text name text why = if is_archive text then of_archive name why else naming_record text why
 
 -- a table of this text is refused: the text is above the limit, or it has a fault, as `parse` says; `plain` makes the refusal of a fault
 abbrev pub RefusesText : {A : Type 0} → (List ℕ → Result (List A) Fault) → (Fault → Refusal) → List ℕ → List ℕ → Refusal → Type 0

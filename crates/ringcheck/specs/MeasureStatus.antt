@@ -61,7 +61,7 @@ measure_style format.Json = style.Json
 
 -- what a status says of the measure of a package, of which a refusal is printed as in place of a report; it is never Findings
 abbrev pub IsMeasureStatus : Relation → List ℕ → MeasureOrder → Option (List ℕ) → Option (List ℕ) → Status → Type 0
-IsMeasureStatus has name order before after s = SaysPackage has order.profile name (PrintsMeasure order before after) (measure_style order.format) before after s
+IsMeasureStatus has name job before after s = SaysPackage has job.profile name (PrintsMeasure job before after) (measure_style job.format) before after s
 
 -- what a status says of a measure that is asked for by words, or where these are refused and `below` stands below their line
 abbrev pub IsParsedMeasureStatus : Relation → List ℕ → Result MeasureOrder Reason → List ℕ → Option (List ℕ) → Option (List ℕ) → Status → Type 0

@@ -89,7 +89,7 @@ parse_measure profile form = measured_in (profile_of profile) form
 -- the first; `waive` is the file of waivers and `outline` that of an outline, if there is one
 unfoldable pub parse_report : Option (List ℕ) → List ℕ → List ℕ → Option (List ℕ) → Option (List ℕ) → Option (List ℕ) → Option (List ℕ) → Result (GridRules × Option ℕ × ReportFormat) Reason
 parse_report profile ring gap limit waive outline form =
-    parse_check profile ring gap >>= λ rules. (parse_limit limit >>= λ n. (parse_report_format (is_some waive) (is_some outline) form >>= λ f. Ok (rules, n, f)))
+    parse_check profile ring gap >>= λ r. (parse_limit limit >>= λ n. (parse_report_format (is_some waive) (is_some outline) form >>= λ f. Ok (r, n, f)))
 
 -- the rules of a picture in a profile: those of a ring and a gap, or none; one of these alone is BadRule
 unfoldable pub drawn_under : Profile → Option (List ℕ) → Option (List ℕ) → Result (Option GridRules) Reason

@@ -1,9 +1,10 @@
 -- Why a package is refused, and what is printed of it (docs/FORMATS.md, The program).
-use Rattle.std.specs.Prelude.{◌≡◌, ◌+◌, ◌++◌, ◌∷◌, [], ℕ, List, Option, codes, decimal}
+use Rattle.std.specs.Prelude.{◌≡◌, ◌+◌, ◌++◌, ◌∷◌, ◌||◌, [], ℕ, Bool, List, Option, codes, decimal, nat_eq, if◌then◌else◌}
 use Rattle.std.specs.Io.KnownBytes.{Appends}
-use Rattle.std.specs.List.{flat_map}
+use Rattle.std.specs.List.{ends_with, flat_map}
+use Rattle.std.specs.Str.{bytes_eq}
 use Rattle.std.specs.Str.Lines.{lines}
-use Rattle.explanations.specs.Words.{FitsScreen, HasHeading}
+use Rattle.ringcheck_files.specs.PageWords.{FitsScreen, HasHeading}
 use Rattle.grid_units.specs.Ascii as ascii
 use Rattle.grid_units.specs.Reasons.{reason_name}
 use Rattle.grid_units.specs.declared.fault.Fault.{Fault}
@@ -18,12 +19,14 @@ use Rattle.ringcheck.specs.declared.refusals.RefusalStyle.TheVariants as style
 -- ---- refusals
 
 -- what is refused, and why: the manifest, the file of waivers, or a file, by its index from 0 and its name; or a refusal of one of the
--- first two whose text is a zip archive, by the name under which it was looked for
+-- first two whose text is a zip archive, by the name under which it was looked for; or the manifest, for the role of the record at the place of
+-- the fault, by that role and the file name of this record
 pub data Refusal : Type 0 where
   of_manifest : Fault → Refusal
   of_waivers : Fault → Refusal
   of_file : ℕ → List ℕ → Fault → Refusal
   of_archive : List ℕ → Refusal → Refusal
+  of_role : List ℕ → List ℕ → Fault → Refusal
 
 -- the reason of a refusal, such as TooLong
 abbrev pub reason_of : Refusal → Reason
@@ -31,22 +34,52 @@ reason_of (of_manifest why) = why.reason
 reason_of (of_waivers why) = why.reason
 reason_of (of_file index name why) = why.reason
 reason_of (of_archive name why) = reason_of why
+reason_of (of_role role file why) = why.reason
+
+-- the line of a manifest that is refused: `refused manifest place=4 reason=BadRole`
+abbrev pub manifest_line : Fault → List ℕ
+manifest_line why = codes "refused manifest place=" ++ (decimal why.place ++ (codes " reason=" ++ (reason_name why.reason ++ ascii.line_feed ∷ [])))
 
 -- the line of a refusal, with files numbered from 1: `refused file=1 place=0 byte=0 reason=TooLong name=top`
 abbrev pub refusal_line : Refusal → List ℕ
-refusal_line (of_manifest why) = codes "refused manifest place=" ++ (decimal why.place ++ (codes " reason=" ++ (reason_name why.reason ++ ascii.line_feed ∷ [])))
+refusal_line (of_manifest why) = manifest_line why
 refusal_line (of_waivers why) = codes "refused waivers place=" ++ (decimal why.place ++ (codes " reason=" ++ (reason_name why.reason ++ ascii.line_feed ∷ [])))
 refusal_line (of_file index name why) =
     codes "refused file=" ++ (decimal (index + 1) ++ (codes " place=" ++ (decimal why.place ++ (codes " byte=" ++ (decimal why.byte
     ++ (codes " reason=" ++ (reason_name why.reason ++ (codes " name=" ++ (name ++ ascii.line_feed ∷ [])))))))))
 refusal_line (of_archive name why) = refusal_line why
+refusal_line (of_role role file why) = manifest_line why
 
--- what stands between the line of a refusal and its page: of a zip archive, that it is one
+-- whether a file name ends as those of drill files often do
+abbrev pub has_drill_end : List ℕ → Bool
+has_drill_end file =
+    ends_with nat_eq file (codes ".drl") || (ends_with nat_eq file (codes ".DRL") || (ends_with nat_eq file (codes ".xln") || (ends_with nat_eq file (codes ".XLN")
+    || (ends_with nat_eq file (codes ".txt") || ends_with nat_eq file (codes ".TXT")))))
+
+-- what to write in place of the role `?`, which `manifest` gives a file whose role the user has to choose
+abbrev pub choice_for : List ℕ → List ℕ
+choice_for file =
+    if has_drill_end file then codes "write plated or unplated; for a file with holes of both kinds write mixed, and use --profile wide"
+    else codes "write copper, plated or unplated, or leave the record out"
+
+-- what to do about a role that is refused, in the record of this file
+abbrev pub role_advice : List ℕ → List ℕ → List ℕ
+role_advice role file =
+    if bytes_eq role (codes "?") then choice_for file
+    else if bytes_eq role (codes "mixed") then codes "use --profile wide, which alone has this role" else codes "roles are copper, plated and unplated, and with --profile wide mixed"
+
+-- what is said of the record of this number, which is refused for its role: `record 4, board.drl: its role is "plted": roles are copper, ..`
+abbrev pub role_sentence : ℕ → List ℕ → List ℕ → List ℕ
+role_sentence number role file =
+    codes "record " ++ (decimal number ++ (codes ", " ++ (file ++ (codes ": its role is \"" ++ (role ++ (codes "\": " ++ role_advice role file))))))
+
+-- what stands between the line of a refusal and its page: of a zip archive, that it is one; of a manifest that is refused for a role, which record has it
 abbrev pub said_between : Refusal → List ℕ
 said_between (of_manifest why) = []
 said_between (of_waivers why) = []
 said_between (of_file index name why) = []
 said_between (of_archive name why) = sentence_line (archive_sentence name)
+said_between (of_role role file why) = sentence_line (role_sentence why.place role file)
 
 -- the JSON of a refusal: one object on one line (docs/FORMATS.md, JSON)
 abbrev pub refusal_json : Refusal → List ℕ
@@ -54,6 +87,7 @@ refusal_json (of_manifest why) = json_text (refused_manifest_value why.place why
 refusal_json (of_waivers why) = json_text (refused_waivers_value why.place why.reason)
 refusal_json (of_file index name why) = json_text (refused_value index name why)
 refusal_json (of_archive name why) = refusal_json why
+refusal_json (of_role role file why) = json_text (refused_manifest_value why.place why.reason)
 
 -- a line of a page below a refusal: two spaces, the line, and LF
 abbrev pub indented_row : List ℕ → List ℕ

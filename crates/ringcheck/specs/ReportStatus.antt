@@ -17,7 +17,7 @@ use Rattle.print_json.specs.Packages.{waived_report_value}
 use Rattle.print_json.specs.Values.{json_text}
 use Rattle.command_line.specs.declared.commands.TheConstants.{PROGRAM}
 use Rattle.print_text.specs.Texts.{waived_report_text}
-use Rattle.print_text.specs.declared.particulars.Particulars.{Particulars}
+use Rattle.print_text.specs.declared.report_text.Particulars.{Particulars}
 use Rattle.report.specs.declared.BoardReport.{BoardReport}
 use Rattle.report.specs.declared.Acceptances.{Acceptances}
 use Rattle.board_report.specs.BoardReport.{AgreesWithCheck, IsBoardReportOf}

@@ -6,6 +6,7 @@ use Rattle.std.specs.String.{string_bytes}
 use Rattle.command_line.specs.ProgramArgs.{ParsesLine}
 use Rattle.command_line.specs.declared.Refusal.{Refusal}
 use Rattle.command_line.specs.declared.Refusal.TheVariants.{Help, Version, Usage, Memory}
+use Rattle.command_line.specs.declared.CommandLine.{CommandLine}
 use Rattle.command_line.specs.declared.Request.{Request}
 use Rattle.command_line.specs.declared.Request.TheVariants.{Check, Measure, Report, Draw, Show, Rewrite, Manifest, Explain}
 use Rattle.command_line.specs.declared.commands.TheConstants.{VERSION_LINE}
@@ -22,7 +23,7 @@ use Rattle.ringcheck.specs.ReportStatus.{IsParsedReportStatus}
 use Rattle.ringcheck.specs.CheckStatus.{IsParsedCheckStatus, IsParsedLegalStatus}
 use Rattle.ringcheck.specs.Sentences.{below_measure, below_report, below_profile}
 use Rattle.ringcheck.specs.ShowStatus.{IsParsedShowStatus}
-use Rattle.ringcheck_files.specs.LoaderRelation.{Relation}
+use Rattle.ringcheck_files.specs.LoaderRelation.{Relation, in_folder}
 
 -- the bytes of a word that may be left out
 abbrev pub word_bytes : Option (Bor (List ℕ)) → Option (List ℕ)
@@ -68,12 +69,16 @@ IsNoRequestStatus Version before after s = ((s ≡ status.Pass) × Appends befor
 IsNoRequestStatus (Usage text) before after s = ((s ≡ status.Usage) × Appends before after (codes "usage\n" ++ string_bytes text)) ⊎ (s ≡ status.Device)
 IsNoRequestStatus Memory before after s = s ≡ status.Device
 
--- what a status says of the answer to words: of a request, or of words that are none
-abbrev pub IsParsedStatus : Result Request Refusal → Relation → ℕ → ℕ → Option (List ℕ) → Option (List ℕ) → Status → Type 0
-IsParsedStatus (Ok request) has failed_before failed_after before after s = IsRequestStatus request has failed_before failed_after before after s
+-- what a status says of a line: of its request, where names are taken from its folder, if it has one
+abbrev pub IsLineStatus : CommandLine → Relation → ℕ → ℕ → Option (List ℕ) → Option (List ℕ) → Status → Type 0
+IsLineStatus line has failed_before failed_after before after s = IsRequestStatus line.request (in_folder (word_bytes line.folder) has) failed_before failed_after before after s
+
+-- what a status says of the answer to words: of a line, or of words that are none
+abbrev pub IsParsedStatus : Result CommandLine Refusal → Relation → ℕ → ℕ → Option (List ℕ) → Option (List ℕ) → Status → Type 0
+IsParsedStatus (Ok line) has failed_before failed_after before after s = IsLineStatus line has failed_before failed_after before after s
 IsParsedStatus (Err refusal) has failed_before failed_after before after s = IsNoRequestStatus refusal before after s
 
 -- what a status says of any words: what it says of an answer that `clap` by its definition gives to them
 abbrev pub IsProgramStatus : List (List ℕ) → Relation → ℕ → ℕ → Option (List ℕ) → Option (List ℕ) → Status → Type 0
 IsProgramStatus words has failed_before failed_after before after s =
-    (answer : Result Request Refusal) × ParsesLine words answer × IsParsedStatus answer has failed_before failed_after before after s
+    (answer : Result CommandLine Refusal) × ParsesLine words answer × IsParsedStatus answer has failed_before failed_after before after s

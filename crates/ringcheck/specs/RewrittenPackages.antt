@@ -5,9 +5,9 @@ use Rattle.grid_units.specs.declared.fault.Fault.{Fault}
 use Rattle.grid_units.specs.declared.profile.Profile.TheVariants.{Wide}
 use Rattle.manifest.specs.declared.Role.{Role}
 use Rattle.manifest.specs.declared.Role.TheVariants as role
-use Rattle.single_files.specs.declared.kind.Kind.{Kind}
-use Rattle.single_files.specs.declared.kind.Kind.TheVariants as kind
-use Rattle.single_files.specs.Rewriting.{Rewrites}
+use Rattle.ringcheck_files.specs.declared.rewrite.Kind.{Kind}
+use Rattle.ringcheck_files.specs.declared.rewrite.Kind.TheVariants as kind
+use Rattle.ringcheck_files.specs.Rewriting.{Rewrites}
 use Rattle.package_check.specs.Reports.{ReportView}
 use Rattle.package_check.specs.Package.{FileView, IsAnswer}
 use Rattle.package_check.specs.WiderProfile.{IsUncontradicted}

@@ -1,5 +1,5 @@
 -- What is said below the line of a refusal, in words: which word or file, why, and what to write instead (docs/FORMATS.md, The program).
-use Rattle.std.specs.Prelude.{◌+◌, ◌++◌, ◌∷◌, ◌&&◌, [], ℕ, ℤ, Bool, true, not, is_ok, List, Option, Some, None, Result, Ok, Err, codes, decimal, if◌then◌else◌, is_some}
+use Rattle.std.specs.Prelude.{◌+◌, ◌++◌, ◌∷◌, ◌&&◌, [], ℕ, ℤ, Bool, true, not, is_ok, List, Option, Some, None, Result, Ok, Err, codes, decimal, if◌then◌else◌, is_some, option_map}
 use Rattle.std.specs.Str.{bytes_eq}
 use Rattle.grid_units.specs.Ascii as ascii
 use Rattle.grid_units.specs.declared.fault.Reason.{Reason}
@@ -10,6 +10,7 @@ use Rattle.ringcheck_files.specs.Containers.{folder_sentence}
 use Rattle.ringcheck_files.specs.Words.{sentence_line}
 use Rattle.ringcheck.specs.declared.refusals.RefusalStyle.{RefusalStyle}
 use Rattle.ringcheck.specs.declared.refusals.RefusalStyle.TheVariants as style
+use Rattle.ringcheck.specs.declared.refusals.Sought.{Sought}
 use Rattle.ringcheck.specs.declared.refusals.Subject.{Subject}
 use Rattle.ringcheck.specs.declared.refusals.Subject.TheVariants as subject
 use Rattle.ringcheck.specs.ParsedWords.{parse_length, parse_limit, parse_rules, profile_of}
@@ -19,7 +20,7 @@ use Rattle.ringcheck.specs.ParsedWords.{parse_length, parse_limit, parse_rules, 
 -- what a rule is, where a word is none for this reason
 abbrev pub rule_words : Reason → List ℕ
 rule_words reasons.TooFine = codes "a rule has at most eight decimals, e.g. 0.125"
-rule_words reasons.TooFar = codes "a rule is in millimetres, at most 10000"
+rule_words reasons.TooFar = codes "a rule is at most 10000 mm"
 rule_words other = codes "give millimetres without a unit, e.g. 0.127 for 5 mil"
 
 -- what is said of the value of an option that is no length: `--ring 5mil: give millimetres without a unit, e.g. 0.127 for 5 mil`
@@ -45,24 +46,24 @@ abbrev pub count_sentence : Option (List ℕ) → List ℕ
 count_sentence None = codes "--max takes a number of one to nine digits, e.g. 20"
 count_sentence (Some word) = codes "--max " ++ (word ++ codes ": give a number of one to nine digits, e.g. 20")
 
--- what is said of a word that is no format of a report: `--format is text, html, json or waivers, not sarif`
+-- what is said of a word that is no format of a report: `--format must be text, html, json or waivers, not sarif`
 abbrev pub report_format_sentence : Option (List ℕ) → List ℕ
-report_format_sentence None = codes "--format is text, html, json or waivers"
-report_format_sentence (Some word) = codes "--format is text, html, json or waivers, not " ++ word
+report_format_sentence None = codes "--format must be text, html, json or waivers"
+report_format_sentence (Some word) = codes "--format must be text, html, json or waivers, not " ++ word
 
 -- what is said of a word that is no format of a measure
 abbrev pub measure_format_sentence : Option (List ℕ) → List ℕ
-measure_format_sentence None = codes "--format is text or json"
-measure_format_sentence (Some word) = codes "--format is text or json, not " ++ word
+measure_format_sentence None = codes "--format must be text or json"
+measure_format_sentence (Some word) = codes "--format must be text or json, not " ++ word
 
 -- what is said of an outline that is given to a report without a picture
 abbrev pub outline_sentence : List ℕ
-outline_sentence = codes "--outline is for --format html and for draw"
+outline_sentence = codes "--outline works only with --format html and with draw"
 
 -- what is said of a word that names no profile
 abbrev pub profile_sentence : Option (List ℕ) → List ℕ
-profile_sentence None = codes "--profile is strict or wide"
-profile_sentence (Some word) = codes "--profile is strict or wide, not " ++ word
+profile_sentence None = codes "--profile must be strict or wide"
+profile_sentence (Some word) = codes "--profile must be strict or wide, not " ++ word
 
 -- what is said of the words of a report that are refused, by the first of them that is; `outlined` says whether an outline is given
 abbrev pub report_sentence : Option (List ℕ) → List ℕ → List ℕ → Option (List ℕ) → Bool → Option (List ℕ) → List ℕ
@@ -105,14 +106,19 @@ unread_line (subject.File index name) = codes "device file=" ++ (decimal (index 
 abbrev pub found_folder_sentence : Subject → List ℕ → List ℕ
 found_folder_sentence subject.Manifest path = folder_sentence path
 found_folder_sentence subject.Waivers path = path ++ codes " is a folder: name a file of waivers"
-found_folder_sentence (subject.File index name) path = path ++ (codes ", the file of " ++ (name.now ++ codes ", is a folder: the manifest names files"))
+found_folder_sentence (subject.File index name) path = path ++ (codes ", the file of " ++ (name.now ++ codes ", is a folder: a manifest must name files"))
+
+-- where file names are taken from: the folder that was entered, if there is one
+abbrev pub place_of_names : Option (List ℕ) → List ℕ
+place_of_names None = codes "the working directory"
+place_of_names (Some folder) = folder
 
 -- what is said of something else that cannot be read: `cannot read the manifest x.csv: file names are taken from the working directory`
-abbrev pub unread_sentence : Subject → List ℕ → List ℕ
-unread_sentence subject.Manifest path = codes "cannot read the manifest " ++ (path ++ codes ": file names are taken from the working directory")
-unread_sentence subject.Waivers path = codes "cannot read the file of waivers " ++ (path ++ codes ": file names are taken from the working directory")
-unread_sentence (subject.File index name) path =
-    codes "cannot read " ++ (path ++ (codes ", the file of " ++ (name.now ++ codes ": file names are taken from the working directory")))
+abbrev pub unread_sentence : Subject → List ℕ → Option (List ℕ) → List ℕ
+unread_sentence subject.Manifest path folder = codes "cannot read the manifest " ++ (path ++ (codes ": file names are taken from " ++ place_of_names folder))
+unread_sentence subject.Waivers path folder = codes "cannot read the file of waivers " ++ (path ++ (codes ": file names are taken from " ++ place_of_names folder))
+unread_sentence (subject.File index name) path folder =
+    codes "cannot read " ++ (path ++ (codes ", the file of " ++ (name.now ++ (codes ": file names are taken from " ++ place_of_names folder))))
 
 -- the JSON of something that cannot be read: one object on one line (docs/FORMATS.md, JSON)
 abbrev pub unread_json : Subject → List ℕ
@@ -121,11 +127,12 @@ unread_json subject.Waivers = json_text waivers_device_value
 unread_json (subject.File index name) = json_text (device_value index name.now)
 
 -- what is said of something that cannot be read, which may be a folder
-abbrev pub unread_words : Subject → List ℕ → Bool → List ℕ
-unread_words what path folder = if folder then found_folder_sentence what path else unread_sentence what path
+abbrev pub unread_words : Subject → Sought → List ℕ
+unread_words what sought =
+    if sought.is_folder then found_folder_sentence what sought.path.now else unread_sentence what sought.path.now (option_map (λ f. f.now) sought.folder)
 
 -- the text of something that cannot be read, in a style: its line, this line with the sentence below it, or its JSON
-abbrev pub unread_text : RefusalStyle → Subject → List ℕ → Bool → List ℕ
-unread_text style.Line what path folder = unread_line what
-unread_text style.Page what path folder = unread_line what ++ sentence_line (unread_words what path folder)
-unread_text style.Json what path folder = unread_json what
+abbrev pub unread_text : RefusalStyle → Subject → Sought → List ℕ
+unread_text style.Line what sought = unread_line what
+unread_text style.Page what sought = unread_line what ++ sentence_line (unread_words what sought)
+unread_text style.Json what sought = unread_json what

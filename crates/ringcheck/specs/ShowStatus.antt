@@ -2,7 +2,7 @@
 use Rattle.std.specs.Prelude.{ℕ, List, Option, Some, None}
 use Rattle.grid_units.specs.declared.fault.Reason.TheVariants.{BadRole}
 use Rattle.grid_units.specs.declared.profile.Profile.{Profile}
-use Rattle.single_files.specs.declared.kind.Kind.{Kind}
+use Rattle.ringcheck_files.specs.declared.rewrite.Kind.{Kind}
 use Rattle.ringcheck_files.specs.declared.Status.{Status}
 use Rattle.ringcheck_files.specs.declared.file_jobs.FileJob.TheVariants as job
 use Rattle.ringcheck_files.specs.FileStatus.{IsParsedFileStatus}

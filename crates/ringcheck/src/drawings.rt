@@ -27,7 +27,7 @@ pub(crate) fn draw<'a, W: Write>(
 ) -> Result<Result<bool, Halt<'a>>, Failure>
     ensures answers { (all : List FileView) → map (λ name. name.now) names.now ≡ map (λ source. source.name) all → HasTakenAll reader keep.All all
         → IfOk result (OfTaken (PrintsPicture order.now.rules order.now.outline.items (W.contents out.old) (W.contents out.new)) all) }
-    ensures silent { IfOk result (λ done. IfErr done (λ halt. W.contents out.new ≡ W.contents out.old)) }
+    ensures silent { IfOk result (λ done. IfErr done (λ h. W.contents out.new ≡ W.contents out.old)) }
 {
     passing_is_sound();
     let board = match reader.board() {

@@ -13,7 +13,6 @@ mod parsed_words;
 mod program;
 mod refusals;
 mod reports;
-pub mod rewritten_packages;
 mod sentences;
 mod tables;
 
@@ -25,6 +24,6 @@ pub use package_check::{
 pub use parsed_words::{MeasureFormat, MeasureOrder, ReportFormat};
 pub use program::run;
 pub use ringcheck_files::{
-    LoadFault, Loader, MAX_LIMIT, ReadFail, Sink, Status, read_all, read_into,
+    Kind, LoadFault, Loader, MAX_LIMIT, ReadFail, Sink, Status, path_in, read_all, read_into,
+    rewrite_bytes, show_drill, show_drill_in, show_layer, show_layer_in,
 };
-pub use single_files::{Kind, rewrite_bytes, show_drill, show_drill_in, show_layer, show_layer_in};

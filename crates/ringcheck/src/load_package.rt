@@ -13,7 +13,7 @@ ghost use Rattle.ringcheck.specs.Inner.Halting.{OfFiles, OfTable};
 ghost use Rattle.ringcheck.specs.Inner.Loading.{EndsAt, LoadsKind, OfCheckedCopper, OfCheckedFile, OfHandedFile, OfTakenFile, copper_entries};
 ghost use Rattle.waivers.specs.Reading.{waivers};
 
-use crate::refusals::{Halt, Subject, refused_table};
+use crate::refusals::{Halt, NoTable, Subject, refused_table};
 use crate::{Entry, LoadFault, Loader, PackageReader, Role};
 use grid_units::{Fail, Profile, Rules};
 use manifest::read_manifest_in;
@@ -62,7 +62,7 @@ pub(crate) fn load_table<'a, L: Loader, R: Row + Drop>(
     loader: &mut L,
     name: &'a str,
     subject: Subject<'a>,
-) -> Result<Result<Vec<R>, Halt<'a>>, Failure>
+) -> Result<Result<Vec<R>, NoTable<'a>>, Failure>
     ensures keeps { (n b : List ℕ) → L.has loader.new n b → L.has loader.old n b }
     ensures kept { (n b : List ℕ) → L.has loader.old n b → L.has loader.new n b }
     ensures counts { L.failed loader.old ≤ L.failed loader.new }
@@ -73,12 +73,13 @@ pub(crate) fn load_table<'a, L: Loader, R: Row + Drop>(
             Ok(rows) => Ok(Ok(rows)),
             Err(Fail::Memory) => Err(Failure::Memory),
             Err(Fail::Refused(fault)) => {
-                Ok(Err(refused_table(subject, fault, name, text.as_slice())))
+                let no_table = refused_table(alloc, subject, fault, name, text.as_slice())?;
+                Ok(Err(no_table))
             }
         },
-        Err(LoadFault::Device) => Ok(Err(Halt::Unread(subject))),
+        Err(LoadFault::Device) => Ok(Err(NoTable::Halted(Halt::Unread(subject)))),
         Err(LoadFault::Memory) => Err(Failure::Memory),
-        Err(LoadFault::TooLong) => Ok(Err(Halt::Refused(subject, ABOVE_LIMIT))),
+        Err(LoadFault::TooLong) => Ok(Err(NoTable::Halted(Halt::Refused(subject, ABOVE_LIMIT)))),
     }
 }
 

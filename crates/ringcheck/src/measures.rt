@@ -83,7 +83,7 @@ pub(crate) fn measure<'a, W: Write>(
 ) -> Result<Result<bool, Halt<'a>>, Failure>
     ensures answers { (all : List FileView) → map (λ name. name.now) names.now ≡ map (λ source. source.name) all → HasTakenAll reader keep.Pads all
         → IfOk result (OfTaken (PrintsMeasure order (W.contents out.old) (W.contents out.new)) all) }
-    ensures silent { IfOk result (λ done. IfErr done (λ halt. W.contents out.new ≡ W.contents out.old)) }
+    ensures silent { IfOk result (λ done. IfErr done (λ h. W.contents out.new ≡ W.contents out.old)) }
 {
     measured_passes();
     let board = match reader.board() {

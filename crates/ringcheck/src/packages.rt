@@ -22,7 +22,7 @@ use crate::jobs::{Job, Order, PictureOrder, kept_for, report_style};
 use crate::load_package::{check_files, load_table, take_files};
 use crate::outlines::{load_outline, print_no_outline};
 use crate::parsed_words::{ReportFormat, parse_check, parse_draw, parse_measure, parse_report};
-use crate::refusals::{Halt, Subject, print_halt};
+use crate::refusals::{Halt, Subject, print_halt, print_no_table};
 use crate::reports::{Reported, print_judged, report_on_taken};
 use crate::sentences::{NoMeasure, NoReport, is_for_people};
 use crate::{Entry, Loader, checks, drawings, measures};
@@ -72,7 +72,7 @@ fn report_files<'a, L: Loader, W: Write>(
 ) -> Result<Result<bool, Halt<'a>>, Failure>
     ensures answers { HasTable (manifest_in options.now.rules.profile) (L.has loader.old) name.now entries.now → map (λ name. name.now) names.now ≡ map (λ entry. entry.name) entries.now
         → IfOk result (OfFiles (L.has loader.old) options.now.rules.profile entries.now (HasRisen (L.failed loader.old) (L.failed loader.new)) (Holds (jobs.Report options.now) (L.has loader.old) name.now (W.contents out.old) (W.contents out.new))) }
-    ensures silent { IfOk result (λ done. IfErr done (λ halt. W.contents out.new ≡ W.contents out.old)) }
+    ensures silent { IfOk result (λ done. IfErr done (λ h. W.contents out.new ≡ W.contents out.old)) }
 {
     let keep = kept_for(options.format);
     let reader = match take_files(alloc, options.rules.profile(), keep, loader, entries)? {
@@ -108,7 +108,7 @@ fn answer<'a, L: Loader, W: Write>(
     out: &mut W,
 ) -> Result<Result<bool, Halt<'a>>, Failure>
     ensures answers { HasTable (manifest_in (job_profile job.now)) (L.has loader.old) name.now entries.now → IfOk result (OfFiles (L.has loader.old) (job_profile job.now) entries.now (HasRisen (L.failed loader.old) (L.failed loader.new)) (Holds job.now (L.has loader.old) name.now (W.contents out.old) (W.contents out.new))) }
-    ensures silent { IfOk result (λ done. IfErr done (λ halt. W.contents out.new ≡ W.contents out.old)) }
+    ensures silent { IfOk result (λ done. IfErr done (λ h. W.contents out.new ≡ W.contents out.old)) }
 {
     let names = names_of(alloc, entries)?;
     let names = names.as_slice();
@@ -164,11 +164,6 @@ fn path_of<'a>(entries: &'a [Entry], halt: Halt) -> &'a str
     }
 }
 
-/// Whether what cannot be read, and was looked for by this name, is a folder, as far as the loader knows.
-fn is_unread_folder<L: Loader>(loader: &L, halt: Halt, path: &str) -> bool {
-    matches!(halt, Halt::Unread(_)) && loader.is_folder(path)
-}
-
 /// Does a job on the package of a manifest.
 fn run_job<L: Loader, W: Write>(
     alloc: Global,
@@ -188,17 +183,15 @@ fn run_job<L: Loader, W: Write>(
         Subject::Manifest,
     )? {
         Ok(entries) => entries,
-        Err(halt) => {
-            let is_folder = is_unread_folder(loader, halt, name);
-            return print_halt(out, job.style(), halt, name, is_folder);
+        Err(no_table) => {
+            return print_no_table(out, job.style(), &no_table, loader, name);
         }
     };
     match answer(alloc, job, name, entries.as_slice(), loader, out)? {
         Ok(passes) => Ok(status_of(passes)),
         Err(halt) => {
             let path = path_of(entries.as_slice(), halt);
-            let is_folder = is_unread_folder(loader, halt, path);
-            print_halt(out, job.style(), halt, path, is_folder)
+            print_halt(out, job.style(), halt, loader, path)
         }
     }
 }
@@ -435,10 +428,7 @@ pub(crate) fn report<L: Loader, W: Write>(
             Ok(waivers) => {
                 report_outlined(alloc, named, Some(waivers), outline, name, loader, out)
             }
-            Err(halt) => {
-                let is_folder = is_unread_folder(loader, halt, file);
-                print_halt(out, report_style(named.2), halt, file, is_folder)
-            }
+            Err(no_table) => { print_no_table(out, report_style(named.2), &no_table, loader, file) }
         },
     }
 }

@@ -1,10 +1,11 @@
 //! The whole program, over a loader and a writer.
 
-ghost use Rattle.std.specs.Prelude.{◌≡◌, ◌++◌, ◌∷◌, ◌⊎◌, [], map, true, ℕ, Bool, IfOk, IfSome, List, Option, Some, None, codes, is_some, option_map};
+ghost use Rattle.std.specs.Prelude.{◌≡◌, ◌++◌, ◌∷◌, ◌⊎◌, [], map, true, ℕ, Bool, IfOk, IfSome, OnOk, List, Option, Some, None, codes, is_some, option_map};
 ghost use Rattle.std.specs.Io.KnownBytes.{Appends};
 ghost use Rattle.command_line.specs.ProgramArgs.{are_plain_rules, are_plain_words, check_words, draw_words, explain_words, is_plain_if_some, is_plain_word, manifest_words, measure_words, report_words, rewrite_words, show_words};
 ghost use Rattle.ringcheck.specs.Inner.Exits.{exit_of};
-ghost use Rattle.ringcheck.specs.RequestStatus.{IsExitOf, IsLegalRequest, IsProgramStatus, IsRequestStatus, word_bytes};
+ghost use Rattle.ringcheck.specs.RequestStatus.{IsExitOf, IsLegalRequest, IsLineStatus, IsProgramStatus, IsRequestStatus, word_bytes};
+ghost use Rattle.ringcheck_files.specs.LoaderRelation.{in_folder};
 ghost use Rattle.ringcheck.specs.DrawStatus.{IsParsedDrawStatus};
 ghost use Rattle.ringcheck_files.specs.Outcomes.{HasCause};
 ghost use Rattle.ringcheck_files.specs.ManifestStatus.{IsExplainStatus, IsVersionStatus};
@@ -17,10 +18,10 @@ ghost use Rattle.ringcheck.specs.CheckStatus.{IsParsedCheckStatus, IsParsedLegal
 ghost use Rattle.ringcheck.specs.Sentences.{below_measure, below_report, below_profile};
 ghost use Rattle.ringcheck.specs.ShowStatus.{IsParsedShowStatus};
 
-use crate::Loader;
 use crate::packages::{check, draw, measure, report};
 use crate::tables::{manifest, show};
-use command_line::{Refusal, ReportWords, Request, VERSION_LINE, parse};
+use crate::{LoadFault, Loader};
+use command_line::{CommandLine, Refusal, ReportWords, Request, VERSION_LINE, parse};
 use ringcheck_files::{Failure, FileJob, Status, explain, print};
 use std::alloc::Global;
 use std::fmt;
@@ -107,8 +108,43 @@ fn write_text<T: Display, W: Write>(out: &mut W, text: &T, status: Status) -> St
     }
 }
 
-/// Does what a request asks for, and prints the line `memory` where memory runs out.
+/// Takes names from a folder from now on, if there is one.
+fn enter<L: Loader>(alloc: Global, folder: Option<&str>, loader: &mut L) -> Result<(), LoadFault>
+    ensures entered { OnOk result ((n b : List ℕ) → L.has loader.new n b → in_folder (word_bytes folder.entry) (L.has loader.old) n b) }
+    ensures counts { L.failed loader.new ≡ L.failed loader.old }
+{
+    match folder {
+        Some(folder) => loader.enter(alloc, folder),
+        None => Ok(()),
+    }
+}
+
+/// The line of a folder that could not be entered.
+fn line_of(fault: LoadFault) -> &'static str {
+    match fault {
+        LoadFault::Memory => "memory\n",
+        LoadFault::Device | LoadFault::TooLong => "device\n",
+    }
+}
+
+/// Does what a line asks for, with names from its folder, if it has one.
 fn answer<L: Loader, W: Write>(
+    alloc: Global,
+    line: &CommandLine,
+    loader: &mut L,
+    out: &mut W,
+) -> Status
+    ensures says { IsLineStatus line.now (L.has loader.old) (L.failed loader.old) (L.failed loader.new) (W.contents out.old) (W.contents out.new) result }
+    ensures legal { IsLegalRequest line.now.request (in_folder (word_bytes line.now.folder) (L.has loader.old)) result }
+{
+    match enter(alloc, line.folder, loader) {
+        Ok(()) => answer_there(alloc, &line.request, loader, out),
+        Err(fault) => write_text(out, &line_of(fault), Status::Device),
+    }
+}
+
+/// Does what a request asks for, and prints the line `memory` where memory runs out.
+fn answer_there<L: Loader, W: Write>(
     alloc: Global,
     request: &Request,
     loader: &mut L,
@@ -144,23 +180,23 @@ pub fn run<L: Loader, W: Write>(
     loader: &mut L,
     out: &mut W,
 ) -> Status
-    ensures check { (r g : List ℕ) (profile : Option (List ℕ)) (m : List ℕ) → map (λ w. w.now) words.now ≡ check_words r g profile m → is_plain_word r ≡ true → is_plain_word g ≡ true
-        → is_plain_if_some profile ≡ true → is_plain_word m ≡ true → IsParsedCheckStatus (L.has loader.old) m (named.parse_check profile r g) (W.contents out.old) (W.contents out.new) result }
-    ensures legal { (r g : List ℕ) (profile : Option (List ℕ)) (m : List ℕ) → map (λ w. w.now) words.now ≡ check_words r g profile m → is_plain_word r ≡ true → is_plain_word g ≡ true
-        → is_plain_if_some profile ≡ true → is_plain_word m ≡ true → IsParsedLegalStatus (L.has loader.old) m (named.profile_of profile) result }
-    ensures report { (exit_zero : Bool) (r g : List ℕ) (profile limit waive outline format : Option (List ℕ)) (m : List ℕ) → map (λ w. w.now) words.now ≡ report_words exit_zero r g profile limit waive outline format m → is_plain_word r ≡ true → is_plain_word g ≡ true
-        → is_plain_if_some profile ≡ true → is_plain_if_some limit ≡ true → is_plain_if_some waive ≡ true → is_plain_if_some outline ≡ true → is_plain_if_some format ≡ true → is_plain_word m ≡ true
-        → IsExitOf exit_zero (IsParsedReportStatus (L.has loader.old) m (named.parse_report profile r g limit waive outline format) (below_report profile r g limit (is_some outline) format) waive outline (W.contents out.old) (W.contents out.new)) result }
-    ensures measure { (profile format : Option (List ℕ)) (m : List ℕ) → map (λ w. w.now) words.now ≡ measure_words profile format m → is_plain_if_some profile ≡ true → is_plain_if_some format ≡ true
-        → is_plain_word m ≡ true → IsParsedMeasureStatus (L.has loader.old) m (named.parse_measure profile format) (below_measure profile format) (W.contents out.old) (W.contents out.new) result }
-    ensures draw { (rules : Option (List ℕ × List ℕ)) (profile outline : Option (List ℕ)) (m : List ℕ) → map (λ w. w.now) words.now ≡ draw_words rules profile outline m → are_plain_rules rules ≡ true → is_plain_if_some profile ≡ true
-        → is_plain_if_some outline ≡ true → is_plain_word m ≡ true → IsParsedDrawStatus (L.has loader.old) m (named.parse_draw profile (option_map (λ both. both.0) rules) (option_map (λ both. both.1) rules)) outline (W.contents out.old) (W.contents out.new) result }
-    ensures show { (k : List ℕ) (profile : Option (List ℕ)) (f : List ℕ) → map (λ w. w.now) words.now ≡ show_words k profile f → is_plain_word k ≡ true → is_plain_if_some profile ≡ true
-        → is_plain_word f ≡ true → IsParsedShowStatus (named.profile_of profile) (below_profile profile) (parse_kind k) (L.has loader.old) f (W.contents out.old) (W.contents out.new) result }
-    ensures rewrite { (k f : List ℕ) → map (λ w. w.now) words.now ≡ rewrite_words k f → is_plain_word k ≡ true → is_plain_word f ≡ true
-        → IsParsedFileStatus FileJob.Rewrite (parse_kind k) (L.has loader.old) f (W.contents out.old) (W.contents out.new) result }
-    ensures manifest { (why : Bool) (profile : Option (List ℕ)) (fs : List (List ℕ)) → map (λ w. w.now) words.now ≡ manifest_words why profile fs → is_plain_if_some profile ≡ true → are_plain_words fs ≡ true
-        → IsParsedManifestStatus (named.profile_of profile) (below_profile profile) why (L.has loader.old) (L.failed loader.old) (L.failed loader.new) fs (W.contents out.old) (W.contents out.new) result }
+    ensures check { (r g : List ℕ) (profile folder : Option (List ℕ)) (m : List ℕ) → map (λ w. w.now) words.now ≡ check_words r g profile folder m → is_plain_word r ≡ true → is_plain_word g ≡ true
+        → is_plain_if_some profile ≡ true → is_plain_if_some folder ≡ true → is_plain_word m ≡ true → IsParsedCheckStatus (in_folder folder (L.has loader.old)) m (named.parse_check profile r g) (W.contents out.old) (W.contents out.new) result }
+    ensures legal { (r g : List ℕ) (profile folder : Option (List ℕ)) (m : List ℕ) → map (λ w. w.now) words.now ≡ check_words r g profile folder m → is_plain_word r ≡ true → is_plain_word g ≡ true
+        → is_plain_if_some profile ≡ true → is_plain_if_some folder ≡ true → is_plain_word m ≡ true → IsParsedLegalStatus (in_folder folder (L.has loader.old)) m (named.profile_of profile) result }
+    ensures report { (exit_zero : Bool) (r g : List ℕ) (profile limit waive outline format folder : Option (List ℕ)) (m : List ℕ) → map (λ w. w.now) words.now ≡ report_words exit_zero r g profile limit waive outline format folder m → is_plain_word r ≡ true → is_plain_word g ≡ true
+        → is_plain_if_some profile ≡ true → is_plain_if_some limit ≡ true → is_plain_if_some waive ≡ true → is_plain_if_some outline ≡ true → is_plain_if_some format ≡ true → is_plain_if_some folder ≡ true → is_plain_word m ≡ true
+        → IsExitOf exit_zero (IsParsedReportStatus (in_folder folder (L.has loader.old)) m (named.parse_report profile r g limit waive outline format) (below_report profile r g limit (is_some outline) format) waive outline (W.contents out.old) (W.contents out.new)) result }
+    ensures measure { (profile format folder : Option (List ℕ)) (m : List ℕ) → map (λ w. w.now) words.now ≡ measure_words profile format folder m → is_plain_if_some profile ≡ true → is_plain_if_some format ≡ true
+        → is_plain_if_some folder ≡ true → is_plain_word m ≡ true → IsParsedMeasureStatus (in_folder folder (L.has loader.old)) m (named.parse_measure profile format) (below_measure profile format) (W.contents out.old) (W.contents out.new) result }
+    ensures draw { (rules : Option (List ℕ × List ℕ)) (profile outline folder : Option (List ℕ)) (m : List ℕ) → map (λ w. w.now) words.now ≡ draw_words rules profile outline folder m → are_plain_rules rules ≡ true → is_plain_if_some profile ≡ true
+        → is_plain_if_some outline ≡ true → is_plain_if_some folder ≡ true → is_plain_word m ≡ true → IsParsedDrawStatus (in_folder folder (L.has loader.old)) m (named.parse_draw profile (option_map (λ both. both.0) rules) (option_map (λ both. both.1) rules)) outline (W.contents out.old) (W.contents out.new) result }
+    ensures show { (k : List ℕ) (profile folder : Option (List ℕ)) (f : List ℕ) → map (λ w. w.now) words.now ≡ show_words k profile folder f → is_plain_word k ≡ true → is_plain_if_some profile ≡ true
+        → is_plain_if_some folder ≡ true → is_plain_word f ≡ true → IsParsedShowStatus (named.profile_of profile) (below_profile profile) (parse_kind k) (in_folder folder (L.has loader.old)) f (W.contents out.old) (W.contents out.new) result }
+    ensures rewrite { (k : List ℕ) (folder : Option (List ℕ)) (f : List ℕ) → map (λ w. w.now) words.now ≡ rewrite_words k folder f → is_plain_word k ≡ true → is_plain_if_some folder ≡ true → is_plain_word f ≡ true
+        → IsParsedFileStatus FileJob.Rewrite (parse_kind k) (in_folder folder (L.has loader.old)) f (W.contents out.old) (W.contents out.new) result }
+    ensures manifest { (why : Bool) (profile folder : Option (List ℕ)) (fs : List (List ℕ)) → map (λ w. w.now) words.now ≡ manifest_words why profile folder fs → is_plain_if_some profile ≡ true → is_plain_if_some folder ≡ true → are_plain_words fs ≡ true
+        → IsParsedManifestStatus (named.profile_of profile) (below_profile profile) why (in_folder folder (L.has loader.old)) (L.failed loader.old) (L.failed loader.new) fs (W.contents out.old) (W.contents out.new) result }
     ensures list { map (λ w. w.now) words.now ≡ explain_words None → IsExplainStatus None (W.contents out.old) (W.contents out.new) result }
     ensures explain { (w : List ℕ) → map (λ w. w.now) words.now ≡ explain_words (Some w) → is_plain_word w ≡ true
         → IsExplainStatus (Some w) (W.contents out.old) (W.contents out.new) result }
@@ -168,7 +204,7 @@ pub fn run<L: Loader, W: Write>(
     ensures line { IsProgramStatus (map (λ w. w.now) words.now) (L.has loader.old) (L.failed loader.old) (L.failed loader.new) (W.contents out.old) (W.contents out.new) result }
 {
     match parse(alloc, words) {
-        Ok(request) => answer(alloc, &request, loader, out),
+        Ok(line) => answer(alloc, &line, loader, out),
         Err(Refusal::Memory) => write_text(out, &"memory\n", Status::Device),
         Err(Refusal::Version) => write_text(out, &VERSION_LINE, Status::Pass),
         Err(Refusal::Help(text)) => write_text(out, &text, Status::Pass),

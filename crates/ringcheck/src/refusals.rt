@@ -1,23 +1,30 @@
 //! Why nothing is done with a package, and what is printed of it. Files are numbered from 1.
 
-ghost use Rattle.std.specs.Prelude.{◌≡◌, ℕ, List, IfOk, OnOk, Some, map, slice_get};
-ghost use Rattle.explanations.specs.Words.{FitsScreen, HasHeading};
+ghost use Rattle.std.specs.Prelude.{◌≡◌, ℕ, List, IfOk, OnOk, Some, map, option_map, slice_get};
+ghost use Rattle.csv.specs.Records.{fields_of};
+ghost use Rattle.ringcheck_files.specs.PageWords.{FitsScreen, HasHeading};
 ghost use Rattle.grid_units.specs.Reasons.{reason_name};
 ghost use Rattle.package_check.specs.Package.{FileView, IsFirstRefused};
 ghost use Rattle.print_json.specs.Packages.{input_error_value};
 ghost use Rattle.print_json.specs.Values.{json_text};
-ghost use Rattle.ringcheck.specs.CheckStatus.{refusal_of_text};
-ghost use Rattle.ringcheck.specs.Inner.Halting.{AfterHalt, Halts, refusal, refusal_of};
-ghost use Rattle.ringcheck.specs.Refusals.{PrintsRefusal, indented, of_archive, refusal_json, refusal_line};
+ghost use Rattle.ringcheck.specs.CheckStatus as tables;
+ghost use Rattle.ringcheck.specs.CheckStatus.{refusal_of_text, role_and_file_at};
+ghost use Rattle.ringcheck.specs.Inner.Halting.{AfterHalt, AfterNoTable, Halts, PrintsUnread, is_role_of, refusal, refusal_of_table};
+ghost use Rattle.ringcheck.specs.Refusals.{PrintsRefusal, indented, of_archive, of_role, refusal_json, refusal_line};
+ghost use Rattle.ringcheck.specs.Refusals as wording;
 ghost use Rattle.ringcheck.specs.CheckStatus.{RefusedAmong};
-ghost use Rattle.ringcheck.specs.Sentences.{found_folder_sentence, unread_json, unread_line, unread_sentence, unread_text};
+ghost use Rattle.ringcheck.specs.Sentences as wordings;
+ghost use Rattle.ringcheck.specs.Sentences.{found_folder_sentence, unread_json, unread_line, unread_sentence, unread_text, unread_words};
 ghost use Rattle.std.specs.Io.KnownBytes.{Appends};
 
-use explanations::explanation;
+use crate::Loader;
+use csv::ByteRecord;
 use grid_units::{Fault, Reason};
+use manifest::rows::{read_records, text_field};
+use manifest::{Name, is_archive};
 use print_json::InputError;
-use proposals::is_archive;
-use ringcheck_files::{Container, Failure, Status};
+use ringcheck_files::{Container, Failure, Status, explanation};
+use std::alloc::{AllocError, Global};
 use std::fmt;
 use std::fmt::{Display, Formatter};
 use std::io::Write;
@@ -55,6 +62,35 @@ pub(crate) enum Halt<'a> {
     Unread(Subject<'a>),
 }
 
+/// How something was looked for that is not there.
+#[derive(Clone, Copy)]
+struct Sought<'a> {
+    /// The name by which it was looked for.
+    path: &'a str,
+    /// Whether a folder has this name, as far as the loader knows.
+    is_folder: bool,
+    /// The folder from which names are taken, if one was entered.
+    folder: Option<&'a str>,
+}
+
+/// A record of a manifest that is refused for its role.
+#[derive(Drop)]
+pub(crate) struct BadRecord {
+    /// What it has for a role.
+    role: Name,
+    /// The name of its file.
+    file: Name,
+}
+
+/// Why there is no table.
+#[derive(Drop)]
+pub(crate) enum NoTable<'a> {
+    /// As of a package.
+    Halted(Halt<'a>),
+    /// This manifest is refused, with its fault, for the role of this record, whose number is the place of the fault.
+    Role(Fault, BadRecord),
+}
+
 /// The name at an index; empty where there is none.
 fn name_at<'a>(names: &[&'a str], index: usize) -> &'a str
     ensures { (name : List ℕ) → slice_get (map (λ name. name.now) names.now) index ≡ Some name → result.now ≡ name }
@@ -73,19 +109,56 @@ pub(crate) fn refused<'a>(names: &[&'a str], index: usize, fault: Fault) -> Halt
     Halt::Refused(Subject::File { index, name }, fault)
 }
 
-/// Why there are no rows in a table of this text, which was looked for by this name: it has a fault, and may be a zip archive.
+/// The role and the file name of the record at an index, where there is one and both are plain text.
+fn role_and_file(rows: &[ByteRecord], index: usize) -> Option<(&str, &str)>
+    ensures { option_map (λ texts. (texts.0.now, texts.1.now)) result ≡ tables.role_and_file (slice_get (map fields_of rows.now) index) }
+{
+    let row = rows.get(index)?;
+    let (role, file) = (text_field(row, 0)?, text_field(row, 2)?);
+    Some((role, file))
+}
+
+/// The record of this number, from 1, in the text of a manifest, where its role and its file name are plain text.
+fn bad_record(alloc: Global, number: u64, text: &[u8]) -> Result<Option<BadRecord>, AllocError>
+    ensures { IfOk result (λ row. option_map (λ it. (it.role, it.file)) row ≡ role_and_file_at text.now number) }
+{
+    let rows = read_records(alloc, text)?;
+    match role_and_file(rows.as_slice(), number.saturating_sub(1) as usize) {
+        Some((role, file)) => Ok(Some(BadRecord {
+            role: Name::new(alloc, role)?,
+            file: Name::new(alloc, file)?,
+        })),
+        None => Ok(None),
+    }
+}
+
+/// Whether this is a manifest that is refused for the role of a record.
+fn is_of_role(subject: Subject, reason: Reason) -> bool
+    ensures { result ≡ is_role_of subject.entry reason }
+{
+    matches!(subject, Subject::Manifest) && reason == Reason::BadRole
+}
+
+/// Why there are no rows in a table of this text, which was looked for by this name: it has a fault, and may be a zip archive, or a
+/// manifest with a record whose role is none.
 pub(crate) fn refused_table<'a>(
+    alloc: Global,
     subject: Subject<'a>,
     fault: Fault,
     name: &'a str,
     text: &[u8],
-) -> Halt<'a>
-    ensures { refusal_of result ≡ Some (refusal_of_text name.now text.now (refusal subject.entry fault)) }
+) -> Result<NoTable<'a>, AllocError>
+    ensures { IfOk result (λ no_table. refusal_of_table no_table ≡ Some (refusal_of_text name.now text.now (refusal subject.entry fault))) }
 {
     if is_archive(text) {
-        Halt::Archive(subject, fault, name)
-    } else {
-        Halt::Refused(subject, fault)
+        return Ok(NoTable::Halted(Halt::Archive(subject, fault, name)));
+    }
+    if !is_of_role(subject, fault.reason) {
+        return Ok(NoTable::Halted(Halt::Refused(subject, fault)));
+    }
+    match bad_record(alloc, fault.place, text)? {
+        Some(row) => Ok(NoTable::Role(fault, row)),
+        None => Ok(NoTable::Halted(Halt::Refused(subject, fault))),
     }
 }
 
@@ -188,25 +261,36 @@ impl Display for UnreadLine<'_> {
 struct UnreadSentence<'a> {
     subject: Subject<'a>,
     path: &'a str,
+    folder: Option<&'a str>,
+}
+
+/// Where file names are taken from: the folder that was entered, if there is one.
+fn place_of_names(folder: Option<&str>) -> &str
+    ensures { result.now ≡ wordings.place_of_names (option_map (λ f. f.now) folder.entry) }
+{
+    match folder {
+        Some(folder) => folder,
+        None => "the working directory",
+    }
 }
 
 impl Display for UnreadSentence<'_> {
-    ghost output = { λ it. Some (unread_sentence it.subject it.path.now) };
+    ghost output = { λ it. Some (unread_sentence it.subject it.path.now (option_map (λ f. f.now) it.folder)) };
 
     fn fmt<W: fmt::Write>(&self, f: &mut Formatter<W>) -> fmt::Result {
-        let path = self.path;
+        let (path, place) = (self.path, place_of_names(self.folder));
         match self.subject {
             Subject::Manifest => write!(
                 f,
-                "cannot read the manifest {path}: file names are taken from the working directory"
+                "cannot read the manifest {path}: file names are taken from {place}"
             ),
             Subject::Waivers => write!(
                 f,
-                "cannot read the file of waivers {path}: file names are taken from the working directory"
+                "cannot read the file of waivers {path}: file names are taken from {place}"
             ),
             Subject::File { name, .. } => write!(
                 f,
-                "cannot read {path}, the file of {name}: file names are taken from the working directory"
+                "cannot read {path}, the file of {name}: file names are taken from {place}"
             ),
         }
     }
@@ -229,7 +313,7 @@ impl Display for FolderSentence<'_> {
             Subject::Waivers => write!(f, "{path} is a folder: name a file of waivers"),
             Subject::File { name, .. } => write!(
                 f,
-                "{path}, the file of {name}, is a folder: the manifest names files"
+                "{path}, the file of {name}, is a folder: a manifest must name files"
             ),
         }
     }
@@ -277,38 +361,160 @@ fn print_archive<W: Write>(
     Ok(())
 }
 
-/// Prints in this style that something cannot be read, which was looked for by this name, and may be a folder.
-fn print_unread<W: Write>(
+/// Whether a file name ends as those of drill files often do.
+fn has_drill_end(file: &str) -> bool
+    ensures { result ≡ wording.has_drill_end file.now }
+{
+    let file = file.as_bytes();
+    file.ends_with(b".drl")
+        || file.ends_with(b".DRL")
+        || file.ends_with(b".xln")
+        || file.ends_with(b".XLN")
+        || file.ends_with(b".txt")
+        || file.ends_with(b".TXT")
+}
+
+/// What to do about a role that is refused, in the record of this file.
+fn role_advice(role: &str, file: &str) -> &'static str
+    ensures { result.now ≡ wording.role_advice role.now file.now }
+{
+    match role {
+        "?" if has_drill_end(file) => {
+            "write plated or unplated; for a file with holes of both kinds write mixed, and use --profile wide"
+        }
+        "?" => "write copper, plated or unplated, or leave the record out",
+        "mixed" => "use --profile wide, which alone has this role",
+        _ => "roles are copper, plated and unplated, and with --profile wide mixed",
+    }
+}
+
+/// What is said of the record of a manifest that is refused for its role.
+#[derive(Clone, Copy)]
+struct RoleSentence<'a> {
+    number: u64,
+    role: &'a str,
+    file: &'a str,
+}
+
+impl Display for RoleSentence<'_> {
+    ghost output = { λ it. Some (wording.role_sentence it.number it.role.now it.file.now) };
+
+    fn fmt<W: fmt::Write>(&self, f: &mut Formatter<W>) -> fmt::Result {
+        let (number, role, file) = (self.number, self.role, self.file);
+        let advice = role_advice(role, file);
+        write!(
+            f,
+            "record {number}, {file}: its role is \"{role}\": {advice}"
+        )
+    }
+}
+
+/// Prints in this style the refusal of a manifest for the role of the record of this file.
+fn print_role<'a, W: Write>(
     out: &mut W,
     style: RefusalStyle,
-    subject: Subject,
-    path: &str,
-    is_folder: bool,
+    fault: Fault,
+    role: &'a str,
+    file: &'a str,
 ) -> Result<(), Failure>
-    ensures { OnOk result (Appends (W.contents out.old) (W.contents out.new) (unread_text style subject.entry path.now is_folder)) }
+    ensures { OnOk result (PrintsRefusal style (of_role role.now file.now fault) (W.contents out.old) (W.contents out.new)) }
 {
-    let line = UnreadLine(subject);
-    let sentence = UnreadSentence { subject, path };
-    let folder = FolderSentence { subject, path };
+    let subject = Subject::Manifest;
+    let line = RefusalLine { subject, fault };
+    let sentence = RoleSentence {
+        number: fault.place,
+        role,
+        file,
+    };
     match style {
         RefusalStyle::Line => write!(out, "{line}")?,
-        RefusalStyle::Page if is_folder => write!(out, "{line}  {folder}\n")?,
-        RefusalStyle::Page => write!(out, "{line}  {sentence}\n")?,
+        RefusalStyle::Page => write!(
+            out,
+            "{line}  {sentence}\n{}",
+            Indented(page_of(fault.reason))
+        )?,
+        RefusalStyle::Json => write!(out, "{}", refused_stop(subject, fault))?,
+    }
+    Ok(())
+}
+
+/// How something was looked for by this name, as far as the loader knows.
+fn sought_by<'a, L: Loader>(loader: &'a L, path: &'a str) -> Sought<'a>
+    ensures { result.path.now ≡ path.now }
+{
+    Sought {
+        path,
+        is_folder: loader.is_folder(path),
+        folder: loader.folder(),
+    }
+}
+
+/// What is said of something that cannot be read, which may be a folder.
+#[derive(Clone, Copy)]
+struct UnreadWords<'a> {
+    subject: Subject<'a>,
+    sought: Sought<'a>,
+}
+
+impl Display for UnreadWords<'_> {
+    ghost output = { λ it. Some (unread_words it.subject it.sought) };
+
+    fn fmt<W: fmt::Write>(&self, f: &mut Formatter<W>) -> fmt::Result {
+        let subject = self.subject;
+        let Sought { path, folder, .. } = self.sought;
+        if self.sought.is_folder {
+            return write!(f, "{}", FolderSentence { subject, path });
+        }
+        let sentence = UnreadSentence {
+            subject,
+            path,
+            folder,
+        };
+        write!(f, "{sentence}")
+    }
+}
+
+/// Prints in this style that something cannot be read, which was looked for in this way.
+fn print_sought<'a, W: Write>(
+    out: &mut W,
+    style: RefusalStyle,
+    subject: Subject<'a>,
+    sought: Sought<'a>,
+) -> Result<(), Failure>
+    ensures { OnOk result (Appends (W.contents out.old) (W.contents out.new) (unread_text style subject.entry sought.entry)) }
+{
+    let line = UnreadLine(subject);
+    let words = UnreadWords { subject, sought };
+    match style {
+        RefusalStyle::Line => write!(out, "{line}")?,
+        RefusalStyle::Page => write!(out, "{line}  {words}\n")?,
         RefusalStyle::Json => write!(out, "{}", unread_stop(subject))?,
     }
     Ok(())
 }
 
-/// Prints why nothing is done with a package, and returns the status of the run. What cannot be read was looked for by the name `path`, and
-/// may be a folder.
-pub(crate) fn print_halt<W: Write>(
+/// Prints in this style that something cannot be read, which was looked for by this name.
+fn print_unread<'a, L: Loader, W: Write>(
+    out: &mut W,
+    style: RefusalStyle,
+    subject: Subject<'a>,
+    loader: &'a L,
+    path: &'a str,
+) -> Result<(), Failure>
+    ensures { OnOk result (PrintsUnread style subject.entry path.now (W.contents out.old) (W.contents out.new)) }
+{
+    print_sought(out, style, subject, sought_by(loader, path))
+}
+
+/// Prints why nothing is done with a package, and returns the status of the run. What cannot be read was looked for by this name.
+pub(crate) fn print_halt<L: Loader, W: Write>(
     out: &mut W,
     style: RefusalStyle,
     halt: Halt,
+    loader: &L,
     path: &str,
-    is_folder: bool,
 ) -> Result<Status, Failure>
-    ensures { IfOk result (AfterHalt style halt.entry path.now is_folder (W.contents out.old) (W.contents out.new)) }
+    ensures { IfOk result (AfterHalt style halt.entry path.now (W.contents out.old) (W.contents out.new)) }
 {
     match halt {
         Halt::Refused(subject, fault) => {
@@ -320,8 +526,27 @@ pub(crate) fn print_halt<W: Write>(
             Ok(Status::Refused)
         }
         Halt::Unread(subject) => {
-            print_unread(out, style, subject, path, is_folder)?;
+            print_unread(out, style, subject, loader, path)?;
             Ok(Status::Device)
+        }
+    }
+}
+
+/// Prints why there is no table, and returns the status of the run. What cannot be read was looked for by this name.
+pub(crate) fn print_no_table<L: Loader, W: Write>(
+    out: &mut W,
+    style: RefusalStyle,
+    no_table: &NoTable,
+    loader: &L,
+    path: &str,
+) -> Result<Status, Failure>
+    ensures { IfOk result (AfterNoTable style no_table.now path.now (W.contents out.old) (W.contents out.new)) }
+{
+    match no_table {
+        NoTable::Halted(halt) => print_halt(out, style, *halt, loader, path),
+        NoTable::Role(fault, row) => {
+            print_role(out, style, *fault, row.role.as_str(), row.file.as_str())?;
+            Ok(Status::Refused)
         }
     }
 }

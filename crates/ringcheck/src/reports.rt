@@ -13,7 +13,7 @@ use crate::jobs::Order;
 use crate::parsed_words::ReportFormat;
 use crate::refusals::{Halt, refused};
 use crate::{PackageFault, PackageReader};
-use board_report::report_laws::report_agrees_with_check;
+use board_report::laws::report_agrees_with_check;
 use board_report::report_on;
 use layer_image::Drawn;
 use package_check::Board;

@@ -15,7 +15,7 @@ fn rule_words(reason: Reason) -> &'static str
 {
     match reason {
         Reason::TooFine => "a rule has at most eight decimals, e.g. 0.125",
-        Reason::TooFar => "a rule is in millimetres, at most 10000",
+        Reason::TooFar => "a rule is at most 10000 mm",
         _ => "give millimetres without a unit, e.g. 0.127 for 5 mil",
     }
 }
@@ -102,8 +102,11 @@ impl Display for NoReportFormat<'_> {
 
     fn fmt<W: fmt::Write>(&self, f: &mut Formatter<W>) -> fmt::Result {
         match self.0 {
-            Some(word) => write!(f, "--format is text, html, json or waivers, not {word}"),
-            None => f.write_str("--format is text, html, json or waivers"),
+            Some(word) => write!(
+                f,
+                "--format must be text, html, json or waivers, not {word}"
+            ),
+            None => f.write_str("--format must be text, html, json or waivers"),
         }
     }
 }
@@ -117,8 +120,8 @@ impl Display for NoMeasureFormat<'_> {
 
     fn fmt<W: fmt::Write>(&self, f: &mut Formatter<W>) -> fmt::Result {
         match self.0 {
-            Some(word) => write!(f, "--format is text or json, not {word}"),
-            None => f.write_str("--format is text or json"),
+            Some(word) => write!(f, "--format must be text or json, not {word}"),
+            None => f.write_str("--format must be text or json"),
         }
     }
 }
@@ -132,8 +135,8 @@ impl Display for NoProfile<'_> {
 
     fn fmt<W: fmt::Write>(&self, f: &mut Formatter<W>) -> fmt::Result {
         match self.0 {
-            Some(word) => write!(f, "--profile is strict or wide, not {word}"),
-            None => f.write_str("--profile is strict or wide"),
+            Some(word) => write!(f, "--profile must be strict or wide, not {word}"),
+            None => f.write_str("--profile must be strict or wide"),
         }
     }
 }
@@ -173,7 +176,7 @@ impl Display for NoReport<'_> {
         } else if parse_limit(words.limit).is_err() {
             write!(f, "{}", NoCount(words.limit))
         } else if words.outline.is_some() {
-            f.write_str("--outline is for --format html and for draw")
+            f.write_str("--outline works only with --format html and with draw")
         } else {
             write!(f, "{}", NoReportFormat(words.format))
         }

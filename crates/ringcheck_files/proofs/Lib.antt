@@ -1,3 +1,17 @@
 pub mod ManifestStatus
 pub mod Appending
 pub mod HandingOn
+pub mod Plain
+pub mod Numbered
+pub mod StrictRows
+pub mod SideLemmas
+pub mod Pieces
+pub mod Ranges
+pub mod Typed
+pub mod SameCommandsLemmas
+pub mod RewritingUniqueness
+pub mod WriterLemmas
+pub mod LookupLemmas
+pub mod FirstFound
+pub mod ListedWords
+pub mod PageHeadings

@@ -6,8 +6,8 @@ use Rattle.std.specs.List.{list_all}
 use Rattle.std.proofs.lemmas.Bool.{false≢true}
 use Rattle.std.proofs.lemmas.List.Sums.{sum_by_push}
 use Rattle.grid_units.specs.declared.profile.Profile.{Profile}
-use Rattle.proposals.specs.ProposalList.{name_of}
-use Rattle.proposals.specs.declared.model.InputFile.{InputFile}
+use Rattle.manifest.specs.ProposalList.{name_of}
+use Rattle.manifest.specs.declared.model.InputFile.{InputFile}
 use Rattle.ringcheck_files.specs.declared.Status.{Status}
 use Rattle.ringcheck_files.specs.declared.Status.TheVariants as status
 use Rattle.ringcheck_files.specs.declared.proposed_manifest.LoadedFile.{LoadedFile}

@@ -6,10 +6,10 @@ use Rattle.grid_units.specs.declared.fault.Fault.{Fault}
 use Rattle.grid_units.specs.declared.fault.Reason.TheVariants.{BadRole}
 use Rattle.grid_units.specs.Reasons.{reason_name}
 use Rattle.grid_units.specs.declared.profile.Profile.{Profile}
-use Rattle.single_files.specs.declared.kind.Kind.{Kind}
-use Rattle.single_files.specs.declared.kind.Kind.TheVariants as kind
-use Rattle.single_files.specs.Rewriting.{Rewrites}
-use Rattle.single_files.specs.Tables.{ShowsDrill, ShowsLayer}
+use Rattle.ringcheck_files.specs.declared.rewrite.Kind.{Kind}
+use Rattle.ringcheck_files.specs.declared.rewrite.Kind.TheVariants as kind
+use Rattle.ringcheck_files.specs.Rewriting.{Rewrites}
+use Rattle.ringcheck_files.specs.Tables.{ShowsDrill, ShowsLayer}
 use Rattle.ringcheck_files.specs.declared.Status.{Status}
 use Rattle.ringcheck_files.specs.declared.Status.TheVariants as status
 use Rattle.ringcheck_files.specs.declared.file_jobs.FileJob.{FileJob}

@@ -1,4 +1,5 @@
 -- What is known of the reads made so far; these words stand in contracts of private functions alone.
+pub mod Writing
 use Rattle.std.specs.Prelude.{◌≡◌, ◌+◌, ◌≤◌, ◌<◌, ◌⊎◌, ℕ, true, false, List, length, take, Option, Some, None, Result, Ok, Err}
 use Rattle.std.specs.Io.KnownBytes.{Consumes, IsAtEnd, Keeps}
 use Rattle.ringcheck_files.specs.declared.reader_bytes.ReadFail.{ReadFail}

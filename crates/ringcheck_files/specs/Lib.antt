@@ -8,3 +8,8 @@ pub mod Containers
 pub mod Words
 pub mod ReaderBytes
 pub mod Inner
+pub mod Rows
+pub mod Tables
+pub mod Rewriting
+pub mod PageWords
+pub mod KnownWords

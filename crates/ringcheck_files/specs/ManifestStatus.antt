@@ -7,14 +7,14 @@ use Rattle.command_line.specs.declared.commands.TheConstants.{VERSION_LINE}
 use Rattle.grid_units.specs.declared.fault.Reason.TheVariants.{BadManifest, BadRole}
 use Rattle.grid_units.specs.declared.profile.Profile.{Profile}
 use Rattle.manifest.specs.Manifest.{is_control}
-use Rattle.explanations.specs.KnownWords.{IsPageOf, known_word}
-use Rattle.explanations.specs.Words.{ListsWords}
-use Rattle.proposals.specs.Contents.{is_archive}
-use Rattle.proposals.specs.Manifests.{IsManifestOf, reasons_text}
-use Rattle.proposals.specs.ProposalList.{name_of, proposals}
-use Rattle.proposals.specs.declared.model.FileContent.{FileContent}
-use Rattle.proposals.specs.declared.model.FileContent.TheVariants as content
-use Rattle.proposals.specs.declared.model.InputFile.{InputFile}
+use Rattle.ringcheck_files.specs.KnownWords.{IsPageOf, known_word}
+use Rattle.ringcheck_files.specs.PageWords.{ListsWords}
+use Rattle.manifest.specs.Contents.{is_archive}
+use Rattle.manifest.specs.Manifests.{IsManifestOf, reasons_text}
+use Rattle.manifest.specs.ProposalList.{name_of, proposals}
+use Rattle.manifest.specs.declared.model.FileContent.{FileContent}
+use Rattle.manifest.specs.declared.model.FileContent.TheVariants as content
+use Rattle.manifest.specs.declared.model.InputFile.{InputFile}
 use Rattle.ringcheck_files.specs.declared.Status.{Status}
 use Rattle.ringcheck_files.specs.declared.Status.TheVariants as status
 use Rattle.ringcheck_files.specs.declared.proposed_manifest.LoadedFile.{LoadedFile}

@@ -9,8 +9,5 @@ HasRisen before after = (before < after) ⊎ (after ≡ 2 ^ 64 - 1)
 
 -- a run that ends with Device, and neither ran out of memory nor had a writer that failed, has a cause: the loader's count of failures rose
 abbrev pub HasCause : ℕ → ℕ → Status → Type 0
-HasCause before after status.Pass = ⊤
-HasCause before after status.Findings = ⊤
-HasCause before after status.Refused = ⊤
-HasCause before after status.Usage = ⊤
 HasCause before after status.Device = HasRisen before after
+HasCause before after _ = ⊤

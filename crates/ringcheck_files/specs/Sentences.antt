@@ -1,6 +1,6 @@
 -- What is said below the line of a word that `manifest` or `explain` refuses (docs/FORMATS.md, The program).
 use Rattle.std.specs.Prelude.{◌++◌, ℕ, List, Option, Some, None, codes}
-use Rattle.explanations.specs.KnownWords.{near_word}
+use Rattle.ringcheck_files.specs.KnownWords.{near_word}
 
 -- what is said of a name that may not stand in a manifest
 abbrev pub name_sentence : List ℕ

@@ -1,9 +1,11 @@
-//! Folders and zip archives: what stands where a file is wanted, and holds files.
+//! Folders and zip archives: names in a folder, and what stands where a file is wanted, and holds files.
 
-ghost use Rattle.std.specs.Prelude.{◌≡◌, Some};
+ghost use Rattle.std.specs.Prelude.{◌≡◌, Some, IfOk, string_bytes};
 ghost use Rattle.ringcheck_files.specs.Containers as containers;
 ghost use Rattle.ringcheck_files.specs.Containers.{container_sentence};
+ghost use Rattle.ringcheck_files.specs.LoaderRelation as relations;
 
+use std::alloc::{AllocError, Global};
 use std::fmt;
 use std::fmt::{Display, Formatter};
 
@@ -17,7 +19,7 @@ pub enum Container<'a> {
 }
 
 /// The slash between a folder's path and what stands in the folder; none after a path that ends with one.
-fn slash_after(path: &str) -> &'static str
+pub(crate) fn slash_after(path: &str) -> &'static str
     ensures { result.now ≡ containers.slash_after path.now }
 {
     if path.as_bytes().ends_with(b"/") {
@@ -45,4 +47,29 @@ impl Display for Container<'_> {
             ),
         }
     }
+}
+
+/// Whether a name is taken from a folder: it is not empty, and does not begin with a slash.
+fn is_relative(name: &str) -> bool
+    ensures { result ≡ relations.is_relative name.now }
+{
+    match name.as_bytes() {
+        [] => false,
+        [first, ..] => *first != b'/',
+    }
+}
+
+/// The name under which a file is looked for that is named in a folder. A name that is absolute, or empty, stays as it is, and so does each
+/// name in a folder with an empty name.
+///
+/// # Errors
+///
+/// An `AllocError` where there is no memory.
+pub fn path_in(alloc: Global, folder: &str, name: &str) -> Result<String, AllocError>
+    ensures { IfOk result (λ path. string_bytes path ≡ relations.path_in folder.now name.now) }
+{
+    if folder.is_empty() || !is_relative(name) {
+        return String::from_str(alloc, name);
+    }
+    format!(in alloc; "{folder}{}{name}", slash_after(folder))
 }

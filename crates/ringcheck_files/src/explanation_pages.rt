@@ -5,9 +5,8 @@ ghost use Rattle.ringcheck_files.specs.Outcomes.{HasCause};
 ghost use Rattle.ringcheck_files.specs.ManifestStatus.{IsExplainStatus};
 ghost use Rattle.ringcheck_files.specs.Sentences.{no_page_sentence};
 
-use crate::Status;
 use crate::outcomes::{Failure, refuse_word};
-use explanations::{explanation_in_any_case, near_word, words};
+use crate::{Status, explanation_in_any_case, near_word, words};
 use grid_units::Reason;
 use std::fmt;
 use std::fmt::{Display, Formatter};

@@ -7,11 +7,10 @@ ghost use Rattle.ringcheck_files.specs.Outcomes.{HasCause};
 ghost use Rattle.ringcheck_files.specs.FileStatus.{Prints, IsFileStatus, IsParsedFileStatus, Shows, refusal_line};
 ghost use Rattle.ringcheck_files.specs.FileStatus as printing;
 
-use crate::limits::{ABOVE_LIMIT, FILE_LIMIT};
+use crate::loader::{ABOVE_LIMIT, FILE_LIMIT};
 use crate::outcomes::{Failure, refuse_word};
-use crate::{LoadFault, Loader, Status};
+use crate::{Kind, LoadFault, Loader, Status, rewrite_bytes, show_drill_in, show_layer_in};
 use grid_units::{Fail, Fault, Profile, Reason};
-use single_files::{Kind, rewrite_bytes, show_drill_in, show_layer_in};
 use std::alloc::Global;
 use std::io::Write;
 

@@ -1,4 +1,4 @@
-//! What the program does with single files and with words, and how a run ends.
+//! What the program does with single files (their tables and canonical texts) and with words (their pages), and how a run ends.
 #![tactic(auto)]
 
 ghost use Rattle.std.specs.Prelude.{◌≡◌};
@@ -6,24 +6,38 @@ ghost use Rattle.ringcheck_files.specs.ExitCodes.{code_of};
 
 mod containers;
 mod explanation_pages;
+mod fields;
 mod file_jobs;
-mod limits;
+mod known_words;
+pub mod laws;
+mod layer_writer;
+mod lines;
 mod loader;
 mod outcomes;
 mod proposed_manifest;
 mod read_counter;
 mod reader_bytes;
+mod reason_pages;
+mod rewrite;
+mod show;
+mod sides;
 mod sink;
+mod topic;
+mod topic_pages;
+mod word_list;
 
-pub use containers::Container;
+pub use containers::{Container, path_in};
 pub use explanation_pages::explain;
 pub use file_jobs::{FileJob, print};
-pub use limits::{ABOVE_LIMIT, FILE_LIMIT};
-pub use loader::{LoadFault, Loader};
+pub use known_words::near_word;
+pub use loader::{ABOVE_LIMIT, FILE_LIMIT, LoadFault, Loader};
 pub use outcomes::{Failure, refuse_word};
 pub use proposed_manifest::print_manifest;
 pub use reader_bytes::{MAX_LIMIT, ReadFail, read_all, read_into};
+pub use rewrite::{Kind, rewrite_bytes};
+pub use show::{show_drill, show_drill_in, show_layer, show_layer_in};
 pub use sink::Sink;
+pub use word_list::{explanation, explanation_in_any_case, words};
 
 /// How a run ended.
 #[derive(Clone, Copy, Debug, PartialEq, Eq)]

@@ -1,10 +1,22 @@
-//! The trait of a loader, which gives the bytes of files by their names.
+//! The trait of a loader, which gives the bytes of files by their names, and the limit of a file.
 
 ghost use Rattle.std.specs.Prelude.{◌≡◌, ◌++◌, ◌<◌, ◌≤◌, ◌⊎◌, ◌↔◌, ◌-◌, ◌^◌, ℕ, List, IfOk, IfErr, OnOk, length};
+ghost use Rattle.ringcheck_files.specs.LoaderRelation.{path_in};
 
 use crate::Sink;
+use grid_units::{Fault, Reason};
 use std::alloc::Global;
 use thiserror::Error;
+
+/// The most bytes of a file.
+pub const FILE_LIMIT: u64 = 268_435_456;
+
+/// The fault of a text above its limit: TooLong at place 0 and byte 0.
+pub const ABOVE_LIMIT: Fault = Fault {
+    place: 0,
+    byte: 0,
+    reason: Reason::TooLong,
+};
 
 /// Why a file was not loaded.
 #[derive(Clone, Copy, Debug, PartialEq, Eq, Error)]
@@ -66,8 +78,26 @@ pub trait Loader {
         Ok(bytes)
     }
 
-    /// Whether a name is that of a folder, as far as the loader knows. It is asked where a load has failed, so that this can be said. A
-    /// loader without folders needs no body of its own.
+    /// From now on names are taken from this folder, as [`path_in`](crate::path_in) says. A loader without folders needs no body of its own.
+    ///
+    /// # Errors
+    ///
+    /// [`LoadFault::Memory`] where there is no memory, and [`LoadFault::Device`] where the loader has no folders.
+    fn enter(&mut self, _alloc: Global, folder: &str) -> Result<(), LoadFault>
+        ensures entered { OnOk result ((n b : List ℕ) → has self.new n b ↔ has self.old (path_in folder.now n) b) }
+        ensures counts { failed self.new ≡ failed self.old }
+    {
+        let _folder = folder;
+        Err(LoadFault::Device)
+    }
+
+    /// The folder that was entered, so that it can be named. A loader without folders needs no body of its own.
+    fn folder(&self) -> Option<&str> {
+        None
+    }
+
+    /// Whether a name is that of a folder, as far as the loader knows. It is asked where nothing can be done with a file, so that this can be
+    /// said. A loader without folders needs no body of its own.
     fn is_folder(&self, _name: &str) -> bool {
         false
     }

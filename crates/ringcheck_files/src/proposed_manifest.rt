@@ -7,14 +7,14 @@ ghost use Rattle.ringcheck_files.specs.Containers.{container_sentence};
 ghost use Rattle.ringcheck_files.specs.Outcomes.{HasCause, HasRisen};
 ghost use Rattle.ringcheck_files.specs.ManifestStatus as folders;
 ghost use Rattle.ringcheck_files.specs.ManifestStatus.{HasLoaded, HasAllLoaded, IsHeldStatus, IsProposalText, HasRisenBy, IsManifestStatus, count_unread, first_said, loaded_view, is_container, are_containers, is_unread, loaded_file, loaded_files, said_of};
-ghost use Rattle.proposals.specs.declared.model.InputFile.{InputFile as TheNamed};
+ghost use Rattle.manifest.specs.declared.model.InputFile.{InputFile as TheNamed};
 
 use crate::containers::Container;
-use crate::limits::FILE_LIMIT;
+use crate::loader::FILE_LIMIT;
 use crate::outcomes::{Failure, refuse_word};
 use crate::{LoadFault, Loader, Status};
 use grid_units::{Profile, Reason};
-use proposals::{FileContent, InputFile, is_archive, propose, write_proposal, write_reasons};
+use manifest::{FileContent, InputFile, is_archive, propose, write_proposal, write_reasons};
 use std::alloc::{AllocError, Global};
 use std::io::Write;
 

@@ -6,22 +6,55 @@ ghost use Rattle.std.specs.Process.{exit_status};
 ghost use Rattle.std.specs.String.{string_bytes};
 ghost use Rattle.ringcheck_files.specs.ExitCodes.{code_of};
 
-use ringcheck::{LoadFault, Loader, MAX_LIMIT, ReadFail, Sink, Status, read_into, run};
+use ringcheck::{LoadFault, Loader, MAX_LIMIT, ReadFail, Sink, Status, path_in, read_into, run};
 use std::alloc::{AllocError, Global};
-use std::io::{BufWriter, Write};
+use std::io::{BufWriter, Eprint, IsTerminal, Write};
 use std::process::ExitCode;
 use std::rt::Files;
+use std::time::{Clock, Instant};
 use std::{env, fs, io};
 
-/// Loads files by their names, from the working directory. What a disk holds, no contract can say: a name may stand
-/// for any bytes.
+/// Loads files by their names, from the working directory, or from a folder that was entered. What a disk holds, no contract can say: a
+/// name may stand for any bytes.
 #[derive(Drop)]
 struct Disk<'a, R> {
     rt: &'a R,
+    alloc: Global,
+    folder: Option<String>,
     failures: u64,
+    /// When the run began, where somebody is told which file is read; else nobody is.
+    began: Option<Instant>,
 }
 
-impl<R: Files> Loader for Disk<'_, R> {
+/// After how many seconds of a run it is said which file is read.
+const QUIET_SECONDS: u64 = 2;
+
+impl<R: Clock + Eprint> Disk<'_, R> {
+    /// Says on standard error that this file is read now, where the run has taken a while and somebody is told.
+    fn say_reading(&self, path: &str) {
+        let Some(began) = self.began else {
+            return;
+        };
+        if let Ok(time) = began.elapsed(self.rt) {
+            if time.as_secs() >= QUIET_SECONDS {
+                // A line that cannot be written is left out: the answer does not depend on it.
+                let _ = eprintln!(self.rt; "ringcheck: reading {path}");
+            }
+        }
+    }
+}
+
+impl<R> Disk<'_, R> {
+    /// The name under which the disk has a file.
+    fn path_of(&self, name: &str) -> Result<String, AllocError> {
+        match &self.folder {
+            Some(folder) => path_in(self.alloc, folder.as_str(), name),
+            None => String::from_str(self.alloc, name),
+        }
+    }
+}
+
+impl<R: Files + Clock + Eprint> Loader for Disk<'_, R> {
     ghost has = { λ s n b. Unit {0} };
 
     ghost failed = { λ s. s.failures };
@@ -33,7 +66,11 @@ impl<R: Files> Loader for Disk<'_, R> {
         limit: u64,
         sink: &mut S,
     ) -> Result<(), LoadFault> {
-        let Ok(mut file) = fs::open(self.rt, name) else {
+        let Ok(path) = self.path_of(name) else {
+            return Err(LoadFault::Memory);
+        };
+        self.say_reading(path.as_str());
+        let Ok(mut file) = fs::open(self.rt, path.as_str()) else {
             self.failures = self.failures.saturating_add(1);
             return Err(LoadFault::Device);
         };
@@ -48,8 +85,28 @@ impl<R: Files> Loader for Disk<'_, R> {
         }
     }
 
+    fn enter(&mut self, _alloc: Global, folder: &str) -> Result<(), LoadFault> {
+        match self.path_of(folder) {
+            Ok(folder) => {
+                self.folder = Some(folder);
+                Ok(())
+            }
+            Err(_) => Err(LoadFault::Memory),
+        }
+    }
+
+    fn folder(&self) -> Option<&str> {
+        match &self.folder {
+            Some(folder) if !folder.is_empty() => Some(folder.as_str()),
+            _ => None,
+        }
+    }
+
     fn is_folder(&self, name: &str) -> bool {
-        match fs::metadata(self.rt, name) {
+        let Ok(path) = self.path_of(name) else {
+            return false;
+        };
+        match fs::metadata(self.rt, path.as_str()) {
             Ok(metadata) => metadata.is_dir(),
             Err(_) => false,
         }
@@ -151,6 +208,15 @@ fn words_of(alloc: Global, arguments: &[String]) -> Result<Vec<&str>, AllocError
     texts_of(alloc, without_name(arguments))
 }
 
+/// When a run begins, if standard error is a terminal, on which somebody waits.
+fn began(rt: &HostRuntime) -> Option<Instant> {
+    if rt.stderr().is_terminal() {
+        Instant::now(rt).ok()
+    } else {
+        None
+    }
+}
+
 /// Runs the program on the words of the command line. It is InvalidData where one of them is not UTF-8, and OutOfMemory where there is
 /// no memory for them or for the buffer of what is printed.
 fn run_words(rt: &HostRuntime) -> io::Result<Status> {
@@ -163,7 +229,13 @@ fn run_words(rt: &HostRuntime) -> io::Result<Status> {
         has_failed: false,
     };
     let mut out = BufWriter::with_capacity(alloc, BUFFER, device)?;
-    let mut loader = Disk { rt, failures: 0 };
+    let mut loader = Disk {
+        rt,
+        alloc,
+        folder: None,
+        failures: 0,
+        began: began(rt),
+    };
     let status = run(alloc, words.as_slice(), &mut loader, &mut out);
     Ok(written_out(out, status))
 }

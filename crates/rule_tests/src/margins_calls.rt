@@ -13,7 +13,7 @@ use grid_units::{Point, Profile};
 use margins::*;
 use pad_shapes::{Disc, Pad, PadShape, Zone};
 use ring_rules::Drilled;
-use std::alloc::Global;
+use std::alloc::{AllocError, Global};
 use std::cell::Cell;
 use std::rc::Rc;
 use std::test::Fail;
@@ -258,13 +258,11 @@ const RIGHT: PadRow = (Shape::Disc, 100_000_000, 0, 300_000_000, 0);
 
 /// The place of the best pad of a hole, and how deep the hole lies in it.
 fn best_in(alloc: Global, rows: &[PadRow], row: HoleRow) -> Option<Option<(usize, u64)>> {
-    let hole = slot(row.0, row.1, row.2)?;
-    let mut pads = Vec::new(alloc);
-    match (add_pads(&mut pads, rows), best_pad(&pads, &hole)) {
-        (Some(()), Some(best)) => Some(Some((best.pad, best.depth))),
-        (Some(()), None) => Some(None),
-        (None, _) => None,
-    }
+    let (mut pads, mut holes) = (Vec::new(alloc), Vec::new(alloc));
+    add_pads(&mut pads, rows)?;
+    add_holes(&mut holes, &[row], true)?;
+    let bests = best_pads(alloc, &pads, &holes).ok()?;
+    Some(best_at(&bests, 0))
 }
 
 /// Of two pads in which a hole lies equally deep the first is the best. A hole without a pad is bare. An oblique slot lies as deep as its
@@ -413,10 +411,10 @@ fn nearest_of_many(rt: HostRuntime) -> Result<(), Fail> {
     Ok(())
 }
 
-/// What a board of one layer meets: rings; rings of the holes that are not bare, with the others and on their own; and gaps.
-type BoardMeets = (Met, Met, Met, Met);
+/// What a board of one layer meets: rings; rings of the holes that are not bare; and gaps.
+type BoardMeets = (Met, Met, Met);
 
-/// What a board of one layer meets. None where the rings that are met are others when they are asked for alone.
+/// What a board of one layer meets.
 fn met_by(
     alloc: Global,
     pads: &[PadRow],
@@ -428,20 +426,14 @@ fn met_by(
     if add_pads(&mut layer, pads).is_none() || add_holes(&mut drills, holes, plated).is_none() {
         return None;
     }
-    met_on(alloc, &[layer.as_slice()], &drills, profile)
-}
-
-fn met_on(
-    alloc: Global,
-    layers: &[&[Pad]],
-    holes: &[Drilled],
-    profile: Profile,
-) -> Option<BoardMeets> {
-    let ring = ring_met(alloc, layers, holes, profile).ok()?;
-    let both = rings_met(alloc, layers, holes, profile).ok()?;
-    let held = ring_in_pads_met(alloc, layers, holes, profile).ok()?;
-    let gap = gap_met(alloc, holes).ok()?;
-    (both.ring == ring).then_some((ring, both.in_pads, held, gap))
+    let only = [layer.as_slice()];
+    let (layers, holes) = (only.as_slice(), drills.as_slice());
+    let bests = best_pads(alloc, layers[0], holes).ok()?;
+    let none = met_without_layers(layers, holes);
+    let rings = met_with_layer(layers, 0, &bests, holes, profile, none);
+    let nearest = nearest_holes(alloc, &drills).ok()?;
+    let gap = gap_met_of_nearest(&drills, nearest);
+    Some((rings.ring, rings.in_pads, gap))
 }
 
 const BARE: HoleRow = ((5_000_000_000, 0), (5_000_000_000, 0), 200_000_000);
@@ -457,7 +449,6 @@ const MET: [(&[PadRow], &[HoleRow], bool, BoardMeets); 7] = [
         (
             Met::UpTo(300_000_000),
             Met::UpTo(300_000_000),
-            Met::UpTo(300_000_000),
             Met::UpTo(100_000_000),
         ),
     ),
@@ -465,47 +456,37 @@ const MET: [(&[PadRow], &[HoleRow], bool, BoardMeets); 7] = [
         &[(Shape::Disc, 0, 0, 150_000_000, 0)],
         &[HOLE],
         true,
-        (
-            Met::UpTo(-50_000_000),
-            Met::UpTo(-50_000_000),
-            Met::UpTo(-50_000_000),
-            Met::Any,
-        ),
+        (Met::UpTo(-50_000_000), Met::UpTo(-50_000_000), Met::Any),
     ),
     (
         &[(Shape::Disc, 5_000_000_000, 0, 500_000_000, 0)],
         &[HOLE],
         true,
-        (Met::None, Met::None, Met::None, Met::Any),
+        (Met::None, Met::None, Met::Any),
     ),
     (
         &[(Shape::Disc, 5_000_000_000, 0, 500_000_000, 0)],
         &[HOLE],
         false,
-        (Met::Any, Met::Any, Met::Any, Met::Any),
+        (Met::Any, Met::Any, Met::Any),
     ),
     (
         &[(Shape::Disc, 5_000_000_000, 0, 500_000_000, 0)],
         &[],
         true,
-        (Met::Any, Met::Any, Met::Any, Met::Any),
+        (Met::Any, Met::Any, Met::Any),
     ),
     (
         &[(Shape::Disc, 0, 0, 1_000_000_000, 0)],
         &[BARE, HOLE, BARE],
         true,
-        (
-            Met::None,
-            Met::UpTo(800_000_000),
-            Met::UpTo(800_000_000),
-            Met::UpTo(-400_000_000),
-        ),
+        (Met::None, Met::UpTo(800_000_000), Met::UpTo(-400_000_000)),
     ),
     (
         &[(Shape::Disc, 0, 0, 1_000_000_000, 0)],
         &[BARE],
         true,
-        (Met::None, Met::None, Met::None, Met::Any),
+        (Met::None, Met::None, Met::Any),
     ),
 ];
 
@@ -679,9 +660,19 @@ fn discs_of(alloc: Global, calls: &Rc<Cell<u64>>, heap: Heap) -> Result<Vec<Coun
 }
 
 /// Whether each hundredth best pad is that of a hole alone.
-fn are_best(pads: &[Counted], holes: &[Drilled], bests: &[Option<BestPad>]) -> bool {
-    let mut found = holes.iter().zip(bests).step_by(100);
-    found.all(|(drilled, best)| best_pad(pads, &drilled.hole) == *best)
+fn are_best(
+    alloc: Global,
+    pads: &[Counted],
+    holes: &[Drilled],
+    bests: &[Option<BestPad>],
+) -> Result<bool, AllocError> {
+    for (drilled, best) in holes.iter().zip(bests).step_by(100) {
+        let alone = best_pads(alloc, pads, &[*drilled])?;
+        if alone.first() != Some(best) {
+            return Ok(false);
+        }
+    }
+    Ok(true)
 }
 
 /// Many discs that lie about as deep over many holes are not asked for each of them.
@@ -693,7 +684,7 @@ fn heaps_of_pads_are_passed_over(rt: HostRuntime) -> Result<(), Fail> {
         let holes = square_of_holes(rt.alloc(), heap.2)?;
         let bests = best_pads(rt.alloc(), &pads, &holes)?;
         assert!(rt; calls.get() <= 400_000, "asked {} times", calls.get());
-        assert!(rt; are_best(&pads, &holes, &bests));
+        assert!(rt; are_best(rt.alloc(), &pads, &holes, &bests)?);
     }
     Ok(())
 }

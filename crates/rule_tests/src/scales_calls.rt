@@ -31,7 +31,13 @@ fn hit(x: i64, y: i64) -> Result<Drilled, Fail> {
 /// The line of a drill file with the index 1, if it has one.
 fn line(alloc: Global, pads: &[WidePad], holes: &[Drilled]) -> Result<Option<UnitMistake>, Fail> {
     let bests = best_pads(alloc, pads, holes)?;
-    Ok(unit_mistake(alloc, 1, pads, holes, &bests)?)
+    let file = FileRange {
+        drill: 1,
+        start: 0,
+        end: holes.len(),
+    };
+    let lines = unit_mistakes(alloc, pads, holes, &bests, &[file])?;
+    Ok(*lines.first().ok_or("no line")?)
 }
 
 fn told(bare: usize, factor: UnitFactor, then: usize) -> Option<UnitMistake> {
@@ -190,14 +196,14 @@ fn rounded_down(rt: HostRuntime) -> Result<(), Fail> {
     Ok(())
 }
 
-/// Ten metres is a place; 10 pm more is not.
+/// Ten metres is a place; 10 pm more is not, and a hole with its place beyond is bare by each factor.
 #[test]
 fn beyond_ten_metres(rt: HostRuntime) -> Result<(), Fail> {
     let metre = 1_000 * MM;
     let near = scaled_point(point(0, metre)?, UnitFactor::Ten).is_some();
     let beyond = scaled_point(point(0, metre + 1)?, UnitFactor::Ten).is_some();
     let far = slot((2 * metre, 0), (2 * metre, 0))?;
-    let bare = bare_with_factor(rt.alloc(), &[disc_at(0, 0)?], &[far], UnitFactor::Ten)?;
-    assert!(rt; (near, beyond, bare) == (true, false, 1));
+    let line = line(rt.alloc(), &[disc_at(0, 0)?], &[far])?;
+    assert!(rt; (near, beyond) == (true, false) && line.is_none());
     Ok(())
 }

@@ -10,6 +10,7 @@ use Rattle.csv.specs.Writing.{comma, default_writer, field_text}
 use Rattle.grid_units.specs.declared.fault.Reason.{Reason}
 use Rattle.manifest.specs.Manifest.{CsvRecord}
 use Rattle.waivers.specs.declared.Waiver.{Waiver}
+use Rattle.waivers.specs.declared.reading.Fields.{Fields}
 use Rattle.waivers.specs.declared.waiving.Waived.{Waived}
 use Rattle.waivers.specs.Reading.{broken_rule, waiver_of}
 use Rattle.waivers.specs.Waiving.{compared_fields, record_numbers_where, waived_by}
@@ -22,6 +23,10 @@ unless_broken (Some why) waiver = Err why
 -- the waiver of a record after the head, or the rule that it breaks
 abbrev pub checked_waiver : CsvRecord → Result Waiver Reason
 checked_waiver row = unless_broken (broken_rule row) (waiver_of row)
+
+-- the waiver with these fields
+abbrev pub waiver_with : Fields → Waiver
+waiver_with f = record { kind = f.kind.now; layer = f.layer.now; hole = f.hole.now; and = f.and.now; has = f.has.now; why = f.why.now }
 
 -- the fields of a record as CSV, with a comma after each but the last, and no line end: `gap,,"pth, 0.4 at 0,0","pth, 0.4 at 0.5,0",0.1`.
 -- It is the key of five fields, which no other fields have

@@ -1,18 +1,18 @@
 //! The waivers of records, and the rules by which a record is refused.
 
-ghost use Rattle.std.specs.Prelude.{◌≡◌, map, true, false, MatchOption};
+ghost use Rattle.std.specs.Prelude.{◌≡◌, map, true, false, MatchOption, IfErr, IfOk, Ok, Err};
 ghost use Rattle.csv.specs.Records.{fields_of};
 ghost use Rattle.grid_units.specs.Results.{Answers, with_place, fault};
 ghost use Rattle.manifest.specs.Manifest.{field, is_well_formed};
 ghost use Rattle.waivers.specs.Reading as naming;
-ghost use Rattle.waivers.specs.Inner.{checked_waiver};
+ghost use Rattle.waivers.specs.Inner.{checked_waiver, waiver_with};
 
 use crate::Waiver;
 use csv::ByteRecord;
 use grid_units::{Fail, Fault, Reason};
 use manifest::Name;
 use manifest::rows::{has_field, text_field};
-use std::alloc::Global;
+use std::alloc::{AllocError, Global};
 
 /// The number of fields in each record.
 const FIELDS: usize = 6;
@@ -60,26 +60,62 @@ fn refused(place: u64, reason: Reason) -> Fail
 fn waiver_of(alloc: Global, place: u64, row: &ByteRecord) -> Result<Waiver, Fail>
     ensures { Answers (λ waiver. waiver) (λ answer. answer ≡ with_place place 0 (checked_waiver (fields_of row.now))) result }
 {
+    match checked_fields(row) {
+        Ok(fields) => Ok(waiver_with(alloc, fields)?),
+        Err(reason) => Err(refused(place, reason)),
+    }
+}
+
+/// The fields of a record, or the first rule that it breaks.
+fn checked_fields<'a>(row: &'a ByteRecord) -> Result<Fields<'a>, Reason>
+    ensures ok { IfOk result (λ fields. checked_waiver (fields_of row.now) ≡ Ok (waiver_with fields)) }
+    ensures err { IfErr result (λ why. checked_waiver (fields_of row.now) ≡ Err why) }
+{
     let Some(fields) = text_fields(row) else {
-        return Err(refused(place, Reason::BadManifest));
+        return Err(Reason::BadManifest);
     };
     if !is_kind(fields.kind) {
-        return Err(refused(place, Reason::BadRole));
+        return Err(Reason::BadRole);
     }
     if fields.why.is_empty() {
-        return Err(refused(place, Reason::EmptyName));
+        return Err(Reason::EmptyName);
     }
     if fields.why.len() > REASON_LIMIT {
-        return Err(refused(place, Reason::TooLong));
+        return Err(Reason::TooLong);
     }
+    Ok(fields)
+}
+
+/// The waiver with these fields.
+fn waiver_with<'a>(alloc: Global, fields: Fields<'a>) -> Result<Waiver, AllocError>
+    ensures { IfOk result (λ waiver. waiver ≡ waiver_with fields.entry) }
+{
+    let (kind, layer, hole) = three_names(alloc, fields.kind, fields.layer, fields.hole)?;
+    let (and, has, why) = three_names(alloc, fields.and, fields.has, fields.why)?;
     Ok(Waiver {
-        kind: Name::new(alloc, fields.kind)?,
-        layer: Name::new(alloc, fields.layer)?,
-        hole: Name::new(alloc, fields.hole)?,
-        and: Name::new(alloc, fields.and)?,
-        has: Name::new(alloc, fields.has)?,
-        why: Name::new(alloc, fields.why)?,
+        kind,
+        layer,
+        hole,
+        and,
+        has,
+        why,
     })
+}
+
+/// Copies of three fields.
+fn three_names(
+    alloc: Global,
+    first: &str,
+    second: &str,
+    third: &str,
+) -> Result<(Name, Name, Name), AllocError>
+    ensures { IfOk result (λ names. names ≡ (first.now, second.now, third.now)) }
+{
+    Ok((
+        Name::new(alloc, first)?,
+        Name::new(alloc, second)?,
+        Name::new(alloc, third)?,
+    ))
 }
 
 /// The fields of a record, each plain text.

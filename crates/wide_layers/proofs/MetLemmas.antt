@@ -11,7 +11,7 @@ use Rattle.gerber_text.specs.declared.text_items.TextKind.{TextKind}
 use Rattle.gerber_text.specs.declared.text_items.TextKind.TheVariants as kinds
 use Rattle.gerber_text.specs.Reading.{Entries, placed}
 use Rattle.gerber_text.specs.Writing.{without_places}
-use Rattle.gerber_text.proofs.TextIsSayable.{bare}
+use Rattle.gerber_text.proofs.SpelledIsWritten.{bare}
 use Rattle.layer_image.specs.declared.flash.Flash.{Flash}
 use Rattle.layer_image.specs.declared.scan.Scan.{Scan}
 use Rattle.layer_image.specs.Flashes.{added_flashes, flashes_of}

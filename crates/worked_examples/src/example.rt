@@ -27,7 +27,9 @@ pub(crate) struct Example {
     wanted: String,
     lines: Vec<String>,
     parts: Vec<Vec<u8>>,
+    lacking: Vec<Vec<u8>>,
     head: Vec<u8>,
+    tail: Vec<u8>,
     is_clear: bool,
 }
 
@@ -47,7 +49,9 @@ impl Example {
             wanted: String::new(alloc),
             lines: Vec::new(alloc),
             parts: Vec::new(alloc),
+            lacking: Vec::new(alloc),
             head: Vec::new(alloc),
+            tail: Vec::new(alloc),
             is_clear: true,
         }
     }
@@ -68,7 +72,9 @@ impl Example {
             "#" => Ok(()),
             "example" => self.title.push_str(rest),
             "run" | "words" => self.ask(alloc, word, rest),
-            "status" | ">" | "has" | "part" | "begins" => self.want(alloc, word, rest),
+            "status" | ">" | "has" | "part" | "lacks" | "begins" | "ends" => {
+                self.want(alloc, word, rest)
+            }
             _ => {
                 let is_clear = write_file(alloc, shelf, word, rest)?;
                 self.is_clear &= is_clear;
@@ -94,7 +100,9 @@ impl Example {
             ">" => push_line(&mut self.wanted, rest)?,
             "has" => self.lines.push(String::from_str(alloc, rest)?)?,
             "part" => self.parts.push(unescaped(alloc, rest)?)?,
-            _ => self.head = unescaped(alloc, rest)?,
+            "lacks" => self.lacking.push(unescaped(alloc, rest)?)?,
+            "begins" => self.head = unescaped(alloc, rest)?,
+            _ => self.tail = unescaped(alloc, rest)?,
         }
         Ok(())
     }
@@ -120,11 +128,15 @@ impl Example {
         answer.status == self.status
             && is_whole
             && answer.text.starts_with(&self.head)
-            && self
-                .lines
-                .iter()
-                .all(|line| has_line(&answer.text, line.as_str()))
-            && self.parts.iter().all(|part| has_part(&answer.text, part))
+            && answer.text.ends_with(&self.tail)
+            && self.has_all(&answer.text)
+    }
+
+    /// Whether a text contains all lines and parts that it must contain, and none of those that it must not.
+    fn has_all(&self, text: &[u8]) -> bool {
+        self.lines.iter().all(|line| has_line(text, line.as_str()))
+            && self.parts.iter().all(|part| has_part(text, part))
+            && !self.lacking.iter().any(|part| has_part(text, part))
     }
 }
 
@@ -197,16 +209,18 @@ fn answer_of_words(alloc: Global, shelf: &mut Shelf, name: &str) -> Result<Answe
     })
 }
 
-/// Begins a file: `NAME`, or `NAME from BASE`. False if there is no such base text.
+/// Begins a file, `NAME`, or files of one text, `NAME.. from BASE`. False if there is no such base text.
 fn begin_file(alloc: Global, shelf: &mut Shelf, rest: &str) -> Result<bool, AllocError> {
-    let Some((name, base)) = rest.split_once(" from ") else {
+    let Some((names, base)) = rest.split_once(" from ") else {
         shelf.begin(alloc, rest, Draft::new(alloc))?;
         return Ok(true);
     };
     let Some(text) = shelf.text_of(alloc, base)? else {
         return Ok(false);
     };
-    shelf.begin(alloc, name, Draft::from_text(alloc, &text)?)?;
+    for name in names.split_whitespace() {
+        shelf.begin(alloc, name, Draft::from_text(alloc, &text)?)?;
+    }
     Ok(true)
 }
 

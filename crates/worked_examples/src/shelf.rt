@@ -3,7 +3,7 @@
 ghost use Rattle.std.specs.Prelude.{◌≡◌, ◌≢◌, ◌≤◌, ◌<◌, ◌++◌, ℕ, List, IfErr, OnOk, length};
 
 use crate::draft::Draft;
-use ringcheck::{LoadFault, Loader, Sink};
+use ringcheck::{LoadFault, Loader, Sink, path_in};
 use std::alloc::{AllocError, Global};
 
 /// A file and its text.
@@ -18,6 +18,8 @@ struct Held {
 pub(crate) struct Shelf {
     files: Vec<Held>,
     bases: usize,
+    /// The folder that was entered.
+    folder: Option<String>,
     failures: u64,
 }
 
@@ -26,6 +28,7 @@ impl Shelf {
         Shelf {
             files: Vec::new(alloc),
             bases: 0,
+            folder: None,
             failures: 0,
         }
     }
@@ -47,9 +50,18 @@ impl Shelf {
         self.bases = self.files.len();
     }
 
-    /// Removes all files but the base texts.
+    /// Removes all files but the base texts, and leaves the folder that was entered.
     pub(crate) fn clear(&mut self) {
         self.files.truncate(self.bases);
+        self.folder = None;
+    }
+
+    /// The name under which a file is looked for.
+    fn path_of(&self, alloc: Global, name: &str) -> Result<String, AllocError> {
+        match &self.folder {
+            Some(folder) => path_in(alloc, folder.as_str(), name),
+            None => String::from_str(alloc, name),
+        }
     }
 
     /// The file that is being written.
@@ -107,13 +119,33 @@ impl Loader for Shelf {
         limit: u64,
         sink: &mut S,
     ) -> Result<(), LoadFault> {
-        match self.text_of(alloc, name) {
+        let Ok(path) = self.path_of(alloc, name) else {
+            return Err(LoadFault::Memory);
+        };
+        match self.text_of(alloc, path.as_str()) {
             Ok(Some(text)) => hand_over(text.as_slice(), limit, sink),
             Ok(None) => {
                 self.failures = self.failures.saturating_add(1);
                 Err(LoadFault::Device)
             }
             Err(_) => Err(LoadFault::Memory),
+        }
+    }
+
+    fn enter(&mut self, alloc: Global, folder: &str) -> Result<(), LoadFault> {
+        match self.path_of(alloc, folder) {
+            Ok(folder) => {
+                self.folder = Some(folder);
+                Ok(())
+            }
+            Err(_) => Err(LoadFault::Memory),
+        }
+    }
+
+    fn folder(&self) -> Option<&str> {
+        match &self.folder {
+            Some(folder) => Some(folder.as_str()),
+            None => None,
         }
     }
 

@@ -1,9 +1,10 @@
--- The judge, which is what a reader keeps of the commands that it has met, and what its steps do.
-use Rattle.std.specs.Prelude.{◌≡◌, ℕ, ℤ, Bool, false, ◌||◌, List, [], ◌∷◌, ◌++◌, length, ◌≤ℤ◌, ◌/◌, nat_le, int_le, pos, unsigned_abs, Result, Ok, Err, Option, None, Some, unwrap_or, nat_eq, if◌then◌else◌}
+-- The state, which is what a reader keeps of the commands that it has met, and what its steps do.
+use Rattle.std.specs.Prelude.{◌≡◌, ◌⊎◌, ℕ, ℤ, Bool, true, false, ◌||◌, ◌&&◌, List, [], ◌∷◌, ◌++◌, length, ◌≤ℤ◌, ◌/◌, nat_le, int_le, pos, unsigned_abs, Result, Ok, Err, Option, None, Some, is_some, unwrap_or, nat_eq, if◌then◌else◌}
 use Rattle.std.specs.Option.{option_or, option_and_then, option_map, option_to_list}
+use Rattle.std.specs.List.{list_any}
 use Rattle.indexmap.specs.IndexMap.{get}
 use Rattle.grid_units.specs.declared.fault.Reason.{Reason}
-use Rattle.grid_units.specs.declared.fault.Reason.TheVariants.{NoTool, BadSize, TooFar, TooManyHoles}
+use Rattle.grid_units.specs.declared.fault.Reason.TheVariants.{NoTool, BadSize, TooFar, TooManyHoles, NoPlating, PlatingConflict}
 use Rattle.grid_units.specs.Results.{◌>>=◌}
 use Rattle.grid_units.specs.Lists.{last_set}
 use Rattle.grid_units.specs.Points.{GridPoint, max_coordinate}
@@ -18,27 +19,53 @@ use Rattle.drill_lines.specs.declared.command.DrillCommand.{DrillCommand}
 use Rattle.drill_lines.specs.declared.command.DrillCommand.TheVariants as command
 use Rattle.grid_units.specs.Numbers.{is_too_far, within_limit}
 use Rattle.drill_lines.specs.Formats.{Digits}
+use Rattle.drill_lines.specs.declared.plating.Plating.{Plating}
+use Rattle.drill_lines.specs.declared.plating.Plating.TheVariants.{Unsaid}
+use Rattle.drill_text.specs.declared.platings.PlatingKind.{PlatingKind}
+use Rattle.drill_text.specs.declared.platings.PlatingKind.TheVariants as kinds
+use Rattle.drill_text.specs.declared.platings.PlatingWords.{PlatingWords}
+use Rattle.drill_text.specs.declared.platings.Tool.{Tool}
 use Rattle.drill_text.specs.declared.state.DrillState.{DrillState}
 use Rattle.drill_text.specs.Lookback.{StateView, state_after, part_set, unit_set, zeros_set, format_set, ends_header, diameter_set, tool_set, tool_defined, tools_of, points_in, x_set, y_set}
 use Rattle.drill_text.specs.Holes.{DrillPath, coordinate_in, unit_or, hole_of, holes_of}
-use Rattle.drill_text.specs.Rules.{broken_rule, redefines_tool, has_no_tool, max_holes}
+use Rattle.drill_text.specs.Outcome.{diameter_of_tool, diameters, kept_platings}
+use Rattle.drill_text.specs.Plating.{calls_plated, calls_unplated, is_plated, is_unsaid, plating_of_tool, plating_set, rule_in, said_after, tool_made}
+use Rattle.drill_text.specs.Rules.{drills, redefines_tool, has_no_tool, max_holes}
 
--- what stands before the next command, by the fields of the judge
+-- what stands before the next command, by the fields of the state
 abbrev pub state_of : DrillState → StateView
 state_of state = record {
   settings = state.settings;
   header_ended = state.header_ended;
-  diameter = λ number. get nat_eq state.tools number;
+  diameter = λ number. option_map diameter_of_tool (get nat_eq state.tools number);
   tool = state.tool;
   x = state.x;
   y = state.y;
 }
 
--- the judge has met just these commands: what stands, the holes and the tools are theirs
-pub record IsStateAfter (state : DrillState) (before : List DrillCommand) : Type 0 where
+-- what a tool is, by what was said of it
+abbrev pub plating_in : Tool → Plating
+plating_in tool = tool.plating
+
+-- what the holes of the picked tool are
+abbrev pub picked_plating : DrillState → Plating
+picked_plating state = unwrap_or (option_map plating_in state.picked) Unsaid
+
+-- the comments of these commands, in a file whose platings are known so, say just this
+pub record AreWordsAfter (words : PlatingWords) (kind : PlatingKind) (before : List DrillCommand) : Type 0 where
+  pub kind_is : words.kind ≡ kind
+  pub said : words.said ≡ said_after before
+  pub calls_plated : words.calls_plated ≡ list_any calls_plated before
+  pub calls_unplated : words.calls_unplated ≡ list_any calls_unplated before
+
+-- the state is that after just these commands of a file whose platings are known so: what stands, the holes, the tools and what is said are theirs
+pub record IsStateAfter (state : DrillState) (kind : PlatingKind) (before : List DrillCommand) : Type 0 where
   pub state_after : state_of state ≡ state_after before
   pub holes : state.holes.items ≡ holes_of before
-  pub tools : state.tools.entries ≡ tools_of before
+  pub tools : diameters state.tools.entries ≡ tools_of before
+  pub words : AreWordsAfter state.words kind before
+  pub platings : (number : ℕ) → option_map plating_in (get nat_eq state.tools number) ≡ plating_of_tool before number
+  pub plated : state.plated.items ≡ kept_platings kind before
 
 -- the value given last; once the header has ended, a new one is not taken
 abbrev pub given_last : {A : Type 0} → Bool → Option A → Option A → Option A
@@ -144,23 +171,70 @@ given unit zeros format s = record {
 abbrev pub moved : Coordinates → StateView → StateView
 moved point s = record { settings = s.settings; header_ended = s.header_ended; diameter = s.diameter; tool = s.tool; x = option_or point.x s.x; y = option_or point.y s.y }
 
--- the new judge is the old one after one more command
+-- what the comments say after one more command
+abbrev pub heard : DrillCommand → PlatingWords → PlatingWords
+heard c words = record {
+  kind = words.kind;
+  said = unwrap_or (plating_set c) words.said;
+  calls_plated = calls_plated c || words.calls_plated;
+  calls_unplated = calls_unplated c || words.calls_unplated;
+}
+
+-- the mark of a hole with this plating, as a list of one; none but in mixed files
+abbrev pub mark_of : PlatingKind → Plating → List Bool
+mark_of kinds.Mixed plating = is_plated plating ∷ []
+mark_of _ plating = []
+
+-- the rule that files of a kind have beside the others, if a command breaks it once the header has ended or before, where the picked tool is this
+abbrev pub own_broken : PlatingKind → Bool → Plating → DrillCommand → Option Reason
+own_broken kinds.Stated header_ended picked c = None
+own_broken kinds.Unplated header_ended picked c = if calls_plated c then Some PlatingConflict else None
+own_broken kinds.Mixed header_ended picked c = if (drills c && is_unsaid picked) || (is_some (plating_set c) && header_ended) then Some NoPlating else None
+
+-- the rule that files of a kind have of a hole with this plating, if it breaks that
+abbrev pub hole_rule : PlatingKind → Plating → Option Reason
+hole_rule kinds.Mixed plating = if is_unsaid plating then Some NoPlating else None
+hole_rule _ plating = None
+
+-- the new state is the old one after one more command
 pub record Applies (old : DrillState) (c : DrillCommand) (new : DrillState) : Type 0 where
   pub state_after : state_of new ≡ after c (state_of old)
   pub holes : new.holes.items ≡ old.holes.items ++ option_to_list (option_map hole_of (drill_path (state_of old) c))
-  pub tools : redefines_tool (state_of old) c ≡ false → new.tools.entries ≡ old.tools.entries ++ option_to_list (tool_defined c)
+  pub tools : redefines_tool (state_of old) c ≡ false → diameters new.tools.entries ≡ diameters old.tools.entries ++ option_to_list (tool_defined c)
+  pub words : new.words ≡ heard c old.words
+  pub platings : (number : ℕ) → option_map plating_in (get nat_eq new.tools number) ≡ option_or (tool_made number old.words.said c) (option_map plating_in (get nat_eq old.tools number))
+  pub plated : new.plated.items ≡ old.plated.items ++ (if drills c then mark_of old.words.kind (picked_plating old) else [])
+
+-- A hole was marked, or it is neither plated nor unplated, or memory ran out.
+abbrev pub MarksOrRefuses : DrillState → DrillState → Result (Unit {0}) ItemFail → Type 0
+MarksOrRefuses old new (Ok _) = (is_unsaid (picked_plating old) ≡ false) × (new.plated.items ≡ old.plated.items ++ is_plated (picked_plating old) ∷ [])
+MarksOrRefuses old new (Err (stops.Refused broken)) = (is_unsaid (picked_plating old) ≡ true) × (broken ≡ NoPlating)
+MarksOrRefuses old new (Err stops.Memory) = Unit {0}
+
+-- A hole was added, or it breaks just this rule of mixed files, or memory ran out.
+abbrev pub AddsOrRefuses : DrillState → GridHole → DrillState → Result (Unit {0}) ItemFail → Type 0
+AddsOrRefuses old hole new (Ok _) = (hole_rule old.words.kind (picked_plating old) ≡ None)
+    × (new.holes.items ≡ old.holes.items ++ hole ∷ [])
+    × (new.plated.items ≡ old.plated.items ++ mark_of old.words.kind (picked_plating old))
+AddsOrRefuses old hole new (Err (stops.Refused broken)) = hole_rule old.words.kind (picked_plating old) ≡ Some broken
+AddsOrRefuses old hole new (Err stops.Memory) = Unit {0}
 
 -- A hole was drilled from one point to another, or it breaks just this rule, or memory ran out.
 abbrev pub DrillsOrRefuses : DrillState → Coordinates → Coordinates → DrillState → Result (Unit {0}) ItemFail → Type 0
 DrillsOrRefuses old first second new (Ok _) = (hole : GridHole) × (hole_in (state_of old) (length old.holes.items) first second ≡ Ok hole)
+    × (hole_rule old.words.kind (picked_plating old) ≡ None)
     × (state_of new ≡ moved second (moved first (state_of old)))
     × (new.holes.items ≡ old.holes.items ++ hole ∷ [])
-    × (new.tools.entries ≡ old.tools.entries)
-DrillsOrRefuses old first second new (Err (stops.Refused broken)) = hole_in (state_of old) (length old.holes.items) first second ≡ Err broken
+    × (new.plated.items ≡ old.plated.items ++ mark_of old.words.kind (picked_plating old))
+    × (new.tools ≡ old.tools)
+    × (new.words ≡ old.words)
+DrillsOrRefuses old first second new (Err (stops.Refused broken)) =
+    (hole_in (state_of old) (length old.holes.items) first second ≡ Err broken)
+    ⊎ ((hole : GridHole) × (hole_in (state_of old) (length old.holes.items) first second ≡ Ok hole) × (hole_rule old.words.kind (picked_plating old) ≡ Some broken))
 DrillsOrRefuses old first second new (Err stops.Memory) = Unit {0}
 
 -- The command breaks no rule and was taken in, or it breaks just this one, or memory ran out.
-abbrev pub AppliesOrRefuses : List DrillCommand → DrillCommand → DrillState → Result (Unit {0}) ItemFail → Type 0
-AppliesOrRefuses before c new (Ok _) = (broken_rule before c ≡ None) × IsStateAfter new (before ++ c ∷ [])
-AppliesOrRefuses before c new (Err (stops.Refused broken)) = broken_rule before c ≡ Some broken
-AppliesOrRefuses before c new (Err stops.Memory) = Unit {0}
+abbrev pub AppliesOrRefuses : PlatingKind → List DrillCommand → DrillCommand → DrillState → Result (Unit {0}) ItemFail → Type 0
+AppliesOrRefuses kind before c new (Ok _) = (rule_in kind before c ≡ None) × IsStateAfter new kind (before ++ c ∷ [])
+AppliesOrRefuses kind before c new (Err (stops.Refused broken)) = rule_in kind before c ≡ Some broken
+AppliesOrRefuses kind before c new (Err stops.Memory) = Unit {0}

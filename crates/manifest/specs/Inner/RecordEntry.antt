@@ -7,6 +7,7 @@ use Rattle.grid_units.specs.declared.profile.Profile.{Profile}
 use Rattle.grid_units.specs.declared.fault.Reason.TheVariants.{BadSpan}
 use Rattle.manifest.specs.declared.Entry.{Entry}
 use Rattle.manifest.specs.declared.Role.{Role}
+use Rattle.manifest.specs.declared.validation.NamedFile.{NamedFile}
 use Rattle.manifest.specs.Manifest.{CsvRecord, are_span_numbers, first_broken_rule, entry_of, is_bad_span, is_layer_number, span_of_fields}
 
 -- the number of a layer that a text spells, None where it is not one to nine digits
@@ -29,3 +30,7 @@ entry_or_reason (Some why) entry = Err why
 -- the file that a record names, or the first rule that it breaks in a profile; `repeated` says whether an earlier file has its name
 abbrev pub checked_entry : Profile → ℕ → Bool → CsvRecord → Result Entry Reason
 checked_entry profile width repeated row = entry_or_reason (first_broken_rule profile width repeated row) (entry_of row)
+
+-- the file of which a record says this
+abbrev pub entry_with : NamedFile → Entry
+entry_with named = record { role = named.role; name = named.name.now; file = named.file.now; span = named.span }

@@ -11,7 +11,7 @@ use Rattle.package_check.specs.Reports.{ReportView}
 use Rattle.package_check.specs.SoundnessAsRead.{drilled_in}
 use Rattle.package_check.specs.declared.FileSum.{FileSum}
 use Rattle.package_check.specs.declared.FileSum.TheVariants as sum
-use Rattle.package_check.specs.declared.judged.Judged.{Judged}
+use Rattle.package_check.specs.declared.checking.Judged.{Judged}
 use Rattle.package_check.specs.declared.slots.Kept.{Kept}
 
 -- what is left of a file: its counts, and the findings of rings on its layer

@@ -10,7 +10,7 @@ use Rattle.report.specs.Causes.{lack_of}
 use Rattle.report.specs.declared.RingCause.{RingCause}
 use Rattle.report.specs.declared.BoardReport.{BoardReport}
 use Rattle.report.specs.declared.Acceptances.{Acceptances}
-use Rattle.print_text.specs.declared.particulars.Particulars.{Particulars}
+use Rattle.print_text.specs.declared.report_text.Particulars.{Particulars}
 use Rattle.print_json.specs.Packages.{fewer_value, file_values, finding_values}
 use Rattle.print_json.specs.Values.{array_of, cause_word, flash_of, or_null, least_gap_value, meets_value, picometres, ring_of, row_value, rules_value, scale_value, whole, acceptance_value, word}
 

@@ -90,7 +90,7 @@ const ANSWERS: [(&[&str], Status, &str); 17] = [
     (
         &["measure", "f.csv"],
         Status::Device,
-        "device file=1 name=top\n  boards, the file of top, is a folder: the manifest names files\n",
+        "device file=1 name=top\n  boards, the file of top, is a folder: a manifest must name files\n",
     ),
     (
         &["check", "--ring", "0.125", "--gap", "0.25", "a.zip"],
@@ -189,7 +189,7 @@ fn with_archive(alloc: Global, line: &str, page: &str) -> Result<String, AllocEr
 /// The refusal of an archive says that it is one, above the page of its reason.
 #[test]
 fn refused_archives_are_told(rt: HostRuntime) -> Result<(), Failure> {
-    let page = explanations::explanation("BadManifest").ok_or("no page")?;
+    let page = ringcheck_files::explanation("BadManifest").ok_or("no page")?;
     for &(words, line) in &REFUSED {
         let text = with_archive(rt.alloc(), line, page)?;
         assert!(rt;

@@ -81,27 +81,10 @@ fn refuses_bare(alloc: Global, text: &str) -> bool {
 /// A report's refusal has the page of its reason below.
 #[test]
 fn refusals_come_with_their_page(rt: HostRuntime) -> Result<(), Failure> {
-    let page = explanations::explanation("NoFormat").ok_or("no page")?;
+    let page = ringcheck_files::explanation("NoFormat").ok_or("no page")?;
     let text = refusal_with_page(rt.alloc(), page)?;
     assert!(rt; refuses_bare(rt.alloc(), text.as_str()));
     Ok(())
-}
-
-const COMMANDS: [&str; 2] = ["show", "rewrite"];
-
-/// Whether a command refuses a kind, and loads no file.
-fn refuses_kind(alloc: Global, command: &str) -> bool {
-    let mut shelf = Shelf::new(&[("top.gbr", LAYER)]);
-    let words = [command, "--kind", "via", "top.gbr"];
-    let text = "usage reason=BadRole\n";
-    prints(alloc, &mut shelf, &words, Status::Usage, text) && shelf.calls == 0
-}
-
-#[test]
-fn a_kind_is_read_before_its_file(rt: HostRuntime) {
-    for &command in &COMMANDS {
-        assert!(rt; refuses_kind(rt.alloc(), command), "{command}");
-    }
 }
 
 const NO_PROFILES: [&str; 6] = ["", "Strict", "WIDE", "loose", "wide ", "strict,wide"];
@@ -139,7 +122,7 @@ fn refuses_table(alloc: Global, word: &str, text: &str) -> bool {
 
 /// What is printed where a word names no profile.
 fn profile_refusal(alloc: Global, word: &str) -> Result<String, AllocError> {
-    format!(in alloc; "usage reason=BadRole\n  --profile is strict or wide, not {word}\n")
+    format!(in alloc; "usage reason=BadRole\n  --profile must be strict or wide, not {word}\n")
 }
 
 #[test]

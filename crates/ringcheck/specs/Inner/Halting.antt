@@ -1,7 +1,8 @@
 -- Why nothing is done with a package, and what its printing says.
-use Rattle.std.specs.Prelude.{◌≡◌, ℕ, Bool, List, Option, Some, None, Result, Ok, Err}
+use Rattle.std.specs.Prelude.{◌≡◌, ℕ, Bool, false, List, Option, Some, None, Result, Ok, Err}
 use Rattle.std.specs.Global.{Vec}
 use Rattle.grid_units.specs.declared.fault.Fault.{Fault}
+use Rattle.grid_units.specs.declared.fault.Reason.{Reason}
 use Rattle.grid_units.specs.declared.profile.Profile.{Profile}
 use Rattle.manifest.specs.declared.Entry.{Entry}
 use Rattle.package_check.specs.Package.{FileView}
@@ -10,13 +11,16 @@ use Rattle.ringcheck_files.specs.declared.Status.{Status}
 use Rattle.ringcheck_files.specs.declared.Status.TheVariants as status
 use Rattle.ringcheck.specs.declared.refusals.Halt.{Halt}
 use Rattle.ringcheck.specs.declared.refusals.Halt.TheVariants as halt
+use Rattle.ringcheck.specs.declared.refusals.NoTable.{NoTable}
+use Rattle.ringcheck.specs.declared.refusals.NoTable.TheVariants as none
 use Rattle.ringcheck.specs.declared.refusals.RefusalStyle.{RefusalStyle}
+use Rattle.ringcheck.specs.declared.refusals.Sought.{Sought}
 use Rattle.ringcheck.specs.declared.refusals.Subject.{Subject}
 use Rattle.ringcheck.specs.declared.refusals.Subject.TheVariants as subject
 use Rattle.std.specs.Io.KnownBytes.{Appends}
 use Rattle.ringcheck.specs.Sentences.{unread_text}
-use Rattle.ringcheck.specs.Refusals.{Refusal, PrintsRefusal, of_archive, of_file, of_manifest, of_waivers}
-use Rattle.ringcheck.specs.CheckStatus.{HasFiles, HasTable, RefusedAmong, RefusedFile, RefusedTable, sources}
+use Rattle.ringcheck.specs.Refusals.{Refusal, PrintsRefusal, of_archive, of_file, of_manifest, of_role, of_waivers}
+use Rattle.ringcheck.specs.CheckStatus.{HasFiles, HasTable, RefusedAmong, RefusedFile, RefusedTable, is_of_role, sources}
 
 -- the refusal of a subject, with its fault
 abbrev pub refusal : Subject → Fault → Refusal
@@ -44,20 +48,45 @@ IsUnreadAt (halt.Unread subject.Manifest) index = ⊥
 IsUnreadAt (halt.Unread subject.Waivers) index = ⊥
 IsUnreadAt (halt.Unread (subject.File at name)) index = at ≡ index
 
--- what a status says where a halt was printed in this style; what cannot be read was looked for by this name, and may be a folder
-abbrev pub AfterHalt : RefusalStyle → Halt → List ℕ → Bool → Option (List ℕ) → Option (List ℕ) → Status → Type 0
-AfterHalt refusal_style (halt.Refused what why) path folder before after s = (s ≡ status.Refused) × PrintsRefusal refusal_style (refusal what why) before after
-AfterHalt refusal_style (halt.Archive what why name) path folder before after s = (s ≡ status.Refused) × PrintsRefusal refusal_style (of_archive name.now (refusal what why)) before after
-AfterHalt refusal_style (halt.Unread what) path folder before after s = (s ≡ status.Device) × Appends before after (unread_text refusal_style what path folder)
+-- the writer got just the text of something that cannot be read, in this style; it was looked for by this name
+abbrev pub PrintsUnread : RefusalStyle → Subject → List ℕ → Option (List ℕ) → Option (List ℕ) → Type 0
+PrintsUnread refusal_style what path before after = (sought : Sought) × (sought.path.now ≡ path) × Appends before after (unread_text refusal_style what sought)
+
+-- what a status says where a halt was printed in this style; what cannot be read was looked for by this name
+abbrev pub AfterHalt : RefusalStyle → Halt → List ℕ → Option (List ℕ) → Option (List ℕ) → Status → Type 0
+AfterHalt refusal_style (halt.Refused what why) path before after s = (s ≡ status.Refused) × PrintsRefusal refusal_style (refusal what why) before after
+AfterHalt style (halt.Archive what why name) path before after s = (s ≡ status.Refused) × PrintsRefusal style (of_archive name.now (refusal what why)) before after
+AfterHalt refusal_style (halt.Unread what) path before after s = (s ≡ status.Device) × PrintsUnread refusal_style what path before after
+
+-- a manifest is refused for this reason because of the role of a record
+abbrev pub is_role_of : Subject → Reason → Bool
+is_role_of subject.Manifest reason = is_of_role reason
+is_role_of subject.Waivers reason = false
+is_role_of (subject.File index name) reason = false
+
+-- the refusal of what is no table; none where something cannot be read
+abbrev pub refusal_of_table : NoTable → Option Refusal
+refusal_of_table (none.Halted halt) = refusal_of halt
+refusal_of_table (none.Role why row) = Some (of_role row.role row.file why)
+
+-- what is said where there is no table: `Is` of the refusal, or `Risen` where something cannot be read
+abbrev pub HaltsTable : (Refusal → Type 0) → Type 0 → NoTable → Type 0
+HaltsTable Is Risen (none.Halted halt) = Halts Is Risen halt
+HaltsTable Is Risen (none.Role why row) = Is (of_role row.role row.file why)
+
+-- what a status says where it was printed in this style why there is no table; what cannot be read was looked for by this name
+abbrev pub AfterNoTable : RefusalStyle → NoTable → List ℕ → Option (List ℕ) → Option (List ℕ) → Status → Type 0
+AfterNoTable refusal_style (none.Halted halt) path before after s = AfterHalt refusal_style halt path before after s
+AfterNoTable style (none.Role why row) path before after s = (s ≡ status.Refused) × PrintsRefusal style (of_role row.role row.file why) before after
 
 -- the refusal of the table under a name
 abbrev pub RefusesTable : {A : Type 0} → (List ℕ → Result (List A) Fault) → Relation → List ℕ → Subject → Refusal → Type 0
 RefusesTable parse has name what why = RefusedTable parse (refusal what) has name why
 
 -- what came of the table under a name: its rows, or why there are none
-abbrev pub OfTable : {A : Type 0} → (List ℕ → Result (List A) Fault) → Relation → List ℕ → Subject → Type 0 → Result (Vec A) Halt → Type 0
+abbrev pub OfTable : {A : Type 0} → (List ℕ → Result (List A) Fault) → Relation → List ℕ → Subject → Type 0 → Result (Vec A) NoTable → Type 0
 OfTable parse has name what Risen (Ok rows) = HasTable parse has name rows.items
-OfTable parse has name what Risen (Err halt) = Halts (RefusesTable parse has name what) Risen halt
+OfTable parse has name what Risen (Err no_table) = HaltsTable (RefusesTable parse has name what) Risen no_table
 
 -- what came of the files of these entries in this profile: they are loaded and `Holds` is true of them, or one of them is refused or cannot be read
 abbrev pub OfFiles : {A : Type 0} → Relation → Profile → List Entry → Type 0 → (A → List FileView → Type 0) → Result A Halt → Type 0

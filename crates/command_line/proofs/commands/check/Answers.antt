@@ -8,4 +8,5 @@ returns c =
     let ring = c.in_ok-arg.ensures.shape c.ring_arg.ensures.global ∙ ap₂ with_rule c.new_command.ensures c.ring_arg.ensures.rule in
     let gap = c.in_ok-arg-2.ensures.shape c.gap_arg.ensures.global ∙ ap₂ with_rule ring c.gap_arg.ensures.rule in
     let profile = c.in_ok-arg-3.ensures.shape c.profile_arg.ensures.global ∙ ap₂ with_rule gap c.profile_arg.ensures.rule in
-    IfOk-weaker c.arg-4.result _ _ (λ x h. h.shape c.required_arg.ensures.global ∙ ap₂ with_rule profile c.required_arg.ensures.rule) c.arg-4.ensures
+    let folder = c.in_ok-arg-4.ensures.shape c.folder_arg.ensures.global ∙ ap₂ with_rule profile c.folder_arg.ensures.rule in
+    IfOk-weaker c.arg-5.result _ _ (λ x h. h.shape c.required_arg.ensures.global ∙ ap₂ with_rule folder c.required_arg.ensures.rule) c.arg-5.ensures

@@ -9,4 +9,5 @@ returns c =
     let gap = c.in_ok-arg-2.ensures.shape c.optional_option_arg-2.ensures.global ∙ ap₂ with_rule ring c.optional_option_arg-2.ensures.rule in
     let profile = c.in_ok-arg-3.ensures.shape c.profile_arg.ensures.global ∙ ap₂ with_rule gap c.profile_arg.ensures.rule in
     let outline = c.in_ok-arg-4.ensures.shape c.optional_option_arg-3.ensures.global ∙ ap₂ with_rule profile c.optional_option_arg-3.ensures.rule in
-    IfOk-weaker c.arg-5.result _ _ (λ x h. h.shape c.required_arg.ensures.global ∙ ap₂ with_rule outline c.required_arg.ensures.rule) c.arg-5.ensures
+    let folder = c.in_ok-arg-5.ensures.shape c.folder_arg.ensures.global ∙ ap₂ with_rule outline c.folder_arg.ensures.rule in
+    IfOk-weaker c.arg-6.result _ _ (λ x h. h.shape c.required_arg.ensures.global ∙ ap₂ with_rule folder c.required_arg.ensures.rule) c.arg-6.ensures

@@ -1,8 +1,7 @@
-use Rattle.drill_text.proofs.ProfileLemmas.{shows_strictly, strictly_shows, reads_strictly, strictly_reads}
 use Rattle.drill_text.proofs.laws.strict_profile.Goals as goal
 
 pub returns-clause-shown : goal.returns-clause-shown
-returns-clause-shown c text a = (shows_strictly text a, strictly_shows text a)
+returns-clause-shown c text a = (λ h. h, λ h. h)
 
 pub returns-clause-read : goal.returns-clause-read
-returns-clause-read c text a = (reads_strictly text a, strictly_reads text a)
+returns-clause-read c text a = (λ h. h, λ h. h)

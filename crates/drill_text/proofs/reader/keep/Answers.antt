@@ -2,20 +2,20 @@ use Rattle.std.proofs.Common.{◌≡◌, [], ◌∷◌, ◌++◌, Some, Err, sym
 use Rattle.grid_units.specs.Results.{IfFault, with_place}
 use Rattle.grid_units.specs.declared.item_fail.ItemFail.{ItemFail}
 use Rattle.drill_text.specs.Plating.{rule_in}
-use Rattle.drill_text.specs.Reading.{checked_by}
-use Rattle.drill_text.specs.Inner.JudgeSteps.{JudgesOrRefuses}
+use Rattle.drill_text.specs.Profiles.{checked_by}
+use Rattle.drill_text.specs.Inner.StateSteps.{AppliesOrRefuses}
 use Rattle.drill_text.proofs.SpelledLemmas.{checked_kept, checked_broken}
 use Rattle.drill_text.proofs.reader.keep.Goals as goal
 
 pub returns-in-Ok : goal.returns-in-Ok
 returns-in-Ok c plating keep before has_read =
-    let k = c.in-Ok.ensures plating before has_read.is_judge in (
+    let k = c.in-Ok.ensures plating before has_read.is_state in (
       before ++ c.args.command ∷ [],
       checked_kept plating before c.args.place c.args.byte c.args.command k.0,
-      record { is_judge = k.1; keeps = c.in_ok-add-in-Ok.ensures keep before has_read.keeps },
+      record { is_state = k.1; keeps = c.in_ok-add-in-Ok.ensures keep before has_read.keeps },
     )
 
 pub returns : goal.returns
 returns c plating keep before has_read =
     subst (IfFault (λ f. with_place c.args.place c.args.byte (checked_by (rule_in plating) before (Some c.args.command)) ≡ Err f)) (sym c.refusal.ensures)
-    (checked_broken plating before c.args.place c.args.byte c.args.command c.in-Err-Refused.reason (subst (λ (e : ItemFail). JudgesOrRefuses plating before c.args.command c.step.new.self (Err e)) c.in-Err-Refused.field-0-is (c.in-Err-Refused.ensures plating before has_read.is_judge)))
+    (checked_broken plating before c.args.place c.args.byte c.args.command c.in-Err-Refused.reason (subst (λ (e : ItemFail). AppliesOrRefuses plating before c.args.command c.step.new.self (Err e)) c.in-Err-Refused.field-0-is (c.in-Err-Refused.ensures plating before has_read.is_state)))

@@ -4,7 +4,7 @@ use Rattle.ringcheck.specs.declared.refusals.Subject.TheVariants as subject
 use Rattle.ringcheck.specs.Inner.Halting.{RefusesTable}
 use Rattle.ringcheck.specs.Inner.Jobs.{Holds, SaysJob, job_profile, job_style}
 use Rattle.ringcheck.specs.CheckStatus.{RefusedFile, refused_file, refused_manifest, sources}
-use Rattle.ringcheck.proofs.Outcomes.{file_along, files_along, halted, listed_along, risen_since, worked}
+use Rattle.ringcheck.proofs.Outcomes.{file_along, files_along, halted, listed_along, risen_since, table_halted, worked}
 use Rattle.ringcheck.proofs.OutlinedReports.{holds_along}
 use Rattle.ringcheck.proofs.packages.run_job.Goals as goal
 
@@ -14,11 +14,11 @@ returns-in-Err-clause-says g c =
     let failed = g.L.Loader.failed in
     let job = c.args.job.now in
     let before = g.W.Write.contents c.args.out.now in
-    let after = g.W.Write.contents c.print_halt.new.out in
-    halted (RefusesTable (manifest_in (job_profile job)) has c.args.name.now subject.Manifest) (HasRisen (failed c.args.loader.now) (failed c.load_table.new.loader)) (job_style job) c.args.name.now c.is_unread_folder-is_folder.result before after
+    let after = g.W.Write.contents c.print_no_table.new.out in
+    table_halted (RefusesTable (manifest_in (job_profile job)) has c.args.name.now subject.Manifest) (HasRisen (failed c.args.loader.now) (failed c.load_table.new.loader)) (job_style job) c.args.name.now before after
     (SaysJob job has c.args.name.now before after) (λ risen. tt)
     (λ why is printed. record { why = why; refused = refused_manifest is; printed = printed })
-    c.in-Err.halt (rw (c.in-Err.is, c.profile.ensures) at c.in_ok-entries.ensures.loaded) c.print_halt.result (rw c.style.ensures at c.print_halt.ensures)
+    c.in-Err.no_table (rw (c.in-Err.is, c.profile.ensures) at c.in_ok-entries.ensures.loaded) c.print_no_table.result (rw c.style.ensures at c.print_no_table.ensures)
 
 pub returns-in-Ok-2-clause-says : goal.returns-in-Ok-2-clause-says
 returns-in-Ok-2-clause-says g c =
@@ -42,14 +42,14 @@ returns-clause-says g c =
     let failed = g.L.Loader.failed in
     let job = c.args.job.now in
     let before = g.W.Write.contents c.args.out.now in
-    let after = g.W.Write.contents c.print_halt-in-Err-2.new.out in
+    let after = g.W.Write.contents c.print_halt.new.out in
     let entries = c.in-Ok.entries.items in
     let listed = rw (c.in-Ok.is, c.profile.ensures) at c.in_ok-entries.ensures.loaded in
     let silent = rw c.in-Err-2.is at c.in_ok-passes.ensures.silent in
-    halted (RefusedFile later (job_profile job) entries) (HasRisen (failed c.load_table.new.loader) (failed c.answer.new.loader)) (job_style job) c.path_of-path.result.now c.is_unread_folder-is_folder-in-Err-2.result before after
+    halted (RefusedFile later (job_profile job) entries) (HasRisen (failed c.load_table.new.loader) (failed c.answer.new.loader)) (job_style job) c.path_of-path.result.now before after
     (SaysJob job has c.args.name.now before after) (λ risen. tt)
     (λ why is printed. record { why = why; refused = refused_file entries listed (file_along later has c.in_ok-entries.ensures.keeps (job_profile job) entries why is); printed = printed })
-    c.in-Err-2.halt (rw (c.in-Err-2.is, c.as_slice.ensures.value) at c.in_ok-passes.ensures.answers (listed_along has later c.in_ok-entries.ensures.kept (job_profile job) c.args.name.now entries listed)) c.print_halt-in-Err-2.result (rw (c.style-in-Err-2.ensures, silent) at c.print_halt-in-Err-2.ensures)
+    c.in-Err-2.halt (rw (c.in-Err-2.is, c.as_slice.ensures.value) at c.in_ok-passes.ensures.answers (listed_along has later c.in_ok-entries.ensures.kept (job_profile job) c.args.name.now entries listed)) c.print_halt.result (rw (c.style-in-Err-2.ensures, silent) at c.print_halt.ensures)
 
 pub returns-clause-cause : goal.returns-clause-cause
 returns-clause-cause g c =
@@ -58,11 +58,11 @@ returns-clause-cause g c =
     let failed = g.L.Loader.failed in
     let job = c.args.job.now in
     let before = g.W.Write.contents c.args.out.now in
-    let after = g.W.Write.contents c.print_halt-in-Err-2.new.out in
+    let after = g.W.Write.contents c.print_halt.new.out in
     let entries = c.in-Ok.entries.items in
     let listed = rw (c.in-Ok.is, c.profile.ensures) at c.in_ok-entries.ensures.loaded in
     let silent = rw c.in-Err-2.is at c.in_ok-passes.ensures.silent in
-    halted (RefusedFile later (job_profile job) entries) (HasRisen (failed c.load_table.new.loader) (failed c.answer.new.loader)) (job_style job) c.path_of-path.result.now c.is_unread_folder-is_folder-in-Err-2.result before after
+    halted (RefusedFile later (job_profile job) entries) (HasRisen (failed c.load_table.new.loader) (failed c.answer.new.loader)) (job_style job) c.path_of-path.result.now before after
     (HasCause (failed c.args.loader.now) (failed c.answer.new.loader))
     (risen_since (failed c.args.loader.now) (failed c.load_table.new.loader) (failed c.answer.new.loader) c.in_ok-entries.ensures.counts) (λ why is printed. tt)
-    c.in-Err-2.halt (rw (c.in-Err-2.is, c.as_slice.ensures.value) at c.in_ok-passes.ensures.answers (listed_along has later c.in_ok-entries.ensures.kept (job_profile job) c.args.name.now entries listed)) c.print_halt-in-Err-2.result (rw (c.style-in-Err-2.ensures, silent) at c.print_halt-in-Err-2.ensures)
+    c.in-Err-2.halt (rw (c.in-Err-2.is, c.as_slice.ensures.value) at c.in_ok-passes.ensures.answers (listed_along has later c.in_ok-entries.ensures.kept (job_profile job) c.args.name.now entries listed)) c.print_halt.result (rw (c.style-in-Err-2.ensures, silent) at c.print_halt.ensures)

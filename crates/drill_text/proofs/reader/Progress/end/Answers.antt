@@ -21,5 +21,5 @@ returns-clause-results_in c p keep text h =
     let unequal : vec_len old.line ≢ 0 = eqb-false (vec_len old.line) 0 (sym c.if-is_empty.ensures) in
     let some : 0 < length line = omega (arith, old.line.ok.0, unequal) in
     let read = c.parse_line.ensures p keep h.lines h.commands place h.start h.has_read in
-    rest_results c.parse_line.result c.parse_line.new.reader c.parse_line.new.judge c.parse_line.new.kept p keep h.lines line (spelled_in p h.lines line h.commands) (with_rest p h.lines line h.commands) (rest_is_line p h.lines line h.commands some)
-    (subst (λ (b : List ℕ). ResultsInLine c.parse_line.result c.parse_line.new.reader c.parse_line.new.judge c.parse_line.new.kept p keep h.lines b (spelled_in p h.lines b h.commands)) c.deref.ensures.value read)
+    rest_results c.parse_line.result c.parse_line.new.reader c.parse_line.new.state c.parse_line.new.kept p keep h.lines line (spelled_in p h.lines line h.commands) (with_rest p h.lines line h.commands) (rest_is_line p h.lines line h.commands some)
+    (subst (λ (b : List ℕ). ResultsInLine c.parse_line.result c.parse_line.new.reader c.parse_line.new.state c.parse_line.new.kept p keep h.lines b (spelled_in p h.lines b h.commands)) c.deref.ensures.value read)

@@ -4,8 +4,7 @@ use Rattle.std.specs.List.{list_any}
 use Rattle.grid_units.specs.Results.{Answers, fault}
 use Rattle.grid_units.specs.declared.fault.Reason.TheVariants.{Truncated}
 use Rattle.drill_text.specs.Outcome.{DrillFile, file_of}
-use Rattle.drill_text.specs.Reading.{is_finish, place_after_count}
-use Rattle.drill_text.specs.Profiles.{ReadsBy, ReadsAsBy}
+use Rattle.drill_text.specs.Profiles.{ReadsAsBy, ReadsBy, is_finish, place_after_count}
 use Rattle.drill_text.proofs.FinishLemmas.{reads_fault, reads_ended, reads_truncated}
 use Rattle.drill_text.proofs.reader.Progress.finish.Goals as goal
 
@@ -28,7 +27,7 @@ returns c p keep text h =
     let new = c.end.new.self in
     let none : list_any is_finish k.0 ≡ false = sym k.2.keeps.finished ∙ (sym c.is_finished.ensures ∙ c.if-is_finished.false) in
     let place : c.place_after.result ≡ place_after_count self.lines self.line.items = c.place_after.ensures ∙ (ap (λ n. place_after_count n new.line.items) same.0 ∙ ap (place_after_count self.lines) same.1) in
-    subst (λ e. Answers (λ (d : DrillFile). d) (ReadsAsBy p (file_of keep) text) (Err e)) (sym c.refusal.ensures)
+    subst (λ e. Answers (λ (d : DrillFile). d) (ReadsAsBy p (file_of p.plating keep) text) (Err e)) (sym c.refusal.ensures)
     (subst (λ n. ReadsBy p text (Err (fault n new.offset Truncated))) (sym place)
     (subst (λ b. ReadsBy p text (Err (fault (place_after_count self.lines self.line.items) b Truncated))) (sym same.2)
     (reads_truncated self text h k.0 self.in_text k.1 none)))

@@ -12,7 +12,7 @@ returns c =
       commands = [];
       splits = subst (λ (x : List ℕ). Splits [] [] x) (sym none) (record { whole = refl; each = tt; partial = tt });
       spelled = ap (shown_by (record { profile = c.args.profile; plating = c.args.plating }) []) none;
-      has_read = record { lines = c.new.ensures (settings_after []); has_read = record { is_judge = c.new-2.ensures; keeps = c.new-3.ensures } };
+      has_read = record { lines = c.new.ensures (settings_after []); has_read = record { is_state = c.new-2.ensures; keeps = c.new-3.ensures } };
       count = refl;
       start = refl;
       offset = refl;

@@ -16,8 +16,7 @@ use Rattle.drill_text.specs.Inner.FastPath.{HasLeadingHit}
 use Rattle.drill_text.specs.Lines.{bytes_of}
 use Rattle.drill_text.specs.Lookback.{settings_after}
 use Rattle.drill_text.specs.Plating.{rule_in}
-use Rattle.drill_text.specs.Reading.{checked_by}
-use Rattle.drill_text.specs.Profiles.{Kind, spelled_in}
+use Rattle.drill_text.specs.Profiles.{Kind, checked_by, spelled_in}
 use Rattle.drill_text.specs.Holding.{Holds, Refuses}
 use Rattle.drill_text.proofs.ProfileLemmas.{spelled_in_is}
 use Rattle.drill_text.proofs.SpelledLemmas.{settings_are, lines_more}
@@ -33,15 +32,15 @@ prefix point len bytes h =
     sym (ap (take (len + 1)) whole ∙ take_at (h.line ++ 10 ∷ []) h.more (len + 1) count)
 
 -- the line spells the hit in each profile, and the reader of lines stays as it is
-reads_hit : (old : Progress) (point : Coordinates) (len : ℕ) (bytes : List ℕ) (leads : HasLeadingHit point len bytes) (p : Kind) (keep : Keep) (text : List ℕ) (h : Holds old p keep text) → old.judge.state.settings.part ≡ part.Body → old.reader.route ≡ route.Free false
+reads_hit : (old : Progress) (point : Coordinates) (len : ℕ) (bytes : List ℕ) (leads : HasLeadingHit point len bytes) (p : Kind) (keep : Keep) (text : List ℕ) (h : Holds old p keep text) → old.state.settings.part ≡ part.Body → old.reader.route ≡ route.Free false
     → ReadsLine (Ok (Some (Hit point))) old.reader p.profile (settings_after h.commands) (map trimmed h.lines) (trimmed leads.line)
 reads_hit old point len bytes leads p keep text h body drilling =
-    let settings = settings_are old.judge.state h.commands h.has_read.has_read.is_judge.is_state in
+    let settings = settings_are old.state p.plating h.commands h.has_read.has_read.is_state in
     let inside : (settings_after h.commands).part ≡ part.Body = ap (λ (s : Settings). s.part) (sym settings) ∙ body in
     drilling_line old.reader p.profile (settings_after h.commands) (map trimmed h.lines) (trimmed leads.line) (Some (Hit point)) h.has_read.lines drilling (leads.spells (settings_after h.commands) inside)
 
 -- it is judged as the hit
-judged : (old : Progress) (point : Coordinates) (len : ℕ) (bytes : List ℕ) (leads : HasLeadingHit point len bytes) (p : Kind) (keep : Keep) (text : List ℕ) (h : Holds old p keep text) → old.judge.state.settings.part ≡ part.Body → old.reader.route ≡ route.Free false
+judged : (old : Progress) (point : Coordinates) (len : ℕ) (bytes : List ℕ) (leads : HasLeadingHit point len bytes) (p : Kind) (keep : Keep) (text : List ℕ) (h : Holds old p keep text) → old.state.settings.part ≡ part.Body → old.reader.route ≡ route.Free false
     → spelled_in p h.lines leads.line h.commands ≡ with_place (old.lines + 1) old.start (checked_by (rule_in p.plating) h.commands (Some (Hit point)))
 judged old point len bytes leads p keep text h body drilling =
     let short : length leads.line ≤ 1048576 = omega (arith, leads.count, leads.short) in

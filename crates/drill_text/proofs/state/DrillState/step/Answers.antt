@@ -8,16 +8,20 @@ use Rattle.drill_text.proofs.AppliedHoles.{judges_drilled}
 use Rattle.drill_text.proofs.state.DrillState.step.Goals as goal
 
 pub returns-in-Hit : goal.returns-in-Hit
-returns-in-Hit c before is_state =
+returns-in-Hit c kind before is_state =
     let old = c.args.self.now in
+    let s = state_of old in
     let p = c.in-Hit.point in
-    subst (λ (d : DrillCommand). AppliesOrRefuses before d c.drill_hit.new.self c.drill_hit.result) (sym c.in-Hit.is)
-    (judges_drilled old c.drill_hit.new.self before (command.Hit p) p no_point (path_between (state_of old) p no_point) c.drill_hit.result is_state refl (hit_rule (state_of old) (length old.holes.items) p) (moved_one p (state_of old)) refl c.drill_hit.ensures)
+    subst (λ (d : DrillCommand). AppliesOrRefuses kind before d c.drill_hit.new.self c.drill_hit.result) (sym c.in-Hit.is)
+    (judges_drilled old c.drill_hit.new.self kind before (command.Hit p) p no_point (path_between s p no_point) c.drill_hit.result is_state
+    (record { path = refl; rule = hit_rule s (length old.holes.items) p; moves = moved_one p s; defines = refl; makes = λ number. refl; drilled = refl; silent = refl; unheard = refl; hears = refl }) c.drill_hit.ensures)
 
 pub returns-in-Slot : goal.returns-in-Slot
-returns-in-Slot c before is_state =
+returns-in-Slot c kind before is_state =
     let old = c.args.self.now in
+    let s = state_of old in
     let p = c.in-Slot.first in
     let q = c.in-Slot.second in
-    subst (λ (d : DrillCommand). AppliesOrRefuses before d c.drill_slot.new.self c.drill_slot.result) (sym c.in-Slot.is)
-    (judges_drilled old c.drill_slot.new.self before (command.Slot p q) p q (path_between (state_of old) p q) c.drill_slot.result is_state refl (slot_rule (state_of old) (length old.holes.items) p q) (moved_two p q (state_of old)) refl c.drill_slot.ensures)
+    subst (λ (d : DrillCommand). AppliesOrRefuses kind before d c.drill_slot.new.self c.drill_slot.result) (sym c.in-Slot.is)
+    (judges_drilled old c.drill_slot.new.self kind before (command.Slot p q) p q (path_between s p q) c.drill_slot.result is_state
+    (record { path = refl; rule = slot_rule s (length old.holes.items) p q; moves = moved_two p q s; defines = refl; makes = λ number. refl; drilled = refl; silent = refl; unheard = refl; hears = refl }) c.drill_slot.ensures)

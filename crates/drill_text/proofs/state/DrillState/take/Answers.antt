@@ -1,14 +1,17 @@
-use Rattle.std.proofs.Common.{◌≡◌, refl, false, ◌++◌, Option, None, Some, is_some, nat_eq, rules, sym, ap, ◌∙◌}
-use Rattle.std.specs.Option.{option_to_list}
+use Rattle.std.proofs.Common.{◌≡◌, ℕ, refl, false, [], ◌∷◌, ◌++◌, Option, None, Some, is_some, nat_eq, rules, sym, ap, ◌∙◌}
+use Rattle.std.specs.Option.{option_map, option_to_list}
+use Rattle.std.proofs.lemmas.List.{map-append}
 use Rattle.indexmap.specs.IndexMap.{get}
 use Rattle.indexmap.proofs.CallerLemmas.{insert_entry-new}
 use Rattle.drill_lines.specs.declared.command.DrillCommand.{DrillCommand}
 use Rattle.drill_text.specs.Lookback.{tool_defined}
+use Rattle.drill_text.specs.Outcome.{diameter_of_tool, diameters}
 use Rattle.drill_text.specs.Rules.{redefines_tool}
+use Rattle.drill_text.specs.declared.platings.Tool.{Tool}
 use Rattle.drill_text.specs.Inner.StateSteps.{state_of}
 use Rattle.drill_text.proofs.state.DrillState.take.Goals as goal
 
-none : {A : Type 0} (o : Option A) → is_some o ≡ false → o ≡ None
+none : (o : Option Tool) → is_some (option_map diameter_of_tool o) ≡ false → o ≡ None
 none None e = refl
 none (Some x) e = absurd cc
 
@@ -19,7 +22,11 @@ returns-in_ok-insert-in-Tool c = record {
   tools = λ not_redefined.
       let state = c.args.self.now in
       let number = c.in-Tool.number in
-      c.in_ok-insert-in-Tool.ensures.entries
-      ∙ insert_entry-new nat_eq state.tools number c.in-Tool.diameter (none (get nat_eq state.tools number) (ap (redefines_tool (state_of state)) (sym c.in-Tool.is) ∙ not_redefined))
-      ∙ ap (λ (d : DrillCommand). state.tools.entries ++ option_to_list (tool_defined d)) (sym c.in-Tool.is);
+      let tool : Tool = record { diameter = c.in-Tool.diameter; plating = state.words.said } in
+      ap diameters (c.in_ok-insert-in-Tool.ensures.entries ∙ insert_entry-new nat_eq state.tools number tool (none (get nat_eq state.tools number) (ap (redefines_tool (state_of state)) (sym c.in-Tool.is) ∙ not_redefined)))
+      ∙ map-append (λ (entry : ℕ × Tool). (entry.0, diameter_of_tool entry.1)) state.tools.entries ((number, tool) ∷ [])
+      ∙ ap (λ (d : DrillCommand). diameters state.tools.entries ++ option_to_list (tool_defined d)) (sym c.in-Tool.is);
+  words = search rules;
+  platings = search rules;
+  plated = search rules;
 }

@@ -8,7 +8,7 @@ use Rattle.package_check.specs.Holding.{IsPutAt, ReadsInto, kept_at}
 use Rattle.package_check.specs.Judging.{Judges}
 use Rattle.package_check.specs.OpenFiles.{HasReadCopper}
 use Rattle.package_check.specs.Package.{unnamed_file}
-use Rattle.package_check.specs.declared.judged.Judged.{Judged}
+use Rattle.package_check.specs.declared.checking.Judged.{Judged}
 use Rattle.package_check.proofs.CheckSteps.{layer_put, puts_none, same_slots}
 use Rattle.package_check.proofs.checking.PackageCheck.put_file.Goals as goal
 

@@ -19,19 +19,19 @@ returns-in-Layer-clause-err c = λ keep of span setting text h.
 pub returns-in-Drill-clause-ok : goal.returns-in-Drill-clause-ok
 returns-in-Drill-clause-ok c = λ keep of span setting text h.
     let was = subst (λ (r : Reading). HasReadText keep of span setting r text) c.in-Drill.is h in
-    and_on _ c.feed-in-Drill.result was.0 was.1 (c.feed-in-Drill.ensures.ok_by (drill_kind setting.profile c.in-Drill.plated) _ text was.2)
+    and_on _ c.feed-in-Drill.result was.0 was.1 (c.feed-in-Drill.ensures.ok (drill_kind setting.profile c.in-Drill.plated) _ text was.2)
 
 pub returns-in-Drill-clause-err : goal.returns-in-Drill-clause-err
 returns-in-Drill-clause-err c = λ keep of span setting text h.
     let was = subst (λ (r : Reading). HasReadText keep of span setting r text) c.in-Drill.is h in
-    drill_errs c.readings_of_kinds.ensures.stays of c.in-Drill.plated span setting (text ++ c.args.piece.now) c.feed-in-Drill.result was.0 was.1 (c.feed-in-Drill.ensures.err_by (drill_kind setting.profile c.in-Drill.plated) _ text was.2)
+    drill_errs c.readings_of_kinds.ensures.stays of c.in-Drill.plated span setting (text ++ c.args.piece.now) c.feed-in-Drill.result was.0 was.1 (c.feed-in-Drill.ensures.err (drill_kind setting.profile c.in-Drill.plated) _ text was.2)
 
 pub returns-in-Mixed-clause-ok : goal.returns-in-Mixed-clause-ok
 returns-in-Mixed-clause-ok c = λ keep of span setting text h.
     let was = subst (λ (r : Reading). HasReadText keep of span setting r text) c.in-Mixed.is h in
-    and_on _ c.feed-in-Mixed.result was.0 was.1 (c.feed-in-Mixed.ensures.ok_by (mixed_in setting.profile) _ text was.2)
+    and_on _ c.feed-in-Mixed.result was.0 was.1 (c.feed-in-Mixed.ensures.ok (mixed_in setting.profile) _ text was.2)
 
 pub returns-in-Mixed-clause-err : goal.returns-in-Mixed-clause-err
 returns-in-Mixed-clause-err c = λ keep of span setting text h.
     let was = subst (λ (r : Reading). HasReadText keep of span setting r text) c.in-Mixed.is h in
-    mixed_errs c.readings_of_kinds.ensures.stays of span setting (text ++ c.args.piece.now) c.feed-in-Mixed.result was.0 was.1 (c.feed-in-Mixed.ensures.err_by (mixed_in setting.profile) _ text was.2)
+    mixed_errs c.readings_of_kinds.ensures.stays of span setting (text ++ c.args.piece.now) c.feed-in-Mixed.result was.0 was.1 (c.feed-in-Mixed.ensures.err (mixed_in setting.profile) _ text was.2)

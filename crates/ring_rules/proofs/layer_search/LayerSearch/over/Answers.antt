@@ -4,7 +4,6 @@ use Rattle.grid_units.specs.Holes.{GridRules}
 use Rattle.ring_rules.specs.Findings.{is_ring_finding}
 use Rattle.ring_rules.specs.Search.{AreMarkedBy, HasTriedCoverings, IsSearchOver}
 use Rattle.ring_rules.specs.declared.finding.Drilled.{Drilled}
-use Rattle.ring_rules.specs.declared.layer_search.LayerSearch.{LayerSearch}
 use Rattle.ring_rules.proofs.layer_search.LayerSearch.over.Goals as goal
 
 -- what follows from three facts of a value

@@ -1,3 +1,0 @@
-pub mod LookupLemmas
-pub mod FirstFound
-pub mod ListedWords

@@ -1,5 +1,0 @@
-use Rattle.explanations.proofs.ListedWords.{page_of_known}
-use Rattle.explanations.proofs.explanation_in_any_case.Goals as goal
-
-pub returns-in-Some : goal.returns-in-Some
-returns-in-Some c = page_of_known c.args.word.now c.in-Some.known.now c.explanation.result c.in-Some.ensures c.explanation.ensures.known c.explanation.ensures.headed c.explanation.ensures.fits

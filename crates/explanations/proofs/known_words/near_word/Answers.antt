@@ -1,6 +1,0 @@
-use Rattle.grid_units.specs.Reasons.{reason_name}
-use Rattle.explanations.proofs.known_words.near_word.Goals as goal
-
-pub returns : goal.returns
-unfolding reason_name
-returns c = c.first_near.ensures

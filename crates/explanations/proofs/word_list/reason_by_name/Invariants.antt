@@ -1,7 +1,0 @@
-use Rattle.std.proofs.Common.{◌≢◌, All, take}
-use Rattle.grid_units.specs.Reasons.{reason_name}
-use Rattle.explanations.specs.Words.{all_reasons}
-use Rattle.explanations.proofs.word_list.reason_by_name.Given as goal
-
-abbrev pub invariant-loop-reason : goal.invariant-loop-reason
-invariant-loop-reason l = All (λ reason. reason_name reason ≢ l.word) (take l.reason-index all_reasons)

@@ -1,5 +1,0 @@
-use Rattle.explanations.proofs.LookupLemmas.{word_is_listed}
-use Rattle.explanations.proofs.word_list.words.Goals as goal
-
-pub returns-clause-each : goal.returns-clause-each
-returns-clause-each c = word_is_listed

@@ -1,0 +1,54 @@
+-- The commands that items spell are the sayable ones.
+use Rattle.std.proofs.Common.{◌≡◌, ℕ, Bool, true, false, cond, List, [], ◌∷◌, Ok, refl, sym, ◌∙◌, lit<}
+use Rattle.std.specs.Prelude.{All, filter}
+use Rattle.std.specs.List.{list_all}
+use Rattle.std.proofs.Math.Bool.{or-false}
+use Rattle.std.proofs.lemmas.List.Elements.{All-contains}
+use Rattle.std.proofs.lemmas.List.Sums.{AllPass-from_list_all}
+use Rattle.grid_units.proofs.BoolLemmas.{and_true}
+use Rattle.grid_units.specs.declared.profile.Profile.TheVariants.{Strict}
+use Rattle.gerber_commands.specs.declared.command.Command.{Command}
+use Rattle.gerber_commands.specs.Canonical.{canonical}
+use Rattle.gerber_text.specs.Items.{is_end_item}
+use Rattle.gerber_text.specs.Meaning.{meaning}
+use Rattle.gerber_text.specs.CutItems.{is_not_break, without_breaks, IsCutItem, IsSpelled}
+use Rattle.gerber_text.specs.Sayable.{is_sayable, is_finish}
+use Rattle.gerber_text.proofs.CanonicalParses.{parses}
+use Rattle.gerber_text.proofs.GrammarItems.{item_written, item_ends}
+use Rattle.gerber_text.proofs.WrittenIsSayable.{item_sayable}
+
+-- what a test keeps passes it
+pub filter_all : (p : ℕ → Bool) (xs : List ℕ) → list_all p (filter p xs) ≡ true
+filter_all p [] = refl
+filter_all p (x ∷ xs) = by (p x) refl (filter_all p xs)
+  where
+    by : (t : Bool) → p x ≡ t → list_all p (filter p xs) ≡ true → list_all p (cond t (x ∷ filter p xs) (filter p xs)) ≡ true
+    by true e h = and_true (p x) (list_all p (filter p xs)) e h
+    by false e h = h
+
+-- each command that an item spells is sayable
+pub said : (plotting : Bool) (item : List ℕ) (commands : List Command) → IsCutItem item → meaning plotting item ≡ Ok commands → All (λ c. is_sayable c ≡ true) commands
+said plotting item commands cut e = AllPass-from_list_all is_sayable commands (item_sayable plotting item commands (item_written Strict plotting item commands cut.one e) cut.kept cut.short)
+
+pub was_spelled : (c : Command) → IsSpelled c → is_sayable c ≡ true
+was_spelled c s = All-contains (λ (d : Command). is_sayable d ≡ true) s.commands c (said s.plotting s.item s.commands s.cut s.spells) s.among
+
+-- by its canonical item
+pub is_spelled : (c : Command) → is_sayable c ≡ true → IsSpelled c
+is_spelled c h =
+    let s = parses c h in
+    record {
+      plotting = false;
+      item = without_breaks (canonical c);
+      cut = record { one = s.one; kept = filter_all is_not_break (canonical c); short = s.short };
+      commands = c ∷ [];
+      spells = s.parses false;
+      among = (0, lit< tt, refl);
+    }
+
+-- which ends the text just where the command is Finish
+pub canonical_ends : (c : Command) → is_sayable c ≡ true → is_end_item (without_breaks (canonical c)) ≡ is_finish c
+canonical_ends c h =
+    let s = parses c h in
+    let item = without_breaks (canonical c) in
+    sym (item_ends Strict false item (c ∷ []) (item_written Strict false item (c ∷ []) s.one (s.parses false))) ∙ or-false (is_finish c)

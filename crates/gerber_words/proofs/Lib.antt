@@ -1,4 +1,0 @@
-pub mod FieldLemmas
-pub mod Written
-pub mod Exact
-pub mod GrammarExamples

@@ -1,4 +1,0 @@
-pub mod Inner
-pub mod Words
-pub mod Grammar
-pub mod Laws

@@ -1,0 +1,13 @@
+use Rattle.std.proofs.Common.{◌≡◌, ◌∙◌, rules, tests, List, ℕ, Bor}
+use Rattle.std.specs.List.{list_any}
+use Rattle.std.proofs.lemmas.Iterator.{YieldsList-from_slice}
+use Rattle.std.proofs.lemmas.Iterator.Search.{any_from_yields_List}
+use Rattle.manifest.specs.Names.{is_other_word}
+use Rattle.manifest.proofs.NamesLemmas.{any_map}
+use Rattle.manifest.proofs.decisions.has_other_word.Goals as goal
+
+pub returns : goal.returns
+returns c =
+    let any : c.any.result ≡ list_any (λ (word : Bor (List ℕ)). is_other_word word.now) c.args.stem.now =
+    any_from_yields_List (λ (word : Bor (List ℕ)). is_other_word word.now) _ _ c.any.result c.any.ensures.ran (YieldsList-from_slice c.args.stem.now c.iter.ensures.rest) (λ x b q k. search (rules, tests)) in
+    any ∙ any_map is_other_word (λ (word : Bor (List ℕ)). word.now) c.args.stem.now

@@ -1,0 +1,14 @@
+use Rattle.std.proofs.Common.{◌≡◌, ◌∙◌, rules, tests, List, ℕ, Bor}
+use Rattle.std.specs.List.{list_any}
+use Rattle.std.proofs.lemmas.Iterator.{YieldsList-from_slice}
+use Rattle.std.proofs.lemmas.Iterator.Search.{any_from_yields_List}
+use Rattle.manifest.specs.Contents.{contains}
+use Rattle.manifest.proofs.NamesLemmas.{any_map}
+use Rattle.manifest.proofs.file_names.has_part.Goals as goal
+
+pub returns : goal.returns
+returns c =
+    let word = c.args.word.now in
+    let any : c.any.result ≡ list_any (λ (part : Bor (List ℕ)). contains word part.now) c.args.parts.now =
+    any_from_yields_List (λ (part : Bor (List ℕ)). contains word part.now) _ _ c.any.result c.any.ensures.ran (YieldsList-from_slice c.args.parts.now c.iter.ensures.rest) (λ x b q k. search (rules, tests)) in
+    any ∙ any_map (λ part. contains word part) (λ (part : Bor (List ℕ)). part.now) c.args.parts.now

@@ -1,0 +1,11 @@
+use Rattle.std.proofs.Common.{rules, tests, not, ◌==◌, length}
+use Rattle.std.proofs.lemmas.Iterator.Consumers.{map_from_collect, YieldsList-at, YieldsList-from_filter}
+use Rattle.std.proofs.lemmas.Iterator.Splits.{YieldsList-from_slice_split}
+use Rattle.manifest.specs.Names.{is_word_byte}
+use Rattle.manifest.proofs.file_names.word_runs.Goals as goal
+
+pub returns : goal.returns
+returns c =
+    map_from_collect _ c.collect.ensures.ran (YieldsList-from_filter _ (λ run. not (length run == 0))
+    (YieldsList-at c.filter.ensures.source (YieldsList-from_slice_split _ (λ b. not (is_word_byte b)) c.args.name.now c.split.ensures.rest c.split.ensures.done c.split.ensures.closure (λ x b q k. search (rules, tests))))
+    c.filter.ensures.closure (λ x b q k. search (rules, tests)))

@@ -1,0 +1,12 @@
+use Rattle.std.proofs.Common.{◌≡◌, List, ℕ, take}
+use Rattle.std.specs.BTreeSet.{contains_by}
+use Rattle.std.specs.Cmp.Lexicographic.{slice_cmp}
+use Rattle.std.specs.Ordering.{nat_cmp}
+use Rattle.manifest.specs.ProposalList.{separate_proposals, is_named}
+use Rattle.manifest.proofs.proposal_list.propose_each.Given as goal
+
+abbrev pub invariant-loop-file : goal.invariant-loop-file
+invariant-loop-file l = record {
+  had : (name : List ℕ) → contains_by (λ k. slice_cmp nat_cmp name k.now) l.names ≡ is_named name (take l.file-index l.files);
+  proposed : l.list.items ≡ separate_proposals l.profile (take l.file-index l.files);
+}

@@ -1,0 +1,185 @@
+//! Which layers the copper files are, and which drill files name layers that they do not make clear.
+
+ghost use Rattle.std.specs.Prelude.{◌≡◌, IfOk, OnOk, Some, map};
+ghost use Rattle.std.specs.List.{count_by};
+ghost use Rattle.std.specs.List.Sorted.{IsNonDecreasing};
+ghost use Rattle.manifest.specs.Manifests as manifests;
+ghost use Rattle.manifest.specs.Stack as says;
+
+use crate::manifests::{is_copper, layers_of_role};
+use crate::model::{HoleKind, LayerRange, Proposal, ProposalReason, ProposedRole, StackPosition};
+use std::alloc::{AllocError, Global};
+
+/// Whether a file that is undecided for this reason may be a copper layer.
+fn may_be_copper(because: &ProposalReason) -> bool
+    ensures { result ≡ says.may_be_copper because.now }
+{
+    matches!(
+        because,
+        ProposalReason::Plane
+            | ProposalReason::NothingSays
+            | ProposalReason::ConflictingName
+            | ProposalReason::RepeatedLayer
+            | ProposalReason::NotRead
+            | ProposalReason::TooLong
+    )
+}
+
+/// Whether the last layer that is named lies beyond so many layers.
+fn exceeds_count(count: usize, span: Option<LayerRange>) -> bool
+    ensures { result ≡ says.exceeds_count count span }
+{
+    match span {
+        Some(span) => count < span.last as usize,
+        None => false,
+    }
+}
+
+/// Whether a file is a sign that so many copper files are not all.
+fn hints_at_missing(count: usize, file: &Proposal) -> bool
+    ensures { result ≡ says.hints_at_missing count file.now }
+{
+    may_be_copper(&file.because) || exceeds_count(count, layers_of_role(file.role))
+}
+
+/// How many copper files there are.
+fn copper_count(files: &[Proposal]) -> usize
+    ensures { result ≡ count_by manifests.is_copper files.now }
+{
+    files.iter().filter(|file| is_copper(file)).count()
+}
+
+/// Whether no file is a sign that a copper file is missing.
+fn is_copper_complete(count: usize, files: &[Proposal]) -> bool
+    requires { count ≡ count_by manifests.is_copper files.now }
+    ensures { result ≡ says.is_copper_complete files.now }
+{
+    !files.iter().any(|file| hints_at_missing(count, file))
+}
+
+/// The number of the layer at a place, from 1 at the top; 0 where it is not known. `here` says whether the copper files,
+/// `count` of them, are all here.
+fn layer_at_position(here: bool, count: usize, place: StackPosition) -> usize
+    ensures { result ≡ says.layer_at_position here count place }
+{
+    match place {
+        StackPosition::Numbered(n) => n as usize,
+        StackPosition::Top => 1,
+        StackPosition::Inner(n) if here => n as usize + 1,
+        StackPosition::Bottom if here => count,
+        StackPosition::Inner(_) | StackPosition::Unknown | StackPosition::Bottom => 0,
+    }
+}
+
+/// The number of the layer that a file is; 0 where it is no copper file, or where its layer is not known.
+fn layer_of_role(here: bool, count: usize, role: ProposedRole) -> usize
+    ensures { result ≡ says.layer_of_role here count role }
+{
+    match role {
+        ProposedRole::Copper(place) => layer_at_position(here, count, place),
+        _ => 0,
+    }
+}
+
+/// The number of the layer of each copper file, 0 where it is not known.
+fn copper_layers(alloc: Global, files: &[Proposal]) -> Result<Vec<usize>, AllocError>
+    ensures { IfOk result (λ layers. layers.items ≡ says.copper_layers files.now) }
+{
+    let count = copper_count(files);
+    let here = is_copper_complete(count, files);
+    files
+        .iter()
+        .filter(|file| is_copper(file))
+        .map(|file| layer_of_role(here, count, file.role))
+        .collect(alloc)
+}
+
+/// Whether sorted numbers are just those from 1 to their count, each once.
+fn ascend_from_one(numbers: &[usize]) -> bool
+    requires { IsNonDecreasing numbers.now }
+    ensures { result ≡ says.are_one_to_n numbers.now }
+{
+    for (index, number) in numbers.iter().enumerate() {
+        if *number != index + 1 {
+            return false;
+        }
+    }
+    true
+}
+
+/// Whether numbers, in any order, are just those from 1 to their count, each once.
+fn are_one_to_n(mut numbers: Vec<usize>) -> bool
+    ensures { result ≡ says.are_one_to_n numbers.items }
+{
+    numbers.sort_unstable();
+    ascend_from_one(&numbers)
+}
+
+/// Whether the copper files are the layers 1 to their number, each once.
+fn is_stack(alloc: Global, files: &[Proposal]) -> Result<bool, AllocError>
+    ensures { IfOk result (λ stack. stack ≡ says.is_stack files.now) }
+{
+    Ok(are_one_to_n(copper_layers(alloc, files)?))
+}
+
+/// Whether layers are a first one from 1 and a last one that is not below it, among so many.
+fn are_within_count(count: usize, layers: LayerRange) -> bool
+    ensures { result ≡ says.are_within_count count (Some layers) }
+{
+    1 <= layers.first && layers.first <= layers.last && layers.last as usize <= count
+}
+
+/// Whether holes from the top layer or not, to the bottom layer or not, are of a kind.
+fn is_of_kind(kind: HoleKind, top: bool, bottom: bool) -> bool
+    ensures { result ≡ says.is_of_kind kind top bottom }
+{
+    match kind {
+        HoleKind::Through => top && bottom,
+        HoleKind::Blind => top != bottom,
+        HoleKind::Buried => !top && !bottom,
+        HoleKind::Unsaid => true,
+    }
+}
+
+/// Whether layers are of the kind that their function says, among so many.
+fn fit_kind(count: usize, layers: LayerRange) -> bool
+    ensures { result ≡ says.fit_kind count layers }
+{
+    is_of_kind(
+        layers.kind,
+        layers.first == 1,
+        layers.last as usize == count,
+    )
+}
+
+/// Whether no layers are named, or the copper files are a stack and these are some of its layers, of the kind that is said.
+fn are_clear(stack: bool, count: usize, span: Option<LayerRange>) -> bool
+    ensures { result ≡ says.are_clear stack count span }
+{
+    match span {
+        Some(layers) => stack && are_within_count(count, layers) && fit_kind(count, layers),
+        None => true,
+    }
+}
+
+/// Makes a proposal undecided where it names layers that are not clear.
+fn check_layers(stack: bool, count: usize, file: &mut Proposal)
+    ensures { file.new ≡ says.layers_checked_in stack count file.old }
+{
+    if !are_clear(stack, count, layers_of_role(file.role)) {
+        file.role = ProposedRole::Undecided;
+        file.because = ProposalReason::UnclearLayers;
+    }
+}
+
+/// Makes each drill file undecided that names layers which the copper files do not make clear.
+pub(crate) fn check_all_layers(alloc: Global, files: &mut Vec<Proposal>) -> Result<(), AllocError>
+    ensures { OnOk result (files.new.items ≡ map (says.layers_checked files.old.items) files.old.items) }
+{
+    let count = copper_count(files);
+    let stack = is_stack(alloc, files)?;
+    for file in files.iter_mut() {
+        check_layers(stack, count, file);
+    }
+    Ok(())
+}

@@ -1,6 +1,0 @@
-use Rattle.std.proofs.Common.{◌≡◌, ℕ, ◌<◌, false, get_or}
-use Rattle.proposals.specs.Contents.{ends_function}
-use Rattle.proposals.proofs.contents.before_function_end.Given as goal
-
-abbrev pub invariant-loop-i : goal.invariant-loop-i
-invariant-loop-i l = (k : ℕ) → k < l.i → ends_function (get_or l.text k 0) ≡ false

@@ -1,5 +1,0 @@
-use Rattle.proposals.proofs.OmissionLemmas.{drill_kept, gerber_kept, others_kept, places_kept}
-use Rattle.proposals.proofs.laws.keeps_copper_and_holes.Goals as goal
-
-pub returns : goal.returns
-returns c = record { drill = drill_kept; gerber = gerber_kept; others = others_kept; places = places_kept }

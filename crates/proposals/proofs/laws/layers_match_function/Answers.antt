@@ -1,6 +1,0 @@
-use Rattle.proposals.proofs.FunctionLayers.{names_its_own}
-use Rattle.proposals.proofs.StackLemmas.{all_among, in_place}
-use Rattle.proposals.proofs.laws.layers_match_function.Goals as goal
-
-pub returns : goal.returns
-returns c = record { own = names_its_own; among = λ profile files entries in_manifest_order. all_among profile files entries in_manifest_order.permutation; placed = in_place }

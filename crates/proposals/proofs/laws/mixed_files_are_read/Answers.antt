@@ -1,5 +1,0 @@
-use Rattle.proposals.proofs.MixedFileLemmas.{mixed_is_read, never_alone}
-use Rattle.proposals.proofs.laws.mixed_files_are_read.Goals as goal
-
-pub returns : goal.returns
-returns c = record { strict = never_alone; wide = mixed_is_read }

@@ -1,8 +1,0 @@
-use Rattle.std.proofs.Common.{◌≡◌, ◌++◌, take, map, Bor}
-use Rattle.std.specs.List.{flat_map}
-use Rattle.proposals.specs.declared.model.Proposal.{Proposal}
-use Rattle.proposals.specs.Manifests.{entry_row}
-use Rattle.proposals.proofs.manifests.manifest_text.Given as goal
-
-abbrev pub invariant-loop-entry : goal.invariant-loop-entry
-invariant-loop-entry l = l.table ≡ l.initial.table ++ flat_map (λ (entry : Bor Proposal). entry_row l.spans (map (λ (e : Bor Proposal). e.now) l.entries) entry.now) (take l.entry-index l.entries)

@@ -1,5 +1,0 @@
-use Rattle.proposals.proofs.NamesLemmas.{short_none}
-use Rattle.proposals.proofs.names.+has_non_plated.Goals as goal
-
-pub returns-in_default : goal.returns-in_default
-returns-in_default t c = short_none c.args.words.now c.in_default.len_below

@@ -1,5 +1,0 @@
-use Rattle.std.proofs.Common.{length}
-use Rattle.proposals.proofs.names.+has_non_plated.Given as goal
-
-abbrev pub decreases-has_non_plated : goal.decreases-has_non_plated
-decreases-has_non_plated l = length l.words.now

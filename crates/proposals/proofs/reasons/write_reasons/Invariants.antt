@@ -1,7 +1,0 @@
-use Rattle.std.proofs.Common.{◌≡◌, ◌++◌, take}
-use Rattle.std.specs.List.{flat_map}
-use Rattle.proposals.specs.Manifests.{reason_row}
-use Rattle.proposals.proofs.reasons.write_reasons.Given as goal
-
-abbrev pub invariant-loop-file : goal.invariant-loop-file
-invariant-loop-file l = l.table ≡ l.initial.table ++ flat_map reason_row (take l.file-index l.proposals)

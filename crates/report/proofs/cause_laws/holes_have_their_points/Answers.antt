@@ -1,5 +1,0 @@
-use Rattle.report.proofs.HolePoints as points
-use Rattle.report.proofs.cause_laws.holes_have_their_points.Goals as goal
-
-pub returns : goal.returns
-returns c = points.holes_have_their_points

@@ -1,5 +1,0 @@
-use Rattle.report.proofs.RoundedDownLemma as rounding
-use Rattle.report.proofs.scale_laws.rounded_down.Goals as goal
-
-pub returns : goal.returns
-returns c = rounding.rounded_down

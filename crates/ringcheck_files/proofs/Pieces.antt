@@ -1,0 +1,68 @@
+-- Texts that are read in pieces, for flashes or holes alone.
+use Rattle.std.proofs.Common.{◌≡◌, ◌∙◌, ℕ, List, [], ◌++◌, Result, Ok, Err, ap, subst, append-nil}
+use Rattle.std.specs.Global.{Vec}
+use Rattle.grid_units.specs.declared.fault.Fault.{Fault}
+use Rattle.grid_units.specs.declared.fault.Fail.{Fail}
+use Rattle.grid_units.specs.declared.fault.Fail.TheVariants as fails
+use Rattle.grid_units.specs.declared.profile.Profile.{Profile}
+use Rattle.grid_units.specs.declared.profile.Profile.TheVariants.{Strict, Wide}
+use Rattle.grid_units.specs.Results.{Answers, IfFault}
+use Rattle.drill_text.specs.declared.kept.Keep.{Keep as DrillKeep}
+use Rattle.drill_text.specs.declared.platings.PlatingKind.TheVariants.{Stated}
+use Rattle.drill_text.specs.Outcome.{DrillFile, file_of}
+use Rattle.drill_text.specs.Profiles.{ReadsAsIn, ReadsIn, ShowsIn}
+use Rattle.drill_text.proofs.SpellsTextLemmas.{reads_drill_text}
+use Rattle.layer_image.specs.declared.keep.Keep.{Keep as LayerKeep}
+use Rattle.layer_image.specs.Layers.{LayerImage, ReadsKept, ReadsLayer}
+use Rattle.layer_image.specs.Holding.{ShowsLayerFault}
+use Rattle.wide_layers.specs.WideLayers.{ReadsWideLayer, WideImage}
+use Rattle.ringcheck_files.specs.Tables.{ReadsDrill, ShowsDrill, ShowsLayer, drill_table}
+
+-- ---- layers
+
+-- the fault that a layer's text shows so far is that of the whole text, whatever is kept of it
+pub layer_joined : (keep : LayerKeep) → ((text more : List ℕ) (f : Fault) → ShowsLayerFault text f → ReadsLayer (text ++ more) (Err f)) → (text more whole : List ℕ) (e : Fail) → text ++ more ≡ whole
+    → IfFault (ShowsLayerFault text) e → Answers {T = LayerImage} (λ layer. layer) (ReadsKept keep whole) (Err e)
+layer_joined keep law text more whole fails.Memory is h = tt
+layer_joined keep law text more whole (fails.Refused f) is h = subst (λ (t : List ℕ). ReadsLayer t (Err f)) is (law text more f h)
+
+pub layer_refused : (keep : LayerKeep) (bytes : List ℕ) (e : Fail) → Answers {T = LayerImage} (λ layer. layer) (ReadsKept keep bytes) (Err e) → Answers (λ (text : Vec ℕ). text.items) (ShowsLayer Strict bytes) (Err e)
+layer_refused keep bytes fails.Memory h = tt
+layer_refused keep bytes (fails.Refused f) h = h
+
+pub wide_layer_refused : (bytes : List ℕ) (e : Fail) → Answers {T = WideImage} (λ layer. layer) (ReadsWideLayer bytes) (Err e) → Answers (λ (text : Vec ℕ). text.items) (ShowsLayer Wide bytes) (Err e)
+wide_layer_refused bytes fails.Memory h = tt
+wide_layer_refused bytes (fails.Refused f) h = h
+
+-- ---- drill files
+
+shown_alone : (profile : Profile) → ((profile : Profile) (text more : List ℕ) (f : Fault) → ShowsIn profile text (Err f) → ReadsIn profile (text ++ more) (Err f)) → (text : List ℕ) (f : Fault)
+    → ShowsIn profile text (Err f) → ReadsIn profile text (Err f)
+shown_alone profile law text f h = subst (λ (t : List ℕ). ReadsIn profile t (Err f)) (append-nil text) (law profile text [] f h)
+
+-- the fault that a drill file shows is the one that it has
+pub drill_shown : (profile : Profile) (keep : DrillKeep) → ((profile : Profile) (text more : List ℕ) (f : Fault) → ShowsIn profile text (Err f) → ReadsIn profile (text ++ more) (Err f)) → (text : List ℕ) (e : Fail)
+    → IfFault (λ f. ShowsIn profile text (Err f)) e → Answers {T = DrillFile} (λ drill. drill) (ReadsDrill profile (file_of Stated keep) text) (Err e)
+drill_shown profile keep law text fails.Memory h = tt
+drill_shown Strict keep law text (fails.Refused f) h = shown_alone Strict law text f h
+drill_shown Wide keep law text (fails.Refused f) h = shown_alone Wide law text f h
+
+-- what a reader answers in a profile is what is read in it
+pub drill_answered : (profile : Profile) (keep : DrillKeep) (text : List ℕ) (answer : Result DrillFile Fail) → Answers {T = DrillFile} (λ drill. drill) (ReadsAsIn profile (file_of Stated keep) text) answer
+    → Answers {T = DrillFile} (λ drill. drill) (ReadsDrill profile (file_of Stated keep) text) answer
+drill_answered profile keep text (Err fails.Memory) h = tt
+drill_answered Strict keep text (Err (fails.Refused f)) h = h
+drill_answered Strict keep text (Ok drill) h = (h.0, reads_drill_text text h.0 h.1, h.2)
+drill_answered Wide keep text (Err (fails.Refused f)) h = h
+drill_answered Wide keep text (Ok drill) h = h
+
+pub drill_refused : (profile : Profile) (keep : DrillKeep) (bytes : List ℕ) (e : Fail) → Answers {T = DrillFile} (λ drill. drill) (ReadsDrill profile (file_of Stated keep) bytes) (Err e)
+    → Answers (λ (text : Vec ℕ). text.items) (ShowsDrill profile bytes) (Err e)
+drill_refused profile keep bytes fails.Memory h = tt
+drill_refused Strict keep bytes (fails.Refused f) h = h
+drill_refused Wide keep bytes (fails.Refused f) h = h
+
+-- the table of the holes of what is kept of a drill file
+pub drill_told : (profile : Profile) (keep : DrillKeep) (bytes text : List ℕ) (drill : DrillFile) → ReadsDrill profile (file_of Stated keep) bytes (Ok drill) → text ≡ drill_table drill.holes → ShowsDrill profile bytes (Ok text)
+drill_told Strict keep bytes text drill h is = (h.0, h.1, is ∙ ap (λ (d : DrillFile). drill_table d.holes) h.2)
+drill_told Wide keep bytes text drill h is = (h.0, h.1, is ∙ ap (λ (d : DrillFile). drill_table d.holes) h.2)

@@ -1,0 +1,10 @@
+use Rattle.std.proofs.Common.{◌≡◌, ◌++◌, ◌+◌, drop}
+use Rattle.ringcheck_files.specs.Rows.{rows_from}
+use Rattle.ringcheck_files.specs.Tables.{feature_fields}
+use Rattle.ringcheck_files.proofs.show.layer_table.Given as goal
+
+abbrev pub invariant-loop-feature : goal.invariant-loop-feature
+invariant-loop-feature l = record {
+  number : l.number ≡ l.feature-index + 1;
+  rows : l.initial.table ++ rows_from feature_fields 1 l.features ≡ l.table ++ rows_from feature_fields l.number (drop l.feature-index l.features);
+}

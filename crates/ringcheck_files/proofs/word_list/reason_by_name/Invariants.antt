@@ -1,0 +1,7 @@
+use Rattle.std.proofs.Common.{◌≢◌, All, take}
+use Rattle.grid_units.specs.Reasons.{reason_name}
+use Rattle.ringcheck_files.specs.PageWords.{all_reasons}
+use Rattle.ringcheck_files.proofs.word_list.reason_by_name.Given as goal
+
+abbrev pub invariant-loop-reason : goal.invariant-loop-reason
+invariant-loop-reason l = All (λ reason. reason_name reason ≢ l.word) (take l.reason-index all_reasons)

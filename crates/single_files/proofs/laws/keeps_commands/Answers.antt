@@ -1,5 +1,0 @@
-use Rattle.single_files.proofs.SameCommandsLemmas.{keeps_commands}
-use Rattle.single_files.proofs.laws.keeps_commands.Goals as goal
-
-pub returns : goal.returns
-returns c = keeps_commands

@@ -1,5 +1,0 @@
-use Rattle.single_files.proofs.SameCommandsLemmas.{rewriting_is_idempotent}
-use Rattle.single_files.proofs.laws.rewriting_is_idempotent.Goals as goal
-
-pub returns : goal.returns
-returns c = rewriting_is_idempotent

@@ -1,4 +1,0 @@
-pub mod Rows
-pub mod Tables
-pub mod Rewriting
-pub mod Inner
