@@ -20,6 +20,7 @@ def measured($rules):
   if .kind == "gap" then "gap \(.has_pm | mm) mm (rule \($rules.gap_pm | mm) mm)"
   elif .has_pm != null then "annular ring \(.has_pm | mm) mm (rule \($rules.ring_pm | mm) mm), \(.cause)"
   elif .cause == "none" then "no pad at the hole"
+  elif .cause == "drawn" then "annular ring not judged, only drawn copper"
   else "annular ring not judged, \(.cause)" end;
 # what is refused: the file by its name, the file of waivers, or the manifest, by its name if that is given
 def refused: if .waivers then "waivers" elif .name then .name else $ARGS.named.file // "manifest" end;

@@ -310,7 +310,7 @@ def report_for_people(files):
         "hole to hole: 1 gap too small",
         f"  #6 {at(59)}, and {at(60)}: gap 0.2 (rule {length(GAP)})",
         "2 off centre: the pad is large enough for a hole at its centre; drill files are rounded: see `ringcheck explain ring`",
-        "2 only a macro flash: flashes by a macro are not judged: choose circle, oval or rectangle: see `ringcheck explain macro`",
+        "2 only a macro flash: --profile wide counts macros whose shape is known, such as rounded rectangles; or choose circle, oval or rectangle: see `ringcheck explain macro`",
         "1 no pad at the hole: no pad was flashed here, or it is drawn or of a shape that is not judged, or the drill file has another origin or format: see `ringcheck explain none`",
         f"smallest ring {length(RING - 1_000)} (rule {length(RING)})",
         f"smallest gap 0.2 (rule {length(GAP)})",

@@ -16,7 +16,7 @@ use Rattle.package_check.specs.Boards.{BoardView}
 use Rattle.package_check.specs.declared.FileSum.{FileSum}
 use Rattle.package_check.specs.declared.FileSum.TheVariants as sum
 use Rattle.package_check.specs.Boards.{holes_before}
-use Rattle.board_report.specs.UnitMistakeLines.{AreUnitMistakes, IsUnitMistakeOf, first_pads, holes_in, is_plated}
+use Rattle.board_report.specs.Rows.{AreUnitMistakes, IsUnitMistakeOf, first_pads, holes_in, is_plated}
 use Rattle.board_report.specs.Inner.Tables.{AreSearched, AreFoundMistakes, IsSearched, IsUnitMistakeOfOrNone, listed}
 use Rattle.board_report.proofs.JoinedRows.{pairs_join}
 

@@ -3,7 +3,7 @@ use Rattle.std.specs.Prelude.{◌≡◌, ℕ, pos, ◌+◌, ◌-ℤ◌, Bool, tr
 use Rattle.std.specs.List.{AllZip, enumerate_from, filter, filter_map}
 use Rattle.grid_units.specs.Holes.{GridRules}
 use Rattle.pad_shapes.specs.declared.wide_pad.WidePad.{WidePad}
-use Rattle.further_copper.specs.declared.feature.FeatureRow.{FeatureRow}
+use Rattle.pad_shapes.specs.declared.row.FeatureRow.{FeatureRow}
 use Rattle.ring_rules.specs.Places.{hole_at}
 use Rattle.ring_rules.specs.declared.finding.Drilled.{Drilled}
 use Rattle.ring_rules.specs.declared.finding.Finding.{Finding}
@@ -19,10 +19,11 @@ use Rattle.package_check.specs.declared.FileSum.TheVariants as sum
 use Rattle.board_report.specs.Measures.{IsMeasure}
 use Rattle.board_report.specs.Rows.{IsPlace}
 use Rattle.report.specs.declared.Measure.{Measure}
-use Rattle.report.specs.Causes.{IsCause}
+use Rattle.report.specs.Causes.{IsCause, UncountedPads}
 use Rattle.report.specs.declared.GapLack.{GapLack}
 use Rattle.report.specs.declared.PlacedHole.{PlacedHole}
 use Rattle.report.specs.declared.LayerHead.{LayerHead}
+use Rattle.report.specs.declared.RingCause.{RingCause}
 use Rattle.report.specs.declared.RingLack.{RingLack}
 use Rattle.report.specs.declared.RoleConflict.{RoleConflict}
 use Rattle.report.specs.declared.BoardReport.{BoardReport}
@@ -41,16 +42,28 @@ layer_rows board layer = get_or board.rows (get_or board.layer_indexes layer 0) 
 abbrev pub layer_pads : BoardView → ℕ → List WidePad
 layer_pads board layer = get_or board.layers layer []
 
+-- the pads of a layer that its profile does not count
+abbrev pub layer_uncounted : BoardView → ℕ → UncountedPads
+layer_uncounted board layer = record {
+  macros = get_or board.macros (get_or board.layer_indexes layer 0) [];
+  contours = get_or board.contours (get_or board.layer_indexes layer 0) [];
+}
+
 -- a hole of a board, by its place in the list of all holes: the index of its drill file, its number there from 1, and the hole itself
 pub record IsPlacedHole (board : BoardView) (place : ℕ) (at : PlacedHole) : Type 0 where
   pub stands : IsPlace board.files place (at.place)
   pub hole : at.hole ≡ hole_at board.holes place
 
+-- why the hole at a place lacks its ring on a layer
+abbrev pub IsLayerCause : GridRules → BoardView → ℕ → ℕ → RingCause → Type 0
+IsLayerCause required board layer hole why =
+    IsCause required.profile (layer_rows board layer) (layer_pads board layer) (layer_uncounted board layer) required.ring (hole_at board.holes hole) why
+
 -- the entry of a hole that lacks its ring on a layer: the layer, the hole's place in the package, and the cause
 pub record IsRingEntryAt (board : BoardView) (required : GridRules) (layer hole : ℕ) (output : RingLack) : Type 0 where
   pub layer_is : output.layer ≡ layer
   pub at : IsPlacedHole board hole output.at
-  pub cause : IsCause required.profile (layer_rows board layer) (layer_pads board layer) required.ring (hole_at board.holes hole) output.cause
+  pub cause : IsLayerCause required board layer hole output.cause
 
 -- the entry of a finding of a ring
 abbrev pub IsRingEntry : BoardView → GridRules → Finding → RingLack → Type 0

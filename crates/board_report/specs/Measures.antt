@@ -13,8 +13,7 @@ use Rattle.package_check.specs.Package.{IsFirstRefused, IsReport, FileView}
 use Rattle.package_check.specs.Reports.{ReportView}
 use Rattle.package_check.specs.declared.PackageFault.{PackageFault}
 use Rattle.package_check.specs.declared.PackageFault.TheVariants as stop
-use Rattle.board_report.specs.Rows.{AreRingLines, IsGapLine}
-use Rattle.board_report.specs.UnitMistakeLines.{AreUnitMistakes}
+use Rattle.board_report.specs.Rows.{AreRingLines, IsGapLine, AreUnitMistakes}
 use Rattle.report.specs.declared.Measure.{Measure}
 
 -- the ring and the gap of the rules are both allowed

@@ -8,8 +8,7 @@ ghost use Rattle.margins.specs.Meets.{MeetsOnLayers};
 ghost use Rattle.package_check.specs.Package.{IsAnswer, file_views_in};
 ghost use Rattle.package_check.specs.Reports.{ReportView};
 ghost use Rattle.board_report.specs.Measures.{AnswersMeasure, AreLayerBests, BoardPasses, IsMeasure, PackagePasses, RefusesAlike};
-ghost use Rattle.board_report.specs.Rows.{AreRingLines};
-ghost use Rattle.board_report.specs.UnitMistakeLines.{AreUnitMistakes};
+ghost use Rattle.board_report.specs.Rows.{AreRingLines, AreUnitMistakes};
 
 use crate::laws::measured_passes;
 use crate::places::{files_with_holes, gap_line};

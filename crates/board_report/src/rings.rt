@@ -1,21 +1,20 @@
 //! The entries of holes that lack their rings.
 
-ghost use Rattle.std.specs.Prelude.{◌≡◌, ◌<◌, ◌++◌, ◌∷◌, [], IfOk, IfSome, OnOk, Ok, length, not};
+ghost use Rattle.std.specs.Prelude.{◌≡◌, ◌<◌, ◌++◌, ◌∷◌, [], IfOk, IfSome, OnOk, Ok, get_or, length, not};
 ghost use Rattle.std.specs.List.{All, AllZip, filter};
 ghost use Rattle.ring_rules.specs.WithoutFindings.{NamesPlaces};
 ghost use Rattle.board_report.specs.Rows.{AreFilesWithHoles};
-ghost use Rattle.report.specs.Causes.{HoldsRowsAndBests};
-ghost use Rattle.board_report.specs.Inner.EntriesSoFar.{AddsEntry, AreBoardBests, IsCurrentLayer, IsBoardData};
-ghost use Rattle.board_report.specs.BoardReport.{IsRingEntry, IsRingEntryAt, is_gap, layer_pads, layer_rows};
+ghost use Rattle.report.specs.Causes.{uncounted_pads};
+ghost use Rattle.board_report.specs.Inner.EntriesSoFar.{AddsEntry, AreBoardBests, HoldsLayer, IsCurrentLayer, IsBoardData};
+ghost use Rattle.board_report.specs.BoardReport.{IsRingEntry, IsRingEntryAt, is_gap, layer_rows, layer_uncounted};
 
 use crate::FileHoles;
 use crate::places::hole_at;
-use further_copper::FeatureRow;
 use grid_units::Rules;
 use margins::BestPad;
 use package_check::Board;
-use pad_shapes::WidePad;
-use report::{CauseFinder, RingLack};
+use pad_shapes::{FeatureRow, WidePad};
+use report::{CauseFinder, FurtherCopper, RingLack};
 use ring_rules::Finding;
 use std::alloc::{AllocError, Global};
 
@@ -40,18 +39,35 @@ pub(crate) struct CurrentLayer {
     pub(crate) causes: CauseFinder,
 }
 
-/// The rows of a layer, by its place among the copper files.
+/// The index of the file of a layer, by its place among the copper files; 0 past the last.
+fn layer_file(board: &Board, layer: usize) -> usize
+    ensures { result ≡ get_or board.now.layer_indexes layer 0 }
+{
+    match board.layer_indexes().get(layer) {
+        Some(file) => *file,
+        None => 0,
+    }
+}
+
+/// The rows of a layer.
 fn layer_rows(board: &Board, layer: usize) -> &[FeatureRow]
     ensures { result.now ≡ layer_rows board.now layer }
 {
-    let file = match board.layer_indexes().get(layer) {
-        Some(file) => *file,
-        None => 0,
-    };
-    board.rows_of(file)
+    board.rows_of(layer_file(board, layer))
 }
 
-/// The data of a layer for its causes, by its rows, its pads and the best of them for each hole.
+/// The pads of a layer that its profile does not count.
+fn layer_uncounted(board: &Board, layer: usize) -> FurtherCopper<'_>
+    ensures { uncounted_pads result ≡ layer_uncounted board.now layer }
+{
+    let file = layer_file(board, layer);
+    FurtherCopper {
+        macros: board.macros_of(file),
+        contours: board.contours_of(file),
+    }
+}
+
+/// The data of a layer for its causes, by its rows, its pads and the best of them for each hole, and those that do not count.
 fn cause_finder_on(
     alloc: Global,
     board: &Board,
@@ -59,12 +75,14 @@ fn cause_finder_on(
     layer: usize,
 ) -> Result<CauseFinder, AllocError>
     requires { IsBoardData board.now board_data.now }
-    ensures { IfOk result (HoldsRowsAndBests (layer_rows board.now layer) (layer_pads board.now layer) board.now.holes) }
+    ensures { IfOk result (HoldsLayer board.now layer) }
 {
     let rows = layer_rows(board, layer);
+    let uncounted = layer_uncounted(board, layer);
+    let holes = board.holes();
     match board_data.bests.get(layer) {
-        Some(bests) => CauseFinder::with_bests(alloc, rows, bests),
-        None => CauseFinder::new(alloc, rows, board.pads_of(layer), board.holes()),
+        Some(bests) => CauseFinder::with_bests(alloc, rows, bests, uncounted, holes),
+        None => CauseFinder::new(alloc, rows, board.pads_of(layer), uncounted, holes),
     }
 }
 
@@ -122,11 +140,13 @@ fn ring_lack(
 {
     let rows = layer_rows(board, current.layer);
     let pads = board.pads_of(current.layer);
+    let uncounted = layer_uncounted(board, current.layer);
+    let holes = board.holes();
     let causes = &current.causes;
     Ok(RingLack {
         layer: current.layer,
         at: hole_at(board, board_data.files, hole),
-        cause: causes.cause(rows, pads, board.holes(), hole, board_data.rules)?,
+        cause: causes.cause(rows, pads, uncounted, holes, hole, board_data.rules)?,
     })
 }
 

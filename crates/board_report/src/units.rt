@@ -3,7 +3,7 @@
 ghost use Rattle.std.specs.Prelude.{◌≡◌, ◌++◌, ◌<◌, length, IfOk, OnOk};
 ghost use Rattle.pad_shapes.specs.WidePads.{wide_pad_covers};
 ghost use Rattle.margins.specs.BestPads.{AreBestPads};
-ghost use Rattle.board_report.specs.UnitMistakeLines.{AreUnitMistakes, first_pads, is_plated};
+ghost use Rattle.board_report.specs.Rows.{AreUnitMistakes, first_pads, is_plated};
 ghost use Rattle.board_report.specs.Inner.Tables.{AreSearched, AreFoundMistakes, IsSearched, IsLayerFileHoles, listed};
 
 use crate::places::end_of;

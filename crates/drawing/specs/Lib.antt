@@ -1,4 +1,3 @@
 pub mod Boxes
-pub mod Drawings
 pub mod Layouts
 pub mod Pages

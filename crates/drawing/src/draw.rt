@@ -1,7 +1,7 @@
 //! The drawing of a board.
 
 ghost use Rattle.std.specs.Prelude.{◌≡◌, Some, map, IfOk};
-ghost use Rattle.drawing.specs.Drawings.{IsDrawn, IsPage, drawing_text, findings_under, svg_text};
+ghost use Rattle.drawing.specs.Pages.{IsDrawn, IsPage, drawing_text, findings_under, svg_text};
 
 use crate::bounds::board_extent;
 use crate::edge_bounds::with_edge;
@@ -10,8 +10,8 @@ use crate::page::{write_legend, write_page_start, write_scale, write_title};
 use crate::page_layout::layout_of;
 use crate::panels::{Panel, panels_of};
 use grid_units::{Lines, Rules};
-use layer_image::Drawn;
 use package_check::Board;
+use pad_shapes::Drawn;
 use picture::shown_outline;
 use ring_rules::Finding;
 use std::alloc::{AllocError, Global};

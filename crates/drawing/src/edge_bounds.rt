@@ -6,7 +6,7 @@ ghost use Rattle.drawing.specs.Boxes.{arc_extents, circle_extents, edge_extents,
 
 use crate::extent::{Extent, extent_round, joined_to};
 use grid_units::Point;
-use layer_image::Drawn;
+use pad_shapes::Drawn;
 use picture::long_radius;
 
 /// Ten metres in pm: no more of the radius of an arc counts.

@@ -2,14 +2,13 @@
 
 ghost use Rattle.std.specs.Prelude.{◌≡◌, ◌==◌, ◌++◌, ◌∷◌, ◌-ℤ◌, ◌+ℤ◌, [], pos, get_or, map, IfOk, OnOk};
 ghost use Rattle.std.specs.List.{AllZip, enumerate_from};
-ghost use Rattle.drawing.specs.Drawings.{IsPanel, IsScene, number_of};
+ghost use Rattle.drawing.specs.Pages.{IsPanel, IsScene, number_of, text_of_panel};
 ghost use Rattle.drawing.specs.Layouts.{box_left, box_top};
-ghost use Rattle.drawing.specs.Pages.{text_of_panel};
 
 use crate::layout::Layout;
 use grid_units::{Line, name_of};
-use layer_image::Drawn;
 use package_check::Board;
+use pad_shapes::Drawn;
 use picture::{LayerCopper, Place, Scene, scene_of};
 use ring_rules::{Drilled, Finding};
 use std::alloc::{AllocError, Global};

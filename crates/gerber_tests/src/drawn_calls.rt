@@ -1,8 +1,8 @@
 //! What layers draw: lines and arcs, flashes of macros, and the contours of regions.
 
-use crate::texts::joined;
-use grid_units::Point;
-use layer_image::{Drawn, read_layer};
+use crate::texts::{joined, layer_of};
+use grid_units::{Point, Profile};
+use layer_image::{Drawn, Keep};
 use pad_shapes::Rounded;
 use std::alloc::Global;
 
@@ -114,11 +114,8 @@ fn are_parts(drawn: &[Drawn], expected: &[Part]) -> bool {
 
 /// Whether the layer of a text draws these parts.
 fn draws(alloc: Global, text: &[u8], expected: &[Part]) -> bool {
-    match read_layer(alloc, text) {
-        Ok(layer) => match layer.drawn(alloc) {
-            Ok(drawn) => are_parts(&drawn, expected),
-            Err(_) => false,
-        },
+    match layer_of(alloc, Keep::RowsAndDrawn, Profile::Strict, text) {
+        Ok(layer) => are_parts(layer.drawn(), expected),
         Err(_) => false,
     }
 }

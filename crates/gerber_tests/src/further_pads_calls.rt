@@ -1,8 +1,8 @@
 //! The further pads of layers: mirrored, turned and repeated macros, and contours that count and that do not.
 
-use further_copper::{Copper, Feature, FeatureKind};
-use grid_units::Point;
-use layer_image::{Keep, Scan, read_layer};
+use crate::texts::layer_of;
+use grid_units::{Point, Profile};
+use layer_image::{Feature, FeatureKind, Keep};
 use pad_shapes::{PlacedRounded, Rounded, WidePad};
 use std::alloc::Global;
 
@@ -365,28 +365,16 @@ fn are_pads(alloc: Global, features: &[Feature], expected: &[Pad]) -> bool {
     left.is_empty()
 }
 
-/// The flashes and contours of the layer of a text.
-fn features_of(alloc: Global, pieces: &[&[u8]]) -> Option<Vec<Feature>> {
-    let text = pieces.concat(alloc).ok()?;
-    let layer = read_layer(alloc, &text).ok()?;
-    let mut scan = Scan::new(alloc, Keep::Flashes);
-    let mut copper = Copper::new(alloc, false);
-    for entry in layer.commands() {
-        scan.take(alloc, entry).ok()?;
-        copper.take(&entry.what, scan.flashes()).ok()?;
-        scan.clear_flashes();
-    }
-    let mut drawn = Vec::new(alloc);
-    copper.finish(&mut drawn).ok()
-}
-
 /// Whether these are the further pads of the layer of a text in millimetres.
 fn has_pads(alloc: Global, pieces: [&[u8]; 2], expected: &[Pad]) -> bool {
     let [before, body] = pieces;
     let pieces: [&[u8]; 4] = [b"%FSLAX46Y46*%\n%MOMM*%\nG01*\n", before, body, b"M02*\n"];
-    match features_of(alloc, &pieces) {
-        Some(features) => are_pads(alloc, &features, expected),
-        None => false,
+    let Ok(text) = pieces.concat(alloc) else {
+        return false;
+    };
+    match layer_of(alloc, Keep::Rows, Profile::Strict, &text) {
+        Ok(layer) => are_pads(alloc, layer.features(), expected),
+        Err(_) => false,
     }
 }
 

@@ -1,7 +1,7 @@
 //! Layers that are read, and why others are refused.
 
-use crate::texts::{LAYER, expected_fault, joined};
-use grid_units::{Fail, Point, Reason};
+use crate::texts::{LAYER, expected_fault, joined, layer_in_pieces};
+use grid_units::{Fail, Point, Profile, Reason};
 use layer_image::{Flash, Keep, Layer, LayerReader, What, Why, read_layer};
 use pad_shapes::{Disc, Obround, Pad, Rect};
 use std::alloc::Global;
@@ -503,9 +503,9 @@ fn is_first_layer(layer: Result<Layer, Fail>, commands: usize) -> bool {
             layer.commands().len() == commands
                 && are_discs(layer.flashes(), ONE)
                 && layer.pads().len() == 1
-                && layer.other() == 0
+                && layer.counts().other == 0
                 && layer.file_function().is_none()
-                && layer.into_pads().len() == 1
+                && layer.pads().len() == 1
         }
         Err(_) => false,
     }
@@ -608,7 +608,7 @@ fn a_fault_and_what_follows_it(rt: HostRuntime) {
 
 /// Whether a reader that keeps these parts gives this failure at each of two pieces, and at its end.
 fn fails(alloc: Global, keep: Keep, pieces: (&[u8], &[u8]), fail: Option<Fail>) -> bool {
-    let mut reader = LayerReader::keeping(alloc, keep);
+    let mut reader = LayerReader::in_profile(alloc, keep, Profile::Strict);
     let is_refused = reader.feed(pieces.0).err() == fail && reader.feed(pieces.1).err() == fail;
     reader.finish().err() == fail && is_refused
 }
@@ -616,7 +616,7 @@ fn fails(alloc: Global, keep: Keep, pieces: (&[u8], &[u8]), fail: Option<Fail>) 
 #[test]
 fn an_early_rule_before_a_late_item_in_one_piece(rt: HostRuntime) {
     let unknown = unknown_aperture();
-    for keep in [Keep::All, Keep::Flashes, Keep::Pads] {
+    for keep in [Keep::Layer, Keep::Rows, Keep::Pads] {
         assert!(rt; fails(rt.alloc(), keep, (TWO_FAULTS, b"M02*"), unknown));
     }
 }
@@ -627,20 +627,12 @@ const TURNED: &[u8] =
 
 /// What is kept of the layer of a text that comes byte by byte.
 fn kept_of_bytes(alloc: Global, keep: Keep, text: &[u8]) -> Result<Layer, Fail> {
-    let mut reader = LayerReader::keeping(alloc, keep);
-    for i in 0..text.len() {
-        reader.feed(&text[i..i + 1])?;
-    }
-    reader.finish()
+    layer_in_pieces(alloc, keep, Profile::Strict, text, 1)
 }
 
-/// What is kept of the layer of a text that comes in two pieces.
+/// What is kept of the layer of a text that comes in two or three pieces.
 fn kept_of_halves(alloc: Global, keep: Keep, text: &[u8]) -> Result<Layer, Fail> {
-    let half = text.len() / 2;
-    let mut reader = LayerReader::keeping(alloc, keep);
-    reader.feed(&text[..half])?;
-    reader.feed(&text[half..])?;
-    reader.finish()
+    layer_in_pieces(alloc, keep, Profile::Strict, text, text.len() / 2)
 }
 
 /// How many commands, flashes, pads and other flashes a reader of pads gives, and whether there is a file function.
@@ -651,7 +643,7 @@ fn sum_counts(alloc: Global, text: &[u8]) -> Option<([usize; 4], bool)> {
                 kept.commands().len(),
                 kept.flashes().len(),
                 kept.pads().len(),
-                kept.other(),
+                kept.counts().other,
             ];
             Some((lists, kept.file_function().is_some()))
         }
@@ -659,37 +651,19 @@ fn sum_counts(alloc: Global, text: &[u8]) -> Option<([usize; 4], bool)> {
     }
 }
 
-/// How many flashes a text has byte by byte, if they are those of its layer.
+/// How many flashes a text has that comes byte by byte.
 fn flash_count(alloc: Global, text: &[u8]) -> Option<usize> {
-    match (
-        kept_of_bytes(alloc, Keep::Flashes, text),
-        read_layer(alloc, text),
-    ) {
-        (Ok(kept), Ok(layer)) => {
-            let flashes = kept.into_flashes();
-            (flashes.as_slice() == layer.flashes()).then_some(flashes.len())
-        }
-        _ => None,
+    match kept_of_bytes(alloc, Keep::Rows, text) {
+        Ok(kept) => Some(kept.features().len()),
+        Err(_) => None,
     }
 }
 
-/// Whether what a reader of flashes gives is that of a layer, with no command and no list of pads.
-fn agree(kept: &Layer, layer: &Layer) -> bool {
-    kept.commands().is_empty()
-        && kept.pads().is_empty()
-        && kept.flashes() == layer.flashes()
-        && kept.other() == layer.other()
-        && kept.file_function() == layer.file_function()
-}
-
-/// How many flashes of a text are no pads, if its flashes and its file function are those of its layer.
+/// How many flashes of a text that comes in pieces are no pads.
 fn other_count(alloc: Global, text: &[u8]) -> Option<usize> {
-    match (
-        kept_of_halves(alloc, Keep::Flashes, text),
-        read_layer(alloc, text),
-    ) {
-        (Ok(kept), Ok(layer)) => agree(&kept, &layer).then_some(kept.other()),
-        _ => None,
+    match kept_of_halves(alloc, Keep::Rows, text) {
+        Ok(kept) => Some(kept.counts().other),
+        Err(_) => None,
     }
 }
 
@@ -721,6 +695,6 @@ fn sums_of_layers_in_pieces(rt: HostRuntime) {
 #[test]
 fn flashes_of_layers_in_pieces(rt: HostRuntime) {
     assert!(rt; copies(rt.alloc()) == Some(6));
-    let refused = kept_of_halves(rt.alloc(), Keep::Flashes, TWO_FAULTS);
+    let refused = kept_of_halves(rt.alloc(), Keep::Rows, TWO_FAULTS);
     assert!(rt; refused.err() == unknown_aperture());
 }

@@ -1,11 +1,10 @@
 //! The flashes and contours of layers in the wide profile, in whole texts and in pieces.
 
-use further_copper::{Feature, FeatureKind, NextFeatures};
-use grid_units::{Fail, Reason};
-use layer_image::{Keep, LayerReader};
+use crate::texts::layer_in_pieces;
+use grid_units::{Fail, Profile, Reason};
+use layer_image::{Feature, FeatureCounts, FeatureKind, Keep, Layer, LayerReader};
 use pad_shapes::WidePad;
 use std::alloc::Global;
-use wide_layers::{FeatureCounts, WideLayer, WideReader, read_wide_layer};
 
 /// What is written after the head of a layer, and a letter for each flash and contour in the order of the text: `p` a pad of a standard
 /// aperture, `m` one of a macro, `c` a contour, `o` no pad, `l` a flash in clear polarity, `x` one that is cleared.
@@ -153,7 +152,7 @@ fn letter(what: &FeatureKind) -> u8 {
         FeatureKind::Pad(WidePad::Plain(_)) => b'p',
         FeatureKind::Pad(WidePad::Rounded(_)) => b'm',
         FeatureKind::Contour(_) => b'c',
-        FeatureKind::Other(_) => b'o',
+        FeatureKind::Other(_) | FeatureKind::Macro(_) => b'o',
         FeatureKind::Clear => b'l',
         FeatureKind::Cleared => b'x',
     }
@@ -178,7 +177,7 @@ fn has_letters(features: &[Feature], letters: &[u8]) -> bool {
 }
 
 /// Whether a layer has these flashes and contours, and counts them so.
-fn is_layer(layer: &WideLayer, letters: &[u8]) -> bool {
+fn is_layer(layer: &Layer, letters: &[u8]) -> bool {
     has_letters(layer.features(), letters) && are_counts(layer.counts(), letters)
 }
 
@@ -189,53 +188,56 @@ fn are_counts(counts: FeatureCounts, letters: &[u8]) -> bool {
         && counts.other == count(b"olx", letters)
 }
 
-/// The letter of what is left of a flash or contour that is taken away.
-fn left_of(letter: u8) -> Option<u8> {
-    match letter {
-        b'c' => None,
-        b'l' => Some(b'l'),
-        _ => Some(b'x'),
+/// The letter of a pad: `p` of a standard aperture, `r` of a macro or a contour.
+fn pad_letter(pad: &WidePad) -> u8 {
+    match pad {
+        WidePad::Plain(_) => b'p',
+        WidePad::Rounded(_) => b'r',
     }
 }
 
-/// The letters of what stands of these flashes and contours, and of the next ones.
-fn with_next(alloc: Global, letters: Vec<u8>, next: &NextFeatures) -> Option<Vec<u8>> {
-    let mut all = letters;
-    if next.takes_away {
-        all = all
-            .iter()
-            .filter_map(|it| left_of(*it))
-            .collect(alloc)
-            .ok()?;
+/// The letter of the pad that a flash or a contour of this letter is, if it is one.
+fn pad_of(letter: u8) -> Option<u8> {
+    match letter {
+        b'p' => Some(b'p'),
+        b'm' | b'c' => Some(b'r'),
+        _ => None,
     }
-    for feature in &next.features {
-        all.push(letter(&feature.what)).ok()?;
+}
+
+/// The letters of the pads that stand: of those before, where clear polarity has not taken them away, and of those that the reader holds.
+fn with_pads(letters: Vec<u8>, reader: &LayerReader) -> Option<Vec<u8>> {
+    let mut all = letters;
+    if reader.are_forgotten() {
+        all.clear();
+    }
+    for pad in reader.wide_pads() {
+        all.push(pad_letter(pad)).ok()?;
     }
     Some(all)
 }
 
-/// Whether the layer of a text has these flashes and contours where they are taken out after each byte.
+/// Whether the layer of a text has these pads and counts where pads are taken after each byte.
 fn stands_as(alloc: Global, text: &[u8], expected: &[u8]) -> Option<bool> {
-    let mut reader = WideReader::new(alloc, false);
+    let mut reader = LayerReader::in_profile(alloc, Keep::Pads, Profile::Wide);
     let mut letters = Vec::new(alloc);
     for i in 0..text.len() {
         reader.feed(&text[i..i + 1]).ok()?;
-        let next = reader.take_features().ok()?;
-        letters = with_next(alloc, letters, &next)?;
+        letters = with_pads(letters, &reader)?;
+        reader.clear_pads();
     }
-    let rest = reader.finish_rest().ok()?;
-    letters = with_next(alloc, letters, &rest.next)?;
-    Some(letters.as_slice() == expected && are_counts(rest.counts, expected))
+    let rest = reader.finish().ok()?;
+    let pads: Vec<u8> = expected
+        .iter()
+        .filter_map(|letter| pad_of(*letter))
+        .collect(alloc)
+        .ok()?;
+    Some(letters.as_slice() == pads.as_slice() && are_counts(rest.counts(), expected))
 }
 
-/// The layer of a text that comes in pieces of one byte.
-fn read_bytes(alloc: Global, text: &[u8]) -> Result<WideLayer, Fail> {
-    let mut reader = WideReader::new(alloc, true);
-    for i in 0..text.len() {
-        reader.feed(&text[i..i + 1])?;
-    }
-    let mut drawn = Vec::new(alloc);
-    reader.finish(&mut drawn)
+/// The layer of a text in the wide profile, with its flashes and contours, that comes in pieces of this many bytes.
+fn read_in_pieces(alloc: Global, text: &[u8], size: usize) -> Result<Layer, Fail> {
+    layer_in_pieces(alloc, Keep::Rows, Profile::Wide, text, size)
 }
 
 /// Whether the layer has these flashes and contours, read whole and in pieces, and taken out on the way.
@@ -243,7 +245,10 @@ fn reads_as(alloc: Global, body: &[u8], letters: &[u8]) -> bool {
     let Some(text) = layer_text(alloc, body) else {
         return false;
     };
-    match (read_wide_layer(alloc, &text), read_bytes(alloc, &text)) {
+    match (
+        read_in_pieces(alloc, &text, text.len()),
+        read_in_pieces(alloc, &text, 1),
+    ) {
         (Ok(whole), Ok(in_pieces)) => {
             is_layer(&whole, letters)
                 && is_layer(&in_pieces, letters)
@@ -258,7 +263,7 @@ fn is_refused(alloc: Global, body: &[u8], place: u64, byte: u64, reason: Reason)
     let Some(text) = layer_text(alloc, body) else {
         return false;
     };
-    match read_wide_layer(alloc, &text) {
+    match read_in_pieces(alloc, &text, text.len()) {
         Err(Fail::Refused(fault)) => {
             fault.place == place && fault.byte == byte && fault.reason == reason
         }
@@ -285,7 +290,7 @@ fn the_file_function_is_that_of_the_layer(rt: HostRuntime) {
     let body = b"%TF.FileFunction,Copper,L1,Top*%\n%LPC*%\n";
     let text = layer_text(rt.alloc(), body).expect(&rt, "memory");
     let function: &[u8] = b"Copper,L1,Top";
-    match read_wide_layer(rt.alloc(), &text) {
+    match read_in_pieces(rt.alloc(), &text, text.len()) {
         Ok(layer) => assert!(rt; layer.file_function() == Some(function)),
         Err(_) => assert!(rt; false),
     }
@@ -295,7 +300,7 @@ fn the_file_function_is_that_of_the_layer(rt: HostRuntime) {
 fn the_strict_profile_refuses_clear_polarity(rt: HostRuntime) {
     let body = b"%ADD10C,0.65*%\n%ADD11C,0.1*%\n%LPC*%\n";
     let text = layer_text(rt.alloc(), body).expect(&rt, "memory");
-    let mut strict = LayerReader::keeping(rt.alloc(), Keep::All);
+    let mut strict = LayerReader::new(rt.alloc());
     match strict.feed(&text) {
         Err(Fail::Refused(fault)) => {
             assert!(rt;
@@ -304,6 +309,6 @@ fn the_strict_profile_refuses_clear_polarity(rt: HostRuntime) {
         }
         _ => assert!(rt; false),
     }
-    let mut wide = WideReader::new(rt.alloc(), false);
+    let mut wide = LayerReader::in_profile(rt.alloc(), Keep::Pads, Profile::Wide);
     assert!(rt; wide.feed(&text).is_ok());
 }

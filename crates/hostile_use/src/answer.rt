@@ -107,7 +107,7 @@ impl Answer {
     /// The numbers of pads and of other flashes.
     pub(crate) fn of_sum(outcome: Result<Layer, Fail>) -> Answer {
         match outcome {
-            Ok(layer) => sum_answer(layer.pads(), layer.other(), layer.file_function()),
+            Ok(layer) => sum_answer(layer.pads(), layer.counts().other, layer.file_function()),
             Err(fail) => Answer::Failed(fail),
         }
     }

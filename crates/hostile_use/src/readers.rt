@@ -3,8 +3,8 @@
 use crate::answer::Answer;
 use drill_text::{DrillReader, read_drill};
 use gerber_text::{WordReader, read_words};
-use grid_units::Fail;
-use layer_image::{LayerReader, read_layer};
+use grid_units::{Fail, Profile};
+use layer_image::{Keep, LayerReader, read_layer};
 use std::alloc::Global;
 
 /// A reader of a file that comes in pieces.
@@ -40,7 +40,7 @@ struct PadsReader(LayerReader);
 
 impl PadsReader {
     fn new(alloc: Global) -> PadsReader {
-        PadsReader(LayerReader::keeping(alloc, layer_image::Keep::Pads))
+        PadsReader(LayerReader::in_profile(alloc, Keep::Pads, Profile::Strict))
     }
 }
 

@@ -8,11 +8,11 @@ use Rattle.grid_units.specs.declared.fault.Fault.{Fault}
 use Rattle.grid_units.specs.declared.fault.Reason.{Reason}
 use Rattle.gerber_commands.specs.declared.command.Command.{Command}
 use Rattle.gerber_text.specs.Reading.{Entries}
-use Rattle.layer_image.specs.Faults.{fault_of}
-use Rattle.layer_image.specs.Flashes.{flashes_of}
+use Rattle.layer_state.specs.Faults.{fault_of}
+use Rattle.layer_state.specs.Flashes.{flashes_of}
 use Rattle.layer_image.specs.Layers.{LayerReasonsIn}
-use Rattle.layer_image.specs.Lookback.{state_after}
-use Rattle.layer_image.specs.Rules.{all_rules, breaks_rule, broken_rule, first_broken}
+use Rattle.layer_state.specs.Lookback.{state_after}
+use Rattle.layer_state.specs.Rules.{all_rules, breaks_rule, broken_rule, first_broken}
 use Rattle.gerber_text.specs.Writing.{without_places}
 
 -- what a search finds is in the list

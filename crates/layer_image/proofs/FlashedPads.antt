@@ -9,10 +9,10 @@ use Rattle.pad_shapes.specs.declared.pad.Pad.{Pad}
 use Rattle.gerber_commands.specs.declared.command.Action.TheVariants as action
 use Rattle.gerber_commands.specs.declared.command.Command.{Command}
 use Rattle.gerber_commands.specs.declared.command.Command.TheVariants as command
-use Rattle.layer_image.specs.Flashes.{numbers_below}
-use Rattle.layer_image.specs.Lookback.{GraphicsState, state_after}
+use Rattle.layer_state.specs.Flashes.{numbers_below}
+use Rattle.layer_state.specs.Lookback.{GraphicsState, state_after}
 use Rattle.layer_image.specs.PadLaws.{PadsAreFlashed}
-use Rattle.layer_image.specs.Pads.{AreFlashPads, ArePadsFrom, ArePadsOf, IsFlashPad, IsPadOf, copies_in, copy_in, flashed_at}
+use Rattle.layer_state.specs.Pads.{AreFlashPads, ArePadsFrom, ArePadsOf, IsFlashPad, IsPadOf, copies_in, copy_in, flashed_at}
 use Rattle.layer_image.proofs.UniquePads.{flash_once}
 use Rattle.grid_units.proofs.ListLemmas.{flat_map_at, map_contains}
 

@@ -21,23 +21,23 @@ use Rattle.gerber_commands.specs.declared.command.Command.{Command}
 use Rattle.gerber_commands.specs.declared.command.Command.TheVariants as command
 use Rattle.gerber_commands.specs.declared.command.Format.{Format}
 use Rattle.gerber_items.specs.Pieces.{unit_scale}
-use Rattle.layer_image.specs.declared.aperture.Aperture.{Aperture}
-use Rattle.layer_image.specs.declared.aperture.Aperture.TheVariants as aperture
-use Rattle.layer_image.specs.declared.flash.Flash.{Flash}
-use Rattle.layer_image.specs.declared.flash.What.{What}
-use Rattle.layer_image.specs.declared.flash.What.TheVariants as what
-use Rattle.layer_image.specs.declared.flash.Why.TheVariants as why
-use Rattle.layer_image.specs.Inner.IsStateAfter.{after}
+use Rattle.layer_state.specs.declared.aperture.Aperture.{Aperture}
+use Rattle.layer_state.specs.declared.aperture.Aperture.TheVariants as aperture
+use Rattle.layer_state.specs.declared.flash.Flash.{Flash}
+use Rattle.layer_state.specs.declared.flash.What.{What}
+use Rattle.layer_state.specs.declared.flash.What.TheVariants as what
+use Rattle.pad_shapes.specs.declared.row.Why.TheVariants as why
+use Rattle.layer_state.specs.Inner.IsStateAfter.{after}
 use Rattle.gerber_text.specs.Writing.{without_places}
 use Rattle.layer_image.specs.Layers.{LayerImage}
-use Rattle.layer_image.specs.Lookback.{GraphicsState, state_after, current_aperture, definition_set}
-use Rattle.layer_image.specs.Numbers.{dec_length}
-use Rattle.layer_image.specs.Flashes.{added_flashes, aperture_flashes, copies, copies_at, current_unit, disc_at, flash_at, flash_copies, flashes_of, grid_at, obround_at, pad_in, pads_of, quarter, rect_at, swaps_sides, what_at}
+use Rattle.layer_state.specs.Lookback.{GraphicsState, state_after, current_aperture, definition_set}
+use Rattle.layer_state.specs.Numbers.{dec_length}
+use Rattle.layer_state.specs.Flashes.{added_flashes, aperture_flashes, copies, copies_at, current_unit, disc_at, flash_at, flash_copies, flashes_of, grid_at, obround_at, pad_in, pads_of, quarter, rect_at, swaps_sides, what_at}
 use Rattle.layer_image.specs.PadLaws.{FlashesAreCopies, LayerPads, LegalPads}
-use Rattle.layer_image.specs.Pads.{ArePads, ArePadsFrom, ArePadsOf, MayFlash, copies_in, flashed_at, pad_at}
-use Rattle.layer_image.specs.Rules.{all_rules, breaks_rule, broken_rule, first_broken}
-use Rattle.layer_image.proofs.CopyGrids.{count_copies}
-use Rattle.layer_image.proofs.StateLemmas.{state_after-more}
+use Rattle.layer_state.specs.Pads.{ArePads, ArePadsFrom, ArePadsOf, MayFlash, copies_in, flashed_at, pad_at}
+use Rattle.layer_state.specs.Rules.{all_rules, breaks_rule, broken_rule, first_broken}
+use Rattle.layer_state.proofs.CopyGrids.{count_copies}
+use Rattle.layer_state.proofs.StateLemmas.{state_after-more}
 
 -- ---- what a flash leaves
 

@@ -10,8 +10,8 @@ use Rattle.gerber_commands.specs.declared.command.Format.{Format}
 use Rattle.gerber_commands.specs.declared.command.Standard.TheVariants as standard
 use Rattle.gerber_commands.specs.declared.command.StepRepeat.{StepRepeat}
 use Rattle.gerber_commands.specs.declared.command.Template.TheVariants as template
-use Rattle.layer_image.specs.declared.aperture.Aperture.TheVariants as aperture
-use Rattle.layer_image.specs.Pads.{ArePads, ArePadsFrom, ArePadsOf, IsPadOf}
+use Rattle.layer_state.specs.declared.aperture.Aperture.TheVariants as aperture
+use Rattle.layer_state.specs.Pads.{ArePads, ArePadsFrom, ArePadsOf, IsPadOf}
 
 -- four whole digits and six decimals, which are steps of 1 nm in mm
 abbrev nanometres : Format

@@ -1,6 +1,7 @@
 -- What a reader of a layer in pieces shows of the text so far.
-use Rattle.std.proofs.Common.{◌≡◌, inl, inr, ℕ, List, [], ◌++◌, length, take, drop, append-nil, append_assoc, Bool, true, false, cond, Result, Ok, Err, OnOk, IfOk, IfErr, sym, ap, subst, ◌∙◌, nat_lt, arith}
+use Rattle.std.proofs.Common.{◌≡◌, inl, inr, ℕ, List, [], ◌++◌, length, take, drop, append-nil, append_assoc, Bool, true, false, cond, Result, Ok, Err, OnOk, IfOk, IfErr, refl, sym, ap, subst, ◌∙◌, nat_lt, arith}
 use Rattle.std.proofs.Math.Seq.{take-length}
+use Rattle.std.specs.Prelude.{if◌then◌else◌}
 use Rattle.std.proofs.lemmas.List.{take-append-drop}
 use Rattle.grid_units.specs.Results.{AnswersAlways, Answers, IfFault}
 use Rattle.grid_units.specs.declared.fault.Fault.{Fault}
@@ -15,16 +16,24 @@ use Rattle.gerber_text.specs.Holding.{StandsIn, FailedIn, FailsWithIn, held}
 use Rattle.gerber_text.proofs.ShowsLemmas.{shown_spelled}
 use Rattle.gerber_text.proofs.FinishLemmas.{holds_shows, shows_reads}
 use Rattle.gerber_text.proofs.FaultsStay.{fails_longer}
-use Rattle.pad_shapes.specs.declared.pad.Pad.{Pad}
-use Rattle.layer_image.specs.declared.keep.Keep.{Keep}
-use Rattle.layer_image.specs.declared.keep.Keep.TheVariants as keep
-use Rattle.layer_image.specs.Faults.{IsFirstFault}
-use Rattle.layer_image.specs.Layers.{LayerImage, ReadsKept, ReadsLayer, ReadsLayerIn, ReadsWithoutPadsIn}
+use Rattle.pad_shapes.specs.declared.wide_pad.WidePad.{WidePad}
+use Rattle.layer_features.specs.declared.keep.Keep.{Keep}
+use Rattle.layer_features.specs.declared.keep.Keep.TheVariants as keep
+use Rattle.layer_state.specs.Faults.{IsFirstFault}
+use Rattle.layer_image.specs.Layers.{LayerImage, ReadsLayer, ReadsLayerIn}
+use Rattle.layer_image.specs.Kept.{IsKeptOf, KeptLayer, ReadsKeptIn, image_in}
+use Rattle.layer_image.specs.declared.content.LayerContent.{LayerContent}
+use Rattle.layer_image.specs.declared.content.LayerContent.TheVariants as content
+use Rattle.layer_image.proofs.KeptLemmas.{counts_of_flashes}
+use Rattle.layer_features.specs.declared.counts.FeatureCounts.{FeatureCounts}
+use Rattle.layer_features.specs.Features.{counts_of, features_of}
+use Rattle.layer_state.specs.Flashes.{flashes_of, other_count, pads_of}
+use Rattle.grid_units.specs.declared.profile.Profile.TheVariants.{Strict}
 use Rattle.grid_units.specs.Lists.{IsLegal}
-use Rattle.layer_image.specs.Holding.{ShowsLayerFaultIn}
+use Rattle.layer_image.specs.Holding.{HasContent, ShowsLayerFaultIn}
 use Rattle.grid_units.specs.Limits.{text_limit}
 use Rattle.gerber_text.specs.Writing.{without_places}
-use Rattle.layer_image.specs.Rules.{broken_rule}
+use Rattle.layer_state.specs.Rules.{broken_rule}
 
 short_ok : (t : Bool) (x cs : Entries) (e : Fault) → cond t (Err e) (Ok x) ≡ Ok cs → x ≡ cs
 short_ok true x cs e h = absurd cc
@@ -101,18 +110,45 @@ none_kept b xs ys h = (λ i. cond (h i) xs []) ∙ sym (λ i. cond (h i) ys [])
 pub shown_joined : (profile : Profile) (text more : List ℕ) (f : Fault) → ShowsLayerFaultIn profile text f → ReadsLayerIn profile (text ++ more) (Err f)
 shown_joined profile text more f h = shown_read profile (text ++ more) f (shown_longer profile text more f h)
 
-pub layer_shows_reads : (profile : Profile) (text : List ℕ) (e : Fail) → IfFault (ShowsLayerFaultIn profile text) e → Answers {T = LayerImage} (λ layer. layer) (ReadsLayerIn profile text) (Err e)
+pub layer_shows_reads : (profile : Profile) (text : List ℕ) (e : Fail) → IfFault (ShowsLayerFaultIn profile text) e → Answers {T = KeptLayer} image_in (ReadsLayerIn profile text) (Err e)
 layer_shows_reads profile text fails.Memory h = tt
 layer_shows_reads profile text (fails.Refused f) h = shown_read profile text f h
 
--- where all is kept, that is the layer
-pub all_kept : (text : List ℕ) (r : Result LayerImage Fail) → Answers (λ (layer : LayerImage). layer) (ReadsKept keep.All text) r → Answers (λ (layer : LayerImage). layer) (ReadsLayer text) r
-all_kept text (Ok layer) h = subst (λ (l : LayerImage). ReadsLayer text (Ok l)) (sym h.2) h.1
+-- no pads
+abbrev nothing : List WidePad
+nothing = []
+
+-- where a whole layer is kept, that is the layer
+whole_kept : (text : List ℕ) (kept : KeptLayer) (layer : LayerImage) → ReadsLayer text (Ok layer) → IsKeptOf Strict keep.Layer [] layer.commands kept → image_in kept ≡ layer
+whole_kept text kept layer reads is = (λ i. record {
+  commands = is.commands i;
+  flashes = is.flashes i;
+  pads = is.plain_pads refl refl i;
+  pad_count = (ap (λ (c : FeatureCounts). c.flashed) is.counts ∙ ap (λ (c : FeatureCounts). c.flashed) (sym strict)) i;
+  other = (ap (λ (c : FeatureCounts). c.other) is.counts ∙ ap (λ (c : FeatureCounts). c.other) (sym strict)) i;
+  file_function = is.named i;
+}) ∙ sym reads.1
+  where
+    strict : record { flashed = length (pads_of (flashes_of (without_places layer.commands))); contours = 0; other = other_count (flashes_of (without_places layer.commands)) } ≡ counts_of (features_of Strict (without_places layer.commands))
+    strict = counts_of_flashes (without_places layer.commands) _ _ refl refl
+
+-- nothing is left where nothing was taken
+pub none_left : (b : Bool) → nothing ≡ (if b then [] else [])
+none_left true = refl
+none_left false = refl
+
+pub all_kept : (text : List ℕ) (r : Result KeptLayer Fail) → Answers (λ (layer : KeptLayer). layer) (ReadsKeptIn Strict keep.Layer [] text) r → Answers image_in (ReadsLayer text) r
+all_kept text (Ok kept) h = subst (λ (l : LayerImage). ReadsLayer text (Ok l)) (sym (whole_kept text kept h.0 h.1 h.2)) h.1
 all_kept text (Err fails.Memory) h = tt
 all_kept text (Err (fails.Refused f)) h = h
 
 -- the end that was refused is a layer's fault
-pub end_err : (profile : Profile) (text : List ℕ) (gone : Entries) (keep : Keep) (taken : List Pad) (e : Fail) → AnswersAlways (entries_after gone) (λ answer. ReadsIn profile text answer) (Err e) → SpellsBeforeFaultIn profile text e gone → IsLegal broken_rule (without_places gone)
-    → Answers {T = LayerImage} (λ layer. layer) (ReadsWithoutPadsIn profile keep taken text) (Err e)
-end_err profile text gone keep taken fails.Memory h kept legal = tt
-end_err profile text gone keep taken (fails.Refused f) h kept legal = inr (gone, h, kept, legal)
+pub end_err : (profile : Profile) (text : List ℕ) (gone : Entries) (keep : Keep) (left : List WidePad) (e : Fail) → AnswersAlways (entries_after gone) (λ answer. ReadsIn profile text answer) (Err e) → SpellsBeforeFaultIn profile text e gone → IsLegal broken_rule (without_places gone)
+    → Answers {T = KeptLayer} (λ layer. layer) (ReadsKeptIn profile keep left text) (Err e)
+end_err profile text gone keep left fails.Memory h kept legal = tt
+end_err profile text gone keep left (fails.Refused f) h kept legal = inr (gone, h, kept, legal)
+
+-- the commands that were met are legal
+pub legal_content : (profile : Profile) (keep : Keep) (taken : List WidePad) (held : LayerContent) (entries : Entries) → HasContent profile keep taken held entries → IsLegal broken_rule (without_places entries)
+legal_content profile keep taken (content.Flashes scan) entries h = h.scanned.legal
+legal_content profile keep taken (content.Features met) entries h = h.1.scanned.legal

@@ -12,7 +12,7 @@ use Rattle.layer_image.specs.Layers.{LayerImage, ReadsLayerIn, image_of}
 use Rattle.grid_units.specs.Lists.{IsLegal}
 use Rattle.grid_units.specs.Limits.{text_limit}
 use Rattle.gerber_text.specs.Writing.{without_places}
-use Rattle.layer_image.specs.Rules.{broken_rule}
+use Rattle.layer_state.specs.Rules.{broken_rule}
 
 ended_ok : (t u : Bool) (x cs : Entries) (e d : Fault) → cond t (Err e) (cond u (Ok x) (Err d)) ≡ Ok cs → x ≡ cs
 ended_ok true u x cs e d h = absurd cc

@@ -15,9 +15,9 @@ use Rattle.gerber_text.specs.declared.placed.Placed.{Placed}
 use Rattle.gerber_text.specs.Cut.{OffsetByte, bytes_of, first_offset, has_end}
 use Rattle.gerber_text.specs.Reading.{Entries, SpellsPrefixIn, ReadsIn, commands_by, is_blank, read_by, shown_by, spelled_in}
 use Rattle.gerber_text.proofs.Some.{some_reading}
-use Rattle.layer_image.specs.Faults.{fault_of, IsFirstFault}
+use Rattle.layer_state.specs.Faults.{fault_of, IsFirstFault}
 use Rattle.layer_image.specs.Layers.{EachTextAnswersIn, LayerImage, ReadsLayerIn, image_of}
-use Rattle.layer_image.specs.Rules.{broken_rule}
+use Rattle.layer_state.specs.Rules.{broken_rule}
 use Rattle.layer_image.proofs.Reading.{legal_layer, kept_all}
 use Rattle.layer_image.proofs.UniqueReading.{rest_place, ended_place}
 use Rattle.gerber_text.proofs.ReaderStepLemmas.{spelled_place}

@@ -19,46 +19,14 @@ use Rattle.gerber_text.specs.Cut.{OffsetByte, offset_bytes, bytes_of, first_offs
 use Rattle.gerber_text.specs.Reading.{Entries, SpellsPrefixIn, spelled_in, ReadsIn, after_end, commands_by, is_blank, is_plotting, may_follow, placed, read_by, shown_by}
 use Rattle.gerber_text.proofs.SpellsTextLemmas.{spells_reads}
 use Rattle.gerber_text.proofs.UniqueReading.{one_read, same_items}
-use Rattle.layer_image.specs.Faults.{fault_of, IsFirstFault}
+use Rattle.layer_state.specs.Faults.{fault_of, IsFirstFault}
 use Rattle.layer_image.specs.Layers.{LayerImage, ReadsLayerIn, image_of}
-use Rattle.layer_image.specs.Rules.{broken_rule}
+use Rattle.layer_state.specs.Rules.{broken_rule}
 use Rattle.layer_image.proofs.Reading.{kept_all}
+use Rattle.layer_state.proofs.LegalLists.{first_fault_of_longer, no_fault}
 use Rattle.grid_units.specs.Limits.{text_limit, item_limit}
 use Rattle.gerber_text.specs.Writing.{without_places}
 use Rattle.gerber_text.proofs.ReaderStepLemmas.{spelled_place}
-
--- ---- legal lists have no fault
-
-none_mapped : {A B : Type 0} (f : A → B) (o : Option A) (l : List B) → cons_option (option_map f o) l ≡ [] → (o ≡ None) × (l ≡ [])
-none_mapped f None l h = (refl, h)
-none_mapped f (Some x) l h = absurd cc
-
-sound_after : (first cs : Entries) → filter_map (violation_at broken_rule) (with_prefixes_from (without_places first) (without_places cs)) ≡ [] → filter_map (violation_at fault_of) (with_prefixes_from first cs) ≡ []
-sound_after first [] h = refl
-sound_after first (e ∷ cs) h =
-    let both = none_mapped (λ (r : Reason). (length (without_places first), r)) (broken_rule (without_places first) e.what) _ h in
-    let again : without_places (first ++ e ∷ []) ≡ without_places first ++ e.what ∷ [] = map-append (λ (d : Placed Command). d.what) first (e ∷ []) in
-    let rest = sound_after (first ++ e ∷ []) cs (ap (λ (l : List Command). filter_map (violation_at broken_rule) (with_prefixes_from l (without_places cs))) again ∙ both.1) in
-    ap (λ (o : Option Reason). cons_option (option_map (λ (f : Fault). (length first, f)) (option_map (fault e.place e.byte) o)) (filter_map (violation_at fault_of) (with_prefixes_from (first ++ e ∷ []) cs))) both.0 ∙ rest
-
--- a legal list has no first fault
-pub sound : (cs : Entries) → IsLegal broken_rule (without_places cs) → violations fault_of cs ≡ []
-sound cs h = sound_after [] cs h
-
-none_or_some : (o : Option (ℕ × Fault)) (p : ℕ × Fault) → o ≡ None → o ≡ Some p → ⊥
-none_or_some None p e k = cc
-none_or_some (Some q) p e k = cc
-
-no_fault : (cs : Entries) (f : Fault) → IsLegal broken_rule (without_places cs) → IsFirstFault cs f → ⊥
-no_fault cs f legal h = none_or_some (slice_get (violations fault_of cs) 0) (h.0, f) (ap (λ (l : List (ℕ × Fault)). slice_get l 0) (sound cs legal)) h.1
-
-first_of_longer : (l m : List (ℕ × Fault)) (x : ℕ × Fault) → slice_get l 0 ≡ Some x → slice_get (l ++ m) 0 ≡ Some x
-first_of_longer [] m x e = absurd cc
-first_of_longer (y ∷ l) m x e = e
-
--- the first fault of a list is that of each longer one
-pub first_fault_of_longer : (cs ds : Entries) (f : Fault) → IsFirstFault cs f → IsFirstFault (cs ++ ds) f
-first_fault_of_longer cs ds f h = (h.0, ap (λ (l : List (ℕ × Fault)). slice_get l 0) (violations-append fault_of cs ds) ∙ first_of_longer (violations fault_of cs) _ (h.0, f) h.1)
 
 abbrev fault_in : Fault → Option (ℕ × Fault) → Fault
 fault_in d None = d

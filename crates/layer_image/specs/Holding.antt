@@ -1,27 +1,30 @@
 -- What a reader of a layer in pieces holds after the bytes so far.
-use Rattle.std.specs.Prelude.{◌≡◌, ◌⊎◌, ℕ, Bool, List, [], ◌∷◌, ◌++◌, Option, None, Some, Result, Ok, Err, if◌then◌else◌}
+use Rattle.std.specs.Prelude.{◌≡◌, ◌⊎◌, ℕ, Bool, false, List, [], ◌++◌, map, Option, None, Some, Err, if◌then◌else◌}
 use Rattle.grid_units.specs.Lists.{IsLegal}
 use Rattle.grid_units.specs.declared.fault.Fault.{Fault}
 use Rattle.grid_units.specs.declared.fault.Fail.{Fail}
 use Rattle.grid_units.specs.declared.fault.Fail.TheVariants as fails
-use Rattle.pad_shapes.specs.declared.pad.Pad.{Pad}
-use Rattle.gerber_commands.specs.declared.command.Command.{Command}
 use Rattle.grid_units.specs.declared.profile.Profile.{Profile}
-use Rattle.grid_units.specs.declared.profile.Profile.TheVariants.{Strict}
+use Rattle.pad_shapes.specs.declared.pad.Pad.{Pad}
+use Rattle.pad_shapes.specs.declared.wide_pad.WidePad.{WidePad}
 use Rattle.gerber_text.specs.Reading.{Entries, ShowsIn, SpellsPrefixIn, SpellsBeforeFaultIn}
 use Rattle.gerber_text.specs.Holding.{StandsIn, held}
-use Rattle.layer_image.specs.declared.flash.Flash.{Flash}
-use Rattle.layer_image.specs.declared.keep.Keep.{Keep}
-use Rattle.grid_units.specs.declared.item_fail.ItemFail.{ItemFail}
-use Rattle.grid_units.specs.declared.item_fail.ItemFail.TheVariants.{Memory, Refused}
-use Rattle.layer_image.specs.declared.scan.Scan.{Scan}
-use Rattle.layer_image.specs.declared.reader.LayerReader.{LayerReader}
-use Rattle.layer_image.specs.Faults.{IsFirstFault}
-use Rattle.layer_image.specs.FileFunction.{file_function_of}
-use Rattle.layer_image.specs.KeptFlashes.{KeptParts, without_pads, keeps_commands}
-use Rattle.layer_image.specs.Inner.IsStateAfter.{IsStateAfter}
-use Rattle.layer_image.specs.Rules.{broken_rule}
 use Rattle.gerber_text.specs.Writing.{without_places}
+use Rattle.layer_features.specs.CopperHolding.{HasMet, copper_pads, forgets_pads}
+use Rattle.layer_state.specs.Faults.{IsFirstFault}
+use Rattle.layer_state.specs.Flashes.{flashes_of}
+use Rattle.layer_state.specs.Holding.{HasScannedLegal, is_scanning_region, scanned_pads}
+use Rattle.layer_features.specs.Kept.{keeps_commands}
+use Rattle.layer_state.specs.KeptFlashes.{without_flashes, without_pads}
+use Rattle.layer_state.specs.Rules.{broken_rule}
+use Rattle.layer_state.specs.declared.flash.FlashKeep.{FlashKeep}
+use Rattle.layer_features.specs.declared.keep.Keep.{Keep}
+use Rattle.layer_state.specs.declared.scan.Scan.{Scan}
+use Rattle.layer_image.specs.Kept.{flashes_kept, plain}
+use Rattle.layer_image.specs.declared.content.LayerContent.{LayerContent}
+use Rattle.layer_image.specs.declared.content.LayerContent.TheVariants as content
+use Rattle.layer_image.specs.declared.met.Met.{Met}
+use Rattle.layer_image.specs.declared.reader.LayerReader.{LayerReader}
 
 -- A text shows this fault of a layer in a profile, whatever follows it. Some first items spell commands, and this is their first fault
 -- by the rules; or the text itself shows the fault, and the commands before it are legal.
@@ -30,60 +33,87 @@ ShowsLayerFaultIn profile text f =
     ((kept : ℕ) × (entries : Entries) × SpellsPrefixIn profile text kept entries × IsFirstFault entries f)
     ⊎ ((entries : Entries) × ShowsIn profile text (Err f) × SpellsBeforeFaultIn profile text (fails.Refused f) entries × IsLegal broken_rule (without_places entries))
 
--- the same in the strict profile
-abbrev pub ShowsLayerFault : List ℕ → Fault → Type 0
-ShowsLayerFault text f = ShowsLayerFaultIn Strict text f
+-- ---- judged commands
 
--- the scan has met just these commands
-pub record HasScanned (scan : Scan) (parts : KeptParts) (before : List Command) : Type 0 where
-  pub is_state : IsStateAfter scan.state.state parts before
-  pub named : scan.file_function ≡ file_function_of before
+-- just these commands were met, none of them breaks a rule, and these pads were taken out on the way
+pub record HasMetLegal (keep : Keep) (taken : List WidePad) (met : Met) (entries : Entries) : Type 0 where
+  pub scanned : HasScannedLegal met.scan (without_flashes (flashes_of (without_places entries))) entries
+  pub copper : HasMet keep taken met.copper (without_places entries)
 
--- a region is open after the commands that a scan has met
-abbrev pub is_scanning_region : Scan → Bool
-is_scanning_region scan = scan.state.state.in_region
+-- the same, where the flashes of the strict profile are all that is needed
+pub record HasScannedFor (profile : Profile) (keep : Keep) (taken : List WidePad) (scan : Scan) (entries : Entries) : Type 0 where
+  pub kept : FlashKeep
+  pub is : flashes_kept profile keep ≡ Some kept
+  pub plain_taken : List Pad
+  pub same : taken ≡ map plain plain_taken
+  pub scanned : HasScannedLegal scan (without_pads kept plain_taken) entries
 
--- the flashes that a scan holds, without those that were taken from it
-abbrev pub scanned_flashes : Scan → List Flash
-scanned_flashes scan = scan.state.state.flashes.all.items
+-- the commands so far are just these, none of them breaks a rule, and of what they make is held what is kept in the profile
+abbrev pub HasContent : Profile → Keep → List WidePad → LayerContent → Entries → Type 0
+HasContent profile keep taken (content.Flashes scan) entries = HasScannedFor profile keep taken scan entries
+HasContent profile keep taken (content.Features met) entries = (flashes_kept profile keep ≡ None) × HasMetLegal keep taken met entries
 
--- The command breaks no rule and was taken in, or this is the first rule that it breaks, or memory ran out.
-abbrev pub IsScanResult : KeptParts → List Command → Command → Scan → Result (Unit {0}) ItemFail → Type 0
-IsScanResult parts before c new (Ok _) = (broken_rule before c ≡ None) × HasScanned new parts (before ++ c ∷ [])
-IsScanResult parts before c new (Err (Refused reason)) = broken_rule before c ≡ Some reason
-IsScanResult parts before c new (Err Memory) = Unit {0}
+-- a region is open
+abbrev pub is_in_region : LayerContent → Bool
+is_in_region (content.Flashes scan) = is_scanning_region scan
+is_in_region (content.Features met) = is_scanning_region met.scan
 
--- the scan has met just these commands, and none of them breaks a rule
-pub record HasScannedLegal (scan : Scan) (parts : KeptParts) (entries : Entries) : Type 0 where
-  pub met : HasScanned scan parts (without_places entries)
-  pub legal : IsLegal broken_rule (without_places entries)
+-- the pads of standard apertures that are held in the strict profile
+abbrev pub plain_in : LayerContent → List Pad
+plain_in (content.Flashes scan) = scanned_pads scan
+plain_in (content.Features met) = []
 
--- the pads that a reader holds, without those that were taken from it
-abbrev pub held_pads : LayerReader → List Pad
-held_pads reader = reader.scan.state.state.flashes.pads.items
+-- the pads that are held in the wide profile
+abbrev pub wide_in : LayerContent → List WidePad
+wide_in (content.Flashes scan) = []
+wide_in (content.Features met) = copper_pads met.copper
 
--- The reader reads in this profile and keeps these parts, and has read this text, which shows no fault; the scan has met its commands,
--- which are kept where that is asked for. These pads, the first ones of the layer, were taken from it.
-pub record LayerStandsInAfterPads (reader : LayerReader) (profile : Profile) (keep : Keep) (taken : List Pad) (text : List ℕ) : Type 0 where
+-- clear polarity took away the pads that were taken out before
+abbrev pub forgets_in : LayerContent → Bool
+forgets_in (content.Flashes scan) = false
+forgets_in (content.Features met) = forgets_pads met.copper
+
+-- what is left of the pads that were taken out
+abbrev pub left_in : LayerContent → List WidePad → List WidePad
+left_in content taken = if forgets_in content then [] else taken
+
+-- what is left of them, and the pads that are held
+abbrev pub standing_in : LayerContent → List WidePad → List WidePad
+standing_in content taken = left_in content taken ++ (map plain (plain_in content) ++ wide_in content)
+
+-- ---- the reader
+
+-- The reader reads in this profile and keeps these parts, and has read this text, which shows no fault; its commands were met, and are kept where that
+-- is asked for. These pads were taken from it, as they stood then.
+pub record LayerStands (reader : LayerReader) (profile : Profile) (keep : Keep) (taken : List WidePad) (text : List ℕ) : Type 0 where
   pub sound : reader.failed ≡ None
   pub same : reader.keep ≡ keep
+  pub same_profile : reader.profile ≡ profile
   pub gone : Entries
   pub words : StandsIn reader.words profile gone text
   pub none : held reader.words ≡ []
-  pub scanned : HasScannedLegal reader.scan (without_pads keep taken) gone
+  pub content : HasContent profile keep taken reader.content gone
   pub kept : reader.kept.items ≡ (if keeps_commands keep then gone else [])
 
--- the same in the strict profile
-abbrev pub LayerStandsAfterPads : LayerReader → Keep → List Pad → List ℕ → Type 0
-LayerStandsAfterPads reader keep taken text = LayerStandsInAfterPads reader Strict keep taken text
+-- the pads of standard apertures that a reader of the strict profile holds, without those that were taken from it
+abbrev pub held_plain : LayerReader → List Pad
+held_plain reader = plain_in reader.content
 
--- the reader reads in this profile and keeps these parts, and has read this text, which shows no fault; no pads were taken from it
-abbrev pub LayerStandsIn : LayerReader → Profile → Keep → List ℕ → Type 0
-LayerStandsIn reader profile keep text = LayerStandsInAfterPads reader profile keep [] text
+-- the pads that a reader of the wide profile holds
+abbrev pub held_wide : LayerReader → List WidePad
+held_wide reader = wide_in reader.content
 
--- the reader keeps these parts, and has read this text, which shows no fault; no pads were taken from it
-abbrev pub LayerStandsAfter : LayerReader → Keep → List ℕ → Type 0
-LayerStandsAfter reader keep text = LayerStandsAfterPads reader keep [] text
+-- clear polarity took away the pads that were taken from a reader
+abbrev pub has_forgotten : LayerReader → Bool
+has_forgotten reader = forgets_in reader.content
+
+-- what is left of the pads that were taken from a reader
+abbrev pub left_pads : LayerReader → List WidePad → List WidePad
+left_pads reader taken = left_in reader.content taken
+
+-- what is left of them, and those that the reader holds
+abbrev pub standing_pads : LayerReader → List WidePad → List WidePad
+standing_pads reader taken = standing_in reader.content taken
 
 -- the failure of a reader, if it has failed
 abbrev pub layer_failure : LayerReader → Option Fail

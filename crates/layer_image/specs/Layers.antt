@@ -1,19 +1,22 @@
 -- Layers: what a whole text says in a profile, or its first fault. Where no profile is named, it is the strict one.
-use Rattle.std.specs.Prelude.{◌≡◌, ◌⊎◌, ◌↔◌, ℕ, List, [], ◌++◌, length, Option, Result, Ok, Err, if◌then◌else◌}
+use Rattle.std.specs.Prelude.{◌≡◌, ◌⊎◌, ◌↔◌, ℕ, List, length, map, Option, Result, Ok, Err}
 use Rattle.std.specs.List.{Contains}
 use Rattle.grid_units.specs.declared.fault.Fault.{Fault}
 use Rattle.grid_units.specs.declared.fault.Fail.TheVariants as fails
 use Rattle.pad_shapes.specs.declared.pad.Pad.{Pad}
+use Rattle.pad_shapes.specs.declared.wide_pad.WidePad.TheVariants.{Plain}
 use Rattle.grid_units.specs.declared.profile.Profile.{Profile}
 use Rattle.grid_units.specs.declared.profile.Profile.TheVariants.{Strict, Wide}
-use Rattle.gerber_text.specs.Reading.{Entries, Reads, ReadsIn, SpellsTextIn, SpellsPrefixIn, SpellsBeforeFaultIn}
-use Rattle.layer_image.specs.declared.flash.Flash.{Flash}
-use Rattle.layer_image.specs.declared.keep.Keep.{Keep}
-use Rattle.layer_image.specs.Flashes.{flashes_of, other_count, pads_of}
-use Rattle.layer_image.specs.Faults.{IsFirstFault}
-use Rattle.layer_image.specs.FileFunction.{file_function_of}
-use Rattle.layer_image.specs.KeptFlashes.{keeps_commands, keeps_flashes, keeps_pads}
-use Rattle.layer_image.specs.Rules.{all_rules, broken_rule}
+use Rattle.gerber_text.specs.Reading.{Entries, ReadsIn, SpellsTextIn, SpellsPrefixIn, SpellsBeforeFaultIn}
+use Rattle.layer_state.specs.declared.flash.Flash.{Flash}
+use Rattle.layer_state.specs.Flashes.{flashes_of, other_count, pads_of}
+use Rattle.layer_features.specs.DrawnCopper.{uncleared_drawn}
+use Rattle.layer_features.specs.Drawn.{drawn_of}
+use Rattle.layer_features.specs.Features.{features_of, strict_view}
+use Rattle.layer_features.specs.Features as feature_lists
+use Rattle.layer_state.specs.Faults.{IsFirstFault}
+use Rattle.layer_state.specs.FileFunction.{file_function_of}
+use Rattle.layer_state.specs.Rules.{all_rules, broken_rule}
 use Rattle.gerber_text.specs.Writing.{without_places}
 use Rattle.grid_units.specs.Lists.{IsLegal}
 
@@ -43,10 +46,6 @@ pub record IsLayerTextIn (profile : Profile) (text : List ℕ) (commands : Entri
   pub spells : SpellsTextIn profile text commands
   pub legal : IsLegal broken_rule (without_places commands)
 
--- the same in the strict profile
-abbrev pub IsLayerText : List ℕ → Entries → Type 0
-IsLayerText text commands = IsLayerTextIn Strict text commands
-
 -- the text is a layer's text of the image's commands in the profile, and the rest of the image follows from them
 abbrev pub IsLayerIn : Profile → List ℕ → LayerImage → Type 0
 IsLayerIn profile text image = IsLayerTextIn profile text image.commands × (image ≡ image_of image.commands)
@@ -67,77 +66,16 @@ ReadsLayerIn profile text (Err f) =
 abbrev pub ReadsLayer : List ℕ → Result LayerImage Fault → Type 0
 ReadsLayer text answer = ReadsLayerIn Strict text answer
 
--- what is kept of a layer: those of its lists that are asked for, the others empty, and all the rest
-abbrev pub kept_of : Keep → LayerImage → LayerImage
-kept_of keep layer = record {
-  commands = if keeps_commands keep then layer.commands else [];
-  flashes = if keeps_flashes keep then layer.flashes else [];
-  pads = if keeps_pads keep then layer.pads else [];
-  pad_count = layer.pad_count;
-  other = layer.other;
-  file_function = layer.file_function;
-}
-
--- in the profile a text has what is kept of the layer that it reads as, or its fault
-abbrev pub ReadsKeptIn : Profile → Keep → List ℕ → Result LayerImage Fault → Type 0
-ReadsKeptIn profile keep text (Ok kept) = (layer : LayerImage) × ReadsLayerIn profile text (Ok layer) × (kept ≡ kept_of keep layer)
-ReadsKeptIn profile keep text (Err f) = ReadsLayerIn profile text (Err f)
-
--- the same in the strict profile
-abbrev pub ReadsKept : Keep → List ℕ → Result LayerImage Fault → Type 0
-ReadsKept keep text answer = ReadsKeptIn Strict keep text answer
-
--- a layer with these pads put back before its own
-abbrev pub with_pads : List Pad → LayerImage → LayerImage
-with_pads taken rest = record {
-  commands = rest.commands;
-  flashes = rest.flashes;
-  pads = taken ++ rest.pads;
-  pad_count = rest.pad_count;
-  other = rest.other;
-  file_function = rest.file_function;
-}
-
--- in the profile a text has what is kept of the layer that it reads as, without these pads, the first ones of the layer; or its fault
-abbrev pub ReadsWithoutPadsIn : Profile → Keep → List Pad → List ℕ → Result LayerImage Fault → Type 0
-ReadsWithoutPadsIn profile keep taken text (Ok rest) = ReadsKeptIn profile keep text (Ok (with_pads taken rest))
-ReadsWithoutPadsIn profile keep taken text (Err f) = ReadsLayerIn profile text (Err f)
-
--- the same in the strict profile
-abbrev pub ReadsWithoutPads : Keep → List Pad → List ℕ → Result LayerImage Fault → Type 0
-ReadsWithoutPads keep taken text answer = ReadsWithoutPadsIn Strict keep taken text answer
-
--- a text has the flashes of the layer that it reads as, or its fault
-abbrev pub ReadsFlashes : List ℕ → Result (List Flash) Fault → Type 0
-ReadsFlashes text (Ok flashes) = (layer : LayerImage) × ReadsLayer text (Ok layer) × (flashes ≡ layer.flashes)
-ReadsFlashes text (Err f) = ReadsLayer text (Err f)
-
 -- texts that spell equal commands, at whatever places, have equal flashes, pads, number of other flashes and file function
 abbrev pub EqualCommands : Type 0
 EqualCommands = (s t : List ℕ) (a b : LayerImage) → ReadsLayer s (Ok a) → ReadsLayer t (Ok b) → without_places a.commands ≡ without_places b.commands
     → (a.flashes ≡ b.flashes) × (a.pads ≡ b.pads) × (a.file_function ≡ b.file_function) × (a.other ≡ b.other)
 
--- a text reads as one layer, or has one fault
-abbrev pub ReadingIsUnique : Type 0
-ReadingIsUnique = (text : List ℕ) (a b : Result LayerImage Fault) → ReadsLayer text a → ReadsLayer text b → a ≡ b
-
--- a text is a layer's text of some commands just where reading it gives these and they are legal
-abbrev pub LayerTexts : Type 0
-LayerTexts = (text : List ℕ) (commands : Entries) → IsLayerText text commands ↔ (Reads text (Ok commands) × IsLegal broken_rule (without_places commands))
-
--- a text reads as a layer just where reading it gives legal commands, those of the layer, and the rest follows from them
-abbrev pub LayersOfTexts : Type 0
-LayersOfTexts = (text : List ℕ) (image : LayerImage) → ReadsLayer text (Ok image) ↔ (Reads text (Ok image.commands) × IsLegal broken_rule (without_places image.commands) × (image ≡ image_of image.commands))
-
--- a fault of a layer has the reason of one of the fifteen rules, or it is the fault of its text
-abbrev pub LayerReasons : Type 0
-LayerReasons = (text : List ℕ) (f : Fault) → ReadsLayer text (Err f) → Contains all_rules f.reason ⊎ Reads text (Err f)
-
--- each text reads as a layer, or has a fault
-abbrev pub EachTextAnswers : Type 0
-EachTextAnswers = (text : List ℕ) → (answer : Result LayerImage Fault) × ReadsLayer text answer
-
 -- ---- in each profile
+
+-- in each profile a text is a layer's text of some commands just where reading it gives these and they are legal
+abbrev pub LayerTexts : Type 0
+LayerTexts = (profile : Profile) (text : List ℕ) (commands : Entries) → IsLayerTextIn profile text commands ↔ (ReadsIn profile text (Ok commands) × IsLegal broken_rule (without_places commands))
 
 -- in each profile a text reads as one layer, or has one fault
 abbrev pub ReadingIsUniqueIn : Type 0
@@ -155,6 +93,18 @@ LayerReasonsIn = (profile : Profile) (text : List ℕ) (f : Fault) → ReadsLaye
 -- in each profile each text reads as a layer, or has a fault
 abbrev pub EachTextAnswersIn : Type 0
 EachTextAnswersIn = (profile : Profile) (text : List ℕ) → (answer : Result LayerImage Fault) × ReadsLayerIn profile text answer
+
+-- a text of the strict profile reads as the same layer in the wide one, where it draws nothing in clear polarity: so the strict view of its flashes
+-- and contours there are those of the strict profile; its pads of standard apertures are the pads of the layer, and all that it draws stands
+pub record IsStrictView (text : List ℕ) (layer : LayerImage) : Type 0 where
+  pub wide : ReadsLayerIn Wide text (Ok layer)
+  pub features : strict_view (features_of Wide (without_places layer.commands)) ≡ features_of Strict (without_places layer.commands)
+  pub pads : feature_lists.pads_of (features_of Strict (without_places layer.commands)) ≡ map (λ (pad : Pad). Plain pad) layer.pads
+  pub drawn : uncleared_drawn (without_places layer.commands) ≡ drawn_of (without_places layer.commands)
+
+-- a text that reads as a layer in the strict profile has such a view
+abbrev pub StrictLayers : Type 0
+StrictLayers = (text : List ℕ) (layer : LayerImage) → ReadsLayer text (Ok layer) → IsStrictView text layer
 
 -- a text that reads as a layer without a profile reads as the same one in the wide profile
 abbrev pub WideReadsMore : Type 0

@@ -1,14 +1,4 @@
-pub mod Lookback
-pub mod Numbers
-pub mod Flashes
-pub mod Pads
-pub mod Drawn
-pub mod Rules
-pub mod Tables
-pub mod KeptFlashes
-pub mod Faults
-pub mod FileFunction
 pub mod Layers
+pub mod Kept
 pub mod PadLaws
 pub mod Holding
-pub mod Inner

@@ -5,11 +5,11 @@ use Rattle.grid_units.specs.Lists.{IsLegal, with_prefixes}
 use Rattle.pad_shapes.specs.declared.pad.Pad.{Pad}
 use Rattle.gerber_commands.specs.declared.command.Command.{Command}
 use Rattle.gerber_text.specs.Writing.{without_places}
-use Rattle.layer_image.specs.Flashes.{added_flashes, flash_copies, flashes_of, pads_of}
+use Rattle.layer_state.specs.Flashes.{added_flashes, flash_copies, flashes_of, pads_of}
 use Rattle.layer_image.specs.Layers.{IsLayer, LayerImage}
-use Rattle.layer_image.specs.Lookback.{state_after}
-use Rattle.layer_image.specs.Pads.{ArePads, IsFlashed}
-use Rattle.layer_image.specs.Rules.{broken_rule}
+use Rattle.layer_state.specs.Lookback.{state_after}
+use Rattle.layer_state.specs.Pads.{ArePads, IsFlashed}
+use Rattle.layer_state.specs.Rules.{broken_rule}
 
 -- the pads among the flashes of a legal list are the pads that its commands make
 abbrev pub LegalPads : Type 0

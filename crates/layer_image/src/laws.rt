@@ -1,44 +1,18 @@
 //! Laws of layers, and of what a reader in pieces answers. A call of one does nothing; its clauses are what is proved.
 
-ghost use Rattle.std.specs.Prelude.{◌≡◌, ◌↔◌, ◌++◌, ℕ, List, Result, Err};
+ghost use Rattle.std.specs.Prelude.{◌≡◌, ◌++◌, ℕ, List, Err};
 ghost use Rattle.grid_units.specs.declared.profile.Profile.{Profile};
-ghost use Rattle.grid_units.specs.declared.profile.Profile.TheVariants.{Strict};
 ghost use Rattle.gerber_commands.specs.declared.command.Command.{Command};
 ghost use Rattle.gerber_commands.specs.declared.command.Command.TheVariants.{Clear, Dark};
-ghost use Rattle.layer_image.specs.Rules.{broken_rule};
+ghost use Rattle.layer_state.specs.Rules.{broken_rule};
 ghost use Rattle.grid_units.specs.declared.fault.Fault.{Fault};
-ghost use Rattle.layer_image.specs.Layers.{EachTextAnswers, EachTextAnswersIn, EqualCommands, LayerImage, LayerReasons, LayerReasonsIn, LayerTexts, LayersOfTexts, LayersOfTextsIn, ReadingIsUnique, ReadingIsUniqueIn, ReadsLayer, ReadsLayerIn, WideReadsMore};
-ghost use Rattle.layer_image.specs.Holding.{ShowsLayerFault, ShowsLayerFaultIn};
+ghost use Rattle.layer_image.specs.Layers.{EachTextAnswersIn, EqualCommands, LayerReasonsIn, LayerTexts, LayersOfTextsIn, ReadingIsUniqueIn, ReadsLayerIn, StrictLayers, WideReadsMore};
+ghost use Rattle.layer_image.specs.Holding.{ShowsLayerFaultIn};
 ghost use Rattle.layer_image.specs.PadLaws.{FlashesAreCopies, LayerPads, LegalPads, PadsAreFlashed, PadsAreUnique};
-
-/// A fault that a text shows is shown by each longer text too, and is the fault that the text has.
-pub fn shown_faults()
-    ensures stays { (text more : List ℕ) (f : Fault) → ShowsLayerFault text f → ShowsLayerFault (text ++ more) f }
-    ensures read { (text : List ℕ) (f : Fault) → ShowsLayerFault text f → ReadsLayer text (Err f) }
-    ensures joined { (text more : List ℕ) (f : Fault) → ShowsLayerFault text f → ReadsLayer (text ++ more) (Err f) }
-{}
-
-/// A text is a layer's text of some commands just where reading it gives these and they are legal. It reads as a
-/// layer just where reading it gives legal commands, those of the layer. Each other text has a fault.
-pub fn layer_texts()
-    ensures just { LayerTexts }
-    ensures reads { LayersOfTexts }
-    ensures each { EachTextAnswers }
-{}
-
-/// A text reads as one layer, or has one fault.
-pub fn unique_reading()
-    ensures { ReadingIsUnique }
-{}
 
 /// Texts that spell equal commands have equal flashes, pads, number of other flashes and file function.
 pub fn equal_commands()
     ensures { EqualCommands }
-{}
-
-/// A fault of a layer has the reason of one of the fifteen rules, or it is the fault of its text.
-pub fn layer_reasons()
-    ensures { LayerReasons }
 {}
 
 /// The pads among the flashes of a legal list, and of a layer, are the pads that its commands make. Commands make at
@@ -60,18 +34,13 @@ pub fn clear_polarity()
     ensures { (before : List Command) → broken_rule before Clear ≡ broken_rule before Dark }
 {}
 
-/// In the strict profile a text shows the fault, and is read as the layer, that it does where no profile is named.
-pub fn strict_profile()
-    ensures shown { (text : List ℕ) (f : Fault) → (ShowsLayerFaultIn Strict text f) ↔ (ShowsLayerFault text f) }
-    ensures read { (text : List ℕ) (answer : Result LayerImage Fault) → (ReadsLayerIn Strict text answer) ↔ (ReadsLayer text answer) }
-{}
-
-/// In each profile a text reads as one layer, just where reading it gives legal commands, those of the layer, or has one fault, which
-/// has the reason of a rule or is that of the text. A fault that it shows is shown by each longer text too, and is the one that both
+/// In each profile a text is a layer's text of some commands just where reading it gives these and they are legal; it reads as one layer,
+/// just where reading it gives legal commands, those of the layer, or has one fault, which has the reason of a rule or is that of the text. A fault that it shows is shown by each longer text too, and is the one that both
 /// have.
 pub fn readings_in_profiles()
     ensures unique { ReadingIsUniqueIn }
     ensures each { EachTextAnswersIn }
+    ensures texts { LayerTexts }
     ensures reads { LayersOfTextsIn }
     ensures reasons { LayerReasonsIn }
     ensures stays { (profile : Profile) (text more : List ℕ) (f : Fault) → ShowsLayerFaultIn profile text f → ShowsLayerFaultIn profile (text ++ more) f }
@@ -82,4 +51,10 @@ pub fn readings_in_profiles()
 /// A text that reads as a layer without a profile reads as the same one in the wide profile.
 pub fn wide_reads_more()
     ensures { WideReadsMore }
+{}
+
+/// A text of the strict profile reads as the same layer in the wide one, and nothing of it is drawn in clear polarity: what [`crate::view_in`] gives of its flashes and contours are its flashes in the
+/// strict profile, the pads among them are those of the layer, and all that it draws stands.
+pub fn strict_layers()
+    ensures { StrictLayers }
 {}

@@ -2,16 +2,18 @@
 
 ghost use Rattle.std.specs.Prelude.{◌≡◌, ◌++◌, ◌<◌, ◌≤◌, [], ℕ, List, Err, Some, OnOk, IfOk, IfErr, IfSome, false, length, take, if◌then◌else◌};
 ghost use Rattle.grid_units.specs.Results.{Answers, IfFault};
-ghost use Rattle.layer_image.specs.declared.keep.Keep.{Keep as TheKeep};
-ghost use Rattle.pad_shapes.specs.declared.pad.Pad.{Pad as ThePad};
 ghost use Rattle.grid_units.specs.declared.profile.Profile.{Profile as TheProfile};
+ghost use Rattle.grid_units.specs.declared.profile.Profile.TheVariants.{Strict};
+ghost use Rattle.pad_shapes.specs.declared.wide_pad.WidePad.{WidePad as ThePad};
+ghost use Rattle.layer_features.specs.declared.keep.Keep.{Keep as TheKeep};
+ghost use Rattle.layer_features.specs.declared.keep.Keep.TheVariants as keep;
 
-use crate::keep::Keep;
+use crate::content::LayerContent;
 use crate::layer::Layer;
-use crate::scan::Scan;
 use gerber_text::{Command, Placed, WordReader};
 use grid_units::{Fail, Profile};
-use pad_shapes::Pad;
+use layer_features::Keep;
+use pad_shapes::{Pad, WidePad};
 use std::alloc::{AllocError, Global};
 
 /// A reader of a layer that comes in pieces. It keeps what the layer will hold, except the pads that it has dropped, the
@@ -20,7 +22,8 @@ use std::alloc::{AllocError, Global};
 pub struct LayerReader {
     alloc: Global,
     words: WordReader,
-    scan: Scan,
+    content: LayerContent,
+    profile: Profile,
     keep: Keep,
     kept: Vec<Placed<Command>>,
     failed: Option<Fail>,
@@ -29,37 +32,37 @@ pub struct LayerReader {
 impl LayerReader {
     ghost use Rattle.gerber_text.specs.Reading.{Entries};
     ghost use Rattle.gerber_text.specs.Holding.{StandsIn, held};
-    ghost use Rattle.layer_image.specs.KeptFlashes.{keeps_commands};
-    ghost use Rattle.layer_image.specs.Layers.{ReadsKept, ReadsKeptIn, ReadsWithoutPads, ReadsWithoutPadsIn};
-    ghost use Rattle.layer_image.specs.Holding.{LayerStandsAfter, LayerStandsAfterPads, LayerStandsIn, LayerStandsInAfterPads, ShowsLayerFault, ShowsLayerFaultIn, held_pads, layer_failure};
+    ghost use Rattle.layer_features.specs.Kept.{keeps_commands};
+    ghost use Rattle.layer_image.specs.Kept.{ReadsKeptIn};
+    ghost use Rattle.layer_image.specs.Holding.{LayerStands, ShowsLayerFaultIn, has_forgotten, held_plain, held_wide, layer_failure, left_pads, standing_pads};
 
-    /// A reader that has read nothing, and keeps all of the layer.
+    /// A reader that has read nothing, and keeps commands, flashes and pads in the strict profile.
     pub fn new(alloc: Global) -> LayerReader
-        ensures { LayerStandsAfter result Keep.All [] }
+        ensures { LayerStands result Strict keep.Layer [] [] }
     {
-        LayerReader::keeping(alloc, Keep::All)
+        LayerReader::in_profile(alloc, Keep::Layer, Profile::Strict)
     }
 
-    /// A reader that has read nothing, and keeps these parts of the layer.
-    pub fn keeping(alloc: Global, keep: Keep) -> LayerReader
-        ensures { LayerStandsAfter result keep [] }
-    {
-        LayerReader::in_profile(alloc, keep, Profile::Strict)
-    }
-
-    /// A reader that has read nothing, and keeps these parts of the layer. It reads in this profile: the other readers are
-    /// strict.
+    /// A reader that has read nothing, and keeps these parts of the layer. It reads in this profile.
     pub fn in_profile(alloc: Global, keep: Keep, profile: Profile) -> LayerReader
-        ensures { LayerStandsIn result profile keep [] }
+        ensures { LayerStands result profile keep [] [] }
     {
         LayerReader {
             alloc,
             words: WordReader::in_profile(alloc, profile),
-            scan: Scan::new(alloc, keep),
+            content: LayerContent::new(alloc, keep, profile),
+            profile,
             keep,
             kept: Vec::new(alloc),
             failed: None,
         }
+    }
+
+    /// The profile in which the reader reads.
+    pub fn profile(&self) -> Profile
+        ensures { (profile : TheProfile) (keep : TheKeep) (taken : List ThePad) (text : List ℕ) → LayerStands self.now profile keep taken text → result ≡ profile }
+    {
+        self.profile
     }
 
     /// Reads the next piece of the text.
@@ -69,12 +72,8 @@ impl LayerReader {
     /// The first fault that the text shows so far, whatever follows; `Memory` where an allocation failed. A reader
     /// that has failed returns its failure again.
     pub fn feed(&mut self, piece: &[u8]) -> Result<(), Fail>
-        ensures ok { (keep : TheKeep) (text : List ℕ) → LayerStandsAfter self.old keep text → OnOk result (LayerStandsAfter self.new keep (text ++ piece.now)) }
-        ensures err { (keep : TheKeep) (text : List ℕ) → LayerStandsAfter self.old keep text → IfErr result (IfFault (ShowsLayerFault (text ++ piece.now))) }
-        ensures ok_after_pads { (keep : TheKeep) (taken : List ThePad) (text : List ℕ) → LayerStandsAfterPads self.old keep taken text → OnOk result (LayerStandsAfterPads self.new keep taken (text ++ piece.now)) }
-        ensures err_after_pads { (keep : TheKeep) (taken : List ThePad) (text : List ℕ) → LayerStandsAfterPads self.old keep taken text → IfErr result (IfFault (ShowsLayerFault (text ++ piece.now))) }
-        ensures ok_in { (profile : TheProfile) (keep : TheKeep) (taken : List ThePad) (text : List ℕ) → LayerStandsInAfterPads self.old profile keep taken text → OnOk result (LayerStandsInAfterPads self.new profile keep taken (text ++ piece.now)) }
-        ensures err_in { (profile : TheProfile) (keep : TheKeep) (taken : List ThePad) (text : List ℕ) → LayerStandsInAfterPads self.old profile keep taken text → IfErr result (IfFault (ShowsLayerFaultIn profile (text ++ piece.now))) }
+        ensures ok { (profile : TheProfile) (keep : TheKeep) (taken : List ThePad) (text : List ℕ) → LayerStands self.old profile keep taken text → OnOk result (LayerStands self.new profile keep taken (text ++ piece.now)) }
+        ensures err { (profile : TheProfile) (keep : TheKeep) (taken : List ThePad) (text : List ℕ) → LayerStands self.old profile keep taken text → IfErr result (IfFault (ShowsLayerFaultIn profile (text ++ piece.now))) }
         ensures failed { IfSome (layer_failure self.old) (λ e. result ≡ Err e) }
         ensures fails { IfErr result (λ e. layer_failure self.new ≡ Some e) }
     {
@@ -90,8 +89,8 @@ impl LayerReader {
 
     /// Reads the next piece of the text.
     fn advance(&mut self, piece: &[u8]) -> Result<(), Fail>
-        ensures ok { (profile : TheProfile) (keep : TheKeep) (taken : List ThePad) (text : List ℕ) → LayerStandsInAfterPads self.old profile keep taken text → OnOk result (LayerStandsInAfterPads self.new profile keep taken (text ++ piece.now)) }
-        ensures err { (profile : TheProfile) (keep : TheKeep) (taken : List ThePad) (text : List ℕ) → LayerStandsInAfterPads self.old profile keep taken text → IfErr result (IfFault (ShowsLayerFaultIn profile (text ++ piece.now))) }
+        ensures ok { (profile : TheProfile) (keep : TheKeep) (taken : List ThePad) (text : List ℕ) → LayerStands self.old profile keep taken text → OnOk result (LayerStands self.new profile keep taken (text ++ piece.now)) }
+        ensures err { (profile : TheProfile) (keep : TheKeep) (taken : List ThePad) (text : List ℕ) → LayerStands self.old profile keep taken text → IfErr result (IfFault (ShowsLayerFaultIn profile (text ++ piece.now))) }
     {
         if self.keep.commands() {
             self.take_whole(piece)
@@ -103,11 +102,11 @@ impl LayerReader {
     /// Takes the next piece of the text where commands are kept: the items that it ends are read, then their commands
     /// are judged.
     fn take_whole(&mut self, piece: &[u8]) -> Result<(), Fail>
-        ensures ok { (profile : TheProfile) (keep : TheKeep) (taken : List ThePad) (text : List ℕ) → LayerStandsInAfterPads self.old profile keep taken text → OnOk result (LayerStandsInAfterPads self.new profile keep taken (text ++ piece.now)) }
-        ensures err { (profile : TheProfile) (keep : TheKeep) (taken : List ThePad) (text : List ℕ) → LayerStandsInAfterPads self.old profile keep taken text → IfErr result (IfFault (ShowsLayerFaultIn profile (text ++ piece.now))) }
+        ensures ok { (profile : TheProfile) (keep : TheKeep) (taken : List ThePad) (text : List ℕ) → LayerStands self.old profile keep taken text → OnOk result (LayerStands self.new profile keep taken (text ++ piece.now)) }
+        ensures err { (profile : TheProfile) (keep : TheKeep) (taken : List ThePad) (text : List ℕ) → LayerStands self.old profile keep taken text → IfErr result (IfFault (ShowsLayerFaultIn profile (text ++ piece.now))) }
     {
         let outcome = self.words.feed(piece);
-        self.scan.scan(self.alloc, self.words.commands())?;
+        self.content.take_all(self.alloc, self.words.commands())?;
         outcome?;
         self.keep_commands()?;
         Ok(())
@@ -116,8 +115,8 @@ impl LayerReader {
     /// Takes the next piece of the text where commands are dropped, part by part.
     fn take_parts(&mut self, piece: &[u8]) -> Result<(), Fail>
         requires { keeps_commands self.old.keep ≡ false }
-        ensures ok { (profile : TheProfile) (keep : TheKeep) (taken : List ThePad) (text : List ℕ) → LayerStandsInAfterPads self.old profile keep taken text → OnOk result (LayerStandsInAfterPads self.new profile keep taken (text ++ piece.now)) }
-        ensures err { (profile : TheProfile) (keep : TheKeep) (taken : List ThePad) (text : List ℕ) → LayerStandsInAfterPads self.old profile keep taken text → IfErr result (IfFault (ShowsLayerFaultIn profile (text ++ piece.now))) }
+        ensures ok { (profile : TheProfile) (keep : TheKeep) (taken : List ThePad) (text : List ℕ) → LayerStands self.old profile keep taken text → OnOk result (LayerStands self.new profile keep taken (text ++ piece.now)) }
+        ensures err { (profile : TheProfile) (keep : TheKeep) (taken : List ThePad) (text : List ℕ) → LayerStands self.old profile keep taken text → IfErr result (IfFault (ShowsLayerFaultIn profile (text ++ piece.now))) }
     {
         let mut taken = 0;
         while taken < piece.len() {
@@ -133,13 +132,13 @@ impl LayerReader {
         requires dropped { keeps_commands self.old.keep ≡ false }
         ensures taken { IfOk result (λ n. (0 < n) × (n ≤ length bytes.now)) }
         ensures keep { self.new.keep ≡ self.old.keep }
-        ensures ok { (profile : TheProfile) (keep : TheKeep) (taken : List ThePad) (text : List ℕ) → LayerStandsInAfterPads self.old profile keep taken text → IfOk result (λ n. LayerStandsInAfterPads self.new profile keep taken (text ++ take n bytes.now)) }
-        ensures err { (profile : TheProfile) (keep : TheKeep) (taken : List ThePad) (text : List ℕ) → LayerStandsInAfterPads self.old profile keep taken text → IfErr result (IfFault (ShowsLayerFaultIn profile (text ++ bytes.now))) }
+        ensures ok { (profile : TheProfile) (keep : TheKeep) (taken : List ThePad) (text : List ℕ) → LayerStands self.old profile keep taken text → IfOk result (λ n. LayerStands self.new profile keep taken (text ++ take n bytes.now)) }
+        ensures err { (profile : TheProfile) (keep : TheKeep) (taken : List ThePad) (text : List ℕ) → LayerStands self.old profile keep taken text → IfErr result (IfFault (ShowsLayerFaultIn profile (text ++ bytes.now))) }
     {
         match self.words.pass_operation(bytes) {
             Some(passed) => {
                 let len = passed.len;
-                self.scan.operate(passed)?;
+                self.content.operate(passed)?;
                 Ok(len)
             }
             None => self.take_other(bytes),
@@ -155,15 +154,15 @@ impl LayerReader {
         requires dropped { keeps_commands self.old.keep ≡ false }
         ensures taken { IfOk result (λ n. (0 < n) × (n ≤ length bytes.now)) }
         ensures keep { self.new.keep ≡ self.old.keep }
-        ensures ok { (profile : TheProfile) (keep : TheKeep) (taken : List ThePad) (text : List ℕ) → LayerStandsInAfterPads self.old profile keep taken text → IfOk result (λ n. LayerStandsInAfterPads self.new profile keep taken (text ++ take n bytes.now)) }
-        ensures err { (profile : TheProfile) (keep : TheKeep) (taken : List ThePad) (text : List ℕ) → LayerStandsInAfterPads self.old profile keep taken text → IfErr result (IfFault (ShowsLayerFaultIn profile (text ++ bytes.now))) }
+        ensures ok { (profile : TheProfile) (keep : TheKeep) (taken : List ThePad) (text : List ℕ) → LayerStands self.old profile keep taken text → IfOk result (λ n. LayerStands self.new profile keep taken (text ++ take n bytes.now)) }
+        ensures err { (profile : TheProfile) (keep : TheKeep) (taken : List ThePad) (text : List ℕ) → LayerStands self.old profile keep taken text → IfErr result (IfFault (ShowsLayerFaultIn profile (text ++ bytes.now))) }
     {
-        if self.scan.state.state.in_region {
+        if self.content.in_region() {
             return self.take_part(bytes);
         }
         match self.words.pass_text(bytes) {
             Some(passed) => {
-                self.scan
+                self.content
                     .text(self.alloc, passed.item.kind, passed.text_in(bytes))?;
                 Ok(passed.len)
             }
@@ -179,11 +178,11 @@ impl LayerReader {
         requires { 0 < length bytes.now }
         ensures taken { IfOk result (λ n. (0 < n) × (n ≤ length bytes.now)) }
         ensures keep { self.new.keep ≡ self.old.keep }
-        ensures ok { (profile : TheProfile) (keep : TheKeep) (taken : List ThePad) (text : List ℕ) → LayerStandsInAfterPads self.old profile keep taken text → IfOk result (λ n. LayerStandsInAfterPads self.new profile keep taken (text ++ take n bytes.now)) }
-        ensures err { (profile : TheProfile) (keep : TheKeep) (taken : List ThePad) (text : List ℕ) → LayerStandsInAfterPads self.old profile keep taken text → IfErr result (IfFault (ShowsLayerFaultIn profile (text ++ bytes.now))) }
+        ensures ok { (profile : TheProfile) (keep : TheKeep) (taken : List ThePad) (text : List ℕ) → LayerStands self.old profile keep taken text → IfOk result (λ n. LayerStands self.new profile keep taken (text ++ take n bytes.now)) }
+        ensures err { (profile : TheProfile) (keep : TheKeep) (taken : List ThePad) (text : List ℕ) → LayerStands self.old profile keep taken text → IfErr result (IfFault (ShowsLayerFaultIn profile (text ++ bytes.now))) }
     {
         let outcome = self.words.feed_part(bytes);
-        self.scan.scan(self.alloc, self.words.commands())?;
+        self.content.take_all(self.alloc, self.words.commands())?;
         let len = outcome?;
         self.keep_commands()?;
         Ok(len)
@@ -193,7 +192,8 @@ impl LayerReader {
     fn keep_commands(&mut self) -> Result<(), AllocError>
         ensures words { (profile : TheProfile) (gone : Entries) (text : List ℕ) → StandsIn self.old.words profile gone text → StandsIn self.new.words profile (gone ++ held self.old.words) text }
         ensures none { held self.new.words ≡ [] }
-        ensures scan { self.new.scan ≡ self.old.scan }
+        ensures content { self.new.content ≡ self.old.content }
+        ensures profile { self.new.profile ≡ self.old.profile }
         ensures kept { OnOk result (self.new.kept.items ≡ self.old.kept.items ++ (if keeps_commands self.old.keep then held self.old.words else [])) }
         ensures failed { self.new.failed ≡ self.old.failed }
         ensures keep { self.new.keep ≡ self.old.keep }
@@ -210,23 +210,39 @@ impl LayerReader {
         self.kept.append(&mut commands)
     }
 
-    /// The pads that the reader holds, in order: those since the last [`LayerReader::clear_pads`]. None where pads are
-    /// not kept in a list of their own.
+    /// The pads that a reader of the strict profile holds, in order: those since the last [`LayerReader::clear_pads`]. None where flashes and contours
+    /// are kept.
     pub fn pads(&self) -> &[Pad]
-        ensures { result.now ≡ held_pads self.now }
+        ensures { result.now ≡ held_plain self.now }
     {
-        &self.scan.state.state.flashes.pads
+        self.content.pads()
     }
 
-    /// Drops the pads so far: from here on [`LayerReader::pads`] gives those that come after them, and so does the
+    /// The pads that a reader of the wide profile holds where pads alone are kept, in order: those since the last [`LayerReader::clear_pads`], as clear
+    /// polarity leaves them.
+    pub fn wide_pads(&self) -> &[WidePad]
+        ensures { result.now ≡ held_wide self.now }
+    {
+        self.content.wide_pads()
+    }
+
+    /// Whether clear polarity has taken away all pads before those that the reader holds.
+    pub fn are_forgotten(&self) -> bool
+        ensures { result ≡ has_forgotten self.now }
+    {
+        self.content.are_forgotten()
+    }
+
+    /// Drops the pads so far: from here on [`LayerReader::pads`] and [`LayerReader::wide_pads`] give those that come after them, and so does the
     /// layer at the end. The memory that they took serves the next ones.
     pub fn clear_pads(&mut self)
-        ensures none { held_pads self.new ≡ [] }
-        ensures gone { (keep : TheKeep) (taken : List ThePad) (text : List ℕ) → LayerStandsAfterPads self.old keep taken text → LayerStandsAfterPads self.new keep (taken ++ held_pads self.old) text }
-        ensures gone_in { (profile : TheProfile) (keep : TheKeep) (taken : List ThePad) (text : List ℕ) → LayerStandsInAfterPads self.old profile keep taken text → LayerStandsInAfterPads self.new profile keep (taken ++ held_pads self.old) text }
+        ensures plain { held_plain self.new ≡ [] }
+        ensures wide { held_wide self.new ≡ [] }
+        ensures last { has_forgotten self.new ≡ false }
+        ensures gone { (profile : TheProfile) (keep : TheKeep) (taken : List ThePad) (text : List ℕ) → LayerStands self.old profile keep taken text → LayerStands self.new profile keep (standing_pads self.old taken) text }
         ensures failed { layer_failure self.new ≡ layer_failure self.old }
     {
-        self.scan.clear_pads();
+        self.content.clear_pads();
     }
 
     /// Ends the text, and returns what is kept of its layer.
@@ -235,15 +251,14 @@ impl LayerReader {
     ///
     /// The first fault of the text, whatever pads were taken. A reader that has failed returns its failure again.
     pub fn finish(self) -> Result<Layer, Fail>
-        ensures exact { (keep : TheKeep) (text : List ℕ) → LayerStandsAfter self keep text → Answers (λ layer. layer) (ReadsKept keep text) result }
-        ensures rest { (keep : TheKeep) (taken : List ThePad) (text : List ℕ) → LayerStandsAfterPads self keep taken text → Answers (λ layer. layer) (ReadsWithoutPads keep taken text) result }
-        ensures exact_in { (profile : TheProfile) (keep : TheKeep) (text : List ℕ) → LayerStandsIn self profile keep text → Answers (λ layer. layer) (ReadsKeptIn profile keep text) result }
-        ensures rest_in { (profile : TheProfile) (keep : TheKeep) (taken : List ThePad) (text : List ℕ) → LayerStandsInAfterPads self profile keep taken text → Answers (λ layer. layer) (ReadsWithoutPadsIn profile keep taken text) result }
+        ensures exact { (profile : TheProfile) (keep : TheKeep) (taken : List ThePad) (text : List ℕ) → LayerStands self profile keep taken text → Answers (λ layer. layer) (ReadsKeptIn profile keep (left_pads self taken) text) result }
         ensures failed { IfSome (layer_failure self) (λ e. result ≡ Err e) }
     {
         let LayerReader {
+            alloc,
             words,
-            scan,
+            content,
+            profile,
             kept,
             failed,
             ..
@@ -252,19 +267,6 @@ impl LayerReader {
             return Err(fail);
         }
         words.finish()?;
-        let Scan {
-            state,
-            file_function,
-        } = scan;
-        let flashes = state.state.flashes;
-        let pad_count = flashes.pad_count();
-        Ok(Layer {
-            commands: kept,
-            flashes: flashes.all,
-            pads: flashes.pads,
-            pad_count,
-            other: flashes.others,
-            file_function,
-        })
+        Ok(content.finish(alloc, profile, kept)?)
     }
 }

@@ -8,13 +8,14 @@ use Rattle.std.proofs.Math.Seq.{take-append_seam, drop-append_seam}
 use Rattle.std.specs.Prelude.{Option}
 use Rattle.grid_units.specs.Holes.{GridHole, GridRules, is_round}
 use Rattle.grid_units.specs.Spans.{LayerSpan}
-use Rattle.layer_image.specs.declared.drawn.Drawn.{Drawn}
-use Rattle.further_copper.specs.declared.feature.FeatureRow.{FeatureRow}
+use Rattle.pad_shapes.specs.declared.drawn.Drawn.{Drawn}
+use Rattle.pad_shapes.specs.declared.row.FeatureRow.{FeatureRow}
 use Rattle.ring_rules.specs.declared.finding.Drilled.{Drilled}
 use Rattle.package_check.specs.declared.Numbered.{Numbered}
 use Rattle.package_check.specs.declared.contents.Content.{Content}
 use Rattle.package_check.specs.declared.contents.Content.TheVariants as content
 use Rattle.pad_shapes.specs.WidePads.{wide_pad_covers}
+use Rattle.pad_shapes.specs.declared.wide_pad.WidePad.{WidePad}
 use Rattle.ring_rules.specs.Findings.{gap_findings, ring_findings}
 use Rattle.package_check.specs.Boards.{FileCountsAddUp, BoardView, IsBoard, board_findings, board_of, hole_count, numbered_from, numbered_in, reported}
 use Rattle.package_check.specs.Package.{FileView, IsReport, drilled, findings, holes_of, layer_indexes, layers, report_on, sum_of}
@@ -89,18 +90,18 @@ numbered_all n (c ∷ cs) =
     ∙ sym (flat_map-cons holes_of (n, c) (enumerate_from (n + 1) cs)))))
 
 -- the findings on the board of files are those on their contents
-same_findings : (rules : GridRules) (contents : List Content) (flashes : List (List FeatureRow)) (drawn : List (List Drawn)) → board_findings rules (board_of contents flashes drawn) ≡ findings rules (layers contents) (drilled contents)
-same_findings rules contents flashes drawn = λ i. ring_findings wide_pad_covers rules.profile rules.ring (layers contents) (sym (all_drilled contents) i) ++ gap_findings rules.gap (sym (all_drilled contents) i)
+same_findings : (rules : GridRules) (contents : List Content) (flashes : List (List FeatureRow)) (macros contours : List (List WidePad)) (drawn : List (List Drawn)) → board_findings rules (board_of contents flashes macros contours drawn) ≡ findings rules (layers contents) (drilled contents)
+same_findings rules contents flashes macros contours drawn = λ i. ring_findings wide_pad_covers rules.profile rules.ring (layers contents) (sym (all_drilled contents) i) ++ gap_findings rules.gap (sym (all_drilled contents) i)
 
 -- and so is the report
-same_report : (rules : GridRules) (contents : List Content) (flashes : List (List FeatureRow)) (drawn : List (List Drawn)) → reported rules (board_of contents flashes drawn) ≡ report_on rules contents
-same_report rules contents flashes drawn = λ i. record {
+same_report : (rules : GridRules) (contents : List Content) (flashes : List (List FeatureRow)) (macros contours : List (List WidePad)) (drawn : List (List Drawn)) → reported rules (board_of contents flashes macros contours drawn) ≡ report_on rules contents
+same_report rules contents flashes macros contours drawn = λ i. record {
   rules = rules;
   files = map sum_of contents;
   layers = layer_indexes contents;
   holes = numbered_all 0 contents i;
-  findings = same_findings rules contents flashes drawn i;
+  findings = same_findings rules contents flashes macros contours drawn i;
 }
 
 pub reported_on : (sources : List FileView) (rules : GridRules) (board : BoardView) (report : ReportView) → IsBoard sources board → report ≡ reported rules board → IsReport sources rules report
-reported_on sources rules board report b is = record { contents = b.contents; read = b.read; is = is ∙ (ap (reported rules) b.is ∙ same_report rules b.contents board.rows board.drawn) }
+reported_on sources rules board report b is = record { contents = b.contents; read = b.read; is = is ∙ (ap (reported rules) b.is ∙ same_report rules b.contents board.rows board.macros board.contours board.drawn) }

@@ -11,17 +11,17 @@ use Rattle.ring_rules.specs.declared.finding.Drilled.{Drilled}
 use Rattle.package_check.specs.CheckViews.{CheckView, holes_of, setting_of}
 use Rattle.package_check.specs.Checking.{AreHolesOf, HasJudged, IsJudgedOf, TakesCopper}
 use Rattle.package_check.specs.Holding.{HoldsThose, is_wanted}
-use Rattle.package_check.specs.Judging.{Judges}
-use Rattle.package_check.specs.OpenFiles.{CopperStandsIn, HasFailed, HasOpenedCopper, HasReadCopper, HasReadLayer}
+use Rattle.package_check.specs.Judging.{HasTriedPadsOf, Judges}
+use Rattle.package_check.specs.OpenFiles.{HasFailed, HasOpenedCopper, HasReadCopper}
 use Rattle.package_check.specs.Package.{Setting, FileView, is_bad_span, unnamed_file}
 use Rattle.package_check.specs.declared.PackageFault.{PackageFault}
 use Rattle.package_check.specs.declared.checking.Judged.{Judged}
 use Rattle.grid_units.specs.declared.profile.Profile.{Profile}
-use Rattle.layer_image.specs.declared.keep.Keep.TheVariants as keep
-use Rattle.package_check.specs.declared.copper_reader.CopperReader.{CopperReader}
-use Rattle.package_check.specs.declared.copper_reader.CopperReader.TheVariants as copper_reader
+use Rattle.layer_features.specs.declared.keep.Keep.TheVariants as keep
+use Rattle.layer_image.specs.Holding.{LayerStands}
+use Rattle.layer_image.specs.declared.reader.LayerReader.{LayerReader}
 use Rattle.package_check.specs.HoleViews.{HolesView}
-use Rattle.package_check.proofs.JudgedCopper.{none_given, none_tried}
+use Rattle.package_check.proofs.JudgedCopper.{none_tried}
 use Rattle.package_check.specs.declared.open_copper.OpenCopper.{OpenCopper}
 use Rattle.package_check.proofs.OpenFiles.{failed_read}
 
@@ -72,13 +72,8 @@ ended start check after file index layer span text name r h takes =
     (subst (λ (k : ℕ). OnOk r (TakesCopper check after index k (record { role = role.Copper; name = name; span = span; bytes = text; setting = setting_of check }))) h.same_layer
     (subst (λ (k : ℕ). OnOk r (TakesCopper check after k file.layer (record { role = role.Copper; name = name; span = span; bytes = text; setting = setting_of check }))) h.same_index takes)))
 
--- ---- readers of layers, by the profile
+-- ---- readers of layers
 
 -- a reader that has read nothing
-pub nothing_read : (p q : Profile) (holes : HolesView) (layer : ℕ) (reader : CopperReader) → q ≡ p → holes.search ≡ None → CopperStandsIn reader p keep.Pads [] → HasReadLayer q holes layer reader []
-nothing_read p q holes layer (copper_reader.Strict reader) is none stands = (is ∙ stands.0, none_tried holes layer reader [] stands.1 none)
-nothing_read p q holes layer (copper_reader.Wide reader) is none stands = (is ∙ stands.0, none_given holes layer reader [] stands.1 none)
-
--- what was read in a profile was read in the same one
-pub read_on : (p q : Profile) (holes : HolesView) (layer : ℕ) (reader : CopperReader) (text : List ℕ) (r : Result (Unit {0}) Fail) → p ≡ q → OnOk r (HasReadLayer p holes layer reader text) → OnOk r (HasReadLayer q holes layer reader text)
-read_on p q holes layer reader text r is h = subst (λ (s : Profile). OnOk r (HasReadLayer s holes layer reader text)) is h
+pub nothing_read : (p : Profile) (holes : HolesView) (layer : ℕ) (reader : LayerReader) → holes.rules.profile ≡ p → holes.search ≡ None → LayerStands reader p keep.Pads [] [] → HasTriedPadsOf holes layer reader []
+nothing_read p holes layer reader is none stands = none_tried holes layer reader [] (subst (λ (q : Profile). LayerStands reader q keep.Pads [] []) (sym is) stands) none

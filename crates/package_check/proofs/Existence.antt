@@ -11,15 +11,14 @@ use Rattle.gerber_text.specs.Writing.{without_places}
 use Rattle.grid_units.specs.declared.profile.Profile.{Profile}
 use Rattle.grid_units.specs.declared.profile.Profile.TheVariants.{Strict, Wide}
 use Rattle.layer_image.specs.Layers as layers
-use Rattle.wide_layers.specs.WideLayers.{WideImage, wide_image_of}
 use Rattle.manifest.specs.declared.Role.{Role}
 use Rattle.manifest.specs.declared.Role.TheVariants as role
 use Rattle.package_check.specs.declared.contents.Content.{Content}
 use Rattle.package_check.specs.declared.contents.Content.TheVariants as content
 use Rattle.package_check.specs.AlikePackages.{ReadingExists, AnswerExists}
-use Rattle.package_check.specs.LayerViews.{LayerView}
+use Rattle.package_check.specs.ContentViews.{LayerView}
 use Rattle.package_check.specs.Package.{FileView, Setting, Reads, ReadsBytes, ReadsUnlessBadSpan, ReadsCopper, ReadsHoles, ReadsMixedHoles, HasContent, HaveContents, IsFirstRefused, IsAnswer, is_bad_span, bad_span, not_copper, report_on}
-use Rattle.package_check.specs.FileTexts.{ReadsLayer, drill_kind, drill_view, layer_view, mixed_holes, wide_view}
+use Rattle.package_check.specs.FileTexts.{ReadsLayer, drill_kind, drill_view, layer_view, mixed_holes}
 use Rattle.package_check.specs.Reports.{ReportView}
 use Rattle.package_check.proofs.ContentIsReading.{content_read}
 
@@ -32,10 +31,9 @@ module _ (each_layer : layers.EachTextAnswersIn) (each_drill : (text : List ℕ)
   of_image profile bytes image h false e = (Err not_copper, inr (image, h, e, refl))
 
   of_layer : (profile : Profile) (bytes : List ℕ) (answer : Result layers.LayerImage Fault) → layers.ReadsLayerIn profile bytes answer → (answer : Result Content Fault) × ReadsCopper profile bytes answer
-  of_layer Strict bytes (Ok layer) h = of_image Strict bytes (layer_view layer) (layer, h, refl) (layer_view layer).is_copper refl
-  of_layer Wide bytes (Ok layer) h =
-      let image : WideImage = wide_image_of (without_places layer.commands) in
-      of_image Wide bytes (wide_view image) (image, (layer, h, refl), refl) (wide_view image).is_copper refl
+  of_layer profile bytes (Ok layer) h =
+      let view = layer_view profile (without_places layer.commands) in
+      of_image profile bytes view (layer, h, refl) view.is_copper refl
   of_layer profile bytes (Err f) h = (Err f, inl h)
 
   some_copper : (profile : Profile) (bytes : List ℕ) → (answer : Result Content Fault) × ReadsCopper profile bytes answer

@@ -7,9 +7,8 @@ use Rattle.grid_units.specs.Spans.{LayerSpan}
 use Rattle.ring_rules.specs.declared.finding.Drilled.{Drilled}
 use Rattle.manifest.specs.declared.Role.{Role}
 use Rattle.manifest.specs.declared.Role.TheVariants as role
-use Rattle.package_check.specs.DrillViews.{DrillView}
+use Rattle.package_check.specs.ContentViews.{DrillView, LayerView}
 use Rattle.package_check.specs.Checking.{drill_files}
-use Rattle.package_check.specs.LayerViews.{LayerView}
 use Rattle.package_check.specs.Package.{Setting, BytesHaveContent, FileView, HasContent, HaveContents, is_copper}
 use Rattle.package_check.specs.SoundnessAsRead.{drilled_in}
 use Rattle.package_check.specs.declared.contents.Content.{Content}

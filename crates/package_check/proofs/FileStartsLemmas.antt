@@ -14,7 +14,7 @@ use Rattle.ring_rules.specs.declared.finding.Drilled.{Drilled}
 use Rattle.package_check.specs.declared.FileSum.{FileSum}
 use Rattle.package_check.specs.declared.Numbered.{Numbered}
 use Rattle.package_check.specs.Boards.{CountsAddUp, hole_count, holes_before, numbered_from, numbered_in}
-use Rattle.package_check.specs.Inner.FileStarts.{AreFileStarts, AreStartsOf}
+use Rattle.package_check.specs.Inner.Leftovers.{AreFileStarts, AreStartsOf}
 
 -- an element of the first of two lists, and one of the second
 get_left : {X : Type 0} (xs ys : List X) (i : ℕ) (x : X) → slice_get xs i ≡ Some x → slice_get (xs ++ ys) i ≡ Some x

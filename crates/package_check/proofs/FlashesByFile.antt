@@ -3,20 +3,21 @@ use Rattle.std.proofs.Common.{◌≡◌, ◌<◌, ◌∷◌, ℕ, zero, suc, Lis
 use Rattle.std.proofs.lemmas.Bool.{false≢true}
 use Rattle.grid_units.specs.declared.fault.Fault.{Fault}
 use Rattle.gerber_text.specs.Writing.{without_places}
-use Rattle.further_copper.specs.DrawnCopper.{drawn_in}
-use Rattle.layer_image.specs.KeptFlashes.{keeps_commands, keeps_flashes}
+use Rattle.layer_features.specs.DrawnCopper.{drawn_in}
+use Rattle.layer_features.specs.Kept.{keeps_drawn, keeps_rows}
 use Rattle.layer_image.specs.Layers.{LayerImage, ReadingIsUniqueIn}
-use Rattle.layer_image.specs.declared.drawn.Drawn.{Drawn}
-use Rattle.layer_image.specs.declared.keep.Keep.{Keep}
-use Rattle.layer_image.specs.declared.keep.Keep.TheVariants as keep
+use Rattle.pad_shapes.specs.declared.drawn.Drawn.{Drawn}
+use Rattle.layer_features.specs.declared.keep.Keep.{Keep}
+use Rattle.layer_features.specs.declared.keep.Keep.TheVariants as keep
 use Rattle.package_check.specs.FileTexts.{Draws}
 use Rattle.package_check.specs.Package.{FileView}
 use Rattle.package_check.specs.Boards.{AreDrawnOf, AreFileLists}
 
 -- flashes are kept where commands are
-pub flashes_too : (kept : Keep) → keeps_commands kept ≡ true → keeps_flashes kept ≡ true
-flashes_too keep.All h = refl
-flashes_too keep.Flashes h = absurd (false≢true h)
+pub flashes_too : (kept : Keep) → keeps_drawn kept ≡ true → keeps_rows kept ≡ true
+flashes_too keep.RowsAndDrawn h = refl
+flashes_too keep.Layer h = absurd (false≢true h)
+flashes_too keep.Rows h = absurd (false≢true h)
 flashes_too keep.Pads h = absurd (false≢true h)
 
 abbrev the_ok : LayerImage → Result LayerImage Fault

@@ -10,6 +10,7 @@ pub mod FileKinds
 pub mod FileStartsLemmas
 pub mod FindingPlaces
 pub mod FlashReadingLemmas
+pub mod ShownLemmas
 pub mod FlashesByFile
 pub mod GrowingLists
 pub mod JudgedCopper

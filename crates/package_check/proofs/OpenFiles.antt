@@ -19,15 +19,14 @@ use Rattle.drill_text.specs.declared.platings.PlatingKind.{PlatingKind}
 use Rattle.drill_text.specs.declared.platings.PlatingKind.TheVariants as plating
 use Rattle.layer_image.specs.Holding.{ShowsLayerFaultIn}
 use Rattle.layer_image.specs.Layers as layers
-use Rattle.layer_image.specs.Layers.{LayerImage, ReadsKeptIn}
-use Rattle.layer_image.specs.declared.keep.Keep.{Keep}
-use Rattle.wide_layers.specs.WideLayers.{ReadsWideLayer, WideImage}
+use Rattle.layer_image.specs.Kept.{KeptLayer, ReadsKeptIn}
+use Rattle.pad_shapes.specs.declared.wide_pad.WidePad.{WidePad}
+use Rattle.layer_features.specs.declared.keep.Keep.{Keep}
 use Rattle.manifest.specs.declared.Role.{Role}
 use Rattle.manifest.specs.declared.Role.TheVariants as role
 use Rattle.ring_rules.specs.declared.finding.Drilled.{Drilled}
-use Rattle.package_check.specs.DrillViews.{DrillView}
+use Rattle.package_check.specs.ContentViews.{DrillView, LayerView}
 use Rattle.package_check.specs.FileTexts.{ReadsDrill, ReadsLayer, ReadsMixed, drill_kind, drill_view, marked, plating_in}
-use Rattle.package_check.specs.LayerViews.{LayerView}
 use Rattle.package_check.specs.Holding.{TakesFile, is_wanted, setting_of}
 use Rattle.package_check.specs.OpenFiles.{HasFailed, HasOpened, HasReadText, drill_role}
 use Rattle.package_check.specs.Package.{FileView, Setting, Reads, ReadsBytes, ReadsCopper, ReadsHoles, ReadsMixedHoles, ReadsUnlessBadSpan, bad_span, is_bad_span, is_copper, unnamed_file}
@@ -152,14 +151,9 @@ mixed_errs law of span setting text (Ok u) is good h = tt
 mixed_errs law of span setting text (Err e) is good h = mixed_failed law of span setting text e is good h
 
 -- the fault of a text is that of what is kept of it
-pub layer_fault : (profile : Profile) (keep : Keep) (text : List ℕ) (e : Fail) → Answers {T = LayerImage} (λ layer. layer) (ReadsKeptIn profile keep text) (Err e) → Answers {T = LayerView} (λ x. x) (ReadsLayer profile text) (Err e)
-layer_fault profile keep text fails.Memory h = tt
-layer_fault profile keep text (fails.Refused f) h = h
-
--- and so is that of a layer in the wide profile
-pub wide_fault : (text : List ℕ) (e : Fail) → Answers {T = WideImage} (λ layer. layer) (ReadsWideLayer text) (Err e) → Answers {T = LayerView} (λ x. x) (ReadsLayer Wide text) (Err e)
-wide_fault text fails.Memory h = tt
-wide_fault text (fails.Refused f) h = h
+pub layer_fault : (profile : Profile) (keep : Keep) (left : List WidePad) (text : List ℕ) (e : Fail) → Answers {T = KeptLayer} (λ layer. layer) (ReadsKeptIn profile keep left text) (Err e) → Answers {T = LayerView} (λ x. x) (ReadsLayer profile text) (Err e)
+layer_fault profile keep left text fails.Memory h = tt
+layer_fault profile keep left text (fails.Refused f) h = h
 
 pub drill_fault : (profile : Profile) (plated : Bool) (text : List ℕ) (e : Fail) → Answers {T = DrillFile} (λ drill. drill) (ReadsAsBy (drill_kind profile plated) (file_of (plating_in profile plated) drill_keep.Holes) text) (Err e) → Answers {T = DrillView} (λ x. x) (ReadsDrill profile plated text) (Err e)
 drill_fault profile plated text fails.Memory h = tt

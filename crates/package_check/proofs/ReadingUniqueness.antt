@@ -9,16 +9,15 @@ use Rattle.ring_rules.specs.declared.finding.Drilled.{Drilled}
 use Rattle.grid_units.specs.declared.profile.Profile.{Profile}
 use Rattle.grid_units.specs.declared.profile.Profile.TheVariants.{Strict, Wide}
 use Rattle.layer_image.specs.Layers as layers
-use Rattle.wide_layers.specs.WideLayers as wide
+use Rattle.gerber_text.specs.Writing.{without_places}
 use Rattle.std.specs.Prelude.{Option}
 use Rattle.grid_units.specs.Spans.{LayerSpan}
 use Rattle.manifest.specs.declared.Role.{Role}
 use Rattle.manifest.specs.declared.Role.TheVariants as role
-use Rattle.package_check.specs.DrillViews.{DrillView}
+use Rattle.package_check.specs.ContentViews.{DrillView, LayerView}
 use Rattle.package_check.specs.declared.contents.Content.{Content}
 use Rattle.package_check.specs.declared.contents.Content.TheVariants as content
-use Rattle.package_check.specs.LayerViews.{LayerView}
-use Rattle.package_check.specs.FileTexts.{ReadsLayer, ReadsDrill, drill_kind, drill_view, layer_view, mixed_holes, wide_view}
+use Rattle.package_check.specs.FileTexts.{ReadsLayer, ReadsDrill, drill_kind, drill_view, layer_view, mixed_holes}
 use Rattle.package_check.specs.Package.{Setting, ReadsBytes, ReadsUnlessBadSpan, ReadsCopper, ReadsHoles, ReadsMixedHoles, is_bad_span}
 use Rattle.package_check.specs.AlikePackages.{ReadingIsUnique}
 
@@ -41,17 +40,15 @@ true_or_false : (t : Bool) → t ≡ true → t ≡ false → ⊥
 true_or_false true e k = cc
 true_or_false false e k = cc
 
-module _ (layer_once : layers.ReadingIsUniqueIn) (wide_once : wide.ReadingIsUnique)
+module _ (layer_once : layers.ReadingIsUniqueIn)
     (drill_once : (text : List ℕ) (a b : Result (List DrillCommand) Fault) → drills.Reads text a → drills.Reads text b → a ≡ b)
     (texts : (text : List ℕ) (commands : List DrillCommand) → (drills.Reads text (Ok commands)) ↔ (IsDrillText text commands))
     (kinds_once : (kind : Kind) (text : List ℕ) (a b : Result (List DrillCommand) Fault) → ReadsBy kind text a → ReadsBy kind text b → a ≡ b) where
   one_image : (profile : Profile) (bytes : List ℕ) (a b : LayerView) → ReadsLayer profile bytes (Ok a) → ReadsLayer profile bytes (Ok b) → a ≡ b
-  one_image Strict bytes a b h k = h.2 ∙ (ap layer_view (ok_same (layer_once Strict bytes (Ok h.0) (Ok k.0) h.1 k.1)) ∙ sym k.2)
-  one_image Wide bytes a b h k = h.2 ∙ (ap wide_view (ok_same (wide_once bytes (Ok h.0) (Ok k.0) h.1 k.1)) ∙ sym k.2)
+  one_image profile bytes a b h k = h.2 ∙ (ap (λ (l : layers.LayerImage). layer_view profile (without_places l.commands)) (ok_same (layer_once profile bytes (Ok h.0) (Ok k.0) h.1 k.1)) ∙ sym k.2)
 
   no_layer : (profile : Profile) (bytes : List ℕ) (a : LayerView) (f : Fault) → ReadsLayer profile bytes (Ok a) → ReadsLayer profile bytes (Err f) → ⊥
-  no_layer Strict bytes a f h k = not_both (layer_once Strict bytes (Ok h.0) (Err f) h.1 k)
-  no_layer Wide bytes a f h k = not_both (wide_once bytes (Ok h.0) (Err f) h.1 k)
+  no_layer profile bytes a f h k = not_both (layer_once profile bytes (Ok h.0) (Err f) h.1 k)
 
   module _ (profile : Profile) where
     copper_or_not : (bytes : List ℕ) (a : LayerView) (f : Fault) → ReadsCopper profile bytes (Ok (content.Layer a)) → ReadsCopper profile bytes (Err f) → ⊥

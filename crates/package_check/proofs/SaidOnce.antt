@@ -13,7 +13,7 @@ use Rattle.drill_text.specs.MixedLaws.{CalledIsListed}
 use Rattle.manifest.specs.declared.Role.{Role}
 use Rattle.manifest.specs.declared.Role.TheVariants as role
 use Rattle.package_check.specs.FileTexts.{marked}
-use Rattle.package_check.specs.LayerViews.{plain}
+use Rattle.layer_image.specs.Kept.{plain}
 use Rattle.layer_image.specs.PadLaws.{PadsAreUnique}
 use Rattle.drill_lines.specs.declared.command.DrillCommand.{DrillCommand}
 use Rattle.drill_text.specs.Drilling.{AreHoles}

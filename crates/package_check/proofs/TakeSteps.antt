@@ -11,9 +11,9 @@ use Rattle.grid_units.specs.Spans.{LayerSpan}
 use Rattle.grid_units.specs.declared.fault.Fault.{Fault}
 use Rattle.grid_units.specs.declared.fault.Fail.{Fail}
 use Rattle.grid_units.specs.declared.fault.Fail.TheVariants as fails
-use Rattle.layer_image.specs.KeptFlashes.{keeps_commands, keeps_flashes}
+use Rattle.layer_features.specs.Kept.{keeps_drawn, keeps_rows}
 use Rattle.layer_image.specs.Layers.{ReadingIsUniqueIn}
-use Rattle.layer_image.specs.declared.keep.Keep.{Keep}
+use Rattle.layer_features.specs.declared.keep.Keep.{Keep}
 use Rattle.manifest.specs.declared.Role.{Role}
 use Rattle.package_check.specs.declared.PackageFault.{PackageFault}
 use Rattle.package_check.specs.declared.PackageFault.TheVariants as stop
@@ -22,8 +22,9 @@ use Rattle.package_check.specs.declared.package_reader.PackageReader.{PackageRea
 use Rattle.package_check.specs.declared.readers.Shown.{Shown}
 use Rattle.package_check.specs.declared.slots.Kept.{Kept}
 use Rattle.package_check.specs.Package.{FileView, Setting, HaveContents, IsFirstRefused, Reads, is_copper, unnamed_file}
-use Rattle.package_check.specs.Boards.{AreDrawnOf, AreFileLists, AreRowsOf, BoardView, IsBoard, IsDrawnBoard, IsFlashedBoard, ReturnsBoard, ReturnsDrawnBoard, ReturnsFlashedBoard, board_of}
-use Rattle.package_check.specs.Holding.{HasTaken, HasTakenAll, HoldsThose, IsKeptOf, IsPutAt, IsOutOfMemory, ReadsAt, ReadsInto, StoppedAmong, TakesFile, TakesThose, all_drawn, all_rows, contents_in, is_kind, is_kind_at, is_kind_of, is_wanted, kept_at, next_stop, shown_in}
+use Rattle.package_check.specs.Boards.{AreDrawnOf, AreFileLists, BoardView, IsBoard, IsDrawnBoard, IsFlashedBoard, OfCopper, Returns, board_of}
+use Rattle.package_check.specs.FileTexts.{HasContours, HasMacros, HasRows}
+use Rattle.package_check.specs.Holding.{HasTaken, HasTakenAll, HoldsThose, IsKeptOf, IsPutAt, IsOutOfMemory, ReadsAt, ReadsInto, StoppedAmong, TakesFile, TakesThose, contents_in, is_kind, is_kind_at, is_kind_of, is_wanted, kept_at, next_stop, shown_board, shown_in}
 use Rattle.package_check.proofs.ContentIsReading.{content_read}
 use Rattle.package_check.proofs.FlashesByFile.{drawn_read, flashes_too, lists_first, no_lists}
 use Rattle.package_check.proofs.GrowingLists.{any_name}
@@ -323,11 +324,18 @@ module _ (keep : Keep) where
       (all_lists IsOf list_of told ss xs (omega (arith, le)) (λ i t at. each (suc i) t at)))
 
   -- the rows of each file
-  pub rows_told : keeps_flashes keep ≡ true → (s : FileView) (one : Kept) → IsKeptOf keep s one → AreRowsOf s one.shown.rows.items
-  rows_told keeps s one kept = kept.rows keeps
+  pub rows_told : keeps_rows keep ≡ true → (s : FileView) (one : Kept) → IsKeptOf keep s one → OfCopper HasRows s one.shown.rows.items
+  rows_told keeps s one kept = λ copper. let h = kept.rows keeps copper in (h.0, h.1, h.2.rows)
+
+  -- and its pads that do not count
+  pub macros_told : keeps_rows keep ≡ true → (s : FileView) (one : Kept) → IsKeptOf keep s one → OfCopper HasMacros s one.shown.uncounted.macros.items
+  macros_told keeps s one kept = λ copper. let h = kept.rows keeps copper in (h.0, h.1, h.2.macros)
+
+  pub contours_told : keeps_rows keep ≡ true → (s : FileView) (one : Kept) → IsKeptOf keep s one → OfCopper HasContours s one.shown.uncounted.contours.items
+  contours_told keeps s one kept = λ copper. let h = kept.rows keeps copper in (h.0, h.1, h.2.contours)
 
   -- what each file draws
-  pub drawn_told : ReadingIsUniqueIn → keeps_commands keep ≡ true → (s : FileView) (one : Kept) → IsKeptOf keep s one → AreDrawnOf s one.shown.drawn.items
+  pub drawn_told : ReadingIsUniqueIn → keeps_drawn keep ≡ true → (s : FileView) (one : Kept) → IsKeptOf keep s one → AreDrawnOf s one.shown.drawn.items
   drawn_told once keeps s one kept = λ copper. drawn_read once s one.shown.drawn.items (kept.drawn keeps copper) copper
 
 -- the contents of the files before an index
@@ -359,20 +367,12 @@ module _ (reader : PackageReader) (keep : Keep) (sources : List FileView) (all :
   refused_first : (r : ℕ) (f : Fault) → reader.stopped ≡ Some (stop.File r f) → IsFirstRefused sources r f
   refused_first = first_refused (λ i. IsKeptOf keep) (λ i s one is. (one.content, is.content)) reader.slots.items reader.stopped sources all.holds
 
-  pub stop_returned : (fault : PackageFault) → reader.stopped ≡ Some fault → ReturnsBoard sources (Err fault)
-  stop_returned stop.Memory is = tt
-  stop_returned (stop.File r f) is = refused_first r f is
-
-  pub flashed_stop_returned : (fault : PackageFault) → reader.stopped ≡ Some fault → ReturnsFlashedBoard sources (Err fault)
-  flashed_stop_returned stop.Memory is = tt
-  flashed_stop_returned (stop.File r f) is = refused_first r f is
-
-  pub drawn_stop_returned : (fault : PackageFault) → reader.stopped ≡ Some fault → ReturnsDrawnBoard sources (Err fault)
-  drawn_stop_returned stop.Memory is = tt
-  drawn_stop_returned (stop.File r f) is = refused_first r f is
+  pub stop_returned : (Is : List FileView → BoardView → Type 0) (fault : PackageFault) → reader.stopped ≡ Some fault → Returns Is sources (Err fault)
+  stop_returned Is stop.Memory is = tt
+  stop_returned Is (stop.File r f) is = refused_first r f is
 
   module _ (none : reader.stopped ≡ None) (board : BoardView)
-      (is : board ≡ board_of (flat_map contents_in reader.slots.items) (all_rows (flat_map shown_in reader.slots.items)) (all_drawn (flat_map shown_in reader.slots.items))) where
+      (is : board ≡ shown_board (flat_map contents_in reader.slots.items) (flat_map shown_in reader.slots.items)) where
     each_kept : (i : ℕ) (s : FileView) → slice_get sources i ≡ Some s → KeptAt keep reader.slots.items i s
     each_kept i s at = all.holds.kept i s refl at (subst (λ (st : Option PackageFault). is_wanted st i ≡ true) (sym none) refl)
 
@@ -380,17 +380,21 @@ module _ (reader : PackageReader) (keep : Keep) (sources : List FileView) (all :
     board_read = record {
       contents = flat_map contents_in reader.slots.items;
       read = all_contents keep sources reader.slots.items all.holds.inside each_kept;
-      is = is ∙ sym (ap (λ (b : BoardView). board_of (flat_map contents_in reader.slots.items) b.rows b.drawn) is);
+      is = is ∙ sym (ap (λ (b : BoardView). board_of (flat_map contents_in reader.slots.items) b.rows b.macros b.contours b.drawn) is);
     }
 
-    pub flashed_board_read : keeps_flashes keep ≡ true → IsFlashedBoard sources board
+    pub flashed_board_read : keeps_rows keep ≡ true → IsFlashedBoard sources board
     flashed_board_read keeps = record {
       is = board_read;
-      rows = subst (AreFileLists AreRowsOf sources) (sym (ap (λ (b : BoardView). b.rows) is))
-          (all_lists keep AreRowsOf (λ (one : Shown). one.rows.items) (rows_told keep keeps) sources reader.slots.items all.holds.inside each_kept);
+      rows = subst (AreFileLists (OfCopper HasRows) sources) (sym (ap (λ (b : BoardView). b.rows) is))
+          (all_lists keep (OfCopper HasRows) (λ (one : Shown). one.rows.items) (rows_told keep keeps) sources reader.slots.items all.holds.inside each_kept);
+      macros = subst (AreFileLists (OfCopper HasMacros) sources) (sym (ap (λ (b : BoardView). b.macros) is))
+          (all_lists keep (OfCopper HasMacros) (λ (one : Shown). one.uncounted.macros.items) (macros_told keep keeps) sources reader.slots.items all.holds.inside each_kept);
+      contours = subst (AreFileLists (OfCopper HasContours) sources) (sym (ap (λ (b : BoardView). b.contours) is))
+          (all_lists keep (OfCopper HasContours) (λ (one : Shown). one.uncounted.contours.items) (contours_told keep keeps) sources reader.slots.items all.holds.inside each_kept);
     }
 
-    pub drawn_board_read : ReadingIsUniqueIn → keeps_commands keep ≡ true → IsDrawnBoard sources board
+    pub drawn_board_read : ReadingIsUniqueIn → keeps_drawn keep ≡ true → IsDrawnBoard sources board
     drawn_board_read once keeps = record {
       is = flashed_board_read (flashes_too keep keeps);
       drawn = subst (AreFileLists AreDrawnOf sources) (sym (ap (λ (b : BoardView). b.drawn) is))

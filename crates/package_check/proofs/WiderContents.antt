@@ -1,6 +1,6 @@
 -- What files say in the strict profile, they say in the wide one, with further pads.
 use Rattle.std.proofs.Common.{◌≡◌, ◌⊎◌, inl, inr, ◌↔◌, ◌<◌, ◌+◌, ◌++◌, ℕ, zero, suc, Bool, true, false, List, [], ◌∷◌, Option, None, Some, Ok, length, map, get_or, arith, refl, ap, ap₂, sym, subst, ◌∙◌}
-use Rattle.std.specs.Prelude.{⊤}
+use Rattle.std.specs.Prelude.{⊤, option_map}
 use Rattle.std.specs.List.{AllByRecursion, Contains, cons_option, enumerate_from, filter, flat_map, list_any}
 use Rattle.std.proofs.lemmas.List.Concat.{flat_map-cons}
 use Rattle.std.proofs.lemmas.List.Elements.{Contains-append_cases, Contains-append_left}
@@ -11,13 +11,14 @@ use Rattle.drill_text.specs.Plating.{calls_plated}
 use Rattle.drill_text.specs.Profiles.{ReadsBy, ReadsIn, mixed_in, unplated_in}
 use Rattle.drill_text.specs.Profiles as drills
 use Rattle.drill_text.specs.Texts.{IsDrillText}
-use Rattle.wide_layers.specs.WideLayers.{StrictLayers, plain_pad, plain_pads}
-use Rattle.further_copper.specs.declared.feature.Feature.{Feature}
-use Rattle.further_copper.specs.declared.feature.FeatureKind.{FeatureKind}
-use Rattle.further_copper.specs.declared.feature.FeatureKind.TheVariants as kind
-use Rattle.further_copper.specs.Features.{pad_in, pads_of as feature_pads}
+use Rattle.gerber_text.specs.Writing.{without_places}
+use Rattle.grid_units.specs.Points.{GridPoint}
+use Rattle.layer_image.specs.Layers.{StrictLayers}
+use Rattle.layer_features.specs.declared.feature.Feature.{Feature}
+use Rattle.layer_features.specs.declared.feature.FeatureKind.{FeatureKind}
+use Rattle.layer_features.specs.declared.feature.FeatureKind.TheVariants as kind
+use Rattle.layer_features.specs.Features.{pad_in, pads_of as feature_pads, strict_kind_of, strict_view, wide_features_of}
 use Rattle.pad_shapes.specs.WidePads.{wide_pad_covers}
-use Rattle.pad_shapes.specs.declared.pad.Pad.{Pad}
 use Rattle.pad_shapes.specs.declared.wide_pad.WidePad.{WidePad}
 use Rattle.pad_shapes.specs.declared.wide_pad.WidePad.TheVariants.{Plain, Rounded}
 use Rattle.manifest.specs.declared.Role.{Role}
@@ -26,9 +27,8 @@ use Rattle.ring_rules.specs.Findings.{gap_findings, ring_findings}
 use Rattle.ring_rules.specs.WithoutFindings.{FindsNoObliqueInWide, WideFindsNoMore as RingsFindNoMore}
 use Rattle.ring_rules.specs.declared.finding.Finding.{Finding}
 use Rattle.ring_rules.specs.declared.finding.Finding.TheVariants.{Ring, Oblique}
-use Rattle.package_check.specs.DrillViews.{DrillView}
-use Rattle.package_check.specs.FileTexts.{HasLayerView, ReadsDrill, is_copper_function, wide_view}
-use Rattle.package_check.specs.LayerViews.{LayerView, plain}
+use Rattle.package_check.specs.ContentViews.{DrillView, LayerView}
+use Rattle.package_check.specs.FileTexts.{HasLayerView, ReadsDrill, layer_view}
 use Rattle.package_check.specs.Package.{FileView, BytesHaveContent, HaveContents, drilled, holes_of, index_of, layers, numbered_holes, pads_of, report_on}
 use Rattle.package_check.specs.WiderProfile.{FindsNoMore, IsUncontradicted, WideFindsNoMore, is_gap, read_in}
 use Rattle.package_check.specs.declared.Numbered.{Numbered}
@@ -41,27 +41,22 @@ use Rattle.package_check.proofs.WiderFindings.{gaps_among, gaps_are, is_among, r
 later : {A : Type 0} (x y : A) (xs : List A) → Contains xs x → Contains (y ∷ xs) x
 later x y xs h = (suc h.0, (let lt = h.1 in omega arith), h.2)
 
-plain_among : (features : List Feature) (w : WidePad) → Contains (map plain (plain_pads features)) w → Contains (feature_pads features) w
-plain_among [] w = λ h. h
-plain_among (f ∷ fs) w = by f.what (plain_among fs w)
+strict_among : (features : List Feature) (w : WidePad) → Contains (feature_pads (strict_view features)) w → Contains (feature_pads features) w
+strict_among [] w = λ h. h
+strict_among (f ∷ fs) w = by f.at f.what (strict_among fs w)
   where
-    skipped : (k : FeatureKind) → plain_pad k ≡ None → (Contains (map plain (plain_pads fs)) w → Contains (feature_pads fs) w) → Contains (map plain (cons_option (plain_pad k) (plain_pads fs))) w → Contains (cons_option (pad_in k) (feature_pads fs)) w
-    skipped k none rest h = more (pad_in k) (rest (subst (λ (o : Option Pad). Contains (map plain (cons_option o (plain_pads fs))) w) none h))
-      where
-        more : (o : Option WidePad) → Contains (feature_pads fs) w → Contains (cons_option o (feature_pads fs)) w
-        more None there = there
-        more (Some pad) there = later w pad (feature_pads fs) there
-
-    by : (k : FeatureKind) → (Contains (map plain (plain_pads fs)) w → Contains (feature_pads fs) w) → Contains (map plain (cons_option (plain_pad k) (plain_pads fs))) w → Contains (cons_option (pad_in k) (feature_pads fs)) w
-    by (kind.Pad (Plain pad)) rest h = elim (Contains-append_cases (Plain pad ∷ []) (map plain (plain_pads fs)) w h) [
+    by : (at : GridPoint) (k : FeatureKind) → (Contains (feature_pads (strict_view fs)) w → Contains (feature_pads fs) w)
+        → Contains (feature_pads (cons_option (option_map (λ (j : FeatureKind). record { at = at; what = j }) (strict_kind_of k)) (strict_view fs))) w → Contains (cons_option (pad_in k) (feature_pads fs)) w
+    by at (kind.Pad (Plain pad)) rest h = elim (Contains-append_cases (Plain pad ∷ []) (feature_pads (strict_view fs)) w h) [
       | inl here ↦ Contains-append_left (Plain pad ∷ []) (feature_pads fs) w here
       | inr there ↦ later w (Plain pad) (feature_pads fs) (rest there)
     ]
-    by (kind.Pad (Rounded pad)) rest h = skipped (kind.Pad (Rounded pad)) refl rest h
-    by (kind.Contour pad) rest h = skipped (kind.Contour pad) refl rest h
-    by (kind.Other why) rest h = skipped (kind.Other why) refl rest h
-    by kind.Clear rest h = skipped kind.Clear refl rest h
-    by kind.Cleared rest h = skipped kind.Cleared refl rest h
+    by at (kind.Pad (Rounded pad)) rest h = later w (Rounded pad) (feature_pads fs) (rest h)
+    by at (kind.Contour pad) rest h = later w (Rounded pad) (feature_pads fs) (rest h)
+    by at (kind.Other why) rest h = rest h
+    by at (kind.Macro why) rest h = rest h
+    by at kind.Clear rest h = rest h
+    by at kind.Cleared rest h = rest h
 
 -- a content has all that another has, and may have further pads
 abbrev IsWider : Content → Content → Type 0
@@ -88,12 +83,13 @@ module _ (layers_too : StrictLayers) (texts : (text : List ℕ) (commands : List
   -- a layer has its pads in the wide profile too
   wider_layer : (bytes : List ℕ) (a : LayerView) → HasLayerView Strict bytes a → (b : LayerView) × HasLayerView Wide bytes b × (b.is_copper ≡ a.is_copper) × ((w : WidePad) → Contains a.pads w → Contains b.pads w)
   wider_layer bytes a h =
-      let wide = layers_too bytes h.0 h.1 in
-      let same : a.pads ≡ map plain (plain_pads wide.0.features) = ap (λ (v : LayerView). v.pads) h.2 ∙ ap (map plain) (sym wide.2) in (
-        wide_view wide.0,
-        (wide.0, wide.1, refl),
-        ap is_copper_function wide.3 ∙ sym (ap (λ (v : LayerView). v.is_copper) h.2),
-        λ w among. plain_among wide.0.features w (subst (λ (ps : List WidePad). Contains ps w) same among),
+      let law = layers_too bytes h.0 h.1 in
+      let commands = without_places h.0.commands in
+      let same : a.pads ≡ feature_pads (strict_view (wide_features_of commands)) = ap (λ (v : LayerView). v.pads) h.2 ∙ ap feature_pads (sym law.features) in (
+        layer_view Wide commands,
+        (h.0, law.wide, refl),
+        sym (ap (λ (v : LayerView). v.is_copper) h.2),
+        λ w among. strict_among (wide_features_of commands) w (subst (λ (ps : List WidePad). Contains ps w) same among),
       )
 
   wider_drill : (bytes : List ℕ) (drill : DrillView) → ReadsDrill Strict true bytes (Ok drill) → ReadsDrill Wide true bytes (Ok drill)

@@ -18,7 +18,9 @@ use Rattle.gerber_text.specs.Grammar.{IsTextIn}
 use Rattle.gerber_text.specs.Laws.{SpelledTextsAreWrittenIn}
 use Rattle.gerber_text.specs.Writing.{without_places}
 use Rattle.layer_image.specs.PadLaws.{LayerPads}
-use Rattle.layer_image.specs.FileFunction.{function_set}
+use Rattle.layer_state.specs.FileFunction.{function_set}
+use Rattle.layer_state.specs.Flashes.{flashes_of}
+use Rattle.layer_image.proofs.KeptLemmas.{plain_of_flashes}
 use Rattle.drill_text.specs.Laws.{ListedHolesAreDrilled, ReadIsWritten, SpelledIsWritten, WideHolesAreDrilled}
 use Rattle.drill_text.specs.Drilling.{AreHoles}
 use Rattle.drill_text.specs.Grammar.{IsText}
@@ -31,9 +33,9 @@ use Rattle.grid_units.specs.declared.fault.Fault.{Fault}
 use Rattle.drill_lines.specs.declared.command.DrillCommand.{DrillCommand}
 use Rattle.manifest.specs.declared.Role.{Role}
 use Rattle.manifest.specs.declared.Role.TheVariants as role
-use Rattle.package_check.specs.DrillViews.{DrillView}
-use Rattle.package_check.specs.LayerViews.{LayerView}
-use Rattle.package_check.specs.FileTexts.{HasLayerView, ReadsDrill, drill_kind, is_copper_function, wide_view}
+use Rattle.package_check.specs.ContentViews.{DrillView, LayerView}
+use Rattle.layer_image.specs.Kept.{plain}
+use Rattle.package_check.specs.FileTexts.{HasLayerView, ReadsDrill, drill_kind, is_copper_function}
 use Rattle.package_check.specs.declared.contents.Content.{Content}
 use Rattle.package_check.specs.declared.contents.Content.TheVariants as content
 use Rattle.package_check.specs.Package.{FileView, Setting, HasContent, HasDrillContent, HasMixedContent, HaveContents, is_bad_span, is_copper, layers, pads_of}
@@ -122,16 +124,14 @@ module _ (texts : SpelledTextsAreWrittenIn) (layer_pads : LayerPads) (lines : Sp
   made_by : (profile : Profile) (bytes : List ℕ) (image : LayerView) → HasLayerView profile bytes image
       → (commands : List Command) × IsTextIn profile bytes commands × MakePads profile commands image.pads × (is_copper_function (last_set function_set commands) ≡ image.is_copper)
   made_by Strict bytes image h =
-      let layer = h.0 in (
-        without_places layer.commands,
+      let layer = h.0 in
+      let commands = without_places layer.commands in (
+        commands,
         texts Strict bytes layer.commands h.1.0.spells,
-        (layer.pads, layer_pads bytes layer h.1, ap (λ v. v.pads) h.2),
-        ap (λ l. is_copper_function l.file_function) (sym h.1.1) ∙ sym (ap (λ v. v.is_copper) h.2),
+        (layer.pads, layer_pads bytes layer h.1, ap (λ v. v.pads) h.2 ∙ plain_of_flashes (flashes_of commands) ∙ ap (map plain) (sym (ap (λ l. l.pads) h.1.1))),
+        sym (ap (λ v. v.is_copper) h.2),
       )
-  made_by Wide bytes image h =
-      let layer = h.1.0 in
-      let is = h.2 ∙ ap wide_view h.1.2 in
-      (without_places layer.commands, texts Wide bytes layer.commands h.1.1.0.spells, ap (λ v. v.pads) is, sym (ap (λ v. v.is_copper) is))
+  made_by Wide bytes image h = (without_places h.0.commands, texts Wide bytes h.0.commands h.1.0.spells, ap (λ v. v.pads) h.2, sym (ap (λ v. v.is_copper) h.2))
 
   says_pads : (s : FileView) (image : LayerView) → HasLayerView s.setting.profile s.bytes image → image.is_copper ≡ true → s.span ≡ None → SaysPads s image.pads
   says_pads s image h copper none =

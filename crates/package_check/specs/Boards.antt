@@ -2,11 +2,12 @@
 use Rattle.std.specs.Prelude.{ℕ, ◌+◌, ◌<◌, ◌≡◌, ◌++◌, List, [], ◌∷◌, get_or, length, map, take, drop, true, Result, Ok, Err, ⊤}
 use Rattle.std.specs.List.{flat_map, enumerate_from, sum_by}
 use Rattle.grid_units.specs.Holes.{GridRules}
+use Rattle.grid_units.specs.declared.profile.Profile.{Profile}
 use Rattle.gerber_text.specs.Writing.{without_places}
 use Rattle.layer_image.specs.Layers.{LayerImage, ReadsLayerIn}
-use Rattle.layer_image.specs.declared.drawn.Drawn.{Drawn}
-use Rattle.further_copper.specs.DrawnCopper.{drawn_in}
-use Rattle.further_copper.specs.declared.feature.FeatureRow.{FeatureRow}
+use Rattle.pad_shapes.specs.declared.drawn.Drawn.{Drawn}
+use Rattle.layer_features.specs.DrawnCopper.{drawn_in}
+use Rattle.pad_shapes.specs.declared.row.FeatureRow.{FeatureRow}
 use Rattle.pad_shapes.specs.WidePads.{wide_pad_covers}
 use Rattle.pad_shapes.specs.declared.wide_pad.WidePad.{WidePad}
 use Rattle.ring_rules.specs.Findings.{gap_findings, ring_findings}
@@ -19,28 +20,32 @@ use Rattle.package_check.specs.declared.PackageFault.{PackageFault}
 use Rattle.package_check.specs.declared.PackageFault.TheVariants as stop
 use Rattle.package_check.specs.declared.contents.Content.{Content}
 use Rattle.package_check.specs.Reports.{ReportView}
-use Rattle.package_check.specs.FileTexts.{HasRows}
+use Rattle.package_check.specs.FileTexts.{HasContours, HasMacros, HasRows}
 use Rattle.package_check.specs.SoundnessAsRead.{drilled_in}
 use Rattle.package_check.specs.Package.{FileView, HaveContents, IsFirstRefused, is_copper, layer_indexes, layers, sum_of}
 
--- the board of a package: the counts of each file, the pads and the index of each copper file, the holes of all drill files in order, and what is kept of rows and of
--- what is drawn
+-- the board of a package: the counts of each file, the pads and the index of each copper file, the holes of all drill files in order; and of each file what is kept
+-- of rows, of shapes of macros and contours that the profile does not count, and of what is drawn
 pub record BoardView : Type 0 where
   pub files : List FileSum
   pub layers : List (List WidePad)
   pub layer_indexes : List ℕ
   pub holes : List Drilled
   pub rows : List (List FeatureRow)
+  pub macros : List (List WidePad)
+  pub contours : List (List WidePad)
   pub drawn : List (List Drawn)
 
--- the board of files with these contents and these rows, which draw this
-abbrev pub board_of : List Content → List (List FeatureRow) → List (List Drawn) → BoardView
-board_of contents rows drawn = record {
+-- the board of files with these contents, rows, and pads that the profile does not count, which draw this
+abbrev pub board_of : List Content → List (List FeatureRow) → List (List WidePad) → List (List WidePad) → List (List Drawn) → BoardView
+board_of contents rows macros contours drawn = record {
   files = map sum_of contents;
   layers = layers contents;
   layer_indexes = layer_indexes contents;
   holes = flat_map drilled_in contents;
   rows = rows;
+  macros = macros;
+  contours = contours;
   drawn = drawn;
 }
 
@@ -48,37 +53,29 @@ board_of contents rows drawn = record {
 pub record IsBoard (sources : List FileView) (board : BoardView) : Type 0 where
   pub contents : List Content
   pub read : HaveContents sources contents
-  pub is : board ≡ board_of contents board.rows board.drawn
+  pub is : board ≡ board_of contents board.rows board.macros board.contours board.drawn
 
--- the result is the board of the package, or the first file that is refused, running out of memory aside
-abbrev pub ReturnsBoard : List FileView → Result BoardView PackageFault → Type 0
-ReturnsBoard sources (Ok board) = IsBoard sources board
-ReturnsBoard sources (Err stop.Memory) = ⊤
-ReturnsBoard sources (Err (stop.File index fault)) = IsFirstRefused sources index fault
+-- the result is what a relation says of a package, or the first file that is refused, running out of memory aside
+abbrev pub Returns : (List FileView → BoardView → Type 0) → List FileView → Result BoardView PackageFault → Type 0
+Returns Is sources (Ok board) = Is sources board
+Returns Is sources (Err stop.Memory) = ⊤
+Returns Is sources (Err (stop.File index fault)) = IsFirstRefused sources index fault
 
--- the rows of a copper file are those of the layer that its text reads as; of a drill file nothing is said
-abbrev pub AreRowsOf : FileView → List FeatureRow → Type 0
-AreRowsOf source rows = is_copper source.role ≡ true → HasRows source.setting.profile source.bytes rows
+-- of the text of a copper file this is so, in the profile of the file; of a drill file nothing is said
+abbrev pub OfCopper : {X : Type 0} → (Profile → List ℕ → X → Type 0) → FileView → X → Type 0
+OfCopper {X} Is source x = is_copper source.role ≡ true → Is source.setting.profile source.bytes x
 
 -- one list for each file of a package, of which the relation says what it has of the file
 pub record AreFileLists {X : Type 0} (IsOf : FileView → List X → Type 0) (sources : List FileView) (lists : List (List X)) : Type 0 where
   pub size : length lists ≡ length sources
   pub each : (i : ℕ) (s : FileView) → i < length sources → IsOf (get_or sources i s) (get_or lists i [])
 
--- one list of rows for each file of a package; that of a copper file has the rows of its layer
-abbrev pub AreFileRows : List FileView → List (List FeatureRow) → Type 0
-AreFileRows sources rows = AreFileLists AreRowsOf sources rows
-
--- the board of a package whose files are all read, with the rows of each file
+-- the board of a package whose files are all read, with the rows of each file, and the pads that do not count
 pub record IsFlashedBoard (sources : List FileView) (board : BoardView) : Type 0 where
   pub is : IsBoard sources board
-  pub rows : AreFileRows sources board.rows
-
--- the result is the board of the package with its rows, or the first file that is refused, running out of memory aside
-abbrev pub ReturnsFlashedBoard : List FileView → Result BoardView PackageFault → Type 0
-ReturnsFlashedBoard sources (Ok board) = IsFlashedBoard sources board
-ReturnsFlashedBoard sources (Err stop.Memory) = ⊤
-ReturnsFlashedBoard sources (Err (stop.File index fault)) = IsFirstRefused sources index fault
+  pub rows : AreFileLists (OfCopper HasRows) sources board.rows
+  pub macros : AreFileLists (OfCopper HasMacros) sources board.macros
+  pub contours : AreFileLists (OfCopper HasContours) sources board.contours
 
 -- a copper file draws what the commands of the layer draw that its text reads as; of a drill file nothing is said (docs/FORMATS.md, Pictures)
 abbrev pub AreDrawnOf : FileView → List Drawn → Type 0
@@ -88,12 +85,6 @@ AreDrawnOf source drawn = is_copper source.role ≡ true → (image : LayerImage
 pub record IsDrawnBoard (sources : List FileView) (board : BoardView) : Type 0 where
   pub is : IsFlashedBoard sources board
   pub drawn : AreFileLists AreDrawnOf sources board.drawn
-
--- the result is the board of the package with its rows and what its files draw, or the first file that is refused, running out of memory aside
-abbrev pub ReturnsDrawnBoard : List FileView → Result BoardView PackageFault → Type 0
-ReturnsDrawnBoard sources (Ok board) = IsDrawnBoard sources board
-ReturnsDrawnBoard sources (Err stop.Memory) = ⊤
-ReturnsDrawnBoard sources (Err (stop.File index fault)) = IsFirstRefused sources index fault
 
 -- how many holes a file drills, slots among them; a copper file drills none
 abbrev pub hole_count : FileSum → ℕ

@@ -34,8 +34,7 @@ holes_of check = record { holes = check.holes; rules = check.rules; index = chec
 -- whether these are the counts of a drill file
 abbrev pub is_drill_sum : FileSum → Bool
 is_drill_sum (sum.Layer pads other contours) = false
-is_drill_sum (sum.Drill plated span contradicted round slots) = true
-is_drill_sum (sum.Mixed span round slots unplated) = true
+is_drill_sum _ = true
 
 -- whether a drill file has a slot
 abbrev pub is_drill_in : Option Judged → Bool

@@ -1,5 +1,5 @@
 -- What the bytes of a file say.
-use Rattle.std.specs.Prelude.{◌≡◌, ℕ, Bool, true, false, List, [], ◌∷◌, codes, length, map, Option, Some, None, Result, Ok, Err}
+use Rattle.std.specs.Prelude.{◌≡◌, ℕ, Bool, true, false, List, [], ◌∷◌, codes, Option, Some, None, Result, Ok, Err}
 use Rattle.std.specs.Str.{bytes_eq}
 use Rattle.grid_units.specs.Holes.{GridHole}
 use Rattle.grid_units.specs.Spans.{LayerSpan}
@@ -17,58 +17,59 @@ use Rattle.drill_text.specs.declared.platings.PlatingKind.{PlatingKind}
 use Rattle.drill_text.specs.declared.platings.PlatingKind.TheVariants as plating
 use Rattle.layer_image.specs.Layers as layers
 use Rattle.layer_image.specs.Layers.{LayerImage}
-use Rattle.layer_image.specs.declared.drawn.Drawn.{Drawn}
-use Rattle.further_copper.specs.DrawnCopper.{drawn_in}
-use Rattle.further_copper.specs.declared.feature.FeatureRow.{FeatureRow}
-use Rattle.wide_layers.specs.WideLayers.{ReadsWideLayer, WideImage, contour_count, flashed_count, other_count}
-use Rattle.further_copper.specs.Features.{pads_of, rows_of, strict_row}
+use Rattle.pad_shapes.specs.declared.drawn.Drawn.{Drawn}
+use Rattle.layer_features.specs.DrawnCopper.{drawn_in}
+use Rattle.pad_shapes.specs.declared.row.FeatureRow.{FeatureRow}
+use Rattle.pad_shapes.specs.declared.wide_pad.WidePad.{WidePad}
+use Rattle.gerber_commands.specs.declared.command.Command.{Command}
+use Rattle.layer_features.specs.Features.{contour_count, features_of, flashed_count, other_count, pads_of, rows_of, uncounted_contours, uncounted_macros, wide_features_of}
+use Rattle.layer_state.specs.FileFunction.{file_function_of}
 use Rattle.ring_rules.specs.declared.finding.Drilled.{Drilled}
-use Rattle.package_check.specs.DrillViews.{DrillView}
-use Rattle.package_check.specs.LayerViews.{LayerView, plain}
+use Rattle.package_check.specs.ContentViews.{DrillView, LayerView}
 
 -- the first field of a file function is `Copper`, as in `Copper,L1,Top`; a layer without one is taken for copper (docs/FORMATS.md, File function)
 abbrev pub is_copper_function : Option (List ℕ) → Bool
 is_copper_function None = true
 is_copper_function (Some text) = bytes_eq (first_field text) (codes "Copper")
 
--- what the check keeps of a layer in the strict profile
-abbrev pub layer_view : LayerImage → LayerView
-layer_view layer = record {
-  pads = map plain layer.pads;
-  flashed = length layer.pads;
-  contours = 0;
-  other = layer.other;
-  is_copper = is_copper_function layer.file_function;
-}
-
--- what the check keeps of a layer in the wide profile
-abbrev pub wide_view : WideImage → LayerView
-wide_view layer = record {
-  pads = pads_of layer.features;
-  flashed = flashed_count layer.features;
-  contours = contour_count layer.features;
-  other = other_count layer.features;
-  is_copper = is_copper_function layer.file_function;
+-- what the check keeps of the layer of these commands in a profile
+abbrev pub layer_view : Profile → List Command → LayerView
+layer_view profile commands = record {
+  pads = pads_of (features_of profile commands);
+  flashed = flashed_count (features_of profile commands);
+  contours = contour_count (features_of profile commands);
+  other = other_count (features_of profile commands);
+  is_copper = is_copper_function (file_function_of commands);
 }
 
 -- in the profile the bytes are the text of a layer, and this is what the check keeps of it
 abbrev pub HasLayerView : Profile → List ℕ → LayerView → Type 0
-HasLayerView Strict bytes view = (layer : LayerImage) × layers.IsLayer bytes layer × (view ≡ layer_view layer)
-HasLayerView Wide bytes view = (layer : WideImage) × ReadsWideLayer bytes (Ok layer) × (view ≡ wide_view layer)
+HasLayerView profile bytes view = (layer : LayerImage) × layers.IsLayerIn profile bytes layer × (view ≡ layer_view profile (without_places layer.commands))
 
 -- in the profile the bytes are the text of a layer, and this is what the check keeps of it; or they have this fault
 abbrev pub ReadsLayer : Profile → List ℕ → Result LayerView Fault → Type 0
 ReadsLayer profile bytes (Ok view) = HasLayerView profile bytes view
 ReadsLayer profile bytes (Err fault) = layers.ReadsLayerIn profile bytes (Err fault)
 
--- in the profile the bytes are the text of a layer, and these are its rows: its flashes, and in the wide profile its contours too, in the order of the text
-abbrev pub HasRows : Profile → List ℕ → List FeatureRow → Type 0
-HasRows Strict bytes rows = (layer : LayerImage) × layers.IsLayer bytes layer × (rows ≡ map strict_row layer.flashes)
-HasRows Wide bytes rows = (layer : WideImage) × ReadsWideLayer bytes (Ok layer) × (rows ≡ rows_of layer.features)
+-- in the profile the bytes are the text of a layer, and of its commands this list is made
+abbrev pub IsMadeOf : {X : Type 0} → (List Command → List X) → Profile → List ℕ → List X → Type 0
+IsMadeOf {X} make profile bytes list = (layer : LayerImage) × layers.IsLayerIn profile bytes layer × (list ≡ make (without_places layer.commands))
 
--- in the profile the bytes are the text of a layer, and this is what its commands draw (docs/FORMATS.md, Pictures)
+-- these are the rows of a layer: its flashes, and in the wide profile its contours too, in the order of the text
+abbrev pub HasRows : Profile → List ℕ → List FeatureRow → Type 0
+HasRows profile = IsMadeOf (λ commands. rows_of (features_of profile commands)) profile
+
+-- the shapes of macros that it flashes and that the profile does not count as pads
+abbrev pub HasMacros : Profile → List ℕ → List WidePad → Type 0
+HasMacros profile = IsMadeOf (λ commands. uncounted_macros profile (wide_features_of commands)) profile
+
+-- the contours that the profile does not count as pads
+abbrev pub HasContours : Profile → List ℕ → List WidePad → Type 0
+HasContours profile = IsMadeOf (λ commands. uncounted_contours profile (wide_features_of commands)) profile
+
+-- what its commands draw (docs/FORMATS.md, Pictures)
 abbrev pub Draws : Profile → List ℕ → List Drawn → Type 0
-Draws profile bytes drawn = (layer : LayerImage) × layers.IsLayerIn profile bytes layer × (drawn ≡ drawn_in profile (without_places layer.commands))
+Draws profile = IsMadeOf (drawn_in profile) profile
 
 -- by what it is known which holes of a file are plated whose role says of all of them whether they are: in the strict profile by the role alone; in the
 -- wide one the words of a file that its role calls unplated are held to that (docs/FORMATS.md, Unplated drill files)

@@ -2,10 +2,16 @@
 use Rattle.std.specs.Prelude.{◌≡◌, ◌≢◌, ◌<◌, ◌≤◌, ◌==◌, ◌||◌, ◌∷◌, [], ℕ, Bool, true, false, not, List, length, get_or, slice_get, map, nat_lt, if◌then◌else◌, Option, None, Some, Result, Ok, Err, ⊤}
 use Rattle.grid_units.specs.declared.fault.Fail.{Fail}
 use Rattle.grid_units.specs.declared.fault.Fail.TheVariants as fails
-use Rattle.layer_image.specs.KeptFlashes.{keeps_commands, keeps_flashes}
-use Rattle.layer_image.specs.declared.drawn.Drawn.{Drawn}
-use Rattle.further_copper.specs.declared.feature.FeatureRow.{FeatureRow}
-use Rattle.layer_image.specs.declared.keep.Keep.{Keep}
+use Rattle.grid_units.specs.declared.profile.Profile.{Profile}
+use Rattle.gerber_commands.specs.declared.command.Command.{Command}
+use Rattle.gerber_text.specs.Writing.{without_places}
+use Rattle.layer_image.specs.Layers.{IsLayerIn, LayerImage}
+use Rattle.layer_features.specs.Features.{features_of, rows_of, uncounted_contours, uncounted_macros, wide_features_of}
+use Rattle.layer_features.specs.Kept.{keeps_drawn, keeps_rows}
+use Rattle.pad_shapes.specs.declared.drawn.Drawn.{Drawn}
+use Rattle.pad_shapes.specs.declared.row.FeatureRow.{FeatureRow}
+use Rattle.pad_shapes.specs.declared.wide_pad.WidePad.{WidePad}
+use Rattle.layer_features.specs.declared.keep.Keep.{Keep}
 use Rattle.manifest.specs.declared.Role.{Role}
 use Rattle.package_check.specs.declared.PackageFault.{PackageFault}
 use Rattle.package_check.specs.declared.PackageFault.TheVariants as stop
@@ -13,7 +19,8 @@ use Rattle.package_check.specs.declared.contents.Content.{Content}
 use Rattle.package_check.specs.declared.package_reader.PackageReader.{PackageReader}
 use Rattle.package_check.specs.declared.readers.Shown.{Shown}
 use Rattle.package_check.specs.declared.slots.Kept.{Kept}
-use Rattle.package_check.specs.FileTexts.{Draws, HasRows}
+use Rattle.package_check.specs.Boards.{BoardView, board_of}
+use Rattle.package_check.specs.FileTexts.{Draws}
 use Rattle.package_check.specs.Package.{FileView, Reads, Setting, is_copper}
 
 -- ---- slots
@@ -38,19 +45,27 @@ abbrev pub shown_in : Option Kept → List Shown
 shown_in None = []
 shown_in (Some one) = one.shown ∷ []
 
--- the rows of each file, of what is kept of the files to be shown
-abbrev pub all_rows : List Shown → List (List FeatureRow)
-all_rows shown = map (λ one. one.rows.items) shown
+-- the board of files with these contents, of which this is kept to be shown
+abbrev pub shown_board : List Content → List Shown → BoardView
+shown_board contents shown =
+    board_of contents (map (λ one. one.rows.items) shown) (map (λ one. one.uncounted.macros.items) shown) (map (λ one. one.uncounted.contours.items) shown)
+    (map (λ one. one.drawn.items) shown)
 
--- what each file draws, of what is kept of the files to be shown
-abbrev pub all_drawn : List Shown → List (List Drawn)
-all_drawn shown = map (λ one. one.drawn.items) shown
+-- what is kept to be shown of the layer of these commands: its rows, and the pads that the profile does not count
+pub record ShowsRows (profile : Profile) (commands : List Command) (shown : Shown) : Type 0 where
+  pub rows : shown.rows.items ≡ rows_of (features_of profile commands)
+  pub macros : shown.uncounted.macros.items ≡ uncounted_macros profile (wide_features_of commands)
+  pub contours : shown.uncounted.contours.items ≡ uncounted_contours profile (wide_features_of commands)
+
+-- in the profile the bytes are the text of a layer, and this is kept of it to be shown
+abbrev pub HasShown : Profile → List ℕ → Shown → Type 0
+HasShown profile bytes shown = (layer : LayerImage) × IsLayerIn profile bytes layer × ShowsRows profile (without_places layer.commands) shown
 
 -- what is kept of a file: its content; of a copper file its rows where they are kept, and what its commands draw where these are kept
 pub record IsKeptOf (keep : Keep) (source : FileView) (one : Kept) : Type 0 where
   pub content : Reads source (Ok one.content)
-  pub rows : keeps_flashes keep ≡ true → is_copper source.role ≡ true → HasRows source.setting.profile source.bytes one.shown.rows.items
-  pub drawn : keeps_commands keep ≡ true → is_copper source.role ≡ true → Draws source.setting.profile source.bytes one.shown.drawn.items
+  pub rows : keeps_rows keep ≡ true → is_copper source.role ≡ true → HasShown source.setting.profile source.bytes one.shown
+  pub drawn : keeps_drawn keep ≡ true → is_copper source.role ≡ true → Draws source.setting.profile source.bytes one.shown.drawn.items
 
 -- ---- where a reader stopped
 

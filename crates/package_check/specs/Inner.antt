@@ -1,3 +1,1 @@
-pub mod FileStarts
 pub mod Leftovers
-pub mod ShownLayers

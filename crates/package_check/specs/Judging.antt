@@ -1,15 +1,10 @@
 -- What a check keeps of a file, where the rings of a layer are looked for as its file is read, and its pads are dropped.
-use Rattle.std.specs.Prelude.{◌≡◌, ℕ, false, List, [], map, Option, None, Some, Result, Ok, Err}
+use Rattle.std.specs.Prelude.{◌≡◌, ℕ, List, [], Option, None, Some, Result, Ok, Err}
 use Rattle.grid_units.specs.Holes.{GridRules}
 use Rattle.grid_units.specs.declared.fault.Fault.{Fault}
-use Rattle.layer_image.specs.Holding.{LayerStandsAfterPads}
-use Rattle.layer_image.specs.declared.keep.Keep.TheVariants as keep
+use Rattle.layer_image.specs.Holding.{LayerStands}
+use Rattle.layer_features.specs.declared.keep.Keep.TheVariants as keep
 use Rattle.layer_image.specs.declared.reader.LayerReader.{LayerReader}
-use Rattle.further_copper.specs.Features.{pads_of}
-use Rattle.further_copper.specs.declared.feature.Feature.{Feature}
-use Rattle.pad_shapes.specs.declared.pad.Pad.{Pad}
-use Rattle.wide_layers.specs.Holding.{WideStandsSince}
-use Rattle.wide_layers.specs.declared.reader.WideReader.{WideReader}
 use Rattle.pad_shapes.specs.WidePads.{wide_pad_covers}
 use Rattle.pad_shapes.specs.declared.wide_pad.WidePad.{WidePad}
 use Rattle.ring_rules.specs.Findings.{layer_findings}
@@ -19,7 +14,6 @@ use Rattle.ring_rules.specs.declared.finding.Finding.{Finding}
 use Rattle.ring_rules.specs.declared.layer_search.LayerSearch.{LayerSearch}
 use Rattle.ring_rules.specs.declared.ring_index.RingIndex.{RingIndex}
 use Rattle.package_check.specs.HoleViews.{HolesView}
-use Rattle.package_check.specs.LayerViews.{plain}
 use Rattle.package_check.specs.Package.{FileView, Reads, ReadsCopper, sum_of}
 use Rattle.package_check.specs.declared.contents.Content.{Content}
 use Rattle.package_check.specs.declared.contents.Content.TheVariants as content
@@ -30,18 +24,11 @@ abbrev pub HasTriedIn : List Drilled → RingIndex → ℕ → List WidePad → 
 HasTriedIn holes index layer pads None = pads ≡ []
 HasTriedIn holes index layer pads (Some search) = HasTried wide_pad_covers holes layer pads index search
 
--- a reader has read this text of a layer and dropped the first of its pads, and just these were tried
+-- a reader has read this text of a layer, of whose pads just these were taken from it and tried
 pub record HasTriedPadsOf (holes : HolesView) (layer : ℕ) (reader : LayerReader) (text : List ℕ) : Type 0 where
-  pub dropped : List Pad
-  pub read : LayerStandsAfterPads reader keep.Pads dropped text
-  pub tried : HasTriedIn holes.holes holes.index layer (map plain dropped) holes.search
-
--- a reader has read this text of a layer in the wide profile, and of its flashes and contours just the pads among those that were taken out were
--- tried, as they stand now
-pub record HasTriedFeaturesOf (holes : HolesView) (layer : ℕ) (reader : WideReader) (text : List ℕ) : Type 0 where
-  pub given : List Feature
-  pub read : WideStandsSince false given reader text
-  pub tried : HasTriedIn holes.holes holes.index layer (pads_of given) holes.search
+  pub taken : List WidePad
+  pub read : LayerStands reader holes.rules.profile keep.Pads taken text
+  pub tried : HasTriedIn holes.holes holes.index layer taken holes.search
 
 -- the findings of rings on the layer of a file with this content, by the layer's number from 0; a drill file has none
 abbrev pub rings_of : GridRules → List Drilled → ℕ → Content → List Finding

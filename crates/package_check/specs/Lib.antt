@@ -1,14 +1,12 @@
 pub mod AlikePackages
 pub mod Boards
-pub mod DrillViews
-pub mod LayerViews
+pub mod ContentViews
 pub mod Package
 pub mod FileTexts
 pub mod Reports
 pub mod Soundness
 pub mod SoundnessAsRead
 pub mod Texts
-pub mod Pieces
 pub mod Holding
 pub mod Judging
 pub mod HoleViews

@@ -1,5 +1,5 @@
 -- What a file of a package that is being read holds of its text so far.
-use Rattle.std.specs.Prelude.{◌≡◌, ◌++◌, ℕ, Bool, true, false, List, Option, None, Err, ⊤, if◌then◌else◌}
+use Rattle.std.specs.Prelude.{◌≡◌, ◌++◌, ℕ, Bool, true, false, List, [], Option, None, Err, ⊤, if◌then◌else◌}
 use Rattle.grid_units.specs.Spans.{LayerSpan}
 use Rattle.grid_units.specs.declared.fault.Fail.{Fail}
 use Rattle.grid_units.specs.declared.fault.Fail.TheVariants as fails
@@ -7,21 +7,18 @@ use Rattle.drill_text.specs.Holding.{StandsBy}
 use Rattle.drill_text.specs.Profiles.{mixed_in}
 use Rattle.drill_text.specs.declared.kept.Keep.TheVariants as drill_keep
 use Rattle.grid_units.specs.declared.profile.Profile.{Profile}
-use Rattle.grid_units.specs.declared.profile.Profile.TheVariants.{Strict, Wide}
-use Rattle.layer_image.specs.Holding.{LayerStandsIn}
-use Rattle.layer_image.specs.declared.keep.Keep.{Keep}
-use Rattle.layer_image.specs.KeptFlashes.{keeps_commands}
-use Rattle.wide_layers.specs.Holding.{WideStandsAfter}
+use Rattle.layer_image.specs.Holding.{LayerStands}
+use Rattle.layer_features.specs.declared.keep.Keep.{Keep}
+use Rattle.layer_features.specs.declared.keep.Keep.TheVariants as keeps
+use Rattle.layer_image.specs.declared.reader.LayerReader.{LayerReader}
 use Rattle.manifest.specs.declared.Role.{Role}
 use Rattle.manifest.specs.declared.Role.TheVariants as role
 use Rattle.package_check.specs.CheckViews.{CheckView, holes_of}
 use Rattle.package_check.specs.FileTexts.{drill_kind}
 use Rattle.package_check.specs.HoleViews.{HolesView}
 use Rattle.package_check.specs.Holding.{is_wanted, setting_of}
-use Rattle.package_check.specs.Judging.{HasTriedFeaturesOf, HasTriedPadsOf}
+use Rattle.package_check.specs.Judging.{HasTriedPadsOf}
 use Rattle.package_check.specs.Package.{Reads, Setting, is_bad_span, unnamed_file}
-use Rattle.package_check.specs.declared.copper_reader.CopperReader.{CopperReader}
-use Rattle.package_check.specs.declared.copper_reader.CopperReader.TheVariants as copper_reader
 use Rattle.package_check.specs.declared.open_copper.CopperReading.{CopperReading}
 use Rattle.package_check.specs.declared.open_copper.CopperReading.TheVariants as copper_reading
 use Rattle.package_check.specs.declared.open_copper.OpenCopper.{OpenCopper}
@@ -41,11 +38,16 @@ HasFailed of span setting (fails.Refused fault) text = (more : List ℕ) → Rea
 
 -- ---- files of a reader
 
--- A reader of a copper file in this profile has read this text, which shows no fault. In the strict profile it keeps these parts of the layer; in the wide one
--- what is drawn, where commands are kept.
-abbrev pub CopperStandsIn : CopperReader → Profile → Keep → List ℕ → Type 0
-CopperStandsIn (copper_reader.Strict reader) profile keep text = (profile ≡ Strict) × LayerStandsIn reader Strict keep text
-CopperStandsIn (copper_reader.Wide reader) profile keep text = (profile ≡ Wide) × WideStandsAfter (keeps_commands keep) reader text
+-- what is kept of a copper file of a package, of which no commands are kept: pads alone in place of a whole layer
+abbrev pub copper_keep : Keep → Keep
+copper_keep keeps.Layer = keeps.Pads
+copper_keep keeps.Pads = keeps.Pads
+copper_keep keeps.Rows = keeps.Rows
+copper_keep keeps.RowsAndDrawn = keeps.RowsAndDrawn
+
+-- a reader of a copper file in this profile, of which this is kept, has read this text, which shows no fault
+abbrev pub CopperStandsIn : LayerReader → Profile → Keep → List ℕ → Type 0
+CopperStandsIn reader profile keep text = LayerStands reader profile (copper_keep keep) [] text
 
 -- Of a file of this role and span, in a package of so many copper files, this text was read. It shows no fault, and the reader of its kind stands after
 -- it; or the file has failed. A file that is passed over has read no text.
@@ -65,15 +67,10 @@ pub record HasOpened (reader : PackageReader) (index : ℕ) (of : Role) (span : 
 
 -- ---- copper files of a check
 
--- a reader of a layer has read this text, and its pads so far were tried at the holes
-abbrev pub HasReadLayer : Profile → HolesView → ℕ → CopperReader → List ℕ → Type 0
-HasReadLayer profile holes layer (copper_reader.Strict reader) text = (profile ≡ Strict) × HasTriedPadsOf holes layer reader text
-HasReadLayer profile holes layer (copper_reader.Wide reader) text = (profile ≡ Wide) × HasTriedFeaturesOf holes layer reader text
-
 -- Of the copper file of this span, whose layer has this number, in a package of so many copper files, this text was read and shows no fault; or the file
 -- has failed. A file that is passed over has read no text.
 abbrev pub HasReadCopper : HolesView → ℕ → Option LayerSpan → ℕ → CopperReading → List ℕ → Type 0
-HasReadCopper holes layer span layers (copper_reading.Layer reader) text = (span ≡ None) × HasReadLayer holes.rules.profile holes layer reader text
+HasReadCopper holes layer span layers (copper_reading.Layer reader) text = (span ≡ None) × HasTriedPadsOf holes layer reader text
 HasReadCopper holes layer span layers (copper_reading.Failed fail) text = HasFailed role.Copper span (record { layers = layers; profile = holes.rules.profile }) fail text
 HasReadCopper holes layer span layers copper_reading.Skipped text = ⊥
 

@@ -1,31 +1,31 @@
 -- The answer to a package: its report, or the first file that is refused.
 use Rattle.std.specs.Prelude.{◌≡◌, ◌⊎◌, ◌<◌, ◌++◌, ℕ, Bool, true, false, not, ◌||◌, ◌&&◌, nat_le, List, [], ◌∷◌, length, map, take, get_or, count_by, Result, Ok, Err, ⊤, Option, None, Some}
-use Rattle.std.specs.List.{All, flat_map, enumerate_from}
-use Rattle.grid_units.specs.Holes.{GridHole, GridRules}
+use Rattle.std.specs.List.{All, flat_map, enumerate_from, concat}
+use Rattle.grid_units.specs.Holes.{GridHole, GridRules, is_round}
 use Rattle.grid_units.specs.declared.profile.Profile.{Profile}
 use Rattle.grid_units.specs.declared.profile.Profile.TheVariants.{Strict}
 use Rattle.pad_shapes.specs.WidePads.{wide_pad_covers}
 use Rattle.pad_shapes.specs.declared.wide_pad.WidePad.{WidePad}
-use Rattle.grid_units.specs.Holes.{is_round}
 use Rattle.ring_rules.specs.Findings.{ring_findings, gap_findings}
 use Rattle.grid_units.specs.Spans.{LayerSpan}
 use Rattle.ring_rules.specs.WithoutFindings.{NamesPlaces}
 use Rattle.ring_rules.specs.declared.finding.Drilled.{Drilled}
 use Rattle.ring_rules.specs.declared.finding.Finding.{Finding}
-use Rattle.package_check.specs.LayerViews.{LayerView}
+use Rattle.package_check.specs.ContentViews.{LayerView}
 use Rattle.package_check.specs.FileTexts.{HasLayerView, ReadsLayer, ReadsDrill, ReadsMixed}
 use Rattle.package_check.specs.Reports.{ReportView}
 use Rattle.grid_units.specs.declared.fault.Fault.{Fault}
 use Rattle.package_check.specs.declared.File.{File}
 use Rattle.package_check.specs.declared.FileSum.{FileSum}
-use Rattle.package_check.specs.declared.FileSum.TheVariants as sum
 use Rattle.package_check.specs.declared.Numbered.{Numbered}
 use Rattle.package_check.specs.declared.PackageFault.{PackageFault}
+use Rattle.manifest.specs.declared.Role.{Role}
+use Rattle.package_check.specs.declared.contents.Content.{Content}
+use Rattle.package_check.specs.declared.PiecedFile.{PiecedFile}
+use Rattle.package_check.specs.declared.FileSum.TheVariants as sum
 use Rattle.package_check.specs.declared.PackageFault.TheVariants as stop
 use Rattle.grid_units.specs.declared.fault.Reason.TheVariants as reason
-use Rattle.manifest.specs.declared.Role.{Role}
 use Rattle.manifest.specs.declared.Role.TheVariants as role
-use Rattle.package_check.specs.declared.contents.Content.{Content}
 use Rattle.package_check.specs.declared.contents.Content.TheVariants as content
 
 -- what a file is read in: a package with so many copper files, in a profile
@@ -61,10 +61,6 @@ layer_count files = count_by (λ file. is_copper file.role) files
 -- the sources for the files of a package that is read in a profile, each with the number of copper files among them
 abbrev pub file_views_in : Profile → List File → List FileView
 file_views_in profile files = map (file_view (record { layers = layer_count files; profile = profile })) files
-
--- the same in the strict profile
-abbrev pub file_views : List File → List FileView
-file_views files = file_views_in Strict files
 
 -- whether a span is bad: on a copper file, or not `1 <= first <= last <=` the number of copper files (docs/FORMATS.md, The check)
 abbrev pub is_bad_span : Role → Option LayerSpan → ℕ → Bool
@@ -252,3 +248,15 @@ NamesItsPlaces report = All (NamesPlaces (length report.layers) (length report.h
 -- in the report on any package, the findings name layers and holes of that report
 abbrev pub FindingsNameTheirPlaces : Type 0
 FindingsNameTheirPlaces = (sources : List FileView) (rules : GridRules) (report : ReportView) → IsReport sources rules report → NamesItsPlaces report
+
+-- the source for a file that comes in pieces: its bytes are the pieces, joined
+abbrev pub pieced_file_view : Setting → PiecedFile → FileView
+pieced_file_view setting file = record { role = file.role; name = file.name.now; span = file.span; bytes = concat (map (λ piece. piece.now) file.pieces.now); setting = setting }
+
+-- how many of the files are copper
+abbrev pub pieced_layer_count : List PiecedFile → ℕ
+pieced_layer_count files = count_by (λ file. is_copper file.role) files
+
+-- the sources for the files of a package that is read in a profile, each with the number of copper files among them
+abbrev pub pieced_file_views : Profile → List PiecedFile → List FileView
+pieced_file_views profile files = map (pieced_file_view (record { layers = pieced_layer_count files; profile = profile })) files

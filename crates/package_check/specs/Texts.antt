@@ -100,8 +100,7 @@ gap_line first second =
 -- the line of what two look-ups give; nothing where one of them gives nothing
 abbrev pub line_if_found : {A B : Type 0} → (A → B → List ℕ) → Option A → Option B → List ℕ
 line_if_found line (Some a) (Some b) = line a b
-line_if_found line (Some a) None = []
-line_if_found line None b = []
+line_if_found line _ _ = []
 
 -- the line of a finding, whose places are looked up in these lists of layers and holes
 unfoldable pub finding_line : List ℕ → List Numbered → Finding → List ℕ

@@ -3,8 +3,8 @@
 ghost use Rattle.std.specs.Prelude.{◌≡◌, ◌++◌, ◌∷◌, [], IfOk, OnOk, get_or, map, min, not, count_by};
 ghost use Rattle.std.specs.List.{flat_map};
 ghost use Rattle.grid_units.specs.Holes.{is_round};
-ghost use Rattle.package_check.specs.Boards.{CountsAddUp, board_findings, board_of, hole_count};
-ghost use Rattle.package_check.specs.Holding.{all_drawn, all_rows};
+ghost use Rattle.package_check.specs.Boards.{CountsAddUp, board_findings, hole_count};
+ghost use Rattle.package_check.specs.Holding.{shown_board};
 ghost use Rattle.package_check.specs.Package.{sum_of, layer_indexes, pads_of};
 ghost use Rattle.package_check.specs.SoundnessAsRead.{drilled_in};
 
@@ -12,16 +12,14 @@ use crate::FileSum;
 use crate::contents::Content;
 use crate::readers::Shown;
 use crate::slots::push;
-use further_copper::FeatureRow;
 use grid_units::{Hole, Rules};
-use layer_image::Drawn;
-use pad_shapes::WidePad;
+use pad_shapes::{Drawn, FeatureRow, WidePad};
 use ring_rules::{Drilled, Finding, Span, gap_findings, ring_findings};
 use std::alloc::{AllocError, Global};
 use std::marker::Model;
 
 /// The board of a package: the counts of each file, the pads of each copper file, and the holes of all drill files; also the rows
-/// of each file and what it draws, where they are kept.
+/// of each file, the pads that its profile does not count, and what it draws, where they are kept.
 #[derive(Drop)]
 pub struct Board {
     pub(crate) files: Vec<FileSum>,
@@ -37,7 +35,7 @@ impl Model for Board {
 
     ghost Value = { BoardView };
 
-    ghost view = { λ b. record { files = b.files.items; layers = map (λ l. l.items) b.layers.items; layer_indexes = b.layer_indexes.items; holes = b.holes.items; rows = map (λ one. one.rows.items) b.shown.items; drawn = map (λ one. one.drawn.items) b.shown.items } };
+    ghost view = { λ b. record { files = b.files.items; layers = map (λ l. l.items) b.layers.items; layer_indexes = b.layer_indexes.items; holes = b.holes.items; rows = map (λ one. one.rows.items) b.shown.items; macros = map (λ one. one.uncounted.macros.items) b.shown.items; contours = map (λ one. one.uncounted.contours.items) b.shown.items; drawn = map (λ one. one.drawn.items) b.shown.items } };
 
     ghost invariant = { λ b. CountsAddUp b.files.items b.holes.items };
 }
@@ -92,6 +90,28 @@ impl Board {
     {
         match self.shown.get(file) {
             Some(shown) => shown.rows(),
+            None => &[],
+        }
+    }
+
+    /// The shapes of macros that a file flashes and that its profile does not count, by its index among all files: none where they are not
+    /// kept, or where there is no such file.
+    pub fn macros_of(&self, file: usize) -> &[WidePad]
+        ensures { result.now ≡ get_or self.now.macros file [] }
+    {
+        match self.shown.get(file) {
+            Some(shown) => shown.macros(),
+            None => &[],
+        }
+    }
+
+    /// The contours of a file that its profile does not count, by its index among all files: none where they are not kept, or where there is
+    /// no such file.
+    pub fn contours_of(&self, file: usize) -> &[WidePad]
+        ensures { result.now ≡ get_or self.now.contours file [] }
+    {
+        match self.shown.get(file) {
+            Some(shown) => shown.contours(),
             None => &[],
         }
     }
@@ -306,7 +326,7 @@ pub(crate) fn board_of(
     contents: Vec<Content>,
     shown: Vec<Shown>,
 ) -> Result<Board, AllocError>
-    ensures { IfOk result (λ board. board ≡ board_of contents.items (all_rows shown.items) (all_drawn shown.items)) }
+    ensures { IfOk result (λ board. board ≡ shown_board contents.items shown.items) }
 {
     let files = sums(alloc, &contents)?;
     let layer_indexes = layer_indexes(alloc, &contents)?;

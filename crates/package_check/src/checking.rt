@@ -5,7 +5,7 @@ ghost use Rattle.std.specs.List.{concat, flat_map, sum_by};
 ghost use Rattle.grid_units.specs.Holes.{GridRules};
 ghost use Rattle.grid_units.specs.Spans.{LayerSpan};
 ghost use Rattle.grid_units.specs.declared.fault.Fault.{Fault as TheFault};
-ghost use Rattle.layer_image.specs.declared.keep.Keep.{Keep as TheKeep};
+ghost use Rattle.layer_features.specs.declared.keep.Keep.{Keep as TheKeep};
 ghost use Rattle.manifest.specs.declared.Role.TheVariants as role;
 ghost use Rattle.package_check.specs.CheckViews.{CheckView, holes_in_slot, holes_of, is_drill_in, setting_of};
 ghost use Rattle.package_check.specs.Checking.{HasJudged, HasJudgedAll, TakesCopper};

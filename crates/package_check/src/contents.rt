@@ -6,18 +6,17 @@ ghost use Rattle.drill_text.specs.Holding.{StandsBy};
 ghost use Rattle.drill_text.specs.Profiles.{mixed_in};
 ghost use Rattle.grid_units.specs.declared.profile.Profile.{Profile as TheProfile};
 ghost use Rattle.drill_text.specs.declared.kept.Keep.TheVariants as drill_keep;
-ghost use Rattle.layer_image.specs.KeptFlashes.{keeps_commands, keeps_flashes};
-ghost use Rattle.package_check.specs.FileTexts.{Draws, HasRows, ReadsLayer, drill_kind};
-ghost use Rattle.package_check.specs.Holding.{is_kind};
+ghost use Rattle.layer_features.specs.Kept.{keeps_drawn, keeps_rows};
+ghost use Rattle.package_check.specs.FileTexts.{Draws, ReadsLayer, drill_kind};
+ghost use Rattle.package_check.specs.Holding.{HasShown, is_kind};
 ghost use Rattle.package_check.specs.OpenFiles.{CopperStandsIn};
 ghost use Rattle.package_check.specs.Package.{ReadsCopper, ReadsHoles, ReadsMixedHoles, bad_span, is_bad_span, is_copper, not_copper};
 
 use crate::Role;
-use crate::copper_reader::CopperReader;
 use crate::readers::{Drill, Layer, MixedDrill, Shown, read_holes, read_layer_view, read_mixed};
 use drill_text::DrillReader;
 use grid_units::{Fail, Fault, Reason};
-use layer_image::Keep;
+use layer_image::{Keep, LayerReader};
 use ring_rules::Span;
 use std::alloc::Global;
 
@@ -74,11 +73,11 @@ pub(crate) fn read_copper(
     alloc: Global,
     keep: Keep,
     shown: &mut Shown,
-    reader: CopperReader,
+    reader: LayerReader,
 ) -> Result<Content, Fail>
     ensures copper { (profile : TheProfile) (text : List ℕ) → CopperStandsIn reader profile keep text → Answers (λ x. x) (ReadsCopper profile text) result }
-    ensures flashes { (profile : TheProfile) (text : List ℕ) → CopperStandsIn reader profile keep text → keeps_flashes keep ≡ true → OnOk result (HasRows profile text shown.new.rows.items) }
-    ensures drawn { (profile : TheProfile) (text : List ℕ) → CopperStandsIn reader profile keep text → keeps_commands keep ≡ true → OnOk result (Draws profile text shown.new.drawn.items) }
+    ensures flashes { (profile : TheProfile) (text : List ℕ) → CopperStandsIn reader profile keep text → keeps_rows keep ≡ true → OnOk result (HasShown profile text shown.new) }
+    ensures drawn { (profile : TheProfile) (text : List ℕ) → CopperStandsIn reader profile keep text → keeps_drawn keep ≡ true → OnOk result (Draws profile text shown.new.drawn.items) }
 {
     let layer = read_layer_view(alloc, keep, shown, reader)?;
     require_copper(layer)

@@ -1,38 +1,31 @@
 //! The holes of a package, with an index to look them up.
 
-ghost use Rattle.std.specs.Prelude.{◌≡◌, ◌+◌, ◌++◌, ◌∷◌, ℕ, List, [], IfErr, IfOk, IfSome, None, Ok, OnOk, false, length, map};
+ghost use Rattle.std.specs.Prelude.{◌≡◌, ◌++◌, ℕ, List, [], IfErr, IfOk, IfSome, None, Ok, OnOk, false, map, if◌then◌else◌};
 ghost use Rattle.grid_units.specs.Results.{Answers, IfFault};
-ghost use Rattle.grid_units.specs.declared.profile.Profile.TheVariants.{Strict, Wide};
-ghost use Rattle.layer_image.specs.Holding.{ShowsLayerFault, ShowsLayerFaultIn};
-ghost use Rattle.layer_image.specs.Layers.{ReadsWithoutPads};
-ghost use Rattle.layer_image.specs.declared.keep.Keep.TheVariants as keep;
-ghost use Rattle.pad_shapes.specs.declared.pad.Pad.{Pad as ThePlain};
+ghost use Rattle.layer_image.specs.Holding.{ShowsLayerFaultIn};
+ghost use Rattle.layer_image.specs.Kept.{ReadsKeptIn, plain};
+ghost use Rattle.layer_features.specs.declared.keep.Keep.TheVariants as keep;
 ghost use Rattle.pad_shapes.specs.WidePads.{wide_pad_covers};
 ghost use Rattle.pad_shapes.specs.declared.wide_pad.WidePad.{WidePad as ThePad};
-ghost use Rattle.further_copper.specs.Features.{pads_of};
-ghost use Rattle.further_copper.specs.Holding.{with_next};
-ghost use Rattle.further_copper.specs.declared.feature.Feature.{Feature as TheFeature};
 ghost use Rattle.package_check.specs.CheckViews.{is_drill_sum};
-ghost use Rattle.package_check.specs.Judging.{HasTriedFeaturesOf, HasTriedIn, HasTriedPadsOf, JudgesCopper};
-ghost use Rattle.package_check.specs.LayerViews.{plain};
-ghost use Rattle.package_check.specs.OpenFiles.{HasReadLayer};
+ghost use Rattle.package_check.specs.Judging.{HasTriedIn, HasTriedPadsOf, JudgesCopper};
 ghost use Rattle.ring_rules.specs.Findings.{gap_findings, layer_findings};
 ghost use Rattle.ring_rules.specs.Search.{HasTried, IsRingIndexOf, IsSearchOver};
 
 use crate::FileSum;
 use crate::checking::Judged;
 use crate::contents::not_copper;
-use crate::copper_reader::{CopperReader, PIECE};
 use crate::pad_size::{PadSize, are_unlike, likely_size, mean_size};
 use crate::readers::is_copper_function;
-use further_copper::{NextFeatures, into_pads};
 use grid_units::{Fail, Rules};
-use layer_image::{Layer, LayerReader, readings_in_profiles, shown_faults};
+use layer_image::{Layer, LayerReader, readings_in_profiles};
 use pad_shapes::{Pad, PadShape, WidePad};
 use ring_rules::{Drilled, Finding, LayerSearch, RingIndex};
 use std::alloc::{AllocError, Global};
 use std::marker::Model;
-use wide_layers::WideReader;
+
+/// How many bytes of a layer are read before its pads are tried.
+pub(crate) const PIECE: usize = 65_536;
 
 /// The holes of all drill files of a package, file by file, with an index of them, by which rings and gaps are judged.
 #[derive(Drop)]
@@ -194,6 +187,33 @@ impl IndexedHoles {
         Ok(())
     }
 
+    /// Forgets the search on a layer where clear polarity has taken away the pads that were tried.
+    fn forget_where(&mut self, forgets: bool)
+        ensures tried { (layer : ℕ) (tried : List ThePad) → HasTriedIn self.old.holes self.old.index layer tried self.old.search → HasTriedIn self.new.holes self.new.index layer (if forgets then [] else tried) self.new.search }
+        ensures holes { self.new.holes ≡ self.old.holes }
+        ensures rules { self.new.rules ≡ self.old.rules }
+    {
+        if forgets {
+            self.forget_pads();
+        }
+    }
+
+    /// Tries the pads of a layer of this number: those of standard apertures in the strict profile, and all in the wide one.
+    fn try_all(
+        &mut self,
+        alloc: Global,
+        layer: usize,
+        pads: &[Pad],
+        wide_pads: &[WidePad],
+    ) -> Result<(), AllocError>
+        ensures tried { (tried : List ThePad) → HasTriedIn self.old.holes self.old.index layer tried self.old.search → OnOk result (HasTriedIn self.new.holes self.new.index layer (tried ++ (map plain pads.now ++ wide_pads.now)) self.new.search) }
+        ensures holes { self.new.holes ≡ self.old.holes }
+        ensures rules { self.new.rules ≡ self.old.rules }
+    {
+        self.try_pads(alloc, layer, pads)?;
+        self.try_wide(alloc, layer, wide_pads)
+    }
+
     /// Feeds a chunk of a layer to the reader, tries the pads that it ends, and drops them.
     fn feed_chunk(
         &mut self,
@@ -203,18 +223,19 @@ impl IndexedHoles {
         chunk: &[u8],
     ) -> Result<(), Fail>
         ensures ok { (text : List ℕ) → HasTriedPadsOf self.old layer reader.old text → OnOk result (HasTriedPadsOf self.new layer reader.new (text ++ chunk.now)) }
-        ensures err { (text : List ℕ) → HasTriedPadsOf self.old layer reader.old text → IfErr result (IfFault (ShowsLayerFault (text ++ chunk.now))) }
+        ensures err { (text : List ℕ) → HasTriedPadsOf self.old layer reader.old text → IfErr result (IfFault (ShowsLayerFaultIn self.old.rules.profile (text ++ chunk.now))) }
         ensures holes { self.new.holes ≡ self.old.holes }
         ensures rules { self.new.rules ≡ self.old.rules }
     {
         reader.feed(chunk)?;
-        self.try_pads(alloc, layer, reader.pads())?;
+        self.forget_where(reader.are_forgotten());
+        self.try_all(alloc, layer, reader.pads(), reader.wide_pads())?;
         reader.clear_pads();
         Ok(())
     }
 
     /// Feeds a piece of a layer of this number to the reader, [`PIECE`] bytes at a time, and tries and drops its pads.
-    fn feed_chunks(
+    pub(crate) fn feed(
         &mut self,
         alloc: Global,
         layer: usize,
@@ -222,91 +243,15 @@ impl IndexedHoles {
         piece: &[u8],
     ) -> Result<(), Fail>
         ensures ok { (text : List ℕ) → HasTriedPadsOf self.old layer reader.old text → OnOk result (HasTriedPadsOf self.new layer reader.new (text ++ piece.now)) }
-        ensures err { (text : List ℕ) → HasTriedPadsOf self.old layer reader.old text → IfErr result (IfFault (ShowsLayerFault (text ++ piece.now))) }
-        ensures holes { self.new.holes ≡ self.old.holes }
-        ensures rules { self.new.rules ≡ self.old.rules }
-    {
-        shown_faults();
-        for chunk in piece.chunks(PIECE) {
-            self.feed_chunk(alloc, layer, reader, chunk)?;
-        }
-        Ok(())
-    }
-
-    /// Forgets the search on a layer where the next flashes and contours take away all before them, and tries the pads among them.
-    fn try_next(
-        &mut self,
-        alloc: Global,
-        layer: usize,
-        next: NextFeatures,
-    ) -> Result<(), AllocError>
-        ensures tried { (given : List TheFeature) → HasTriedIn self.old.holes self.old.index layer (pads_of given) self.old.search → OnOk result (HasTriedIn self.new.holes self.new.index layer (pads_of (with_next given next)) self.new.search) }
-        ensures holes { self.new.holes ≡ self.old.holes }
-        ensures rules { self.new.rules ≡ self.old.rules }
-    {
-        if next.takes_away {
-            self.forget_pads();
-        }
-        let pads = into_pads(alloc, next.features)?;
-        self.try_wide(alloc, layer, &pads)
-    }
-
-    /// Feeds a chunk of a layer in the wide profile to the reader, takes out the flashes and contours that it ends, and tries the pads among them.
-    fn feed_wide_chunk(
-        &mut self,
-        alloc: Global,
-        layer: usize,
-        reader: &mut WideReader,
-        chunk: &[u8],
-    ) -> Result<(), Fail>
-        ensures ok { (text : List ℕ) → HasTriedFeaturesOf self.old layer reader.old text → OnOk result (HasTriedFeaturesOf self.new layer reader.new (text ++ chunk.now)) }
-        ensures err { (text : List ℕ) → HasTriedFeaturesOf self.old layer reader.old text → IfErr result (IfFault (ShowsLayerFaultIn Wide (text ++ chunk.now))) }
-        ensures holes { self.new.holes ≡ self.old.holes }
-        ensures rules { self.new.rules ≡ self.old.rules }
-    {
-        reader.feed(chunk)?;
-        let next = reader.take_features()?;
-        self.try_next(alloc, layer, next)?;
-        Ok(())
-    }
-
-    /// Feeds a piece of a layer in the wide profile to the reader, [`PIECE`] bytes at a time, and tries and drops its pads.
-    fn feed_wide(
-        &mut self,
-        alloc: Global,
-        layer: usize,
-        reader: &mut WideReader,
-        piece: &[u8],
-    ) -> Result<(), Fail>
-        ensures ok { (text : List ℕ) → HasTriedFeaturesOf self.old layer reader.old text → OnOk result (HasTriedFeaturesOf self.new layer reader.new (text ++ piece.now)) }
-        ensures err { (text : List ℕ) → HasTriedFeaturesOf self.old layer reader.old text → IfErr result (IfFault (ShowsLayerFaultIn Wide (text ++ piece.now))) }
+        ensures err { (text : List ℕ) → HasTriedPadsOf self.old layer reader.old text → IfErr result (IfFault (ShowsLayerFaultIn self.old.rules.profile (text ++ piece.now))) }
         ensures holes { self.new.holes ≡ self.old.holes }
         ensures rules { self.new.rules ≡ self.old.rules }
     {
         readings_in_profiles();
         for chunk in piece.chunks(PIECE) {
-            self.feed_wide_chunk(alloc, layer, reader, chunk)?;
+            self.feed_chunk(alloc, layer, reader, chunk)?;
         }
         Ok(())
-    }
-
-    /// Feeds a piece of a layer of this number to the reader. Its pads are tried and dropped.
-    pub(crate) fn feed(
-        &mut self,
-        alloc: Global,
-        layer: usize,
-        reader: &mut CopperReader,
-        piece: &[u8],
-    ) -> Result<(), Fail>
-        ensures ok { (text : List ℕ) → HasReadLayer self.old.rules.profile self.old layer reader.old text → OnOk result (HasReadLayer self.old.rules.profile self.new layer reader.new (text ++ piece.now)) }
-        ensures err { (text : List ℕ) → HasReadLayer self.old.rules.profile self.old layer reader.old text → IfErr result (IfFault (ShowsLayerFaultIn self.old.rules.profile (text ++ piece.now))) }
-        ensures holes { self.new.holes ≡ self.old.holes }
-        ensures rules { self.new.rules ≡ self.old.rules }
-    {
-        match reader {
-            CopperReader::Strict(reader) => self.feed_chunks(alloc, layer, reader, piece),
-            CopperReader::Wide(reader) => self.feed_wide(alloc, layer, reader, piece),
-        }
     }
 
     /// Tries the next pads of a layer of this number in the wide profile, by an index that suits them.
@@ -340,17 +285,18 @@ impl IndexedHoles {
     }
 
     /// What is left of a copper file whose text the reader has read: the rest of its pads are tried. Its layer has this number.
-    fn judge_strict(
+    pub(crate) fn judge(
         &mut self,
         alloc: Global,
         layer: usize,
         reader: LayerReader,
     ) -> Result<Judged, Fail>
         ensures layer { IfOk result (λ one. is_drill_sum one.sum ≡ false) }
-        ensures judged { self.old.rules.profile ≡ Strict → (text : List ℕ) → HasTriedPadsOf self.old layer reader text → Answers (λ x. x) (JudgesCopper self.old.rules self.old.holes layer text) result }
+        ensures judged { (text : List ℕ) → HasTriedPadsOf self.old layer reader text → Answers (λ x. x) (JudgesCopper self.old.rules self.old.holes layer text) result }
         ensures holes { self.new.holes ≡ self.old.holes }
         ensures rules { self.new.rules ≡ self.old.rules }
     {
+        self.forget_where(reader.are_forgotten());
         let rest = reader.finish()?;
         let judged = self.judge_rest(alloc, layer, &rest);
         drop(rest);
@@ -360,66 +306,22 @@ impl IndexedHoles {
     /// What is left of a layer of which this is the rest, whose pads are tried. It has this number.
     fn judge_rest(&mut self, alloc: Global, layer: usize, rest: &Layer) -> Result<Judged, Fail>
         ensures layer { IfOk result (λ one. is_drill_sum one.sum ≡ false) }
-        ensures judged { self.old.rules.profile ≡ Strict → (text : List ℕ) (dropped : List ThePlain) → ReadsWithoutPads keep.Pads dropped text (Ok rest.now) → HasTriedIn self.old.holes self.old.index layer (map plain dropped) self.old.search → Answers (λ x. x) (JudgesCopper self.old.rules self.old.holes layer text) result }
+        ensures judged { (text : List ℕ) (left : List ThePad) → ReadsKeptIn self.old.rules.profile keep.Pads left text (Ok rest.now) → HasTriedIn self.old.holes self.old.index layer left self.old.search → Answers (λ x. x) (JudgesCopper self.old.rules self.old.holes layer text) result }
         ensures holes { self.new.holes ≡ self.old.holes }
         ensures rules { self.new.rules ≡ self.old.rules }
     {
-        self.try_pads(alloc, layer, rest.pads())?;
+        self.try_all(alloc, layer, rest.pads(), rest.wide_pads())?;
         let rings = self.rings(alloc, layer)?;
         if !is_copper_function(rest.file_function()) {
             return Err(not_copper());
         }
-        let sum = FileSum::Layer {
-            pads: rest.pad_count(),
-            other: rest.other(),
-            contours: 0,
-        };
-        Ok(Judged { sum, rings })
-    }
-
-    /// The same in the wide profile.
-    fn judge_wide(
-        &mut self,
-        alloc: Global,
-        layer: usize,
-        reader: WideReader,
-    ) -> Result<Judged, Fail>
-        ensures layer { IfOk result (λ one. is_drill_sum one.sum ≡ false) }
-        ensures judged { self.old.rules.profile ≡ Wide → (text : List ℕ) → HasTriedFeaturesOf self.old layer reader text → Answers (λ x. x) (JudgesCopper self.old.rules self.old.holes layer text) result }
-        ensures holes { self.new.holes ≡ self.old.holes }
-        ensures rules { self.new.rules ≡ self.old.rules }
-    {
-        let rest = reader.finish_rest()?;
-        if !is_copper_function(rest.file_function()) {
-            return Err(not_copper());
-        }
-        let counts = rest.counts;
-        self.try_next(alloc, layer, rest.next)?;
-        let rings = self.rings(alloc, layer)?;
+        let counts = rest.counts();
         let sum = FileSum::Layer {
             pads: counts.flashed,
             other: counts.other,
             contours: counts.contours,
         };
         Ok(Judged { sum, rings })
-    }
-
-    /// What is left of a copper file whose text the reader has read. Its layer has this number.
-    pub(crate) fn judge(
-        &mut self,
-        alloc: Global,
-        layer: usize,
-        reader: CopperReader,
-    ) -> Result<Judged, Fail>
-        ensures layer { IfOk result (λ one. is_drill_sum one.sum ≡ false) }
-        ensures judged { (text : List ℕ) → HasReadLayer self.old.rules.profile self.old layer reader text → Answers (λ x. x) (JudgesCopper self.old.rules self.old.holes layer text) result }
-        ensures holes { self.new.holes ≡ self.old.holes }
-        ensures rules { self.new.rules ≡ self.old.rules }
-    {
-        match reader {
-            CopperReader::Strict(reader) => self.judge_strict(alloc, layer, reader),
-            CopperReader::Wide(reader) => self.judge_wide(alloc, layer, reader),
-        }
     }
 
     /// The findings of gaps between these holes.

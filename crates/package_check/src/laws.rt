@@ -76,7 +76,6 @@ pub fn unique_reading()
     ensures { ReadingIsUnique }
 {
     layer_image::readings_in_profiles();
-    wide_layers::unique_reading();
     drill_text::laws::unique_reading();
     drill_text::laws::drill_texts();
     drill_text::laws::readings_of_kinds();
@@ -112,7 +111,7 @@ pub fn wide_finds_no_more()
     ensures fewer { WideFindsNoMore }
     ensures uncontradicted { ReadIsUncontradicted }
 {
-    wide_layers::strict_layers();
+    layer_image::strict_layers();
     drill_text::laws::drill_texts();
     drill_text::laws::wide_reads_more();
     drill_text::laws::strict_profile();

@@ -4,7 +4,6 @@
 mod board;
 mod checking;
 mod contents;
-mod copper_reader;
 mod indexed_holes;
 pub mod laws;
 mod lines;
@@ -22,7 +21,7 @@ mod text;
 pub use board::{Board, hole_count};
 pub use checking::PackageCheck;
 use grid_units::Fault;
-pub use layer_image::Keep;
+pub use layer_features::Keep;
 pub use lines::FileLines;
 pub use manifest::Role;
 pub use open_copper::OpenCopper;

@@ -12,10 +12,9 @@ ghost use Rattle.package_check.specs.Package.{unnamed_file};
 
 use crate::checking::Judged;
 use crate::contents::bad_span;
-use crate::copper_reader::CopperReader;
 use crate::indexed_holes::IndexedHoles;
 use grid_units::{Fail, Profile};
-use layer_image::{Keep, readings_in_profiles};
+use layer_image::{Keep, LayerReader, readings_in_profiles};
 use ring_rules::Span;
 use std::alloc::Global;
 use std::mem;
@@ -24,7 +23,7 @@ use std::mem;
 #[derive(Drop)]
 pub(crate) enum CopperReading {
     /// A file whose text so far shows no fault.
-    Layer(CopperReader),
+    Layer(LayerReader),
     /// A file that is refused however its text goes on, or memory ran out.
     Failed(Fail),
     /// A file after one that is refused: nothing of it is read.
@@ -38,7 +37,7 @@ impl CopperReading {
     {
         match span {
             Some(_) => CopperReading::Failed(bad_span()),
-            None => CopperReading::Layer(CopperReader::new(alloc, Keep::Pads, profile)),
+            None => CopperReading::Layer(LayerReader::in_profile(alloc, Keep::Pads, profile)),
         }
     }
 

@@ -2,15 +2,18 @@
 
 ghost use Rattle.std.specs.Prelude.{◌≡◌, ◌++◌, ℕ, List, [], IfErr, Ok, OnOk, map, true, false, Option};
 ghost use Rattle.std.specs.List.{concat};
-ghost use Rattle.grid_units.specs.Results.{Answers};
+ghost use Rattle.grid_units.specs.Results.{Answers, IfFault};
 ghost use Rattle.grid_units.specs.Spans.{LayerSpan};
 ghost use Rattle.grid_units.specs.declared.profile.Profile.{Profile as TheProfile};
-ghost use Rattle.layer_image.specs.KeptFlashes.{keeps_commands, keeps_flashes};
-ghost use Rattle.layer_image.specs.declared.keep.Keep.{Keep as TheKeep};
+ghost use Rattle.layer_image.specs.Holding.{LayerStands, ShowsLayerFaultIn};
+ghost use Rattle.layer_features.specs.Kept.{keeps_drawn, keeps_rows};
+ghost use Rattle.layer_features.specs.declared.keep.Keep.{Keep as TheKeep};
+ghost use Rattle.pad_shapes.specs.declared.wide_pad.WidePad.{WidePad as ThePad};
 ghost use Rattle.manifest.specs.declared.Role.{Role as TheRole};
 ghost use Rattle.manifest.specs.declared.Role.TheVariants as role;
-ghost use Rattle.package_check.specs.FileTexts.{Draws, HasRows, plating_in};
-ghost use Rattle.package_check.specs.OpenFiles.{HasFailed, HasOpened, HasReadText, drill_role};
+ghost use Rattle.package_check.specs.FileTexts.{Draws, plating_in};
+ghost use Rattle.package_check.specs.Holding.{HasShown};
+ghost use Rattle.package_check.specs.OpenFiles.{HasFailed, HasOpened, HasReadText, copper_keep, drill_role};
 ghost use Rattle.package_check.specs.Package.{Reads, Setting, is_bad_span, is_copper, unnamed_file};
 ghost use Rattle.package_check.specs.declared.package_reader.PackageReader.{PackageReader as TheReader};
 
@@ -18,11 +21,11 @@ use crate::Role;
 use crate::contents::{
     Content, bad_span, is_bad_span, read_copper, read_drill_content, read_mixed_content,
 };
-use crate::copper_reader::CopperReader;
+use crate::indexed_holes::PIECE;
 use crate::readers::Shown;
 use drill_text::{DrillReader, PlatingKind};
 use grid_units::{Fail, Profile};
-use layer_image::Keep;
+use layer_image::{Keep, LayerReader, readings_in_profiles};
 use ring_rules::Span;
 use std::alloc::{AllocError, Global};
 use std::mem;
@@ -31,7 +34,7 @@ use std::mem;
 #[derive(Drop)]
 pub(crate) enum Reading {
     /// A copper file whose text so far shows no fault.
-    Layer(CopperReader),
+    Layer(LayerReader),
     /// A drill file whose text so far shows no fault.
     Drill { plated: bool, reader: DrillReader },
     /// A mixed drill file whose text so far shows no fault.
@@ -79,7 +82,7 @@ fn begin_mixed(alloc: Global, profile: Profile) -> Reading
 fn begin_layer(alloc: Global, keep: Keep, profile: Profile) -> Reading
     ensures { (span : Option LayerSpan) (layers : ℕ) → is_bad_span role.Copper span layers ≡ false → HasReadText keep role.Copper span (record { layers = layers; profile = profile }) result [] }
 {
-    Reading::Layer(CopperReader::new(alloc, keep, profile))
+    Reading::Layer(LayerReader::in_profile(alloc, copper_keep(keep), profile))
 }
 
 impl Reading {
@@ -113,7 +116,7 @@ impl Reading {
         layer_image::readings_in_profiles();
         drill_text::laws::readings_of_kinds();
         match self {
-            Reading::Layer(reader) => reader.feed(piece),
+            Reading::Layer(reader) => feed_layer(reader, piece),
             Reading::Drill { reader, .. } => reader.feed(piece),
             Reading::Mixed(reader) => reader.feed(piece),
             Reading::Failed(_) | Reading::Skipped => Ok(()),
@@ -129,8 +132,8 @@ impl Reading {
         span: Option<Span>,
     ) -> Result<Content, Fail>
         ensures content { (of : TheRole) (layers : ℕ) (profile : TheProfile) (text : List ℕ) → HasReadText keep of span (record { layers = layers; profile = profile }) self text → Answers (λ x. x) (Reads (unnamed_file of span (record { layers = layers; profile = profile }) text)) result }
-        ensures flashes { (of : TheRole) (layers : ℕ) (profile : TheProfile) (text : List ℕ) → HasReadText keep of span (record { layers = layers; profile = profile }) self text → keeps_flashes keep ≡ true → is_copper of ≡ true → OnOk result (HasRows profile text shown.new.rows.items) }
-        ensures drawn { (of : TheRole) (layers : ℕ) (profile : TheProfile) (text : List ℕ) → HasReadText keep of span (record { layers = layers; profile = profile }) self text → keeps_commands keep ≡ true → is_copper of ≡ true → OnOk result (Draws profile text shown.new.drawn.items) }
+        ensures flashes { (of : TheRole) (layers : ℕ) (profile : TheProfile) (text : List ℕ) → HasReadText keep of span (record { layers = layers; profile = profile }) self text → keeps_rows keep ≡ true → is_copper of ≡ true → OnOk result (HasShown profile text shown.new) }
+        ensures drawn { (of : TheRole) (layers : ℕ) (profile : TheProfile) (text : List ℕ) → HasReadText keep of span (record { layers = layers; profile = profile }) self text → keeps_drawn keep ≡ true → is_copper of ≡ true → OnOk result (Draws profile text shown.new.drawn.items) }
     {
         match self {
             Reading::Layer(reader) => read_copper(alloc, keep, shown, reader),
@@ -185,4 +188,27 @@ impl OpenFile {
             self.read(piece);
         }
     }
+}
+
+/// What is kept of a copper file of a package, of which no commands are kept: pads alone in place of a whole layer.
+pub(crate) fn copper_keep(keep: Keep) -> Keep
+    ensures { result ≡ copper_keep keep }
+{
+    match keep {
+        Keep::Layer | Keep::Pads => Keep::Pads,
+        Keep::Rows => Keep::Rows,
+        Keep::RowsAndDrawn => Keep::RowsAndDrawn,
+    }
+}
+
+/// Feeds a piece of a layer to the reader, [`PIECE`] bytes at a time.
+pub(crate) fn feed_layer(reader: &mut LayerReader, piece: &[u8]) -> Result<(), Fail>
+    ensures ok { (profile : TheProfile) (keep : TheKeep) (taken : List ThePad) (text : List ℕ) → LayerStands reader.old profile keep taken text → OnOk result (LayerStands reader.new profile keep taken (text ++ piece.now)) }
+    ensures err { (profile : TheProfile) (keep : TheKeep) (taken : List ThePad) (text : List ℕ) → LayerStands reader.old profile keep taken text → IfErr result (IfFault (ShowsLayerFaultIn profile (text ++ piece.now))) }
+{
+    readings_in_profiles();
+    for chunk in piece.chunks(PIECE) {
+        reader.feed(chunk)?;
+    }
+    Ok(())
 }

@@ -1,8 +1,8 @@
 // The check of a package.
 ghost use Rattle.std.specs.Prelude.{◌≡◌, ◌<◌, ℕ, [], true, Result, IfOk, OnOk};
 ghost use Rattle.grid_units.specs.declared.fault.Fault.{Fault as TheFault};
-ghost use Rattle.layer_image.specs.KeptFlashes.{keeps_commands, keeps_flashes};
-ghost use Rattle.package_check.specs.Boards.{ReturnsBoard, ReturnsDrawnBoard, ReturnsFlashedBoard};
+ghost use Rattle.layer_features.specs.Kept.{keeps_drawn, keeps_rows};
+ghost use Rattle.package_check.specs.Boards.{IsBoard, IsDrawnBoard, IsFlashedBoard, Returns};
 ghost use Rattle.grid_units.specs.declared.profile.Profile.{Profile as TheProfile};
 ghost use Rattle.grid_units.specs.declared.profile.Profile.TheVariants.{Strict};
 ghost use Rattle.package_check.specs.Package.{ReturnsExactly, ReturnsReport, IsAnswer, NamesItsPlaces, layer_count, file_views_in};
@@ -120,9 +120,9 @@ pub fn read_package(
     files: &[File],
     keep: Keep,
 ) -> Result<Board, PackageFault>
-    ensures exact { ReturnsBoard (file_views_in profile files.now) result }
-    ensures flashes { keeps_flashes keep ≡ true → ReturnsFlashedBoard (file_views_in profile files.now) result }
-    ensures drawn { keeps_commands keep ≡ true → ReturnsDrawnBoard (file_views_in profile files.now) result }
+    ensures exact { Returns IsBoard (file_views_in profile files.now) result }
+    ensures flashes { keeps_rows keep ≡ true → Returns IsFlashedBoard (file_views_in profile files.now) result }
+    ensures drawn { keeps_drawn keep ≡ true → Returns IsDrawnBoard (file_views_in profile files.now) result }
 {
     match reader_of(alloc, profile, files, keep) {
         Ok(reader) => reader.board(),

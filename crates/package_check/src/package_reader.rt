@@ -3,11 +3,11 @@
 ghost use Rattle.std.specs.Prelude.{◌≡◌, ℕ, List, [], Option, true, false, Some, Err, OnOk, OnErr, alloc_error, map};
 ghost use Rattle.std.specs.List.{concat};
 ghost use Rattle.grid_units.specs.Spans.{LayerSpan};
-ghost use Rattle.layer_image.specs.KeptFlashes.{keeps_commands, keeps_flashes};
-ghost use Rattle.layer_image.specs.declared.keep.Keep.{Keep as TheKeep};
-ghost use Rattle.layer_image.specs.declared.keep.Keep.TheVariants as keep;
+ghost use Rattle.layer_features.specs.Kept.{keeps_drawn, keeps_rows};
+ghost use Rattle.layer_features.specs.declared.keep.Keep.{Keep as TheKeep};
+ghost use Rattle.layer_features.specs.declared.keep.Keep.TheVariants as keep;
 ghost use Rattle.manifest.specs.declared.Role.{Role as TheRole};
-ghost use Rattle.package_check.specs.Boards.{ReturnsBoard, ReturnsDrawnBoard, ReturnsFlashedBoard};
+ghost use Rattle.package_check.specs.Boards.{IsBoard, IsDrawnBoard, IsFlashedBoard, Returns};
 ghost use Rattle.package_check.specs.Package.{FileView, unnamed_file};
 ghost use Rattle.package_check.specs.Holding.{ReadsAt, is_wanted, next_stop};
 ghost use Rattle.package_check.specs.OpenFiles.{HasOpened, HasReadText};
@@ -18,7 +18,8 @@ use crate::readers::Shown;
 use crate::slots::{Kept, board_of_slots, put};
 use crate::{Board, PackageFault, Role};
 use grid_units::{Fail, Profile};
-use layer_image::{Keep, readings_in_profiles};
+use layer_features::Keep;
+use layer_image::readings_in_profiles;
 use ring_rules::Span;
 use std::alloc::{AllocError, Global};
 
@@ -170,9 +171,9 @@ impl PackageReader {
     ///
     /// The first file that is refused, by its index, with its fault; `Memory` where there is no memory.
     pub fn board(self) -> Result<Board, PackageFault>
-        ensures exact { (keep : TheKeep) (sources : List FileView) → HasTakenAll self keep sources → ReturnsBoard sources result }
-        ensures flashes { (keep : TheKeep) (sources : List FileView) → HasTakenAll self keep sources → keeps_flashes keep ≡ true → ReturnsFlashedBoard sources result }
-        ensures drawn { (keep : TheKeep) (sources : List FileView) → HasTakenAll self keep sources → keeps_commands keep ≡ true → ReturnsDrawnBoard sources result }
+        ensures exact { (keep : TheKeep) (sources : List FileView) → HasTakenAll self keep sources → Returns IsBoard sources result }
+        ensures flashes { (keep : TheKeep) (sources : List FileView) → HasTakenAll self keep sources → keeps_rows keep ≡ true → Returns IsFlashedBoard sources result }
+        ensures drawn { (keep : TheKeep) (sources : List FileView) → HasTakenAll self keep sources → keeps_drawn keep ≡ true → Returns IsDrawnBoard sources result }
         ensures failed { IsOutOfMemory self → result ≡ Err stop.Memory }
     {
         readings_in_profiles();

@@ -4,8 +4,7 @@ ghost use Rattle.std.specs.Prelude.{◌≡◌, ◌<◌, ℕ, [], false, true, Re
 ghost use Rattle.grid_units.specs.declared.fault.Fault.{Fault as TheFault};
 ghost use Rattle.grid_units.specs.declared.profile.Profile.{Profile as TheProfile};
 ghost use Rattle.grid_units.specs.declared.profile.Profile.TheVariants.{Strict};
-ghost use Rattle.package_check.specs.Package.{ReturnsExactly, ReturnsReport, IsAnswer, NamesItsPlaces};
-ghost use Rattle.package_check.specs.Pieces.{pieced_layer_count, pieced_file_views};
+ghost use Rattle.package_check.specs.Package.{ReturnsExactly, ReturnsReport, IsAnswer, NamesItsPlaces, pieced_layer_count, pieced_file_views};
 ghost use Rattle.package_check.specs.Reports.{ReportView};
 ghost use Rattle.package_check.specs.Soundness.{AreStraight, IsSound};
 ghost use Rattle.package_check.specs.SoundnessAsRead.{AreLegal};

@@ -1,39 +1,36 @@
 //! What the check keeps of a file as it reads it: pads of a layer, holes of a drill file.
 
-ghost use Rattle.std.specs.Prelude.{◌≡◌, ◌++◌, ◌∷◌, [], ◌==◌, not, ℕ, Bool, List, Ok, IfOk, OnOk, map, true};
+ghost use Rattle.std.specs.Prelude.{◌≡◌, [], ◌==◌, not, ℕ, List, Ok, IfOk, OnOk, true};
 ghost use Rattle.grid_units.specs.declared.profile.Profile.{Profile as TheProfile};
-ghost use Rattle.grid_units.specs.declared.profile.Profile.TheVariants.{Strict, Wide};
 ghost use Rattle.std.specs.List.{take_while};
 ghost use Rattle.std.specs.Option.{option_copied};
 ghost use Rattle.grid_units.specs.Results.{Answers};
+ghost use Rattle.gerber_text.specs.Reading.{Entries};
 ghost use Rattle.gerber_text.specs.Writing.{without_places};
-ghost use Rattle.layer_image.specs.Drawn.{drawn_of};
-ghost use Rattle.layer_image.specs.Flashes.{pads_of};
 ghost use Rattle.drill_text.specs.Holding.{StandsBy};
 ghost use Rattle.drill_text.specs.Profiles.{mixed_in};
 ghost use Rattle.drill_text.specs.declared.kept.Keep.TheVariants as drill_keep;
-ghost use Rattle.layer_image.specs.Holding.{LayerStandsAfter};
-ghost use Rattle.layer_image.specs.KeptFlashes.{keeps_commands, keeps_flashes};
-ghost use Rattle.layer_image.specs.declared.keep.Keep.{Keep as TheKeep};
-ghost use Rattle.layer_image.specs.declared.keep.Keep.TheVariants as keep;
-ghost use Rattle.further_copper.specs.Features.{rows_of, strict_row};
-ghost use Rattle.wide_layers.specs.Holding.{WideStandsAfter};
-ghost use Rattle.package_check.specs.FileTexts.{Draws, HasRows, ReadsLayer, ReadsDrill, ReadsMixed, drill_kind, is_copper_function, marked, wide_view};
-ghost use Rattle.package_check.specs.Inner.ShownLayers.{flashed_view};
-ghost use Rattle.package_check.specs.LayerViews.{plain};
-ghost use Rattle.package_check.specs.OpenFiles.{CopperStandsIn};
+ghost use Rattle.layer_image.specs.Kept.{IsKeptOf, ReadsKeptIn};
+ghost use Rattle.layer_features.specs.DrawnCopper.{uncleared_drawn};
+ghost use Rattle.layer_features.specs.Features.{features_of, pads_of, rows_of, view_in, wide_features_of};
+ghost use Rattle.layer_features.specs.Kept.{keeps_drawn, keeps_rows};
+ghost use Rattle.layer_features.specs.declared.keep.Keep.{Keep as TheKeep};
+ghost use Rattle.layer_features.specs.declared.keep.Keep.TheVariants as keep;
+ghost use Rattle.package_check.specs.FileTexts.{Draws, HasLayerView, ReadsLayer, ReadsDrill, ReadsMixed, drill_kind, is_copper_function, layer_view, marked};
+ghost use Rattle.package_check.specs.Holding.{HasShown, ShowsRows};
+ghost use Rattle.package_check.specs.OpenFiles.{CopperStandsIn, copper_keep};
 
-use crate::copper_reader::CopperReader;
 use drill_text::DrillReader;
-use further_copper::FeatureRow;
 use grid_units::numbers::len_before;
-use grid_units::{Fail, Hole};
-use layer_image::{Drawn, Flash, Keep, LayerReader, What};
-use pad_shapes::{Pad, WidePad};
+use grid_units::{Fail, Hole, Profile};
+use layer_image::{
+    Drawn, Feature, FeatureRow, Keep, LayerReader, Uncounted, counted_in, into_pads, rows_of,
+    strict_layers,
+};
+use pad_shapes::WidePad;
 use ring_rules::{Drilled, Span};
 use std::alloc::{AllocError, Global};
 use std::marker::Model;
-use wide_layers::{WideLayer, WideReader};
 
 /// What the check keeps of a copper file.
 #[derive(Drop)]
@@ -46,7 +43,7 @@ pub(crate) struct Layer {
 }
 
 impl Model for Layer {
-    ghost use Rattle.package_check.specs.LayerViews.{LayerView};
+    ghost use Rattle.package_check.specs.ContentViews.{LayerView};
 
     ghost Value = { LayerView };
 
@@ -88,17 +85,6 @@ impl Layer {
     }
 }
 
-/// Pads of standard apertures among all pads.
-fn plain_pads(alloc: Global, pads: Vec<Pad>) -> Result<Vec<WidePad>, AllocError>
-    ensures { IfOk result (λ all. all.items ≡ map plain pads.items) }
-{
-    let mut all = Vec::with_capacity(alloc, pads.len())?;
-    for pad in pads {
-        all.push(WidePad::Plain(pad))?;
-    }
-    Ok(all)
-}
-
 /// What the check keeps of a drill file: its holes, and whether its comments contradict its role.
 #[derive(Drop)]
 pub(crate) struct Drill {
@@ -107,7 +93,7 @@ pub(crate) struct Drill {
 }
 
 impl Model for Drill {
-    ghost use Rattle.package_check.specs.DrillViews.{DrillView};
+    ghost use Rattle.package_check.specs.ContentViews.{DrillView};
 
     ghost Value = { DrillView };
 
@@ -151,10 +137,12 @@ impl MixedDrill {
     }
 }
 
-/// What is kept of a file to be shown: the rows of its flashes and contours, and what its commands draw, each where it is asked for.
+/// What is kept of a file to be shown: the rows of its flashes and contours, the pads that its profile does not count, and what its
+/// commands draw, each where it is asked for.
 #[derive(Drop)]
 pub(crate) struct Shown {
     rows: Vec<FeatureRow>,
+    uncounted: Uncounted,
     drawn: Vec<Drawn>,
 }
 
@@ -166,6 +154,7 @@ impl Shown {
     {
         Shown {
             rows: Vec::new(alloc),
+            uncounted: Uncounted::nothing(alloc),
             drawn: Vec::new(alloc),
         }
     }
@@ -174,6 +163,18 @@ impl Shown {
         ensures { result.now ≡ self.now.rows.items }
     {
         &self.rows
+    }
+
+    pub(crate) fn macros(&self) -> &[WidePad]
+        ensures { result.now ≡ self.now.uncounted.macros.items }
+    {
+        &self.uncounted.macros
+    }
+
+    pub(crate) fn contours(&self) -> &[WidePad]
+        ensures { result.now ≡ self.now.uncounted.contours.items }
+    {
+        &self.uncounted.contours
     }
 
     pub(crate) fn drawn(&self) -> &[Drawn]
@@ -200,128 +201,14 @@ fn first_field(text: &[u8]) -> &[u8]
     &text[..len_before(b',', text)]
 }
 
-/// What the check keeps of the copper file whose text the reader has read, or its fault.
-fn read_pads(alloc: Global, reader: LayerReader) -> Result<Layer, Fail>
-    ensures { (text : List ℕ) → LayerStandsAfter reader keep.Pads text → Answers (λ x. x) (ReadsLayer Strict text) result }
+/// What the check keeps of a layer whose pads alone are kept.
+fn pads_view(alloc: Global, image: layer_image::Layer) -> Result<Layer, AllocError>
+    ensures { (profile : TheProfile) (entries : Entries) → IsKeptOf profile keep.Pads [] entries image → IfOk result (λ view. view ≡ layer_view profile (without_places entries)) }
 {
-    let layer = reader.finish()?;
-    let (flashed, other) = (layer.pad_count(), layer.other());
-    let is_copper = is_copper_function(layer.file_function());
-    Ok(Layer {
-        pads: plain_pads(alloc, layer.into_pads())?,
-        flashed,
-        contours: 0,
-        other,
-        is_copper,
-    })
-}
-
-/// Appends the pad of a flash, where it has one.
-fn push_pad(pads: &mut Vec<Pad>, flash: &Flash) -> Result<(), AllocError>
-    ensures { OnOk result (pads.new.items ≡ pads.old.items ++ pads_of (flash.now ∷ [])) }
-{
-    match flash.what {
-        What::Pad(pad) => {
-            pads.push(pad)?;
-            Ok(())
-        }
-        What::Other(_) => Ok(()),
-    }
-}
-
-/// The pads among the flashes, in order, in a list that is reserved for `count` of them.
-fn pads_among(alloc: Global, flashes: &[Flash], count: usize) -> Result<Vec<Pad>, AllocError>
-    ensures { IfOk result (λ pads. pads.items ≡ pads_of flashes.now) }
-{
-    let mut all = Vec::with_capacity(alloc, count)?;
-    for flash in flashes {
-        push_pad(&mut all, flash)?;
-    }
-    Ok(all)
-}
-
-/// The rows of flashes of the strict profile.
-fn strict_rows(alloc: Global, flashes: &[Flash]) -> Result<Vec<FeatureRow>, AllocError>
-    ensures { IfOk result (λ rows. rows.items ≡ map strict_row flashes.now) }
-{
-    flashes
-        .iter()
-        .map(|flash| FeatureRow::of_flash(flash))
-        .collect(alloc)
-}
-
-/// What the check keeps of a layer of the strict profile.
-fn strict_view(alloc: Global, image: &layer_image::Layer) -> Result<Layer, AllocError>
-    ensures { IfOk result (λ view. view ≡ flashed_view image.now) }
-{
-    let flashed = image.pad_count();
-    let pads = pads_among(alloc, image.flashes(), flashed)?;
+    let counts = image.counts();
     let is_copper = is_copper_function(image.file_function());
     Ok(Layer {
-        pads: plain_pads(alloc, pads)?,
-        flashed,
-        contours: 0,
-        other: image.other(),
-        is_copper,
-    })
-}
-
-/// What the check keeps of a layer of the strict profile. Its rows, and what it draws, are put into `shown`.
-fn show_strict(
-    alloc: Global,
-    shown: &mut Shown,
-    image: &layer_image::Layer,
-) -> Result<Layer, AllocError>
-    ensures view { IfOk result (λ view. view ≡ flashed_view image.now) }
-    ensures rows { OnOk result (shown.new.rows.items ≡ map strict_row image.now.flashes) }
-    ensures drawn { OnOk result (shown.new.drawn.items ≡ drawn_of (without_places image.now.commands)) }
-{
-    let view = strict_view(alloc, image)?;
-    shown.drawn = image.drawn(alloc)?;
-    shown.rows = strict_rows(alloc, image.flashes())?;
-    Ok(view)
-}
-
-/// What [`read_pads`] gives of a copper file, and its rows; also what its commands draw, where these are kept. The commands are
-/// dropped then.
-fn read_shown(alloc: Global, shown: &mut Shown, reader: LayerReader) -> Result<Layer, Fail>
-    ensures image { (keep : TheKeep) (text : List ℕ) → LayerStandsAfter reader keep text → keeps_flashes keep ≡ true → Answers (λ x. x) (ReadsLayer Strict text) result }
-    ensures flashes { (keep : TheKeep) (text : List ℕ) → LayerStandsAfter reader keep text → keeps_flashes keep ≡ true → OnOk result (HasRows Strict text shown.new.rows.items) }
-    ensures drawn { (keep : TheKeep) (text : List ℕ) → LayerStandsAfter reader keep text → keeps_commands keep ≡ true → OnOk result (Draws Strict text shown.new.drawn.items) }
-{
-    let image = reader.finish()?;
-    let layer = show_strict(alloc, shown, &image);
-    drop(image);
-    Ok(layer?)
-}
-
-/// What the check keeps of the copper file whose text the reader has read in the strict profile, or its fault. What is kept to be shown is
-/// put into `shown`.
-fn read_strict(
-    alloc: Global,
-    keep: Keep,
-    shown: &mut Shown,
-    reader: LayerReader,
-) -> Result<Layer, Fail>
-    ensures image { (text : List ℕ) → LayerStandsAfter reader keep text → Answers (λ x. x) (ReadsLayer Strict text) result }
-    ensures flashes { (text : List ℕ) → LayerStandsAfter reader keep text → keeps_flashes keep ≡ true → OnOk result (HasRows Strict text shown.new.rows.items) }
-    ensures drawn { (text : List ℕ) → LayerStandsAfter reader keep text → keeps_commands keep ≡ true → OnOk result (Draws Strict text shown.new.drawn.items) }
-{
-    match keep {
-        Keep::Pads => read_pads(alloc, reader),
-        Keep::All => read_shown(alloc, shown, reader),
-        Keep::Flashes => read_shown(alloc, shown, reader),
-    }
-}
-
-/// What the check keeps of a layer of the wide profile.
-fn wide_view(alloc: Global, wide: WideLayer) -> Result<Layer, AllocError>
-    ensures { IfOk result (λ view. view ≡ wide_view wide) }
-{
-    let counts = wide.counts();
-    let is_copper = is_copper_function(wide.file_function());
-    Ok(Layer {
-        pads: wide.into_pads(alloc)?,
+        pads: image.into_pads(alloc)?,
         flashed: counts.flashed,
         contours: counts.contours,
         other: counts.other,
@@ -329,39 +216,68 @@ fn wide_view(alloc: Global, wide: WideLayer) -> Result<Layer, AllocError>
     })
 }
 
-/// Puts the rows of a layer in the wide profile into `shown`, where flashes are kept.
-fn show_wide(
+/// Puts the rows of flashes and contours into `shown`, and gives the pads among them.
+fn show_rows(
     alloc: Global,
-    keep: Keep,
     shown: &mut Shown,
-    wide: &WideLayer,
-) -> Result<(), AllocError>
-    ensures rows { keeps_flashes keep ≡ true → OnOk result (shown.new.rows.items ≡ rows_of wide.now.features) }
+    features: Vec<Feature>,
+) -> Result<Vec<WidePad>, AllocError>
+    ensures pads { IfOk result (λ pads. pads.items ≡ pads_of features.items) }
+    ensures rows { OnOk result (shown.new.rows.items ≡ rows_of features.items) }
+    ensures uncounted { shown.new.uncounted ≡ shown.old.uncounted }
     ensures drawn { shown.new.drawn ≡ shown.old.drawn }
 {
-    match keep {
-        Keep::Pads => {}
-        Keep::Flashes | Keep::All => shown.rows = wide.rows(alloc)?,
+    match rows_of(alloc, &features) {
+        Ok(rows) => shown.rows = rows,
+        Err(stop) => return Err(stop),
     }
-    Ok(())
+    into_pads(alloc, features)
 }
 
-/// What the check keeps of the copper file whose text the reader has read in the wide profile, or its fault. What is kept to be shown is
-/// put into `shown`.
-fn read_wide(
+/// What the check keeps of a layer of this profile whose flashes and contours are kept. Its rows, the pads that do not count, and what is
+/// drawn are put into `shown`.
+fn rows_view(
     alloc: Global,
+    profile: Profile,
+    shown: &mut Shown,
+    image: layer_image::Layer,
+) -> Result<Layer, AllocError>
+    ensures view { (of : TheKeep) (entries : Entries) → IsKeptOf profile of [] entries image → keeps_rows of ≡ true → view_in profile (wide_features_of (without_places entries)) ≡ features_of profile (without_places entries) → IfOk result (λ view. view ≡ layer_view profile (without_places entries)) }
+    ensures rows { (of : TheKeep) (entries : Entries) → IsKeptOf profile of [] entries image → keeps_rows of ≡ true → view_in profile (wide_features_of (without_places entries)) ≡ features_of profile (without_places entries) → OnOk result (ShowsRows profile (without_places entries) shown.new) }
+    ensures drawn { (of : TheKeep) (entries : Entries) → IsKeptOf profile of [] entries image → keeps_drawn of ≡ true → OnOk result (shown.new.drawn.items ≡ uncleared_drawn (without_places entries)) }
+{
+    let counts = image.counts();
+    let is_copper = is_copper_function(image.file_function());
+    let (features, drawn) = image.into_rows();
+    shown.drawn = drawn;
+    let (features, uncounted) = counted_in(alloc, profile, features)?;
+    shown.uncounted = uncounted;
+    Ok(Layer {
+        pads: show_rows(alloc, shown, features)?,
+        flashed: counts.flashed,
+        contours: counts.contours,
+        other: counts.other,
+        is_copper,
+    })
+}
+
+/// What the check keeps of a layer of this profile. What is kept to be shown is put into `shown`.
+fn view(
+    alloc: Global,
+    profile: Profile,
     keep: Keep,
     shown: &mut Shown,
-    reader: WideReader,
-) -> Result<Layer, Fail>
-    ensures image { (draws : Bool) (text : List ℕ) → WideStandsAfter draws reader text → Answers (λ x. x) (ReadsLayer Wide text) result }
-    ensures flashes { (draws : Bool) (text : List ℕ) → WideStandsAfter draws reader text → keeps_flashes keep ≡ true → OnOk result (HasRows Wide text shown.new.rows.items) }
-    ensures drawn { (text : List ℕ) → WideStandsAfter true reader text → OnOk result (Draws Wide text shown.new.drawn.items) }
+    image: layer_image::Layer,
+) -> Result<Layer, AllocError>
+    ensures view { (text : List ℕ) → ReadsKeptIn profile (copper_keep keep) [] text (Ok image) → IfOk result (λ view. HasLayerView profile text view) }
+    ensures rows { (text : List ℕ) → ReadsKeptIn profile (copper_keep keep) [] text (Ok image) → keeps_rows keep ≡ true → OnOk result (HasShown profile text shown.new) }
+    ensures drawn { (text : List ℕ) → ReadsKeptIn profile (copper_keep keep) [] text (Ok image) → keeps_drawn keep ≡ true → OnOk result (Draws profile text shown.new.drawn.items) }
 {
-    let wide = reader.finish(&mut shown.drawn)?;
-    show_wide(alloc, keep, shown, &wide)?;
-    let view = wide_view(alloc, wide)?;
-    Ok(view)
+    strict_layers();
+    if keep.rows() {
+        return rows_view(alloc, profile, shown, image);
+    }
+    pads_view(alloc, image)
 }
 
 /// What the check keeps of the copper file whose text the reader has read, or its fault. What is kept to be shown is put into `shown`.
@@ -369,16 +285,15 @@ pub(crate) fn read_layer_view(
     alloc: Global,
     keep: Keep,
     shown: &mut Shown,
-    reader: CopperReader,
+    reader: LayerReader,
 ) -> Result<Layer, Fail>
     ensures image { (profile : TheProfile) (text : List ℕ) → CopperStandsIn reader profile keep text → Answers (λ x. x) (ReadsLayer profile text) result }
-    ensures flashes { (profile : TheProfile) (text : List ℕ) → CopperStandsIn reader profile keep text → keeps_flashes keep ≡ true → OnOk result (HasRows profile text shown.new.rows.items) }
-    ensures drawn { (profile : TheProfile) (text : List ℕ) → CopperStandsIn reader profile keep text → keeps_commands keep ≡ true → OnOk result (Draws profile text shown.new.drawn.items) }
+    ensures flashes { (profile : TheProfile) (text : List ℕ) → CopperStandsIn reader profile keep text → keeps_rows keep ≡ true → OnOk result (HasShown profile text shown.new) }
+    ensures drawn { (profile : TheProfile) (text : List ℕ) → CopperStandsIn reader profile keep text → keeps_drawn keep ≡ true → OnOk result (Draws profile text shown.new.drawn.items) }
 {
-    match reader {
-        CopperReader::Strict(reader) => read_strict(alloc, keep, shown, reader),
-        CopperReader::Wide(reader) => read_wide(alloc, keep, shown, reader),
-    }
+    let profile = reader.profile();
+    let image = reader.finish()?;
+    Ok(view(alloc, profile, keep, shown, image)?)
 }
 
 /// What the check keeps of the drill file whose text the reader has read, and whose role calls its holes plated or unplated; or its fault.

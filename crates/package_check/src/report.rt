@@ -2,7 +2,7 @@
 ghost use Rattle.std.specs.Prelude.{◌≡◌, ◌<◌, List, Some, IfOk, length, slice_get};
 ghost use Rattle.package_check.specs.declared.FileSum.{FileSum as TheFileSum};
 ghost use Rattle.package_check.specs.Boards.{CountsAddUp, numbered_from};
-ghost use Rattle.package_check.specs.Inner.FileStarts.{AreFileStarts};
+ghost use Rattle.package_check.specs.Inner.Leftovers.{AreFileStarts};
 
 use crate::{FileSum, Numbered, hole_count};
 use grid_units::Rules;
@@ -24,7 +24,7 @@ pub struct Report {
 
 impl Model for Report {
     ghost use Rattle.package_check.specs.Boards.{numbered_from};
-    ghost use Rattle.package_check.specs.Inner.FileStarts.{AreFileStarts};
+    ghost use Rattle.package_check.specs.Inner.Leftovers.{AreFileStarts};
     ghost use Rattle.package_check.specs.Reports.{ReportView};
 
     ghost Value = { ReportView };

@@ -2,8 +2,7 @@
 
 ghost use Rattle.std.specs.Prelude.{◌≡◌, ◌≤◌, ◌<◌, ◌++◌, ℕ, IfOk, OnErr, OnOk, length, ◌∷◌, []};
 ghost use Rattle.std.specs.List.{flat_map};
-ghost use Rattle.package_check.specs.Boards.{board_of};
-ghost use Rattle.package_check.specs.Holding.{IsPutAt, all_drawn, all_rows, contents_in, kept_at, shown_in};
+ghost use Rattle.package_check.specs.Holding.{IsPutAt, contents_in, kept_at, shown_board, shown_in};
 
 use crate::Board;
 use crate::board::board_of;
@@ -85,7 +84,7 @@ fn add_slots(
 
 /// The board of the files whose slots are filled, in the order of their indexes.
 pub(crate) fn board_of_slots(alloc: Global, slots: Vec<Option<Kept>>) -> Result<Board, AllocError>
-    ensures { IfOk result (λ board. board ≡ board_of (flat_map contents_in slots.items) (all_rows (flat_map shown_in slots.items)) (all_drawn (flat_map shown_in slots.items))) }
+    ensures { IfOk result (λ board. board ≡ shown_board (flat_map contents_in slots.items) (flat_map shown_in slots.items)) }
 {
     let mut contents = Vec::with_capacity(alloc, slots.len())?;
     let mut shown = Vec::with_capacity(alloc, slots.len())?;

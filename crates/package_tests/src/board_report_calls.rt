@@ -37,7 +37,7 @@ fn file<'a>(role: Role, bytes: &'a [u8]) -> File<'a> {
 
 /// The report on the board of some files, in the profile of the rules.
 fn report_of(alloc: Global, files: &[File], rules: Rules) -> Result<BoardReport, Fail> {
-    let board = read_package(alloc, rules.profile(), files, Keep::Flashes)
+    let board = read_package(alloc, rules.profile(), files, Keep::Rows)
         .ok()
         .ok_or("refused")?;
     Ok(report_on(alloc, &board, rules)?)
@@ -65,7 +65,7 @@ fn cause_words(cause: RingCause) -> (&'static str, usize, i64, i64) {
         RingCause::Other { flash, .. } => ("other", flash, 0, 0),
         RingCause::Clear { flash } => ("clear", flash, 0, 0),
         RingCause::Cleared { flash } => ("cleared", flash, 0, 0),
-        RingCause::NoFlash => ("nothing", 0, 0, 0),
+        RingCause::MacroShape | RingCause::DrawnCopper | RingCause::NoFlash => ("nothing", 0, 0, 0),
         RingCause::Oblique => ("oblique", 0, 0, 0),
     }
 }

@@ -25,7 +25,7 @@ fn file<'a>(role: Role, bytes: &'a [u8]) -> File<'a> {
 #[test]
 fn flashes_stand_in_the_order_of_the_files(rt: HostRuntime) -> Result<(), Failure> {
     let files = [file(Role::Plated, DRILL), file(Role::Copper, TWO)];
-    let board = read_package(rt.alloc(), Profile::Strict, &files, Keep::Flashes)
+    let board = read_package(rt.alloc(), Profile::Strict, &files, Keep::Rows)
         .ok()
         .ok_or("no board")?;
     let counts = [0, 1, 2].map(|file| board.rows_of(file).len());
@@ -37,14 +37,14 @@ fn flashes_stand_in_the_order_of_the_files(rt: HostRuntime) -> Result<(), Failur
 #[test]
 fn a_refused_file_has_no_flashes(rt: HostRuntime) {
     let files = [file(Role::Plated, TWO), file(Role::Copper, TWO)];
-    let refused = read_package(rt.alloc(), Profile::Strict, &files, Keep::Flashes).err();
+    let refused = read_package(rt.alloc(), Profile::Strict, &files, Keep::Rows).err();
     assert!(rt; matches!(refused, Some(PackageFault::File { index: 0, .. })));
 }
 
 #[test]
 fn a_board_has_what_its_files_draw(rt: HostRuntime) -> Result<(), Failure> {
     let files = [file(Role::Copper, DRAWN), file(Role::Plated, DRILL)];
-    for (keep, count) in [(Keep::All, 6), (Keep::Flashes, 0), (Keep::Pads, 0)] {
+    for (keep, count) in [(Keep::RowsAndDrawn, 6), (Keep::Rows, 0), (Keep::Pads, 0)] {
         let board = read_package(rt.alloc(), Profile::Strict, &files, keep)
             .ok()
             .ok_or("refused")?;

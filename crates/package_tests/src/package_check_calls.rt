@@ -646,7 +646,7 @@ const LAYER_OF_TWO: FileSum = FileSum::Layer {
 
 /// The board of these files, with the flashes of copper.
 fn board_of_three(alloc: Global) -> Result<Board, RowFail> {
-    let mut reader = PackageReader::keeping(alloc, 2, Profile::Strict, Keep::Flashes);
+    let mut reader = PackageReader::keeping(alloc, 2, Profile::Strict, Keep::Rows);
     take_three(&mut reader)?;
     Ok(reader.board()?)
 }
@@ -695,7 +695,7 @@ fn take_refused(reader: &mut PackageReader) -> Result<(), AllocError> {
 
 /// Whether such a package is refused for the layer with a span.
 fn is_first_kept(alloc: Global) -> Result<bool, RowFail> {
-    let mut reader = PackageReader::keeping(alloc, 2, Profile::Strict, Keep::Flashes);
+    let mut reader = PackageReader::keeping(alloc, 2, Profile::Strict, Keep::Rows);
     take_refused(&mut reader)?;
     let (index, fault) = (0, FAULT);
     Ok(reader.board().err() == Some(PackageFault::File { index, fault }))

@@ -5,11 +5,12 @@ use Rattle.std.proofs.lemmas.List.{append-nil, length-map}
 use Rattle.grid_units.specs.Points.{GridPoint}
 use Rattle.pad_shapes.specs.declared.pad.Pad.{Pad}
 use Rattle.pad_shapes.specs.declared.wide_pad.WidePad.TheVariants.{Plain}
-use Rattle.layer_image.specs.Flashes.{is_other}
-use Rattle.layer_image.specs.declared.flash.Flash.{Flash}
-use Rattle.layer_image.specs.declared.flash.What.{What}
-use Rattle.layer_image.specs.declared.flash.What.TheVariants as what
-use Rattle.further_copper.specs.Features.{is_pad_row, strict_row, strict_row_kind}
+use Rattle.layer_state.specs.Flashes.{is_other}
+use Rattle.layer_state.specs.declared.flash.Flash.{Flash}
+use Rattle.layer_state.specs.declared.flash.What.{What}
+use Rattle.layer_state.specs.declared.flash.What.TheVariants as what
+use Rattle.layer_features.specs.Features.{strict_row, strict_row_kind}
+use Rattle.pad_shapes.specs.Rows.{is_pad_row}
 use Rattle.ring_rules.specs.declared.finding.Drilled.{Drilled}
 use Rattle.picture.specs.Elements.{pad_paths}
 use Rattle.picture.specs.RoundedPads.{pads_text}

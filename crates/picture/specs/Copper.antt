@@ -4,8 +4,8 @@ use Rattle.std.specs.List.{flat_map}
 use Rattle.std.specs.Ordering.{int_eq}
 use Rattle.grid_units.specs.Points.{GridPoint, square, square_distance}
 use Rattle.pad_shapes.specs.Rounded.{GridRounded}
-use Rattle.layer_image.specs.declared.drawn.Drawn.{Drawn}
-use Rattle.layer_image.specs.declared.drawn.Drawn.TheVariants as drawn
+use Rattle.pad_shapes.specs.declared.drawn.Drawn.{Drawn}
+use Rattle.pad_shapes.specs.declared.drawn.Drawn.TheVariants as drawn
 use Rattle.picture.specs.Elements.{after}
 use Rattle.picture.specs.declared.frame.Frame.{Frame}
 
@@ -131,18 +131,14 @@ abbrev pub line_text : Drawn → List ℕ
 line_text (drawn.Line from to width) = drawn_line width from.x (neg_ℤ from.y) to.x (neg_ℤ to.y)
 line_text (drawn.Arc from to centre width clockwise) = drawn_arc width from.x (neg_ℤ from.y) (arc_way from to centre clockwise)
 line_text (drawn.Flash at shape) = drawn_flash at shape
-line_text (drawn.Contour at) = []
-line_text (drawn.Corner at) = []
-line_text (drawn.Bend from to centre clockwise) = []
+line_text _ = []
 
 -- a corner of a contour, before its first one these words, or its way along an arc; nothing of what is drawn outside of regions
 abbrev pub corner_text : List ℕ → Drawn → List ℕ
-corner_text before (drawn.Line from to width) = []
-corner_text before (drawn.Arc from to centre width clockwise) = []
-corner_text before (drawn.Flash at shape) = []
 corner_text before (drawn.Contour at) = before ++ path_start at
 corner_text before (drawn.Corner at) = next_corner at.x (neg_ℤ at.y)
 corner_text before (drawn.Bend from to centre clockwise) = arc_way from to centre clockwise
+corner_text before _ = []
 
 -- the end of the path of a contour, and the start of the path of the next one
 abbrev pub next_path : List ℕ

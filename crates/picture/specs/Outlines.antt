@@ -3,8 +3,8 @@
 use Rattle.std.specs.Prelude.{ℕ, ℤ, pos, neg_ℤ, ◌/◌, ◌==◌, Bool, false, List, [], ◌++◌, length, codes, Option, None, Some, if◌then◌else◌}
 use Rattle.std.specs.List.{flat_map}
 use Rattle.grid_units.specs.Points.{GridPoint}
-use Rattle.layer_image.specs.declared.drawn.Drawn.{Drawn}
-use Rattle.layer_image.specs.declared.drawn.Drawn.TheVariants as drawn
+use Rattle.pad_shapes.specs.declared.drawn.Drawn.{Drawn}
+use Rattle.pad_shapes.specs.declared.drawn.Drawn.TheVariants as drawn
 use Rattle.picture.specs.Copper.{arc_radius, arc_way, corner_text, is_left, next_corner, path_start}
 use Rattle.picture.specs.Elements.{after}
 use Rattle.picture.specs.Scenes.{shown_copper}

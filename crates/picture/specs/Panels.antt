@@ -2,7 +2,7 @@
 use Rattle.std.specs.Prelude.{ℕ, ℤ, pos, neg_ℤ, ◌+◌, ◌*◌, ◌/◌, ◌+ℤ◌, ◌==◌, Bool, true, false, List, [], ◌++◌, length, take, count_by, codes, decimal, if◌then◌else◌}
 use Rattle.std.specs.List.{flat_map}
 use Rattle.grid_units.specs.Points.{GridPoint}
-use Rattle.layer_image.specs.declared.drawn.Drawn.{Drawn}
+use Rattle.pad_shapes.specs.declared.drawn.Drawn.{Drawn}
 use Rattle.pad_shapes.specs.Rounded.{GridRounded}
 use Rattle.pad_shapes.specs.declared.pad.Pad.{Pad}
 use Rattle.ring_rules.specs.declared.finding.Drilled.{Drilled}

@@ -5,9 +5,9 @@ use Rattle.std.specs.List.Sorted.{IsSortedByKey}
 use Rattle.std.specs.Ordering.{nat_cmp, ordering_then}
 use Rattle.std.specs.declared.cmp.Ordering.{Ordering}
 use Rattle.grid_units.specs.Points.{GridPoint}
-use Rattle.further_copper.specs.Features.{is_pad_row}
-use Rattle.further_copper.specs.declared.feature.FeatureRow.{FeatureRow}
-use Rattle.layer_image.specs.declared.drawn.Drawn.{Drawn}
+use Rattle.pad_shapes.specs.Rows.{is_pad_row}
+use Rattle.pad_shapes.specs.declared.row.FeatureRow.{FeatureRow}
+use Rattle.pad_shapes.specs.declared.drawn.Drawn.{Drawn}
 use Rattle.pad_shapes.specs.Rounded.{GridRounded}
 use Rattle.pad_shapes.specs.declared.pad.Pad.{Pad}
 use Rattle.pad_shapes.specs.declared.pad.Pad.TheVariants as pads

@@ -10,8 +10,7 @@ use crate::cut::Cut;
 use crate::elements::down;
 use crate::frame::Frame;
 use grid_units::{Line, Lines, Point, ShortMillimetres, square_length};
-use layer_image::Drawn;
-use pad_shapes::Rounded;
+use pad_shapes::{Drawn, Rounded};
 use std::fmt;
 use std::fmt::{Display, Formatter};
 

@@ -2,9 +2,9 @@
 
 ghost use Rattle.std.specs.Prelude.{◌≡◌, ℕ, ◌+◌, List, [], length, map, nat_lt};
 ghost use Rattle.std.specs.List.{filter};
-ghost use Rattle.further_copper.specs.Features.{strict_row};
-ghost use Rattle.layer_image.specs.Flashes.{is_other};
-ghost use Rattle.layer_image.specs.declared.flash.Flash.{Flash};
+ghost use Rattle.layer_features.specs.Features.{strict_row};
+ghost use Rattle.layer_state.specs.Flashes.{is_other};
+ghost use Rattle.layer_state.specs.declared.flash.Flash.{Flash};
 ghost use Rattle.pad_shapes.specs.declared.pad.Pad.{Pad};
 ghost use Rattle.picture.specs.Elements.{pad_paths};
 ghost use Rattle.picture.specs.Escapes.{IsEscaped, escaped};

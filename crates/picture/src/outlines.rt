@@ -10,7 +10,7 @@ use crate::frame::Pen;
 use crate::scene::shown_copper;
 use crate::widths::outline_width;
 use grid_units::{Line, Lines, Point, ShortMillimetres};
-use layer_image::Drawn;
+use pad_shapes::Drawn;
 use std::fmt;
 use std::fmt::{Display, Formatter};
 

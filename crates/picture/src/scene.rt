@@ -3,10 +3,8 @@
 ghost use Rattle.std.specs.Prelude.{◌≡◌, ◌<◌, ◌^◌, ◌++◌, slice_get, IfOk, IsPermutation, OnOk};
 ghost use Rattle.picture.specs.Scenes.{AreSortedBySize, cross_of, crosses_of, drawn_gap, is_crowded, kind_of, drawn_finding, drawn_findings, plain_pad, plain_pads, drawn_ring, round_pad, rounded_pads, shown_copper, unless_crowded};
 
-use further_copper::FeatureRow;
 use grid_units::{Hole, Point};
-use layer_image::Drawn;
-use pad_shapes::{Pad, Rounded, WidePad};
+use pad_shapes::{Drawn, FeatureRow, Pad, Rounded, WidePad};
 use ring_rules::{Drilled, Finding};
 use std::alloc::{AllocError, Global};
 

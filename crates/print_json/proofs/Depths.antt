@@ -29,8 +29,8 @@ use Rattle.print_text.specs.declared.report_text.Particulars.{Particulars}
 use Rattle.grid_units.specs.HoleWords.{name_of}
 use Rattle.report.specs.Acceptances.{acceptance_at}
 use Rattle.ring_rules.specs.declared.finding.Drilled.{Drilled}
-use Rattle.report.specs.Causes.{lack_of}
-use Rattle.print_json.specs.Values.{drill_value, mixed_value, file_value, flash_of, gap_value, hole_value, hole_at_place, array_of, or_null, items_of, members_of, layer_number, layer_value, least_gap_value, least_hole, least_ring, meets_value, met_value, picometres, place_value, point_value, ring_of, ring_value, row_value, rules_value, scale_value, span_value, whole, acceptance_value, word, wide_layer_value}
+use Rattle.report.specs.Causes.{flash_of, lack_of, ring_of}
+use Rattle.print_json.specs.Values.{drill_value, mixed_value, file_value, gap_value, hole_value, hole_at_place, array_of, or_null, items_of, members_of, layer_number, layer_value, least_gap_value, least_hole, least_ring, meets_value, met_value, picometres, place_value, point_value, ring_value, row_value, rules_value, scale_value, span_value, whole, acceptance_value, word, wide_layer_value}
 use Rattle.print_json.specs.Packages.{file_values, gap_values, measure_value, ring_values, input_error_value, report_value}
 use Rattle.print_json.specs.declared.refused.InputError.{InputError}
 use Rattle.print_json.specs.declared.refused.InputError.TheVariants as stops

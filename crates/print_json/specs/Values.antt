@@ -11,8 +11,8 @@ use Rattle.json.specs.Tree.{json_tokens}
 use Rattle.grid_units.specs.Holes.{GridHole, GridRules}
 use Rattle.grid_units.specs.Points.{GridPoint}
 use Rattle.grid_units.specs.Spans.{LayerSpan}
-use Rattle.layer_image.specs.declared.flash.Why.{Why}
-use Rattle.layer_image.specs.declared.flash.Why.TheVariants as why
+use Rattle.pad_shapes.specs.declared.row.Why.{Why}
+use Rattle.pad_shapes.specs.declared.row.Why.TheVariants as why
 use Rattle.margins.specs.declared.met.Met.{Met}
 use Rattle.margins.specs.declared.met.Met.TheVariants as mets
 use Rattle.report.specs.UnitMistakes.{factor_word}
@@ -30,7 +30,7 @@ use Rattle.report.specs.declared.LayerHead.{LayerHead}
 use Rattle.report.specs.declared.RingCause.{RingCause}
 use Rattle.report.specs.declared.RingCause.TheVariants as causes
 use Rattle.report.specs.declared.RingLack.{RingLack}
-use Rattle.report.specs.Causes.{lack_of}
+use Rattle.report.specs.Causes.{flash_of, lack_of, ring_of}
 use Rattle.ring_rules.specs.declared.finding.Drilled.{Drilled}
 use Rattle.grid_units.specs.Ascii as ascii
 
@@ -171,26 +171,10 @@ cause_word (causes.Edge at_edge) = codes "edge"
 cause_word (causes.Other why flash) = reason_word why
 cause_word (causes.Clear flash) = codes "clear"
 cause_word (causes.Cleared flash) = codes "cleared"
+cause_word causes.MacroShape = reason_word why.Macro
+cause_word causes.DrawnCopper = codes "drawn"
 cause_word causes.NoFlash = codes "none"
 cause_word causes.Oblique = codes "oblique"
-
--- the ring of a hole in its best pad; nothing where it has none or is an oblique slot
-abbrev pub ring_of : RingCause → Option ℤ
-ring_of (causes.TooSmall place) = Some place.ring
-ring_of (causes.OffCentre place) = Some place.ring
-ring_of (causes.Edge at_edge) = Some at_edge.ring
-ring_of _ = None
-
--- the number of the flash of a hole: that of its best pad, which may be a contour, or of the flash that is no pad
-abbrev pub flash_of : RingCause → Option ℕ
-flash_of (causes.TooSmall place) = Some place.flash
-flash_of (causes.OffCentre place) = Some place.flash
-flash_of (causes.Edge at_edge) = Some at_edge.flash
-flash_of (causes.Other why flash) = Some flash
-flash_of (causes.Clear flash) = Some flash
-flash_of (causes.Cleared flash) = Some flash
-flash_of causes.NoFlash = None
-flash_of causes.Oblique = None
 
 -- the number of a layer's file, by the layer's place among the copper files
 abbrev pub layer_number : List LayerHead → ℕ → Option ℕ

@@ -1,15 +1,14 @@
 //! The values of findings.
 
 ghost use Rattle.std.specs.Prelude.{◌≡◌, Some};
-ghost use Rattle.print_json.specs.Inner.Rests.{ring_rest};
-ghost use Rattle.print_json.specs.Inner.Texts.{more_members, value_text};
-ghost use Rattle.print_json.specs.Values.{cause_word, flash_of, gap_value, or_null, layer_number, members_of, picometres, ring_of, ring_value, whole, acceptance_value, reason_word, word};
-ghost use Rattle.report.specs.Causes.{lack_of};
+ghost use Rattle.print_json.specs.Inner.Texts.{ring_rest, more_members, value_text};
+ghost use Rattle.print_json.specs.Values.{cause_word, gap_value, or_null, layer_number, members_of, picometres, ring_value, whole, acceptance_value, reason_word, word};
+ghost use Rattle.report.specs.Causes.{flash_of, lack_of, ring_of};
 
 use crate::strings::Escaped;
 use crate::values::HoleJson;
-use layer_image::Why;
-use report::{GapLack, LayerHead, RingCause, RingLack, lack_of};
+use pad_shapes::Why;
+use report::{GapLack, LayerHead, RingCause, RingLack, flash_of, lack_of, ring_of};
 use std::fmt;
 use std::fmt::{Display, Formatter};
 
@@ -31,36 +30,16 @@ impl Display for LayerJson<'_> {
     }
 }
 
-/// The ring of a hole in its best pad in pm, or null.
+/// A length in pm, or null.
 #[derive(Clone, Copy)]
-struct HasJson<'a>(&'a RingCause);
+struct LengthOrNull(Option<i64>);
 
-impl Display for HasJson<'_> {
-    ghost output = { λ json. Some (value_text (or_null picometres (ring_of json.0.now))) };
+impl Display for LengthOrNull {
+    ghost output = { λ json. Some (value_text (or_null picometres json.0)) };
 
     fn fmt<W: fmt::Write>(&self, f: &mut Formatter<W>) -> fmt::Result {
         match self.0 {
-            RingCause::TooSmall(place) | RingCause::OffCentre(place) => write!(f, "{}", place.ring),
-            RingCause::Edge(at_edge) => write!(f, "{}", at_edge.ring),
-            RingCause::Other { .. }
-            | RingCause::Clear { .. }
-            | RingCause::Cleared { .. }
-            | RingCause::NoFlash
-            | RingCause::Oblique => f.write_str("null"),
-        }
-    }
-}
-
-/// By how much a ring is lacking in pm, or null.
-#[derive(Clone, Copy)]
-struct LacksJson<'a>(&'a RingCause);
-
-impl Display for LacksJson<'_> {
-    ghost output = { λ json. Some (value_text (or_null picometres (lack_of json.0.now))) };
-
-    fn fmt<W: fmt::Write>(&self, f: &mut Formatter<W>) -> fmt::Result {
-        match lack_of(self.0) {
-            Some(lack) => write!(f, "{lack}"),
+            Some(length) => write!(f, "{length}"),
             None => f.write_str("null"),
         }
     }
@@ -90,6 +69,8 @@ fn cause_word(cause: &RingCause) -> &'static str
         RingCause::Other { why, .. } => reason_word(*why),
         RingCause::Clear { .. } => "clear",
         RingCause::Cleared { .. } => "cleared",
+        RingCause::MacroShape => "macro",
+        RingCause::DrawnCopper => "drawn",
         RingCause::NoFlash => "none",
         RingCause::Oblique => "oblique",
     }
@@ -115,17 +96,9 @@ impl Display for FlashJson<'_> {
     ghost output = { λ json. Some (value_text (or_null whole (flash_of json.0.now))) };
 
     fn fmt<W: fmt::Write>(&self, f: &mut Formatter<W>) -> fmt::Result {
-        match self.0 {
-            RingCause::TooSmall(place) | RingCause::OffCentre(place) => write!(
-                f,
-                "{}",
-                place.flash
-            ),
-            RingCause::Edge(at_edge) => write!(f, "{}", at_edge.flash),
-            RingCause::Other { flash, .. }
-            | RingCause::Clear { flash }
-            | RingCause::Cleared { flash } => write!(f, "{flash}"),
-            RingCause::NoFlash | RingCause::Oblique => f.write_str("null"),
+        match flash_of(self.0) {
+            Some(flash) => write!(f, "{flash}"),
+            None => f.write_str("null"),
         }
     }
 }
@@ -158,7 +131,8 @@ impl Display for RingRest<'_> {
     #[tactic(auto, unfolding(json::specs::Print::escape_byte))]
     fn fmt<W: fmt::Write>(&self, f: &mut Formatter<W>) -> fmt::Result {
         let cause = self.cause;
-        let (has, lacks, flash) = (HasJson(cause), LacksJson(cause), FlashJson(cause));
+        let (has, lacks) = (LengthOrNull(ring_of(cause)), LengthOrNull(lack_of(cause)));
+        let flash = FlashJson(cause);
         let (cause, waived) = (CauseJson(cause), WaivedJson(self.why));
         write!(
             f,

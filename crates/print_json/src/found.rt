@@ -4,8 +4,7 @@ ghost use Rattle.std.specs.Prelude.{◌≡◌, [], Some, map};
 ghost use Rattle.json.specs.Json.{document};
 ghost use Rattle.json.specs.Print.{print};
 ghost use Rattle.json.specs.Tree.{json_tokens, HasNumbers};
-ghost use Rattle.print_json.specs.Inner.Rests.{about_rest, report_rest};
-ghost use Rattle.print_json.specs.Inner.Texts.{more_members, value_text};
+ghost use Rattle.print_json.specs.Inner.Texts.{about_rest, report_rest, more_members, value_text};
 ghost use Rattle.print_json.specs.Packages.{result_word, board_report_value, fewer_value, report_result, report_value, waived_report_value};
 ghost use Rattle.print_json.specs.Values.{json_text, members_of, word};
 

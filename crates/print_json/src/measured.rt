@@ -5,8 +5,7 @@ ghost use Rattle.json.specs.Json.{document};
 ghost use Rattle.json.specs.Print.{print};
 ghost use Rattle.json.specs.Tree.{json_tokens, HasNumbers};
 ghost use Rattle.package_check.specs.Boards.{holes_before};
-ghost use Rattle.print_json.specs.Inner.Rests.{measure_rest};
-ghost use Rattle.print_json.specs.Inner.Texts.{more_members, value_text};
+ghost use Rattle.print_json.specs.Inner.Texts.{measure_rest, more_members, value_text};
 ghost use Rattle.print_json.specs.Packages.{measure_value};
 ghost use Rattle.print_json.specs.Values.{hole_at_place, or_null, json_text, least_gap_value, members_of, place_value};
 

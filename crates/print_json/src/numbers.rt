@@ -1,14 +1,16 @@
 //! What is printed of a thing holds numbers of RFC 8259 alone. These functions do nothing but give their clauses.
 
 ghost use Rattle.json.specs.Tree.{HasNumbers};
-ghost use Rattle.print_json.specs.Values.{contradicted_member, file_value, flash_of, gap_value, hole_value, or_null, layer_number, least_hole, least_ring, meets_value, met_value, object_of, picometres, point_value, ring_of, ring_value, row_value, rules_value, scale_value, span_value, whole};
-ghost use Rattle.report.specs.Causes.{lack_of};
+ghost use Rattle.print_json.specs.Values.{contradicted_member, file_value, gap_value, hole_value, or_null, layer_number, least_hole, least_ring, meets_value, met_value, object_of, picometres, point_value, ring_value, row_value, rules_value, scale_value, span_value, whole};
+ghost use Rattle.report.specs.Causes.{flash_of, lack_of, ring_of};
 
 use crate::findings::{GapJson, RingJson};
 use crate::values::{FileJson, diameter};
 use grid_units::{Point, Rules, Span};
 use package_check::FileSum;
-use report::{LayerHead, Meets, Met, PlacedHole, RingCause, RingLine, UnitMistake, lack_of};
+use report::{
+    LayerHead, Meets, Met, PlacedHole, RingCause, RingLine, UnitMistake, flash_of, lack_of, ring_of,
+};
 
 /// A natural number.
 #[tactic(auto, using(crate::proofs::Numerals::decimal_number))]
@@ -178,14 +180,8 @@ fn layer_numbers(layers: &[LayerHead], layer: usize)
 fn has_numbers(cause: &RingCause)
     ensures { HasNumbers (or_null picometres (ring_of cause.now)) }
 {
-    match cause {
-        RingCause::TooSmall(place) | RingCause::OffCentre(place) => length_number(place.ring),
-        RingCause::Edge(at_edge) => length_number(at_edge.ring),
-        RingCause::Other { .. }
-        | RingCause::Clear { .. }
-        | RingCause::Cleared { .. }
-        | RingCause::NoFlash
-        | RingCause::Oblique => {}
+    if let Some(ring) = ring_of(cause) {
+        length_number(ring);
     }
 }
 
@@ -202,15 +198,8 @@ fn lacks_numbers(cause: &RingCause)
 fn flash_numbers(cause: &RingCause)
     ensures { HasNumbers (or_null whole (flash_of cause.now)) }
 {
-    match cause {
-        RingCause::TooSmall(place) | RingCause::OffCentre(place) => whole_number(
-            place.flash as u128,
-        ),
-        RingCause::Edge(at_edge) => whole_number(at_edge.flash as u128),
-        RingCause::Other { flash, .. }
-        | RingCause::Clear { flash }
-        | RingCause::Cleared { flash } => whole_number(*flash as u128),
-        RingCause::NoFlash | RingCause::Oblique => {}
+    if let Some(flash) = flash_of(cause) {
+        whole_number(flash as u128);
     }
 }
 

@@ -11,7 +11,8 @@ use Rattle.std.proofs.lemmas.List.Sums.{length-filter}
 use Rattle.report.specs.declared.RingLack.{RingLack}
 use Rattle.print_text.specs.declared.runs.Run.{Run}
 use Rattle.print_text.specs.Inner.{IsRun}
-use Rattle.print_text.specs.Texts.{group_line, group_words, is_alike, ring_of, smallest}
+use Rattle.print_text.specs.Texts.{group_line, group_words, is_alike, smallest}
+use Rattle.report.specs.Causes.{ring_of}
 
 filter_none : {X : Type 0} (p : X → Bool) (xs : List X) → ((i : ℕ) (d : X) → i < length xs → p (get_or xs i d) ≡ false) → filter p xs ≡ []
 filter_none p [] off = refl

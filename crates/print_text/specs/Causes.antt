@@ -2,8 +2,8 @@
 use Rattle.std.specs.Prelude.{◌==◌, ℕ, Bool, List, [], ◌∷◌, codes}
 use Rattle.grid_units.specs.declared.profile.Profile.{Profile}
 use Rattle.grid_units.specs.declared.profile.Profile.TheVariants.{Strict, Wide}
-use Rattle.layer_image.specs.declared.flash.Why.{Why}
-use Rattle.layer_image.specs.declared.flash.Why.TheVariants as why
+use Rattle.pad_shapes.specs.declared.row.Why.{Why}
+use Rattle.pad_shapes.specs.declared.row.Why.TheVariants as why
 use Rattle.report.specs.declared.RingCause.{RingCause}
 use Rattle.report.specs.declared.RingCause.TheVariants as causes
 use Rattle.print_text.specs.declared.kind.CauseKind.{CauseKind}
@@ -25,6 +25,8 @@ kind_of (causes.Edge at_edge) = kinds.Edge
 kind_of (causes.Other why flash) = flash_kind why
 kind_of (causes.Clear flash) = kinds.Clear
 kind_of (causes.Cleared flash) = kinds.Cleared
+kind_of causes.MacroShape = kinds.Macro
+kind_of causes.DrawnCopper = kinds.Drawn
 kind_of causes.NoFlash = kinds.Bare
 kind_of causes.Oblique = kinds.Oblique
 
@@ -32,7 +34,7 @@ kind_of causes.Oblique = kinds.Oblique
 abbrev pub all_kinds : List CauseKind
 all_kinds =
     kinds.TooSmall ∷ kinds.OffCentre ∷ kinds.Edge ∷ kinds.Macro ∷ kinds.Polygon ∷ kinds.Holed ∷ kinds.Scaled ∷ kinds.Turned
-    ∷ kinds.Clear ∷ kinds.Cleared ∷ kinds.Bare ∷ kinds.Oblique ∷ []
+    ∷ kinds.Clear ∷ kinds.Cleared ∷ kinds.Drawn ∷ kinds.Bare ∷ kinds.Oblique ∷ []
 
 -- the place of a kind in that order, from 0
 abbrev pub place_of : CauseKind → ℕ
@@ -46,8 +48,9 @@ place_of kinds.Scaled = 6
 place_of kinds.Turned = 7
 place_of kinds.Clear = 8
 place_of kinds.Cleared = 9
-place_of kinds.Bare = 10
-place_of kinds.Oblique = 11
+place_of kinds.Drawn = 10
+place_of kinds.Bare = 11
+place_of kinds.Oblique = 12
 
 -- a cause is of a kind
 abbrev pub is_of_kind : CauseKind → RingCause → Bool
@@ -65,12 +68,13 @@ kind_words kinds.Scaled = codes "only a scaled flash"
 kind_words kinds.Turned = codes "only a turned flash"
 kind_words kinds.Clear = codes "only a clear flash"
 kind_words kinds.Cleared = codes "only a cleared flash"
+kind_words kinds.Drawn = codes "only drawn copper"
 kind_words kinds.Bare = codes "no pad at the hole"
 kind_words kinds.Oblique = codes "oblique slot"
 
 -- the hint for flashes by a macro: in the wide profile those of some forms are judged
 abbrev pub macro_hint : Profile → List ℕ
-macro_hint Strict = codes "flashes by a macro are not judged: choose circle, oval or rectangle: see `ringcheck explain macro`"
+macro_hint Strict = codes "--profile wide counts macros whose shape is known, such as rounded rectangles; or choose circle, oval or rectangle: see `ringcheck explain macro`"
 macro_hint Wide = codes "macros of this form are not judged: choose circle, oval or rectangle: see `ringcheck explain macro`"
 
 -- the hint that a report in a profile prints for a kind
@@ -85,5 +89,6 @@ hint profile kinds.Scaled = codes "scaled flashes are not judged"
 hint profile kinds.Turned = codes "flashes turned by anything but quarter turns are not judged"
 hint profile kinds.Clear = codes "a flash in clear polarity takes copper away"
 hint profile kinds.Cleared = codes "a flash that clear polarity may remove does not count"
+hint profile kinds.Drawn = codes "--profile wide counts convex contours as pads; or flash a pad there: see `ringcheck explain none`"
 hint profile kinds.Bare = codes "no pad was flashed here, or it is drawn or of a shape that is not judged, or the drill file has another origin or format: see `ringcheck explain none`"
 hint profile kinds.Oblique = codes "plated slots parallel to neither axis are not judged"

@@ -1,10 +1,9 @@
 -- The text of a report for people (docs/FORMATS.md, Report for people). Lengths are whole picometres, printed in millimetres.
 -- Positions count all findings of a report from 0: the rings first, then the gaps. Their numbers count them from 1.
-use Rattle.std.specs.Prelude.{ℕ, ℤ, pos, ◌+◌, ◌-◌, ◌*◌, ◌==◌, ◌+ℤ◌, ◌-ℤ◌, ◌++◌, ◌&&◌, Bool, true, false, not, nat_lt, List, [], ◌∷◌, length, map, take, codes, decimal, Option, Some, None, int_div, if◌then◌else◌}
+use Rattle.std.specs.Prelude.{ℕ, ℤ, pos, ◌+◌, ◌-◌, ◌*◌, ◌==◌, ◌+ℤ◌, ◌-ℤ◌, ◌++◌, ◌&&◌, Bool, true, false, not, nat_lt, List, [], ◌∷◌, length, map, take, codes, decimal, Option, Some, None, int_div, if◌then◌else◌, is_none}
 use Rattle.std.specs.Borrow.{Bor}
 use Rattle.std.specs.Int.{int_min}
 use Rattle.std.specs.List.{count_by, enumerate_from, filter, filter_map, flat_map, fold, list_any}
-use Rattle.std.specs.Ordering.{int_eq}
 use Rattle.grid_units.specs.Holes.{GridHole, GridRules}
 use Rattle.grid_units.specs.Points.{GridPoint}
 use Rattle.grid_units.specs.declared.profile.Profile.{Profile}
@@ -15,10 +14,9 @@ use Rattle.margins.specs.Depths.{pad_middle}
 use Rattle.margins.specs.declared.met.Met.{Met}
 use Rattle.margins.specs.declared.met.Met.TheVariants as mets
 use Rattle.report.specs.declared.Meets.{Meets}
-use Rattle.report.specs.RoleConflicts.{conflict_words}
+use Rattle.report.specs.UnitMistakes.{conflict_words, factor_word}
 use Rattle.report.specs.declared.RoleConflict.{RoleConflict}
 use Rattle.report.specs.declared.UnitMistake.{UnitMistake}
-use Rattle.report.specs.UnitMistakes.{factor_word}
 use Rattle.report.specs.declared.UnitFactor.{UnitFactor}
 use Rattle.report.specs.declared.UnitFactor.TheVariants as factors
 use Rattle.grid_units.specs.HoleWords.{drilled_words, name_of, two_lengths}
@@ -35,9 +33,10 @@ use Rattle.report.specs.declared.RingLack.{RingLack}
 use Rattle.report.specs.declared.BoardReport.{BoardReport}
 use Rattle.report.specs.declared.Acceptances.{Acceptances}
 use Rattle.print_text.specs.declared.kind.CauseKind.{CauseKind}
-use Rattle.print_text.specs.Causes.{all_kinds, flash_kind, hint, is_of_kind, kind_words}
+use Rattle.print_text.specs.Causes.{all_kinds, flash_kind, hint, is_of_kind, kind_of, kind_words}
 use Rattle.print_text.specs.declared.kind.CauseKind.TheVariants as kinds
 use Rattle.grid_units.specs.Ascii as ascii
+use Rattle.report.specs.Causes.{ring_of}
 
 -- the number of a hole and the name of its drill file: `hole 17 of board-PTH.drl, `
 unfoldable pub number_words : ℕ → List ℕ → List ℕ
@@ -111,7 +110,7 @@ abbrev pub at_edge_words : CauseKind → ℤ → RingAtEdge → List ℕ
 at_edge_words kind rule place =
     measured_words (codes "annular ring ") place.ring rule ++ (codes ", " ++ (kind_words kind ++ (codes ": flash " ++ decimal place.flash)))
 
--- a ring that is not judged, whatever the hole lies in: `annular ring not judged, oblique slot`
+-- a ring that is not judged, whatever the hole lies in: `annular ring not judged, oblique slot`, `annular ring not judged, only drawn copper`
 abbrev pub not_judged_words : List ℕ → List ℕ
 not_judged_words words = codes "annular ring not judged, " ++ words
 
@@ -128,7 +127,7 @@ cause_words rule hole (causes.Other why flash) = other_words (kind_words (flash_
 cause_words rule hole (causes.Clear flash) = other_words (kind_words kinds.Clear) flash
 cause_words rule hole (causes.Cleared flash) = other_words (kind_words kinds.Cleared) flash
 cause_words rule hole causes.NoFlash = kind_words kinds.Bare
-cause_words rule hole causes.Oblique = not_judged_words (kind_words kinds.Oblique)
+cause_words rule hole cause = not_judged_words (kind_words (kind_of cause))
 
 -- the reason at the end of the line of a waived finding: `, waived: drawn so`
 abbrev pub acceptance_words : Option (Bor (List ℕ)) → List ℕ
@@ -232,13 +231,6 @@ count_line profile kind count = if count == 0 then [] else counted_words count (
 abbrev pub kind_line : Profile → List RingLack → CauseKind → List ℕ
 kind_line profile rings kind = count_line profile kind (count_by (λ lack. is_of_kind kind lack.cause) rings)
 
--- the ring of a hole in its pad; nothing where it lies in no pad or is an oblique slot
-abbrev pub ring_of : RingCause → Option ℤ
-ring_of (causes.TooSmall place) = Some place.ring
-ring_of (causes.OffCentre place) = Some place.ring
-ring_of (causes.Edge at_edge) = Some at_edge.ring
-ring_of _ = None
-
 -- the smallest of some lengths; nothing where there is none
 abbrev pub smallest : List ℤ → Option ℤ
 smallest [] = None
@@ -275,14 +267,7 @@ conflict_line names line = warning_words (name_of names line.drill) (conflict_wo
 
 -- a hole has no pad that counts, so that its ring is not measured: it lies in no pad, or is an oblique slot, for which no pad counts
 abbrev pub has_no_pad : RingCause → Bool
-has_no_pad (causes.TooSmall place) = false
-has_no_pad (causes.OffCentre place) = false
-has_no_pad (causes.Edge at_edge) = false
-has_no_pad (causes.Other why flash) = true
-has_no_pad (causes.Clear flash) = true
-has_no_pad (causes.Cleared flash) = true
-has_no_pad causes.NoFlash = true
-has_no_pad causes.Oblique = true
+has_no_pad why = is_none (ring_of why)
 
 -- how many findings are of such holes, for which no ring is met: `: 3 findings are of holes with no pad that counts`; nothing for none
 abbrev pub no_pad_words : ℕ → List ℕ

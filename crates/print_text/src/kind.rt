@@ -4,7 +4,7 @@ ghost use Rattle.std.specs.Prelude.{◌≡◌};
 ghost use Rattle.print_text.specs.Causes.{flash_kind, hint, is_of_kind, kind_of, kind_words, macro_hint};
 
 use grid_units::Profile;
-use layer_image::Why;
+use pad_shapes::Why;
 use report::RingCause;
 
 /// The kind of a cause, by which a report counts causes.
@@ -20,12 +20,13 @@ pub(crate) enum CauseKind {
     Turned,
     Clear,
     Cleared,
+    Drawn,
     Bare,
     Oblique,
 }
 
 /// The kinds, in the order in which a report counts them.
-pub(crate) const CAUSE_KINDS: [CauseKind; 12] = [
+pub(crate) const CAUSE_KINDS: [CauseKind; 13] = [
     CauseKind::TooSmall,
     CauseKind::OffCentre,
     CauseKind::Edge,
@@ -36,6 +37,7 @@ pub(crate) const CAUSE_KINDS: [CauseKind; 12] = [
     CauseKind::Turned,
     CauseKind::Clear,
     CauseKind::Cleared,
+    CauseKind::Drawn,
     CauseKind::Bare,
     CauseKind::Oblique,
 ];
@@ -64,6 +66,8 @@ pub(crate) fn kind_of(cause: &RingCause) -> CauseKind
         RingCause::Other { why, flash: _ } => flash_kind(*why),
         RingCause::Clear { flash: _ } => CauseKind::Clear,
         RingCause::Cleared { flash: _ } => CauseKind::Cleared,
+        RingCause::MacroShape => CauseKind::Macro,
+        RingCause::DrawnCopper => CauseKind::Drawn,
         RingCause::NoFlash => CauseKind::Bare,
         RingCause::Oblique => CauseKind::Oblique,
     }
@@ -91,6 +95,7 @@ pub(crate) fn kind_words(kind: CauseKind) -> &'static str
         CauseKind::Turned => "only a turned flash",
         CauseKind::Clear => "only a clear flash",
         CauseKind::Cleared => "only a cleared flash",
+        CauseKind::Drawn => "only drawn copper",
         CauseKind::Bare => "no pad at the hole",
         CauseKind::Oblique => "oblique slot",
     }
@@ -109,7 +114,7 @@ fn macro_hint(profile: Profile) -> &'static str
 {
     match profile {
         Profile::Strict => {
-            "flashes by a macro are not judged: choose circle, oval or rectangle: see `ringcheck explain macro`"
+            "--profile wide counts macros whose shape is known, such as rounded rectangles; or choose circle, oval or rectangle: see `ringcheck explain macro`"
         }
         Profile::Wide => {
             "macros of this form are not judged: choose circle, oval or rectangle: see `ringcheck explain macro`"
@@ -138,6 +143,9 @@ pub(crate) fn hint(profile: Profile, kind: CauseKind) -> &'static str
         CauseKind::Turned => "flashes turned by anything but quarter turns are not judged",
         CauseKind::Clear => "a flash in clear polarity takes copper away",
         CauseKind::Cleared => "a flash that clear polarity may remove does not count",
+        CauseKind::Drawn => {
+            "--profile wide counts convex contours as pads; or flash a pad there: see `ringcheck explain none`"
+        }
         CauseKind::Bare => {
             "no pad was flashed here, or it is drawn or of a shape that is not judged, or the drill file has another origin or format: see `ringcheck explain none`"
         }

@@ -4,12 +4,13 @@ ghost use Rattle.std.specs.Prelude.{◌≡◌, ◌≤◌, ◌==◌, ◌&&◌, So
 ghost use Rattle.std.specs.Fmt.{DisplaysOnOk};
 ghost use Rattle.std.specs.List.{count_by, enumerate_from, filter, filter_map, list_any};
 ghost use Rattle.print_text.specs.Inner.{IsRun, group_lines};
-ghost use Rattle.print_text.specs.Texts.{group_line, holes_words, is_alike, is_first_alike, ring_of, smallest, smallest_words};
+ghost use Rattle.print_text.specs.Texts.{group_line, holes_words, is_alike, is_first_alike, smallest, smallest_words};
+ghost use Rattle.report.specs.Causes.{ring_of};
 
 use crate::runs::Run;
-use crate::tallies::{ring_of, smaller};
+use crate::tallies::smaller;
 use grid_units::ShortMillimetres;
-use report::RingLack;
+use report::{RingLack, ring_of};
 use std::fmt;
 use std::fmt::{Display, Formatter};
 

@@ -4,11 +4,12 @@ ghost use Rattle.std.specs.Prelude.{◌≡◌, ◌≤◌, ◌==◌, ◌&&◌, if
 ghost use Rattle.std.specs.List.{count_by, enumerate_from, filter, filter_map};
 ghost use Rattle.print_text.specs.Causes.{is_of_kind};
 ghost use Rattle.print_text.specs.Inner.{IsRun, smaller};
-ghost use Rattle.print_text.specs.Texts.{has_no_pad, is_shown, ring_of, smallest};
+ghost use Rattle.print_text.specs.Texts.{has_no_pad, is_shown, smallest};
+ghost use Rattle.report.specs.Causes.{ring_of};
 
 use crate::kind::{CauseKind, is_of_kind};
 use crate::runs::Run;
-use report::{GapLack, RingCause, RingLack};
+use report::{GapLack, RingCause, RingLack, ring_of};
 
 /// Whether the finding at a position of the whole report, from 0, is shown.
 pub(crate) fn is_shown(limit: Option<usize>, position: u128) -> bool
@@ -49,11 +50,7 @@ pub(crate) fn rings_of_kind(rings: &[RingLack], kind: CauseKind) -> usize
 fn has_no_pad(cause: &RingCause) -> bool
     ensures { result ≡ has_no_pad cause.now }
 {
-    match cause {
-        RingCause::TooSmall(_) | RingCause::OffCentre(_) | RingCause::Edge(_) => false,
-        RingCause::Other { .. } | RingCause::Clear { .. } | RingCause::Cleared { .. } => true,
-        RingCause::NoFlash | RingCause::Oblique => true,
-    }
+    ring_of(cause).is_none()
 }
 
 /// The number of rings of holes that have no pad that counts.
@@ -111,18 +108,6 @@ pub(crate) fn gaps_hidden_count(gaps: &[GapLack], rings: usize, limit: Option<us
         left += one_if(!is_shown(limit, rings as u128 + i as u128));
     }
     left
-}
-
-/// The ring of a hole in its pad in pm, or `None` where it lies in no pad or is an oblique slot.
-pub(crate) fn ring_of(cause: &RingCause) -> Option<i64>
-    ensures { result ≡ ring_of cause.now }
-{
-    match cause {
-        RingCause::TooSmall(place) | RingCause::OffCentre(place) => Some(place.ring),
-        RingCause::Edge(at_edge) => Some(at_edge.ring),
-        RingCause::Other { .. } | RingCause::Clear { .. } | RingCause::Cleared { .. } => None,
-        RingCause::NoFlash | RingCause::Oblique => None,
-    }
 }
 
 /// The smallest of some lengths and one more, if there is one.

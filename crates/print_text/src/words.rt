@@ -250,7 +250,9 @@ impl Display for CauseWords<'_> {
             | RingCause::Clear { flash }
             | RingCause::Cleared { flash } => write!(f, "{}", OtherWords(kind, *flash)),
             RingCause::NoFlash => f.write_str(kind_words(kind)),
-            RingCause::Oblique => write!(f, "annular ring not judged, {}", kind_words(kind)),
+            RingCause::MacroShape | RingCause::DrawnCopper | RingCause::Oblique => {
+                write!(f, "annular ring not judged, {}", kind_words(kind))
+            }
         }
     }
 }

@@ -1,5 +1,5 @@
 -- A round hole is bare just where no pad covers its centre.
-use Rattle.std.proofs.Common.{◌≡◌, ◌↔◌, ℕ, ℤ, ◌+◌, ◌<◌, ◌&&◌, not, Bool, true, false, inl, inr, Option, Some, None, List, length, take, get_or, refl, sym, subst, ap, ◌∙◌, arith}
+use Rattle.std.proofs.Common.{◌≡◌, ◌↔◌, ℕ, ℤ, ◌+◌, ◌<◌, ◌&&◌, not, Bool, true, false, Option, Some, None, List, length, take, get_or, refl, sym, subst, ap, ◌∙◌, arith}
 use Rattle.std.specs.Ordering.{int_eq}
 use Rattle.std.specs.List.{count_by, list_any}
 use Rattle.std.proofs.lemmas.Bool.Decides.{Decides-int_eq}
@@ -8,6 +8,7 @@ use Rattle.std.proofs.lemmas.List.Folds.{list_any_at, list_any_none}
 use Rattle.std.proofs.lemmas.List.Sums.{count_by_more_yes, count_by_more_no}
 use Rattle.grid_units.specs.Points.{GridPoint}
 use Rattle.grid_units.specs.Holes.{GridHole, is_round}
+use Rattle.grid_units.proofs.BoolLemmas.{and_true, both_true, not_true}
 use Rattle.pad_shapes.specs.WidePads.{wide_pad_covers}
 use Rattle.pad_shapes.specs.Shapes.{covers_both_ends}
 use Rattle.pad_shapes.specs.declared.wide_pad.WidePad.{WidePad}
@@ -22,20 +23,6 @@ use Rattle.margins.specs.Rows.{has_no_best_pad}
 use Rattle.margins.specs.declared.best.BestPad.{BestPad}
 use Rattle.report.specs.UnitMistakes.{BareIsUncovered, is_bare, is_uncovered}
 
-both_true : (a b : Bool) → (a && b) ≡ true → (a ≡ true) × (b ≡ true)
-both_true true true e = (refl, refl)
-both_true true false e = absurd cc
-both_true false b e = absurd cc
-
-both : (a b : Bool) → a ≡ true → b ≡ true → (a && b) ≡ true
-both true true e f = refl
-both true false e f = absurd cc
-both false b e f = absurd cc
-
-not_true : (a : Bool) → not a ≡ true → a ≡ false
-not_true true e = absurd cc
-not_true false e = refl
-
 not_false : (a : Bool) → a ≡ false → not a ≡ true
 not_false true e = absurd cc
 not_false false e = refl
@@ -43,6 +30,10 @@ not_false false e = refl
 either_way : (a : Bool) → a ≡ true → a ≡ false → ⊥
 either_way true e f = cc
 either_way false e f = cc
+
+pub refused : (b : Bool) → (b ≡ true → ⊥) → b ≡ false
+refused true f = absurd (f refl)
+refused false f = refl
 
 first_false : (a b : Bool) → (a && b) ≡ false → b ≡ true → a ≡ false
 first_false true true e f = absurd cc
@@ -74,11 +65,7 @@ module _ (pads : List WidePad) (h : GridHole) (round : is_round h ≡ true) wher
   covered p reach e = wide_pad_covers_less p h.from 0 reach (omega arith) (both_true (wide_pad_covers p h.from reach) (wide_pad_covers p h.to reach) e).0
 
   ends : (p : WidePad) → wide_pad_covers p h.from 0 ≡ true → covers_both_ends wide_pad_covers p h.from h.to 0 ≡ true
-  ends p e = both (wide_pad_covers p h.from 0) (wide_pad_covers p h.to 0) e (subst (λ (q : GridPoint). wide_pad_covers p q 0 ≡ true) (one_point h round) e)
-
-  refused : (b : Bool) → (b ≡ true → ⊥) → b ≡ false
-  refused true f = absurd (f refl)
-  refused false f = refl
+  ends p e = and_true (wide_pad_covers p h.from 0) (wide_pad_covers p h.to 0) e (subst (λ (q : GridPoint). wide_pad_covers p q 0 ≡ true) (one_point h round) e)
 
   shallow : is_uncovered pads h.from ≡ true → NoneCovers wide_pad_covers pads (length pads) h
   shallow none p k reach inside =
@@ -125,7 +112,7 @@ module _ (pads : List WidePad) (holes : List Drilled) (bests : List (Option Best
 -- whether a round hole is bare
 given_bare : (pads : List WidePad) (h : GridHole) (b : Bool) → is_round h ≡ true → (b ≡ true) ↔ IsBare wide_pad_covers pads h → is_uncovered pads h.from ≡ b
 given_bare pads h true round is = uncovered pads h round (is.0 refl)
-given_bare pads h false round is = refused pads h round (is_uncovered pads h.from) (λ e. either_way false (is.1 (shallow pads h round e)) refl)
+given_bare pads h false round is = refused (is_uncovered pads h.from) (λ e. either_way false (is.1 (shallow pads h round e)) refl)
 
 by_bare : (pads : List WidePad) (h : GridHole) (b : Bool) → (b ≡ true) ↔ IsBare wide_pad_covers pads h → (is_round h && is_uncovered pads h.from) ≡ (is_round h && b)
 by_bare pads h b is = by (is_round h) refl

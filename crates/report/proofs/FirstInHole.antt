@@ -19,12 +19,12 @@ use Rattle.pad_shapes.specs.Rounded.{GridRounded, is_outline, rounded_covers}
 use Rattle.pad_shapes.specs.Shapes.{IsAxisAligned, IsInBox, covers_both_ends}
 use Rattle.pad_shapes.specs.Inner.RoundedLaws.{no_distance, rounded_contains_slots}
 use Rattle.pad_shapes.proofs.PartsLemmas.{points_are_covered}
-use Rattle.further_copper.specs.Features.{is_pad_row}
-use Rattle.further_copper.specs.declared.feature.FeatureRow.{FeatureRow}
+use Rattle.pad_shapes.specs.Rows.{is_pad_row}
+use Rattle.pad_shapes.specs.declared.row.FeatureRow.{FeatureRow}
 use Rattle.ring_rules.proofs.SortedPairs.{contains_cases, contains_first, pairs_head, pairs_tail}
 use Rattle.report.proofs.PlacesLemmas.{at_head, if_other}
 use Rattle.report.specs.Causes.{IsGroup, IsWithin, is_in_shape, other_row, others}
-use Rattle.report.specs.Inner.FirstInHole.{HasPassed, IsFirstIn}
+use Rattle.report.specs.Inner.CauseParts.{HasPassed, IsFirstIn}
 use Rattle.report.specs.declared.bounds.Bounds.{Bounds}
 use Rattle.report.specs.declared.groups.Group.{Group}
 use Rattle.report.specs.declared.groups.Search.{Search}

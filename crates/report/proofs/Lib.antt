@@ -2,12 +2,11 @@ pub mod PlacesLemmas
 pub mod FirstInHole
 pub mod HolePoints
 pub mod MatchedRows
-pub mod PlainBests
-pub mod StrictLemmas
 pub mod CauseLemmas
 pub mod PadSymmetry
 pub mod RoundedDownLemma
 pub mod BareLemmas
+pub mod UncountedLemmas
 pub mod RescaledCounts
 pub mod FewestLemmas
 pub mod Slices

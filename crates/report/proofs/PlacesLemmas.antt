@@ -3,8 +3,8 @@ use Rattle.std.proofs.Common.{◌≡◌, ◌<◌, ◌+◌, ◌∷◌, ℕ, suc, 
 use Rattle.std.specs.List.{All, cons_option, enumerate_from, filter_map, find}
 use Rattle.std.specs.Option.{IfSome}
 use Rattle.std.proofs.lemmas.List.Elements.{All-cons}
-use Rattle.further_copper.specs.Features.{is_pad_row}
-use Rattle.further_copper.specs.declared.feature.FeatureRow.{FeatureRow}
+use Rattle.pad_shapes.specs.Rows.{is_pad_row}
+use Rattle.pad_shapes.specs.declared.row.FeatureRow.{FeatureRow}
 use Rattle.report.specs.Causes.{other_row, others, pad_place, pad_places}
 use Rattle.report.specs.declared.other.Other.{Other}
 

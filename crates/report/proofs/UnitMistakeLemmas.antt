@@ -1,13 +1,13 @@
 -- Files whose holes are tried at other places, and their lines.
-use Rattle.std.proofs.Common.{◌≡◌, ◌↔◌, ℕ, ◌+◌, ◌*◌, ◌<◌, ◌≤◌, ◌==◌, ◌⊎◌, if◌then◌else◌, ◌++◌, ◌∷◌, [], inl, inr, Bool, true, false, Some, None, Option, List, length, map, take, get_or, refl, sym, subst, ap, ◌∙◌, arith}
-use Rattle.std.specs.List.{All, slice_range}
+use Rattle.std.proofs.Common.{◌≡◌, ◌↔◌, ℕ, ◌*◌, ◌<◌, ◌≤◌, ◌==◌, ◌⊎◌, if◌then◌else◌, inl, inr, Bool, true, false, Some, None, Option, List, length, map, get_or, refl, sym, subst, arith}
+use Rattle.std.specs.List.{slice_range}
 use Rattle.std.proofs.lemmas.Bool.Decides.{Decides-eqb}
 use Rattle.std.proofs.lemmas.List.Elements.{All-map}
 use Rattle.pad_shapes.specs.declared.wide_pad.WidePad.{WidePad}
 use Rattle.ring_rules.specs.declared.finding.Drilled.{Drilled}
 use Rattle.report.specs.declared.UnitFactor.{UnitFactor}
 use Rattle.report.specs.declared.UnitMistake.{UnitMistake}
-use Rattle.report.specs.UnitMistakes.{AreUnitMistakes, IsUnitMistake, IsUnitMistakeOrNone, bare_count_with, factors, holes_in}
+use Rattle.report.specs.UnitMistakes.{AreUnitMistakes, IsUnitMistakeOrNone, bare_count_with, factors, holes_in}
 use Rattle.report.specs.Inner.RescaledCounts.{AreCounted, AreSuspects, AreHoleRanges, AreTried, IsSuspect, IsFewest, IsTried, holes_of, open_part}
 use Rattle.report.specs.declared.counts.HoleRange.{HoleRange}
 use Rattle.report.specs.declared.fewest.Fewest.{Fewest}

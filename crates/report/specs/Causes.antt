@@ -1,8 +1,8 @@
 -- Why a hole lacks its ring on a layer. Lengths are whole picometres. A place counts from 0, a flash's number from 1. A row is a flash or a
 -- contour without its pad, so the numbers of flashes count contours too; the pads of a layer are those of its rows that are pads, in order.
-use Rattle.std.specs.Prelude.{◌≡◌, ◌↔◌, ℕ, ℤ, pos, ◌+◌, ◌≤◌, ◌+ℤ◌, ◌-ℤ◌, ◌≤ℤ◌, Bool, true, false, not, Option, Some, None, List, [], ◌∷◌, length, get_or, if◌then◌else◌}
+use Rattle.std.specs.Prelude.{◌≡◌, ◌↔◌, ℕ, ℤ, pos, ◌+◌, ◌<◌, ◌≤◌, ◌+ℤ◌, ◌-ℤ◌, ◌≤ℤ◌, Bool, true, false, not, Option, Some, None, List, [], ◌∷◌, length, get_or, if◌then◌else◌}
 use Rattle.std.specs.Int.{div_ceil}
-use Rattle.std.specs.List.{All, Contains, enumerate_from, filter_map, find, slice_range}
+use Rattle.std.specs.List.{All, Contains, enumerate_from, filter_map, find, list_any, slice_range}
 use Rattle.std.specs.List.Sorted.{IsPermutation}
 use Rattle.grid_units.specs.Points.{GridPoint, abs_diff}
 use Rattle.grid_units.specs.Holes.{GridHole, is_round}
@@ -15,11 +15,15 @@ use Rattle.pad_shapes.specs.WidePads.{wide_pad_covers}
 use Rattle.pad_shapes.specs.declared.wide_pad.WidePad.{WidePad}
 use Rattle.pad_shapes.specs.declared.wide_pad.WidePad.TheVariants.{Plain, Rounded}
 use Rattle.ring_rules.specs.Findings.{is_refused_slot}
+use Rattle.ring_rules.specs.Places.{hole_at}
 use Rattle.ring_rules.specs.declared.finding.Drilled.{Drilled}
-use Rattle.further_copper.specs.Features.{is_pad_row}
-use Rattle.further_copper.specs.declared.feature.FeatureRow.{FeatureRow}
-use Rattle.further_copper.specs.declared.feature.RowKind.{RowKind}
-use Rattle.further_copper.specs.declared.feature.RowKind.TheVariants as row_kind
+use Rattle.pad_shapes.specs.Rows.{is_pad_row}
+use Rattle.pad_shapes.specs.declared.row.FeatureRow.{FeatureRow}
+use Rattle.pad_shapes.specs.declared.row.RowKind.{RowKind}
+use Rattle.pad_shapes.specs.declared.row.RowKind.TheVariants as row_kind
+use Rattle.layer_features.specs.Features.{pads_of, rows_of}
+use Rattle.layer_features.specs.declared.feature.Feature.{Feature}
+use Rattle.report.specs.declared.FurtherCopper.{FurtherCopper}
 use Rattle.report.specs.declared.bounds.Bounds.{Bounds}
 use Rattle.report.specs.declared.groups.Group.{Group}
 use Rattle.report.specs.declared.layer.CauseFinder.{CauseFinder}
@@ -31,6 +35,7 @@ use Rattle.report.specs.declared.RingAtEdge.{RingAtEdge}
 use Rattle.report.specs.declared.RingInPad.{RingInPad}
 use Rattle.report.specs.declared.RingCause.{RingCause}
 use Rattle.report.specs.declared.RingCause.TheVariants as cause
+use Rattle.report.specs.declared.cover.UncountedCover.{UncountedCover}
 
 -- the place of a row if it is a pad, else `None`
 abbrev pub pad_place : ℕ × FeatureRow → Option ℕ
@@ -43,6 +48,10 @@ pad_places rows = filter_map pad_place (enumerate_from 0 rows)
 -- rows and pads belong together: as many rows are pads as there are pads
 abbrev pub AreMatched : List FeatureRow → List WidePad → Type 0
 AreMatched rows pads = length (pad_places rows) ≡ length pads
+
+-- the rows of flashes and contours belong together with their pads
+abbrev pub RowsAreMatched : Type 0
+RowsAreMatched = (features : List Feature) → AreMatched (rows_of features) (pads_of features)
 
 -- a row that is no pad: its place, its point, and what it is; `None` for a pad
 abbrev pub other_row : ℕ × FeatureRow → Option Other
@@ -113,21 +122,45 @@ pub record IsRingAtEdge (rows : List FeatureRow) (pads : List WidePad) (asked : 
 abbrev pub HasNoPad : Profile → List WidePad → GridHole → Type 0
 HasNoPad profile pads h = (is_refused_slot profile h ≡ false) × NoneCovers wide_pad_covers pads (length pads) h
 
+-- the pads of a layer that its profile does not count: the shapes of flashes of macros, and the contours of regions
+pub record UncountedPads : Type 0 where
+  pub macros : List WidePad
+  pub contours : List WidePad
+
+-- those of two lists that are passed
+abbrev pub uncounted_pads : FurtherCopper → UncountedPads
+uncounted_pads uncounted = record { macros = uncounted.macros.now; contours = uncounted.contours.now }
+
+-- a hole lies in a pad of a list: this covers both its ends
+abbrev pub lies_in_pad : List WidePad → GridHole → Bool
+lies_in_pad pads h = list_any (λ pad. covers_both_ends wide_pad_covers pad h.from h.to 0) pads
+
+-- no pad of the layer covers both ends of the hole, and no row that is no pad has its point in it
+abbrev pub HasNoFlash : Profile → List FeatureRow → List WidePad → GridHole → Type 0
+HasNoFlash profile rows pads h = HasNoPad profile pads h × (other_in rows h ≡ None)
+
 -- of the rows that are no pads, the first whose point lies in the hole is of a kind, and has a number on the layer
 abbrev pub IsFirstOther : List FeatureRow → GridHole → RowKind → ℕ → Type 0
 IsFirstOther rows h kind flash = (other : Other) × (other_in rows h ≡ Some other) × (other.what ≡ kind) × (flash ≡ other.place + 1)
 
 -- why a hole lacks its ring, the first that applies: a slot that the profile refuses; a best pad that is too small; a hole off the middle of its
--- best pad, or too near the edge of one that is a rounded polygon; no pad, but another flash whose point lies in the hole; no pad and no such flash
-abbrev pub IsCause : Profile → List FeatureRow → List WidePad → ℕ → GridHole → RingCause → Type 0
-IsCause profile rows pads ring h (cause.TooSmall in_best_pad) = (is_refused_slot profile h ≡ false) × IsRingInPad rows pads ring h in_best_pad × (is_small ring h in_best_pad.pad ≡ true)
-IsCause profile rows pads ring h (cause.OffCentre in_best_pad) = (is_refused_slot profile h ≡ false) × IsRingInPad rows pads ring h in_best_pad × (is_small ring h in_best_pad.pad ≡ false)
-IsCause profile rows pads ring h (cause.Edge at_edge) = (is_refused_slot profile h ≡ false) × IsRingAtEdge rows pads ring h at_edge
-IsCause profile rows pads ring h (cause.Other why flash) = HasNoPad profile pads h × IsFirstOther rows h (row_kind.Other why) flash
-IsCause profile rows pads ring h (cause.Clear flash) = HasNoPad profile pads h × IsFirstOther rows h row_kind.Clear flash
-IsCause profile rows pads ring h (cause.Cleared flash) = HasNoPad profile pads h × IsFirstOther rows h row_kind.Cleared flash
-IsCause profile rows pads ring h cause.NoFlash = HasNoPad profile pads h × (other_in rows h ≡ None)
-IsCause profile rows pads ring h cause.Oblique = is_refused_slot profile h ≡ true
+-- best pad, or too near the edge of one that is a rounded polygon; no pad, but another flash whose point lies in the hole; no pad and no such flash,
+-- but the shape of a macro's flash that the profile does not count; no such shape, but a contour that it does not count; neither
+abbrev pub IsCause : Profile → List FeatureRow → List WidePad → UncountedPads → ℕ → GridHole → RingCause → Type 0
+IsCause profile rows pads uncounted ring h (cause.TooSmall in_best_pad) =
+    (is_refused_slot profile h ≡ false) × IsRingInPad rows pads ring h in_best_pad × (is_small ring h in_best_pad.pad ≡ true)
+IsCause profile rows pads uncounted ring h (cause.OffCentre in_best_pad) =
+    (is_refused_slot profile h ≡ false) × IsRingInPad rows pads ring h in_best_pad × (is_small ring h in_best_pad.pad ≡ false)
+IsCause profile rows pads uncounted ring h (cause.Edge at_edge) = (is_refused_slot profile h ≡ false) × IsRingAtEdge rows pads ring h at_edge
+IsCause profile rows pads uncounted ring h (cause.Other why flash) = HasNoPad profile pads h × IsFirstOther rows h (row_kind.Other why) flash
+IsCause profile rows pads uncounted ring h (cause.Clear flash) = HasNoPad profile pads h × IsFirstOther rows h row_kind.Clear flash
+IsCause profile rows pads uncounted ring h (cause.Cleared flash) = HasNoPad profile pads h × IsFirstOther rows h row_kind.Cleared flash
+IsCause profile rows pads uncounted ring h cause.MacroShape = HasNoFlash profile rows pads h × (lies_in_pad uncounted.macros h ≡ true)
+IsCause profile rows pads uncounted ring h cause.DrawnCopper =
+    HasNoFlash profile rows pads h × (lies_in_pad uncounted.macros h ≡ false) × (lies_in_pad uncounted.contours h ≡ true)
+IsCause profile rows pads uncounted ring h cause.NoFlash =
+    HasNoFlash profile rows pads h × (lies_in_pad uncounted.macros h ≡ false) × (lies_in_pad uncounted.contours h ≡ false)
+IsCause profile rows pads uncounted ring h cause.Oblique = is_refused_slot profile h ≡ true
 
 -- a flash's point lies in a box, and the flash stands no earlier on the layer than the box's first one
 pub record IsWithin (bounds : Bounds) (other : Other) : Type 0 where
@@ -158,10 +191,27 @@ pub record HoldsRows (rows : List FeatureRow) (layer : CauseFinder) : Type 0 whe
   pub others : IsPermutation (others rows) layer.others.items
   pub groups : AreGroups layer.others.items layer.groups.items
 
--- the same data with the best pad of each hole, if it has one
-pub record HoldsRowsAndBests (rows : List FeatureRow) (pads : List WidePad) (holes : List Drilled) (layer : CauseFinder) : Type 0 where
+-- a list tells of each hole whether it is bare: it lies in no pad of another list; past the end of the list it is
+abbrev pub TellsBare : List WidePad → List Drilled → List Bool → Type 0
+TellsBare pads holes bare = (place : ℕ) → place < length holes → not (get_or bare place true) ≡ lies_in_pad pads (hole_at holes place)
+
+-- two lists tell which holes are bare among the pads that the profile does not count: the shapes of flashes of macros, and contours
+pub record TellsUncounted (uncounted : UncountedPads) (holes : List Drilled) (cover : UncountedCover) : Type 0 where
+  pub macros : TellsBare uncounted.macros holes cover.macros.items
+  pub contours : TellsBare uncounted.contours holes cover.contours.items
+
+-- the same data with the best pad of each hole, if it has one, and with which holes lie in pads that the profile does not count
+pub record HoldsRowsAndBests (rows : List FeatureRow) (pads : List WidePad) (uncounted : UncountedPads) (holes : List Drilled) (layer : CauseFinder) : Type 0 where
   pub known : HoldsRows rows layer
   pub bests : AreBestPads wide_pad_covers pads holes layer.bests.items
+  pub cover : TellsUncounted uncounted holes layer.cover
+
+-- the ring of a hole in its best pad; nothing where it lies in no pad that counts or is a slot that is refused
+abbrev pub ring_of : RingCause → Option ℤ
+ring_of (cause.TooSmall place) = Some place.ring
+ring_of (cause.OffCentre place) = Some place.ring
+ring_of (cause.Edge place) = Some place.ring
+ring_of _ = None
 
 -- the length that a ring lacks; nothing where the hole lies in no pad or is a slot that is refused
 abbrev pub lack_of : RingCause → Option ℤ
@@ -169,3 +219,13 @@ lack_of (cause.TooSmall place) = Some place.lack
 lack_of (cause.OffCentre place) = Some place.lack
 lack_of (cause.Edge place) = Some place.lack
 lack_of _ = None
+
+-- the number of the flash or contour that a cause names, if it names one
+abbrev pub flash_of : RingCause → Option ℕ
+flash_of (cause.TooSmall place) = Some place.flash
+flash_of (cause.OffCentre place) = Some place.flash
+flash_of (cause.Edge place) = Some place.flash
+flash_of (cause.Other why flash) = Some flash
+flash_of (cause.Clear flash) = Some flash
+flash_of (cause.Cleared flash) = Some flash
+flash_of _ = None

@@ -1,3 +1,2 @@
 pub mod CauseParts
-pub mod FirstInHole
 pub mod RescaledCounts

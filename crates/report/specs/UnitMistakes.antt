@@ -1,5 +1,5 @@
 -- Whether the coordinates of a drill file's holes are off by a factor, in whole picometres (docs/FORMATS.md, Measure).
-use Rattle.std.specs.Prelude.{◌≡◌, ◌↔◌, ℕ, ℤ, pos, ◌*◌, ◌<◌, ◌≤◌, ◌*ℤ◌, ◌≤ℤ◌, Bool, true, not, ◌&&◌, ◌||◌, nat_le, unsigned_abs, Option, Some, None, List, [], ◌∷◌, length, get_or, count_by, codes}
+use Rattle.std.specs.Prelude.{◌≡◌, ◌↔◌, ℕ, ℤ, pos, ◌*◌, ◌<◌, ◌≤◌, ◌*ℤ◌, ◌≤ℤ◌, Bool, true, false, not, ◌&&◌, ◌||◌, nat_le, unsigned_abs, Option, Some, None, List, [], ◌∷◌, length, get_or, count_by, codes}
 use Rattle.std.specs.Int.{int_div_euclid}
 use Rattle.std.specs.List.{All, list_any, slice_range}
 use Rattle.grid_units.specs.Points.{GridPoint, max_coordinate}
@@ -9,9 +9,9 @@ use Rattle.pad_shapes.specs.declared.wide_pad.WidePad.{WidePad}
 use Rattle.ring_rules.specs.declared.finding.Drilled.{Drilled}
 use Rattle.margins.specs.BestPads.{IsBare}
 use Rattle.report.specs.declared.UnitFactor.{UnitFactor}
-use Rattle.report.specs.declared.UnitFactor.TheVariants as kind
 use Rattle.report.specs.declared.UnitMistake.{UnitMistake}
 use Rattle.report.specs.declared.mistakes.FileRange.{FileRange}
+use Rattle.report.specs.declared.UnitFactor.TheVariants as kind
 
 -- the numerator of a factor: 254 of 25.4, which is 254/10
 abbrev pub multiplier : UnitFactor → ℕ
@@ -116,3 +116,8 @@ AreFileRanges holes files = All (λ file. (file.start ≤ file.end) × (file.end
 pub record AreUnitMistakes (pads : List WidePad) (holes : List Drilled) (files : List FileRange) (lines : List (Option UnitMistake)) : Type 0 where
   pub size : length lines ≡ length files
   pub each : (k : ℕ) (file : FileRange) (line : Option UnitMistake) → k < length files → IsUnitMistakeOrNone pads (holes_in holes (get_or files k file)) (get_or files k file).drill (get_or lines k line)
+
+-- what a file's role is and what its comments say, by whether its role calls its holes plated
+abbrev pub conflict_words : Bool → List ℕ
+conflict_words true = codes "its role is plated, but its comments say that holes are not plated"
+conflict_words false = codes "its role is unplated, but its comments say that holes are plated"

@@ -1,24 +1,43 @@
 //! Figures of causes and of factors, and the words of a contradicted role.
 
 ghost use Rattle.std.specs.Prelude.{◌≡◌};
-ghost use Rattle.report.specs.Causes.{lack_of};
-ghost use Rattle.report.specs.RoleConflicts.{conflict_words};
-ghost use Rattle.report.specs.UnitMistakes.{factor_word};
+ghost use Rattle.report.specs.Causes.{flash_of, lack_of, ring_of};
+ghost use Rattle.report.specs.UnitMistakes.{conflict_words, factor_word};
 
 use crate::{RingCause, UnitFactor};
 
-/// The length that a ring lacks, in pm, if its hole lies in a pad.
+/// The ring of a hole in its best pad, in pm, if it lies in a pad that counts.
+pub fn ring_of(cause: &RingCause) -> Option<i64>
+    ensures { result ≡ ring_of cause.now }
+{
+    match cause {
+        RingCause::TooSmall(place) | RingCause::OffCentre(place) => Some(place.ring),
+        RingCause::Edge(place) => Some(place.ring),
+        _ => None,
+    }
+}
+
+/// The length that a ring lacks, in pm, if its hole lies in a pad that counts.
 pub fn lack_of(cause: &RingCause) -> Option<i64>
     ensures { result ≡ lack_of cause.now }
 {
     match cause {
         RingCause::TooSmall(place) | RingCause::OffCentre(place) => Some(place.lack),
         RingCause::Edge(place) => Some(place.lack),
-        RingCause::Other { .. }
-        | RingCause::Clear { .. }
-        | RingCause::Cleared { .. }
-        | RingCause::NoFlash
-        | RingCause::Oblique => None,
+        _ => None,
+    }
+}
+
+/// The number on the layer, from 1, of the flash or contour that a cause names, if it names one.
+pub fn flash_of(cause: &RingCause) -> Option<usize>
+    ensures { result ≡ flash_of cause.now }
+{
+    match cause {
+        RingCause::TooSmall(place) | RingCause::OffCentre(place) => Some(place.flash),
+        RingCause::Edge(place) => Some(place.flash),
+        RingCause::Other { flash, .. } => Some(*flash),
+        RingCause::Clear { flash } | RingCause::Cleared { flash } => Some(*flash),
+        _ => None,
     }
 }
 

@@ -4,9 +4,9 @@ ghost use Rattle.std.specs.Prelude.{◌≡◌, ◌<◌, ◌≤◌, List, Some, l
 ghost use Rattle.std.specs.List.{find};
 ghost use Rattle.std.specs.List.Sorted.{IsPermutation};
 ghost use Rattle.pad_shapes.specs.Rounded.{is_outline};
-ghost use Rattle.further_copper.specs.declared.feature.FeatureRow.{FeatureRow as TheRow};
+ghost use Rattle.pad_shapes.specs.declared.row.FeatureRow.{FeatureRow as TheRow};
 ghost use Rattle.report.specs.Causes.{AreGroups, IsGroup, is_in_shape, others};
-ghost use Rattle.report.specs.Inner.FirstInHole.{HasPassed};
+ghost use Rattle.report.specs.Inner.CauseParts.{HasPassed};
 ghost use Rattle.report.specs.declared.other.Other.{Other as TheOther};
 
 use crate::bounds::Bounds;

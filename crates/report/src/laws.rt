@@ -1,23 +1,16 @@
 //! What follows from the definitions of causes alone. A call of a law does nothing; its clause is what is proved.
 
-ghost use Rattle.report.specs.Causes.{HolesHaveTheirPoints};
-ghost use Rattle.report.specs.StrictCauses.{RowsAreMatched, StrictCausesAreByFlashes, StrictRowsAreMatched};
+ghost use Rattle.report.specs.Causes.{HolesHaveTheirPoints, RowsAreMatched};
 ghost use Rattle.report.specs.UnitMistakes.{BareIsUncovered, IsRoundedDown};
-
-/// Over the rows of flashes of the strict profile and their pads, the causes are those by the flashes.
-pub fn strict_causes_are_by_flashes()
-    ensures { StrictCausesAreByFlashes }
-{}
 
 /// A point lies in a hole just where it is no further than the hole's radius from a point of the straight line between its ends.
 pub fn holes_have_their_points()
     ensures { HolesHaveTheirPoints }
 {}
 
-/// As many rows of a layer are pads as it has pads: in the strict profile, and in the wide one.
+/// As many rows of a layer are pads as it has pads, in both profiles.
 pub fn rows_are_matched()
-    ensures strict { StrictRowsAreMatched }
-    ensures wide { RowsAreMatched }
+    ensures { RowsAreMatched }
 {}
 
 /// A coordinate times a factor is rounded down: it is the greatest whole number that is not above the product.

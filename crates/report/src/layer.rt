@@ -1,36 +1,36 @@
 //! The data that is kept of a layer, to find why its holes lack their rings.
 
-ghost use Rattle.std.specs.Prelude.{◌≡◌, ◌<◌, ◌+◌, ◌-ℤ◌, ◌≤ℤ◌, ℕ, List, pos, neg_ℤ, false, IfOk, length, get_or};
-ghost use Rattle.grid_units.specs.declared.profile.Profile.{Profile as TheProfile};
+ghost use Rattle.std.specs.Prelude.{◌≡◌, ◌<◌, ◌+◌, ◌-ℤ◌, ◌≤ℤ◌, List, pos, neg_ℤ, false, IfOk, length, get_or};
 ghost use Rattle.pad_shapes.specs.WidePads.{wide_pad_covers};
 ghost use Rattle.pad_shapes.specs.declared.wide_pad.WidePad.{WidePad as TheWidePad};
 ghost use Rattle.ring_rules.specs.Findings.{is_refused_slot};
 ghost use Rattle.ring_rules.specs.Places.{hole_at};
-ghost use Rattle.ring_rules.specs.declared.finding.Drilled.{Drilled as TheDrilled};
-ghost use Rattle.further_copper.specs.Features.{is_pad_row};
-ghost use Rattle.further_copper.specs.declared.feature.FeatureRow.{FeatureRow as TheRow};
+ghost use Rattle.pad_shapes.specs.Rows.{is_pad_row};
+ghost use Rattle.pad_shapes.specs.declared.row.FeatureRow.{FeatureRow as TheRow};
 ghost use Rattle.margins.specs.BestPads.{AreBestPads, IsBestPad, IsDeepest};
-ghost use Rattle.report.specs.Causes.{HasNoPad, HoldsRows, HoldsRowsAndBests, IsCause, other_in, pad_place, pad_places};
-ghost use Rattle.report.specs.Inner.CauseParts.{other_cause, plain_cause};
+ghost use Rattle.report.specs.Causes.{HoldsRows, HoldsRowsAndBests, IsCause, UncountedPads, other_in, pad_place, pad_places, uncounted_pads};
+ghost use Rattle.report.specs.Inner.CauseParts.{cause_without_pad, other_cause, plain_cause, uncounted_cause};
 
 use crate::cause::{hole_shape, is_small};
+use crate::cover::UncountedCover;
 use crate::groups::{Group, first_in, groups_of};
 use crate::other::{Other, others};
-use crate::{RingAtEdge, RingCause, RingInPad};
-use further_copper::{FeatureRow, RowKind};
+use crate::{FurtherCopper, RingAtEdge, RingCause, RingInPad};
 use grid_units::{Hole, Rules};
 use margins::{BestPad, best_pads};
-use pad_shapes::WidePad;
+use pad_shapes::{FeatureRow, RowKind, WidePad};
 use ring_rules::{Drilled, is_refused_slot};
 use std::alloc::{AllocError, Global};
 
-/// The data of a layer: the places of its rows that are pads, its other rows, and the best pad of each hole (the one in which it lies deepest).
+/// The data of a layer: the places of its rows that are pads, its other rows, and of each hole the best pad (the one in which it lies deepest) and
+/// whether it lies in pads that the profile does not count.
 #[derive(Drop)]
 pub struct CauseFinder {
     places: Vec<usize>,
     others: Vec<Other>,
     groups: Vec<Group>,
     bests: Vec<Option<BestPad>>,
+    cover: UncountedCover,
 }
 
 /// The place of a row that is a pad.
@@ -92,13 +92,15 @@ fn other_cause(what: RowKind, flash: usize) -> RingCause
 }
 
 impl CauseFinder {
-    /// The data of the layer of these rows, by the best of its pads for some holes.
+    /// The data of the layer of these rows, by the best of its pads for these holes, and of the pads that its profile does not count.
     fn of(
         alloc: Global,
         rows: &[FeatureRow],
         bests: Vec<Option<BestPad>>,
+        uncounted: FurtherCopper,
+        holes: &[Drilled],
     ) -> Result<CauseFinder, AllocError>
-        ensures { (pads : List TheWidePad) (holes : List TheDrilled) → AreBestPads wide_pad_covers pads holes bests.items → IfOk result (HoldsRowsAndBests rows.now pads holes) }
+        ensures { (pads : List TheWidePad) → AreBestPads wide_pad_covers pads holes.now bests.items → IfOk result (HoldsRowsAndBests rows.now pads (uncounted_pads uncounted.entry) holes.now) }
     {
         let others = others(alloc, rows)?;
         Ok(CauseFinder {
@@ -106,10 +108,12 @@ impl CauseFinder {
             groups: groups_of(alloc, &others)?,
             others,
             bests,
+            cover: UncountedCover::of(alloc, uncounted, holes)?,
         })
     }
 
-    /// The data of the layer of these rows and pads, for these holes. The best pads are searched for, which takes long.
+    /// The data of the layer of these rows and pads, and of the pads that its profile does not count, for these holes. The best pads are searched
+    /// for, which takes long.
     ///
     /// # Errors
     ///
@@ -118,15 +122,16 @@ impl CauseFinder {
         alloc: Global,
         rows: &[FeatureRow],
         pads: &[WidePad],
+        uncounted: FurtherCopper,
         holes: &[Drilled],
     ) -> Result<CauseFinder, AllocError>
-        ensures { IfOk result (HoldsRowsAndBests rows.now pads.now holes.now) }
+        ensures { IfOk result (HoldsRowsAndBests rows.now pads.now (uncounted_pads uncounted.entry) holes.now) }
     {
         let bests = best_pads(alloc, pads, holes)?;
-        CauseFinder::of(alloc, rows, bests)
+        CauseFinder::of(alloc, rows, bests, uncounted, holes)
     }
 
-    /// The data of the layer of these rows, by copies of the best of its pads for some holes.
+    /// The data of the layer of these rows, by copies of the best of its pads for these holes, and of the pads that its profile does not count.
     ///
     /// # Errors
     ///
@@ -135,11 +140,13 @@ impl CauseFinder {
         alloc: Global,
         rows: &[FeatureRow],
         bests: &[Option<BestPad>],
+        uncounted: FurtherCopper,
+        holes: &[Drilled],
     ) -> Result<CauseFinder, AllocError>
-        ensures { (pads : List TheWidePad) (holes : List TheDrilled) → AreBestPads wide_pad_covers pads holes bests.now → IfOk result (HoldsRowsAndBests rows.now pads holes) }
+        ensures { (pads : List TheWidePad) → AreBestPads wide_pad_covers pads holes.now bests.now → IfOk result (HoldsRowsAndBests rows.now pads (uncounted_pads uncounted.entry) holes.now) }
     {
         let copied = bests.to_vec(alloc)?;
-        CauseFinder::of(alloc, rows, copied)
+        CauseFinder::of(alloc, rows, copied, uncounted, holes)
     }
 
     /// The number on the layer, from 1, of the row of a pad; 1 where the rows have no such pad.
@@ -165,7 +172,7 @@ impl CauseFinder {
         requires known { HoldsRows rows.now self.now }
         requires holds { is_refused_slot rules.profile hole.now ≡ false }
         requires best { IsDeepest wide_pad_covers pads.now (length pads.now) hole.now best }
-        ensures { IsCause rules.profile rows.now pads.now rules.ring hole.now result }
+        ensures { (uncounted : UncountedPads) → IsCause rules.profile rows.now pads.now uncounted rules.ring hole.now result }
     {
         let flash = self.flash_of(rows, best.pad);
         let ring = ring_of(best, hole);
@@ -197,41 +204,47 @@ impl CauseFinder {
         Ok(first_in(&self.others, &self.groups, &shape))
     }
 
-    /// Why a hole that no pad covers lacks its ring.
-    fn cause_without_pad(&self, rows: &[FeatureRow], hole: &Hole) -> Result<RingCause, AllocError>
+    /// Why a hole that no pad covers lacks its ring: by the first other row in it, if there is one, and otherwise as is given.
+    fn cause_without_pad(
+        &self,
+        rows: &[FeatureRow],
+        hole: &Hole,
+        otherwise: RingCause,
+    ) -> Result<RingCause, AllocError>
         requires { HoldsRows rows.now self.now }
-        ensures { (profile : TheProfile) (pads : List TheWidePad) (ring : ℕ) → HasNoPad profile pads hole.now → IfOk result (IsCause profile rows.now pads ring hole.now) }
+        ensures { IfOk result (λ why. why ≡ cause_without_pad (other_in rows.now hole.now) otherwise) }
     {
         match self.other_in(rows, hole)? {
             Some(other) => Ok(other_cause(other.what, other.place + 1)),
-            None => Ok(RingCause::NoFlash),
+            None => Ok(otherwise),
         }
     }
 
-    /// Why a hole lacks its ring, by its best pad.
+    /// Why a hole lacks its ring, by its best pad; where it has none and no other flash, as is given.
     fn cause_of(
         &self,
         rows: &[FeatureRow],
         pads: &[WidePad],
         hole: &Hole,
         best: Option<BestPad>,
+        otherwise: RingCause,
         rules: Rules,
     ) -> Result<RingCause, AllocError>
         requires known { HoldsRows rows.now self.now }
         requires best { IsBestPad wide_pad_covers pads.now hole.now best }
-        ensures { IfOk result (IsCause rules.profile rows.now pads.now rules.ring hole.now) }
+        ensures { (uncounted : UncountedPads) → otherwise ≡ uncounted_cause uncounted hole.now → IfOk result (IsCause rules.profile rows.now pads.now uncounted rules.ring hole.now) }
     {
         if is_refused_slot(rules.profile(), hole) {
             return Ok(RingCause::Oblique);
         }
         match best {
             Some(best) => Ok(self.cause_in_best(rows, pads, hole, best, rules)),
-            None => self.cause_without_pad(rows, hole),
+            None => self.cause_without_pad(rows, hole, otherwise),
         }
     }
 
-    /// Why the hole at a place, from 0, lacks the ring of these rules on the layer. The rows, pads and holes must be those of the data; the pads
-    /// are those of the rows that are pads, or a flash has no number of its own.
+    /// Why the hole at a place, from 0, lacks the ring of these rules on the layer. The rows, the pads, those that the profile does not
+    /// count, and the holes must be those of the data; the pads are those of the rows that are pads, or a flash has no number of its own.
     ///
     /// # Errors
     ///
@@ -240,14 +253,17 @@ impl CauseFinder {
         &self,
         rows: &[FeatureRow],
         pads: &[WidePad],
+        uncounted: FurtherCopper,
         holes: &[Drilled],
         place: usize,
         rules: Rules,
     ) -> Result<RingCause, AllocError>
-        requires known { HoldsRowsAndBests rows.now pads.now holes.now self.now }
+        requires known { HoldsRowsAndBests rows.now pads.now (uncounted_pads uncounted) holes.now self.now }
         requires place { place < length holes.now }
-        ensures { IfOk result (IsCause rules.profile rows.now pads.now rules.ring (hole_at holes.now place)) }
+        ensures { IfOk result (IsCause rules.profile rows.now pads.now (uncounted_pads uncounted.entry) rules.ring (hole_at holes.now place)) }
     {
-        self.cause_of(rows, pads, &holes[place].hole, self.bests[place], rules)
+        let otherwise = self.cover.cause_at(uncounted, holes, place);
+        let hole = &holes[place].hole;
+        self.cause_of(rows, pads, hole, self.bests[place], otherwise, rules)
     }
 }

@@ -7,6 +7,7 @@ mod bare;
 mod bounds;
 mod cause;
 mod counts;
+mod cover;
 mod fewest;
 mod figures;
 mod groups;
@@ -18,13 +19,12 @@ mod scaled;
 mod waived;
 
 pub use bare::bare_among;
-pub use figures::{conflict_words, factor_word, lack_of};
+pub use figures::{conflict_words, factor_word, flash_of, lack_of, ring_of};
 use grid_units::{Hole, Rules};
 pub use layer::CauseFinder;
-use layer_image::Why;
 pub use margins::Met;
 pub use mistakes::{FileRange, unit_mistakes};
-use pad_shapes::Pad;
+use pad_shapes::{Pad, Why, WidePad};
 pub use scaled::scaled_point;
 pub use waived::{acceptance_of, count_waived, count_waived_first, is_waived};
 
@@ -155,6 +155,15 @@ pub struct RingAtEdge {
     pub lack: i64,
 }
 
+/// The pads of a layer that its profile does not count.
+#[derive(Clone, Copy)]
+pub struct FurtherCopper<'a> {
+    /// The shapes of flashes of macros.
+    pub macros: &'a [WidePad],
+    /// The contours of regions.
+    pub contours: &'a [WidePad],
+}
+
 /// Why a hole lacks its ring on a layer: the first cause that applies.
 #[derive(Clone, Copy, PartialEq, Eq)]
 pub enum RingCause {
@@ -181,7 +190,13 @@ pub enum RingCause {
         /// The number of the flash on the layer, from 1.
         flash: usize,
     },
-    /// The hole lies in no pad, and no other flash has its point in it.
+    /// The hole lies in no pad, and no other flash has its point in it, but the shape of a macro's flash that the profile does not count
+    /// covers both its ends.
+    MacroShape,
+    /// The hole lies in no pad and in no such shape, and no other flash has its point in it, but a contour that the profile does not count
+    /// covers both its ends.
+    DrawnCopper,
+    /// The hole lies in no pad, in no such shape and in no such contour, and no other flash has its point in it.
     NoFlash,
     /// The hole is a plated slot that is parallel to neither axis, which the strict profile refuses.
     Oblique,

@@ -4,11 +4,10 @@ ghost use Rattle.std.specs.Prelude.{◌≡◌, ◌++◌, ◌∷◌, [], List, na
 ghost use Rattle.std.specs.List.Sorted.{IsPermutation};
 ghost use Rattle.std.specs.Option.{option_map_or};
 ghost use Rattle.report.specs.Causes.{is_in_shape, other_row, others};
-ghost use Rattle.report.specs.Inner.FirstInHole.{IsFirstIn};
+ghost use Rattle.report.specs.Inner.CauseParts.{IsFirstIn};
 
-use further_copper::{FeatureRow, RowKind};
 use grid_units::Point;
-use pad_shapes::{PadShape, Rounded};
+use pad_shapes::{FeatureRow, PadShape, Rounded, RowKind};
 use std::alloc::{AllocError, Global};
 use std::cmp::Ordering;
 

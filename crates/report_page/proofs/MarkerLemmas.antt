@@ -19,7 +19,7 @@ use Rattle.ring_rules.specs.declared.finding.Finding.TheVariants as finding
 use Rattle.pad_shapes.specs.WidePads.{wide_pad_covers}
 use Rattle.ring_rules.specs.Findings.{gap_findings, ring_findings}
 use Rattle.ring_rules.specs.WithoutFindings.{GapsNamePlaces, NamesPlaces, RingsNamePlaces}
-use Rattle.layer_image.specs.declared.drawn.Drawn.{Drawn}
+use Rattle.pad_shapes.specs.declared.drawn.Drawn.{Drawn}
 use Rattle.package_check.specs.Boards.{BoardView, IsBoard, board_findings}
 use Rattle.package_check.specs.Package.{FileView, index_of, pads_of}
 use Rattle.package_check.specs.declared.contents.Content.{Content}
@@ -35,10 +35,9 @@ use Rattle.picture.specs.declared.frame.Place.{Place}
 use Rattle.picture.specs.declared.scene.DrawnFinding.{DrawnFinding}
 use Rattle.picture.specs.declared.scene.DrawnFinding.TheVariants.{Ring, Gap}
 use Rattle.picture.specs.declared.scene.Scene.{Scene}
-use Rattle.drawing.specs.Drawings.{IsPage, IsPanel, declaration, svg_text}
-use Rattle.drawing.specs.Pages.{after_panels, before_panels, text_of_panel}
+use Rattle.drawing.specs.Pages.{IsPage, IsPanel, declaration, svg_text, after_panels, before_panels, text_of_panel}
 use Rattle.drawing.specs.declared.draw.Drawing.{Drawing}
-use Rattle.report_page.specs.Markers.{EachRowHasItsMarker, marker_start}
+use Rattle.report_page.specs.Pages.{EachRowHasItsMarker, marker_start}
 use Rattle.report_page.proofs.NumberLemmas.{numbers_each_once}
 
 -- ---- parts of texts

@@ -2,7 +2,7 @@
 -- Positions count all findings of a report from 0: the rings first, then the gaps. Their numbers count them from 1.
 use Rattle.std.specs.Prelude.{◌≡◌, ◌<◌, ℕ, ℤ, pos, ◌+◌, ◌-◌, ◌*◌, ◌==◌, ◌++◌, ◌||◌, Bool, not, int_lt, List, [], length, get_or, map, codes, decimal, slice_get, Option, Some, None, if◌then◌else◌}
 use Rattle.std.specs.Borrow.{Bor}
-use Rattle.std.specs.List.{enumerate_from, flat_map}
+use Rattle.std.specs.List.{enumerate_from, flat_map, All}
 use Rattle.grid_units.specs.Holes.{GridHole, GridRules}
 use Rattle.grid_units.specs.Spans.{LayerSpan}
 use Rattle.grid_units.specs.declared.profile.Profile.{Profile}
@@ -10,7 +10,7 @@ use Rattle.grid_units.specs.declared.profile.Profile.TheVariants.{Strict, Wide}
 use Rattle.grid_units.specs.HoleWords.{ends_words, name_of, two_lengths}
 use Rattle.grid_units.specs.LengthWords.{short_millimetres}
 use Rattle.report.specs.Acceptances.{acceptance_at, waived_in}
-use Rattle.report.specs.RoleConflicts.{conflict_words}
+use Rattle.report.specs.UnitMistakes.{conflict_words}
 use Rattle.report.specs.declared.Acceptances.{Acceptances}
 use Rattle.report.specs.declared.BoardReport.{BoardReport}
 use Rattle.report.specs.declared.GapLack.{GapLack}
@@ -19,7 +19,6 @@ use Rattle.report.specs.declared.LeastRing.{LeastRing}
 use Rattle.report.specs.declared.Measure.{Measure}
 use Rattle.report.specs.declared.PlacedHole.{PlacedHole}
 use Rattle.report.specs.declared.RingCause.{RingCause}
-use Rattle.report.specs.declared.RingCause.TheVariants as causes
 use Rattle.report.specs.declared.RingLack.{RingLack}
 use Rattle.report.specs.declared.RingLine.{RingLine}
 use Rattle.report.specs.declared.RoleConflict.{RoleConflict}
@@ -27,16 +26,22 @@ use Rattle.print_text.specs.Causes.{kind_of, kind_words}
 use Rattle.print_text.specs.Texts.{fewer_words, number_of, rules_words, waived_words, warning_words}
 use Rattle.print_text.specs.declared.report_text.Particulars.{Particulars}
 use Rattle.board_report.specs.Measures.{IsMeasure}
-use Rattle.package_check.specs.Boards.{BoardView}
+use Rattle.package_check.specs.Boards.{BoardView, IsBoard}
 use Rattle.package_check.specs.declared.FileSum.{FileSum}
-use Rattle.package_check.specs.declared.FileSum.TheVariants as sums
 use Rattle.picture.specs.Escapes.{escaped}
-use Rattle.layer_image.specs.declared.drawn.Drawn.{Drawn}
-use Rattle.drawing.specs.Drawings.{IsDrawn, declaration, number_of as file_number, svg_text}
+use Rattle.pad_shapes.specs.declared.drawn.Drawn.{Drawn}
+use Rattle.drawing.specs.Pages.{IsDrawn, declaration, number_of as file_number, svg_text}
 use Rattle.report_page.specs.declared.frame.TheConstants.{BEFORE_RULES, BEFORE_SCRIPT, BEFORE_STYLE, BODY, CAPTION, COLUMNS, END, FIGURE, FILES, HEAD, PREMISES, STRICT_PROMISE, TOOL_COLUMNS, TOOLS, WIDE_PROMISE}
 use Rattle.report_page.specs.declared.page.HtmlReport.{HtmlReport}
 use Rattle.report_page.specs.declared.script.TheConstants.{SCRIPT}
 use Rattle.report_page.specs.declared.style.TheConstants.{STYLE}
+use Rattle.report.specs.Causes.{flash_of}
+use Rattle.std.specs.Option.{option_map_or}
+use Rattle.std.specs.Str.Iter.{HasSubslice}
+use Rattle.package_check.specs.Package.{FileView}
+use Rattle.board_report.specs.BoardReport.{IsBoardReport}
+use Rattle.report.specs.declared.RingCause.TheVariants as causes
+use Rattle.package_check.specs.declared.FileSum.TheVariants as sums
 
 -- ---- the verdict and the rules
 
@@ -172,22 +177,12 @@ abbrev pub ring_words : RingCause → List ℕ
 ring_words (causes.TooSmall place) = short_millimetres place.ring
 ring_words (causes.OffCentre place) = short_millimetres place.ring
 ring_words (causes.Edge at_edge) = short_millimetres at_edge.ring
-ring_words (causes.Other why flash) = codes "not judged"
-ring_words (causes.Clear flash) = codes "not judged"
-ring_words (causes.Cleared flash) = codes "not judged"
 ring_words causes.NoFlash = codes "no pad"
-ring_words causes.Oblique = codes "not judged"
+ring_words _ = codes "not judged"
 
 -- the flash that a cause names: `: flash 17`; nothing where it names none
 abbrev pub flash_words : RingCause → List ℕ
-flash_words (causes.TooSmall place) = codes ": flash " ++ decimal place.flash
-flash_words (causes.OffCentre place) = codes ": flash " ++ decimal place.flash
-flash_words (causes.Edge at_edge) = codes ": flash " ++ decimal at_edge.flash
-flash_words (causes.Other why flash) = codes ": flash " ++ decimal flash
-flash_words (causes.Clear flash) = codes ": flash " ++ decimal flash
-flash_words (causes.Cleared flash) = codes ": flash " ++ decimal flash
-flash_words causes.NoFlash = []
-flash_words causes.Oblique = []
+flash_words cause = option_map_or (λ flash. codes ": flash " ++ decimal flash) (flash_of cause) []
 
 -- the cause, in the words of the text of a report, and its flash: `off centre: flash 17`
 abbrev pub cause_words : RingCause → List ℕ
@@ -350,3 +345,14 @@ pub record IsHtmlPage (names : List (List ℕ)) (about : Particulars) (board : B
   pub drawn : IsDrawn names board outline (Some report.rules) (declaration ++ svg)
   pub measured : IsMeasure report.rules.profile board measure
   pub is : text ≡ html_text names about board.files report accepted measure.rings.items svg
+
+-- the start of the marker of a finding, by its number; the link of its row leads to this id: `<g class="finding" id="f27">`
+abbrev pub marker_start : ℕ → List ℕ
+marker_start number = codes "<g class=\"finding\" id=\"f" ++ (decimal number ++ codes "\">")
+
+-- where a page is that of the report on a package's board, and the package has a copper file, each row has its marker in the picture
+abbrev pub EachRowHasItsMarker : Type 0
+EachRowHasItsMarker =
+    (sources : List FileView) (names : List (List ℕ)) (about : Particulars) (board : BoardView) (outline : List Drawn) (report : BoardReport) (accepted : Acceptances) (text : List ℕ)
+    → IsBoard sources board → 0 < length board.layer_indexes → IsBoardReport report.rules board report → (page : IsHtmlPage names about board outline report accepted text)
+    → All (λ number. HasSubslice page.svg (marker_start number)) (row_numbers report)

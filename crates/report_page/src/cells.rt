@@ -8,7 +8,7 @@ ghost use Rattle.report_page.specs.Pages.{cause_words, diameter_words, flash_wor
 use grid_units::{Hole, Point, ShortMillimetres, name_of};
 use picture::Escaped;
 use print_text::words_for_cause;
-use report::{LayerHead, PlacedHole, RingCause};
+use report::{LayerHead, PlacedHole, RingCause, flash_of, ring_of};
 use std::fmt;
 use std::fmt::{Display, Formatter};
 
@@ -121,14 +121,10 @@ impl Display for RingCell<'_> {
     ghost output = { λ words. Some (ring_words words.0.now) };
 
     fn fmt<W: fmt::Write>(&self, f: &mut Formatter<W>) -> fmt::Result {
-        match self.0 {
-            RingCause::TooSmall(place) | RingCause::OffCentre(place) => {
-                write!(f, "{}", ShortMillimetres(place.ring))
-            }
-            RingCause::Edge(at_edge) => write!(f, "{}", ShortMillimetres(at_edge.ring)),
-            RingCause::NoFlash => f.write_str("no pad"),
-            RingCause::Other { .. } | RingCause::Oblique => f.write_str("not judged"),
-            RingCause::Clear { .. } | RingCause::Cleared { .. } => f.write_str("not judged"),
+        match (self.0, ring_of(self.0)) {
+            (_, Some(ring)) => write!(f, "{}", ShortMillimetres(ring)),
+            (RingCause::NoFlash, None) => f.write_str("no pad"),
+            (_, None) => f.write_str("not judged"),
         }
     }
 }
@@ -137,14 +133,9 @@ impl Display for RingCell<'_> {
 fn write_flash<W: fmt::Write>(f: &mut Formatter<W>, cause: &RingCause) -> fmt::Result
     ensures { DisplaysOnOk W.write_str_gives f.old result (Some (flash_words cause.now)) f.new }
 {
-    match cause {
-        RingCause::TooSmall(place) | RingCause::OffCentre(place) => {
-            write!(f, ": flash {}", place.flash)
-        }
-        RingCause::Edge(at_edge) => write!(f, ": flash {}", at_edge.flash),
-        RingCause::Other { flash, .. } => write!(f, ": flash {flash}"),
-        RingCause::Clear { flash } | RingCause::Cleared { flash } => write!(f, ": flash {flash}"),
-        RingCause::NoFlash | RingCause::Oblique => Ok(()),
+    match flash_of(cause) {
+        Some(flash) => write!(f, ": flash {flash}"),
+        None => Ok(()),
     }
 }
 

@@ -2,8 +2,7 @@
 
 ghost use Rattle.std.specs.Prelude.{ℕ};
 ghost use Rattle.report.specs.declared.BoardReport.{BoardReport};
-ghost use Rattle.report_page.specs.Markers.{EachRowHasItsMarker};
-ghost use Rattle.report_page.specs.Pages.{NumbersEachOnce};
+ghost use Rattle.report_page.specs.Pages.{EachRowHasItsMarker, NumbersEachOnce};
 
 use pad_shapes::WidePad;
 use ring_rules::laws::findings_name_places;

@@ -2,7 +2,7 @@
 
 ghost use Rattle.std.specs.Prelude.{◌≡◌, Some, map, IfOk};
 ghost use Rattle.std.specs.Fmt.{DisplaysOnOk};
-ghost use Rattle.drawing.specs.Drawings.{svg_text};
+ghost use Rattle.drawing.specs.Pages.{svg_text};
 ghost use Rattle.report_page.specs.Pages.{IsHtmlPage, conflict_warning, finding_count, head_text, layer_button, page_text, picture_text, tables_text};
 
 use crate::files::FilesText;
@@ -19,8 +19,8 @@ use crate::verdict::{CountWords, Verdict};
 use board_report::measure_board;
 use drawing::{Drawing, Svg};
 use grid_units::{Line, Lines, name_of};
-use layer_image::Drawn;
 use package_check::{Board, FileSum};
+use pad_shapes::Drawn;
 use picture::Escaped;
 use print_text::Particulars;
 use report::{

@@ -1,14 +1,13 @@
 //! Causes of worked examples, in pm.
 
 ghost use Rattle.std.specs.Prelude.{IfOk};
-ghost use Rattle.report.specs.Causes.{HoldsRowsAndBests};
+ghost use Rattle.report.specs.Causes.{HoldsRowsAndBests, uncounted_pads};
 
 use crate::rows::{Form, RowFail, what_at};
-use further_copper::{FeatureRow, RowKind};
 use grid_units::{Hole, Point, Profile, Rules};
-use layer_image::{What, Why};
+use layer_state::What;
 use margins::best_pads;
-use pad_shapes::WidePad;
+use pad_shapes::{FeatureRow, RowKind, Why, WidePad};
 use report::{RingCause, *};
 use ring_rules::Drilled;
 use std::alloc::{AllocError, Global};
@@ -97,7 +96,7 @@ fn row_of(cause: RingCause) -> CauseRow {
         },
         RingCause::Clear { flash } => ("clear", flash, 0, 0),
         RingCause::Cleared { flash } => ("cleared", flash, 0, 0),
-        RingCause::NoFlash => NO_CAUSE,
+        RingCause::MacroShape | RingCause::DrawnCopper | RingCause::NoFlash => NO_CAUSE,
         RingCause::Oblique => ("oblique", 0, 0, 0),
     }
 }
@@ -126,11 +125,15 @@ fn cause_of(
 ) -> Result<CauseRow, RowFail> {
     let rules = Rules::new(ring, 1)?.in_profile(profile);
     let holes = [drilled(hole).ok_or(RowFail::Figures)?];
-    let known = CauseFinder::new(alloc, &copper.rows, &copper.pads, &holes)?;
+    let further = FurtherCopper {
+        macros: &[],
+        contours: &[],
+    };
+    let known = CauseFinder::new(alloc, &copper.rows, &copper.pads, further, &holes)?;
     let mut causes = Vec::new(alloc);
     add(
         &mut causes,
-        known.cause(&copper.rows, &copper.pads, &holes, 0, rules),
+        known.cause(&copper.rows, &copper.pads, further, &holes, 0, rules),
     )?;
     first_row(&causes)
 }
@@ -355,8 +358,7 @@ fn holes_in_a_row_of_flashes(rt: HostRuntime) {
     }
 }
 
-/// Slots at an angle over a row of flashes, and their causes. One that crosses the row between the flashes at 18 mm and 22 mm, one that
-/// holds all of the flashes, and one whose ends stand on both sides of the row, between two flashes.
+/// Slots at an angle over a row of flashes, and their causes: one crosses it between two flashes, one holds all, one ends on both sides between two.
 const SLOTS_IN_A_ROW: [(HoleRow, CauseRow); 3] = [
     (
         (
@@ -400,12 +402,13 @@ fn known_by_bests(
     alloc: Global,
     rows: &[FeatureRow],
     pads: &[WidePad],
+    further: FurtherCopper,
     holes: &[Drilled],
 ) -> Result<CauseFinder, AllocError>
-    ensures { IfOk result (HoldsRowsAndBests rows.now pads.now holes.now) }
+    ensures { IfOk result (HoldsRowsAndBests rows.now pads.now (uncounted_pads further.entry) holes.now) }
 {
     let bests = best_pads(alloc, pads, holes)?;
-    CauseFinder::with_bests(alloc, rows, &bests)
+    CauseFinder::with_bests(alloc, rows, &bests, further, holes)
 }
 
 /// The cause of the first of these holes on a layer, for a ring of 0.125 mm, by best pads that are given.
@@ -416,9 +419,16 @@ fn cause_by_pads(
     holes: &[Drilled; 1],
 ) -> Result<CauseRow, RowFail> {
     let rules = Rules::new(125_000_000, 1)?;
-    let known = known_by_bests(alloc, rows, pads, holes)?;
+    let further = FurtherCopper {
+        macros: &[],
+        contours: &[],
+    };
+    let known = known_by_bests(alloc, rows, pads, further, holes)?;
     let mut causes = Vec::new(alloc);
-    add(&mut causes, known.cause(rows, pads, holes, 0, rules))?;
+    add(
+        &mut causes,
+        known.cause(rows, pads, further, holes, 0, rules),
+    )?;
     first_row(&causes)
 }
 

@@ -3,7 +3,7 @@
 
 use crate::rows::{CauseRow, Form, HoleRow, ReportRow, RingRow, RowFail, add_ring, report_of};
 use grid_units::Profile;
-use layer_image::Why;
+use pad_shapes::Why;
 use print_text::*;
 use report::*;
 use std::alloc::{AllocError, Global};

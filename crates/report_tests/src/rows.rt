@@ -1,8 +1,8 @@
 //! Flashes, holes and reports as rows of figures, in pm.
 
 use grid_units::{Hole, Point, Profile, Reason, Rules};
-use layer_image::{What, Why};
-use pad_shapes::{Disc, Obround, Pad, Rect};
+use layer_state::What;
+use pad_shapes::{Disc, Obround, Pad, Rect, Why};
 use report::{
     BoardReport, GapLack, HolePlace, LayerHead, Meets, Met, PlacedHole, RingAtEdge, RingCause,
     RingInPad, RingLack,

@@ -6,7 +6,7 @@ use Rattle.std.proofs.lemmas.List.{get_or-set_other, get_or-set_same, length-set
 use Rattle.std.specs.List.{count_by}
 use Rattle.std.proofs.lemmas.List.Sums.{sum_by-cons}
 use Rattle.std.proofs.lemmas.Option.{none-some, same_Some, slice_get_within}
-use Rattle.layer_image.specs.declared.keep.Keep.{Keep}
+use Rattle.layer_features.specs.declared.keep.Keep.{Keep}
 use Rattle.manifest.specs.declared.Entry.{Entry}
 use Rattle.grid_units.specs.Holes.{GridRules}
 use Rattle.grid_units.specs.declared.profile.Profile.{Profile}

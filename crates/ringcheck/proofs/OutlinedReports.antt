@@ -4,7 +4,7 @@ use Rattle.grid_units.specs.Holes.{GridRules}
 use Rattle.ringcheck_files.specs.declared.Status.{Status}
 use Rattle.ringcheck.specs.declared.parsed_words.ReportFormat.{ReportFormat}
 use Rattle.grid_units.specs.declared.profile.Profile.TheVariants.{Wide}
-use Rattle.layer_image.specs.declared.drawn.Drawn.{Drawn}
+use Rattle.pad_shapes.specs.declared.drawn.Drawn.{Drawn}
 use Rattle.package_check.specs.Package.{FileView}
 use Rattle.report.specs.declared.BoardReport.{BoardReport}
 use Rattle.ringcheck.specs.Inner.Jobs.{Holds, given}

@@ -14,22 +14,20 @@ use Rattle.drill_text.specs.Profiles.{Kind, ReadsBy, ReadsIn, unplated_in}
 use Rattle.drill_text.specs.Profiles as drills
 use Rattle.drill_text.specs.Texts.{IsDrillText}
 use Rattle.layer_image.specs.Layers as layers
-use Rattle.layer_image.specs.Layers.{LayerImage, EqualCommands}
-use Rattle.wide_layers.specs.WideLayers.{wide_image_of}
+use Rattle.layer_image.specs.Layers.{LayerImage}
 use Rattle.manifest.specs.declared.Role.{Role}
 use Rattle.manifest.specs.declared.Role.TheVariants as role
 use Rattle.ringcheck_files.specs.declared.rewrite.Kind.TheVariants as kind
 use Rattle.ringcheck_files.specs.Rewriting.{HaveSameCommands, KeepsCommands}
 use Rattle.package_check.specs.declared.contents.Content.{Content}
 use Rattle.package_check.specs.declared.contents.Content.TheVariants as content
-use Rattle.package_check.specs.LayerViews.{LayerView}
-use Rattle.package_check.specs.DrillViews.{DrillView}
+use Rattle.package_check.specs.ContentViews.{LayerView, DrillView}
 use Rattle.package_check.specs.FileTexts.{HasLayerView, ReadsDrill, drill_kind, drill_view, layer_view}
 use Rattle.package_check.specs.Package.{FileView, ReadsBytes, ReadsUnlessBadSpan, ReadsCopper, ReadsHoles, Setting, is_bad_span}
 use Rattle.package_check.specs.AlikePackages.{ReadAlike, AllReadAlike, SameAnswers}
 use Rattle.ringcheck.specs.RewrittenPackages.{is_mixed, kind_of, with_bytes, IsRewritten, AreRewritten, RewritingKeepsAnswers}
 
-module _ (layer_once : layers.ReadingIsUniqueIn) (layer_wide : layers.WideReadsMore) (equal : EqualCommands)
+module _ (layer_once : layers.ReadingIsUniqueIn) (layer_wide : layers.WideReadsMore)
     (drill_once : (text : List ℕ) (a b : Result (List DrillCommand) Fault) → drills.Reads text a → drills.Reads text b → a ≡ b)
     (kinds_once : (kind : Kind) (text : List ℕ) (a b : Result (List DrillCommand) Fault) → ReadsBy kind text a → ReadsBy kind text b → a ≡ b)
     (drill_wide : (text : List ℕ) (commands : List DrillCommand) → drills.Reads text (Ok commands) → ReadsIn Wide text (Ok commands))
@@ -48,17 +46,9 @@ module _ (layer_once : layers.ReadingIsUniqueIn) (layer_wide : layers.WideReadsM
   no_fault : (profile : Profile) (s : List ℕ) (a : LayerImage) (f : Fault) → layers.ReadsLayer s (Ok a) → layers.ReadsLayerIn profile s (Err f) → ⊥
   no_fault profile s a f h k = let e : (let x : Result LayerImage Fault = Ok a in let y : Result LayerImage Fault = Err f in x ≡ y) = layer_once profile s (Ok a) (Err f) (in_any profile s a h) k in cc
 
-  -- layers of equal commands show the check the same
-  same_seen : (s t : List ℕ) (h : HaveSameCommands kind.Layer s t) → layer_view h.0 ≡ layer_view h.1
-  same_seen s t h =
-      let e = equal s t h.0 h.1 h.2 h.3 h.4 in
-      λ i. layer_view (record { commands = h.1.commands; flashes = e.0 i; pads = e.1 i; pad_count = h.1.pad_count; other = e.3 i; file_function = e.2 i })
-
   layer_same : (profile : Profile) (s t : List ℕ) → HaveSameCommands kind.Layer s t → (view : LayerView) → HasLayerView profile s view → HasLayerView profile t view
-  layer_same Strict s t h view k = (h.1, h.3, k.2 ∙ (ap layer_view (same_layer Strict s k.0 h.0 k.1 h.2) ∙ same_seen s t h))
-  layer_same Wide s t h view k =
-      let same = same_layer Wide s k.1.0 h.0 k.1.1 h.2 in
-      (k.0, (h.1, in_any Wide t h.1 h.3, k.1.2 ∙ (ap (λ (l : LayerImage). wide_image_of (without_places l.commands)) same ∙ ap wide_image_of h.4)), k.2)
+  layer_same profile s t h view k =
+      (h.1, in_any profile t h.1 h.3, k.2 ∙ (ap (λ (l : LayerImage). layer_view profile (without_places l.commands)) (same_layer profile s k.0 h.0 k.1 h.2) ∙ ap (layer_view profile) h.4))
 
   copper_same : (profile : Profile) (s t : List ℕ) → HaveSameCommands kind.Layer s t → (answer : Result Content Fault) → ReadsCopper profile s answer → ReadsCopper profile t answer
   copper_same profile s t h (Ok (content.Layer image)) k = (layer_same profile s t h image k.0, k.1)

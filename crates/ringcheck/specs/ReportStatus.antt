@@ -6,12 +6,12 @@ use Rattle.grid_units.specs.declared.fault.Fault.{Fault}
 use Rattle.grid_units.specs.declared.fault.Reason.{Reason}
 use Rattle.grid_units.specs.declared.profile.Profile.{Profile}
 use Rattle.grid_units.specs.declared.profile.Profile.TheVariants.{Strict, Wide}
-use Rattle.layer_image.specs.declared.drawn.Drawn.{Drawn}
+use Rattle.pad_shapes.specs.declared.drawn.Drawn.{Drawn}
 use Rattle.package_check.specs.Package.{FileView, IsFirstRefused, IsReport}
 use Rattle.package_check.specs.Reports.{ReportView}
 use Rattle.package_check.specs.Soundness.{IsSound}
-use Rattle.layer_image.specs.declared.keep.Keep.{Keep}
-use Rattle.layer_image.specs.declared.keep.Keep.TheVariants as keep
+use Rattle.layer_features.specs.declared.keep.Keep.{Keep}
+use Rattle.layer_features.specs.declared.keep.Keep.TheVariants as keep
 use Rattle.package_check.specs.Boards.{BoardView, IsDrawnBoard}
 use Rattle.print_json.specs.Packages.{waived_report_value}
 use Rattle.print_json.specs.Values.{json_text}
@@ -95,10 +95,10 @@ Judges (Some waivers) names report passes accepted = (waived : Waived) × (passe
 
 -- what is kept of the files for a report in a format: for a page, whose picture shows it, also what they draw
 abbrev pub kept_for : ReportFormat → Keep
-kept_for format.Text = keep.Flashes
-kept_for format.Html = keep.All
-kept_for format.Json = keep.Flashes
-kept_for format.Waivers = keep.Flashes
+kept_for format.Text = keep.Rows
+kept_for format.Html = keep.RowsAndDrawn
+kept_for format.Json = keep.Rows
+kept_for format.Waivers = keep.Rows
 
 -- the writer got just the report of the files under the rules, in a format, judged with the waivers of a file, if there is one; its findings
 -- are those of the check of them, one for one, and without a finding they are sound; a page shows what the copper files draw, and an outline

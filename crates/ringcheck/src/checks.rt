@@ -52,7 +52,6 @@ pub fn rewriting_keeps_answers()
 {
     layer_image::readings_in_profiles();
     layer_image::wide_reads_more();
-    layer_image::equal_commands();
     drill_text::laws::unique_reading();
     drill_text::laws::readings_of_kinds();
     drill_text::laws::unplated_files();

@@ -1,7 +1,7 @@
 //! The picture of a package.
 
 ghost use Rattle.std.specs.Prelude.{◌≡◌, List, IfErr, IfOk, map};
-ghost use Rattle.layer_image.specs.declared.keep.Keep.TheVariants as keep;
+ghost use Rattle.layer_features.specs.declared.keep.Keep.TheVariants as keep;
 ghost use Rattle.package_check.specs.Holding.{HasTakenAll};
 ghost use Rattle.package_check.specs.Package.{FileView};
 ghost use Rattle.ringcheck.specs.DrawStatus.{PrintsPicture};
@@ -25,7 +25,7 @@ pub(crate) fn draw<'a, W: Write>(
     order: &PictureOrder,
     out: &mut W,
 ) -> Result<Result<bool, Halt<'a>>, Failure>
-    ensures answers { (all : List FileView) → map (λ name. name.now) names.now ≡ map (λ source. source.name) all → HasTakenAll reader keep.All all
+    ensures answers { (all : List FileView) → map (λ name. name.now) names.now ≡ map (λ source. source.name) all → HasTakenAll reader keep.RowsAndDrawn all
         → IfOk result (OfTaken (PrintsPicture order.now.rules order.now.outline.items (W.contents out.old) (W.contents out.new)) all) }
     ensures silent { IfOk result (λ done. IfErr done (λ h. W.contents out.new ≡ W.contents out.old)) }
 {

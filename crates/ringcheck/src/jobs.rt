@@ -8,8 +8,8 @@ ghost use Rattle.ringcheck.specs.ReportStatus.{kept_for, report_style};
 use crate::parsed_words::{MeasureFormat, MeasureOrder, ReportFormat};
 use crate::refusals::RefusalStyle;
 use grid_units::{Profile, Rules};
-use layer_image::Drawn;
 use package_check::Keep;
+use pad_shapes::Drawn;
 use waivers::Waiver;
 
 /// What a report is asked for.
@@ -76,8 +76,8 @@ pub(crate) fn kept_for(format: ReportFormat) -> Keep
     ensures { result ≡ kept_for format }
 {
     match format {
-        ReportFormat::Html => Keep::All,
-        ReportFormat::Text | ReportFormat::Json | ReportFormat::Waivers => Keep::Flashes,
+        ReportFormat::Html => Keep::RowsAndDrawn,
+        ReportFormat::Text | ReportFormat::Json | ReportFormat::Waivers => Keep::Rows,
     }
 }
 

@@ -2,7 +2,7 @@
 
 ghost use Rattle.std.specs.Prelude.{◌≡◌, List, Some, IfErr, IfOk, OnOk, map};
 ghost use Rattle.std.specs.Io.KnownBytes.{Appends};
-ghost use Rattle.layer_image.specs.declared.keep.Keep.TheVariants as keep;
+ghost use Rattle.layer_features.specs.declared.keep.Keep.TheVariants as keep;
 ghost use Rattle.package_check.specs.Holding.{HasTakenAll};
 ghost use Rattle.package_check.specs.Package.{FileView};
 ghost use Rattle.ringcheck.specs.Inner.Halting.{OfTaken};

@@ -7,8 +7,8 @@ ghost use Rattle.ringcheck.specs.Inner.Outlines.{AfterNoOutline, OfOutline};
 ghost use Rattle.ringcheck.specs.Outlining.{ReadsOutline, outline_line};
 
 use crate::{LoadFault, Loader};
-use grid_units::{Fail, Fault};
-use layer_image::{Drawn, read_layer};
+use grid_units::{Fail, Fault, Profile};
+use layer_image::{Drawn, Keep, LayerReader, strict_layers};
 use ringcheck_files::{ABOVE_LIMIT, FILE_LIMIT, Failure, Status};
 use std::alloc::Global;
 use std::fmt;
@@ -28,8 +28,13 @@ pub(crate) enum NoOutline {
 fn read_outline(alloc: Global, text: &[u8]) -> Result<Vec<Drawn>, Fail>
     ensures { Answers (λ drawn. drawn.items) (λ answer. ReadsOutline text.now answer) result }
 {
-    let layer = read_layer(alloc, text)?;
-    Ok(layer.drawn(alloc)?)
+    strict_layers();
+    let mut reader = LayerReader::in_profile(alloc, Keep::RowsAndDrawn, Profile::Strict);
+    reader.feed(text)?;
+    let layer = reader.finish()?;
+    let (features, drawn) = layer.into_rows();
+    drop(features);
+    Ok(drawn)
 }
 
 /// What the file of an outline draws, by its name, or why it cannot be drawn.

@@ -125,7 +125,7 @@ fn answer<'a, L: Loader, W: Write>(
         }
         Job::Report(options) => report_files(alloc, options, name, entries, names, loader, out),
         Job::Draw(order) => {
-            match take_files(alloc, order.profile, Keep::All, loader, entries)? {
+            match take_files(alloc, order.profile, Keep::RowsAndDrawn, loader, entries)? {
                 Ok(reader) => drawings::draw(alloc, reader, names, order, out),
                 Err(halt) => Ok(Err(halt)),
             }

@@ -3,7 +3,6 @@ pub mod Appending
 pub mod HandingOn
 pub mod Plain
 pub mod Numbered
-pub mod StrictRows
 pub mod SideLemmas
 pub mod Pieces
 pub mod Ranges

@@ -1,5 +1,5 @@
 -- Texts that are read in pieces, for flashes or holes alone.
-use Rattle.std.proofs.Common.{◌≡◌, ◌∙◌, ℕ, List, [], ◌++◌, Result, Ok, Err, ap, subst, append-nil}
+use Rattle.std.proofs.Common.{◌≡◌, ◌∙◌, ℕ, List, [], ◌++◌, Result, Ok, Err, IfOk, ap, refl, subst, append-nil}
 use Rattle.std.specs.Global.{Vec}
 use Rattle.grid_units.specs.declared.fault.Fault.{Fault}
 use Rattle.grid_units.specs.declared.fault.Fail.{Fail}
@@ -12,27 +12,36 @@ use Rattle.drill_text.specs.declared.platings.PlatingKind.TheVariants.{Stated}
 use Rattle.drill_text.specs.Outcome.{DrillFile, file_of}
 use Rattle.drill_text.specs.Profiles.{ReadsAsIn, ReadsIn, ShowsIn}
 use Rattle.drill_text.proofs.SpellsTextLemmas.{reads_drill_text}
-use Rattle.layer_image.specs.declared.keep.Keep.{Keep as LayerKeep}
-use Rattle.layer_image.specs.Layers.{LayerImage, ReadsKept, ReadsLayer}
-use Rattle.layer_image.specs.Holding.{ShowsLayerFault}
-use Rattle.wide_layers.specs.WideLayers.{ReadsWideLayer, WideImage}
+use Rattle.layer_features.specs.declared.keep.Keep.{Keep as LayerKeep}
+use Rattle.gerber_text.specs.Writing.{without_places}
+use Rattle.layer_image.specs.Holding.{ShowsLayerFaultIn}
+use Rattle.layer_image.specs.Kept.{KeptLayer, ReadsKeptIn}
+use Rattle.layer_image.specs.Layers.{LayerImage, ReadsLayerIn, StrictLayers}
+use Rattle.layer_features.specs.Features.{features_of, view_in, wide_features_of}
+use Rattle.pad_shapes.specs.declared.wide_pad.WidePad.{WidePad}
 use Rattle.ringcheck_files.specs.Tables.{ReadsDrill, ShowsDrill, ShowsLayer, drill_table}
 
 -- ---- layers
 
 -- the fault that a layer's text shows so far is that of the whole text, whatever is kept of it
-pub layer_joined : (keep : LayerKeep) → ((text more : List ℕ) (f : Fault) → ShowsLayerFault text f → ReadsLayer (text ++ more) (Err f)) → (text more whole : List ℕ) (e : Fail) → text ++ more ≡ whole
-    → IfFault (ShowsLayerFault text) e → Answers {T = LayerImage} (λ layer. layer) (ReadsKept keep whole) (Err e)
-layer_joined keep law text more whole fails.Memory is h = tt
-layer_joined keep law text more whole (fails.Refused f) is h = subst (λ (t : List ℕ). ReadsLayer t (Err f)) is (law text more f h)
+pub layer_joined : (profile : Profile) (keep : LayerKeep) (left : List WidePad) → ((text more : List ℕ) (f : Fault) → ShowsLayerFaultIn profile text f → ReadsLayerIn profile (text ++ more) (Err f)) → (text more whole : List ℕ) (e : Fail) → text ++ more ≡ whole
+    → IfFault (ShowsLayerFaultIn profile text) e → Answers {T = KeptLayer} (λ layer. layer) (ReadsKeptIn profile keep left whole) (Err e)
+layer_joined profile keep left law text more whole fails.Memory is h = tt
+layer_joined profile keep left law text more whole (fails.Refused f) is h = subst (λ (t : List ℕ). ReadsLayerIn profile t (Err f)) is (law text more f h)
 
-pub layer_refused : (keep : LayerKeep) (bytes : List ℕ) (e : Fail) → Answers {T = LayerImage} (λ layer. layer) (ReadsKept keep bytes) (Err e) → Answers (λ (text : Vec ℕ). text.items) (ShowsLayer Strict bytes) (Err e)
-layer_refused keep bytes fails.Memory h = tt
-layer_refused keep bytes (fails.Refused f) h = h
+pub layer_refused : (profile : Profile) (keep : LayerKeep) (left : List WidePad) (bytes : List ℕ) (e : Fail) → Answers {T = KeptLayer} (λ layer. layer) (ReadsKeptIn profile keep left bytes) (Err e) → Answers (λ (text : Vec ℕ). text.items) (ShowsLayer profile bytes) (Err e)
+layer_refused profile keep left bytes fails.Memory h = tt
+layer_refused profile keep left bytes (fails.Refused f) h = h
 
-pub wide_layer_refused : (bytes : List ℕ) (e : Fail) → Answers {T = WideImage} (λ layer. layer) (ReadsWideLayer bytes) (Err e) → Answers (λ (text : Vec ℕ). text.items) (ShowsLayer Wide bytes) (Err e)
-wide_layer_refused bytes fails.Memory h = tt
-wide_layer_refused bytes (fails.Refused f) h = h
+-- what the profile has of the flashes and contours of the wide one
+pub viewed : StrictLayers → (profile : Profile) (text : List ℕ) (layer : LayerImage) → ReadsLayerIn profile text (Ok layer) → view_in profile (wide_features_of (without_places layer.commands)) ≡ features_of profile (without_places layer.commands)
+viewed law Strict text layer h = (law text layer h).features
+viewed law Wide text layer h = refl
+
+-- what follows of a success
+pub ok_more : {T E : Type 0} (P Q : T → Type 0) → ((t : T) → P t → Q t) → (r : Result T E) → IfOk r P → IfOk r Q
+ok_more P Q more (Ok t) h = more t h
+ok_more P Q more (Err e) h = tt
 
 -- ---- drill files
 

@@ -1,8 +1,9 @@
 -- A text is rewritten in one way.
 use Rattle.std.proofs.Common.{◌≡◌, ◌↔◌, ◌⊎◌, ℕ, List, Result, Ok, Err, refl, sym, ap, ◌∙◌, inl, inr}
 use Rattle.grid_units.specs.declared.fault.Fault.{Fault}
+use Rattle.grid_units.specs.declared.profile.Profile.TheVariants.{Strict}
 use Rattle.gerber_text.specs.Writing.{canonical_text, without_places}
-use Rattle.layer_image.specs.Layers.{LayerImage, ReadsLayer, ReadingIsUnique}
+use Rattle.layer_image.specs.Layers.{LayerImage, ReadsLayer, ReadingIsUniqueIn}
 use Rattle.drill_lines.specs.declared.command.DrillCommand.{DrillCommand}
 use Rattle.drill_text.specs.Profiles as drills
 use Rattle.drill_text.specs.Texts.{IsDrillText}
@@ -29,10 +30,10 @@ module _ {X : Type 0} (says : Result X Fault → Type 0) (text : X → Result (L
   one_seen a b (inr h) (inl k) = absurd (not_both k.0 h.0 k.1 h.1)
   one_seen a b (inr h) (inr k) = h.2 ∙ (ap (λ (f : Fault). let r : Result (List ℕ) Fault = Err f in r) (same_err h.0 k.0 h.1 k.1) ∙ sym k.2)
 
-module _ (layer_once : ReadingIsUnique)
+module _ (layer_once : ReadingIsUniqueIn)
     (drill_once : (text : List ℕ) (a b : Result (List DrillCommand) Fault) → drills.Reads text a → drills.Reads text b → a ≡ b)
     (texts : (text : List ℕ) (commands : List DrillCommand) → (drills.Reads text (Ok commands)) ↔ (IsDrillText text commands)) where
-  layer_seen : (bytes : List ℕ) (a : Result (List ℕ) Fault) → RewritesLayer bytes a → Seen (ReadsLayer bytes) (λ (l : LayerImage). canonical_text (without_places l.commands)) (layer_once bytes) a
+  layer_seen : (bytes : List ℕ) (a : Result (List ℕ) Fault) → RewritesLayer bytes a → Seen (ReadsLayer bytes) (λ (l : LayerImage). canonical_text (without_places l.commands)) (layer_once Strict bytes) a
   layer_seen bytes (Ok t) h = inl h
   layer_seen bytes (Err f) (inl h) = inr (f, h, refl)
   layer_seen bytes (Err f) (inr h) = inl h
@@ -43,5 +44,5 @@ module _ (layer_once : ReadingIsUnique)
   drill_seen bytes (Err f) (inr h) = inl (h.0, (texts bytes h.0).1 h.1, h.2)
 
   pub unique_rewriting : RewritingIsUnique
-  unique_rewriting kind.Layer bytes a b h k = one_seen (ReadsLayer bytes) (λ (l : LayerImage). canonical_text (without_places l.commands)) (layer_once bytes) a b (layer_seen bytes a h) (layer_seen bytes b k)
+  unique_rewriting kind.Layer bytes a b h k = one_seen (ReadsLayer bytes) (λ (l : LayerImage). canonical_text (without_places l.commands)) (layer_once Strict bytes) a b (layer_seen bytes a h) (layer_seen bytes b k)
   unique_rewriting kind.Drill bytes a b h k = one_seen (drills.Reads bytes) written (drill_once bytes) a b (drill_seen bytes a h) (drill_seen bytes b k)

@@ -9,7 +9,7 @@ use Rattle.gerber_text.specs.Writing.{canonical_text, lines, without_places}
 use Rattle.gerber_text.proofs.TextIsSayable.{text_sayable}
 use Rattle.gerber_text.proofs.RoundTrip.{reads_as}
 use Rattle.gerber_text.proofs.SpellsTextLemmas.{reads_spells}
-use Rattle.layer_image.specs.Layers.{IsLayerText, LayerImage, ReadsLayer, image_of}
+use Rattle.layer_image.specs.Layers.{IsLayerTextIn, LayerImage, ReadsLayer, image_of}
 use Rattle.grid_units.specs.Lists.{IsLegal}
 use Rattle.drill_lines.specs.declared.command.DrillCommand.{DrillCommand}
 use Rattle.drill_text.specs.Texts.{IsDrillText, SpellsText}
@@ -19,7 +19,7 @@ use Rattle.drill_text.proofs.TextIsSayable as saying
 use Rattle.ringcheck_files.specs.declared.rewrite.Kind.TheVariants as kind
 use Rattle.ringcheck_files.specs.Rewriting.{KeepsCommands, RewritingIsIdempotent}
 use Rattle.ringcheck_files.proofs.Typed.{text_typed}
-use Rattle.layer_image.specs.Rules.{broken_rule}
+use Rattle.layer_state.specs.Rules.{broken_rule}
 
 -- a rewritten text is the canonical one, and not too long
 short_text : (text written : List ℕ) → cond (ltb text_limit (length text)) (Err (fault 0 0 TooLong)) (Ok text) ≡ Ok written → (text ≡ written) × (length text ≤ text_limit)
@@ -35,7 +35,7 @@ layer_back bytes text a h e =
     let cs = without_places a.commands in
     let short = short_text (lines cs) text e in
     let back = reads_as cs text (sym short.0) (subst (λ (t : List ℕ). length t ≤ text_limit) short.0 short.1) (text_sayable bytes a.commands h.0.spells) in
-    let again : IsLayerText text back.entries = record { spells = reads_spells Strict text back.entries back.reads; legal = subst (IsLegal broken_rule) (sym back.same) h.0.legal } in
+    let again : IsLayerTextIn Strict text back.entries = record { spells = reads_spells Strict text back.entries back.reads; legal = subst (IsLegal broken_rule) (sym back.same) h.0.legal } in
     (image_of back.entries, (again, refl), sym back.same)
 
 drill_back : (bytes text : List ℕ) (cs : List DrillCommand) → IsDrillText bytes cs → drills.written cs ≡ Ok text → IsDrillText text cs

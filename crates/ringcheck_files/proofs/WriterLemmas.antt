@@ -19,9 +19,12 @@ use Rattle.gerber_text.proofs.SpellsTextLemmas.{spells_reads}
 use Rattle.gerber_text.proofs.UniqueReading.{one_read}
 use Rattle.gerber_text.proofs.FinishLemmas.{shows_reads}
 use Rattle.gerber_text.proofs.FaultsStay.{fails_longer}
-use Rattle.layer_image.specs.Layers.{LayerImage, ReadsKept, ReadsLayer}
-use Rattle.layer_image.specs.Holding.{ShowsLayerFault}
-use Rattle.layer_image.specs.declared.keep.Keep.{Keep}
+use Rattle.layer_image.specs.Layers.{LayerImage, ReadsLayer}
+use Rattle.layer_image.specs.Kept.{KeptLayer, ReadsKeptIn}
+use Rattle.grid_units.specs.declared.profile.Profile.TheVariants.{Strict}
+use Rattle.pad_shapes.specs.declared.wide_pad.WidePad.{WidePad}
+use Rattle.layer_image.specs.Holding.{ShowsLayerFaultIn}
+use Rattle.layer_features.specs.declared.keep.Keep.{Keep}
 use Rattle.ringcheck_files.specs.Rewriting.{RewritesDrill, RewritesLayer}
 use Rattle.ringcheck_files.specs.Inner.Writing.{ShowsReadFault}
 
@@ -58,7 +61,7 @@ from_always view P (Err fails.Memory) h = tt
 from_always view P (Err (fails.Refused f)) h = h
 
 -- the fault that a layer's text shows so far is that of the whole text
-pub joined : ((text more : List ℕ) (f : Fault) → ShowsLayerFault text f → ReadsLayer (text ++ more) (Err f)) → (text more whole : List ℕ) (e : Fail) → text ++ more ≡ whole → IfFault (ShowsLayerFault text) e
+pub joined : ((text more : List ℕ) (f : Fault) → ShowsLayerFaultIn Strict text f → ReadsLayer (text ++ more) (Err f)) → (text more whole : List ℕ) (e : Fail) → text ++ more ≡ whole → IfFault (ShowsLayerFaultIn Strict text) e
     → IfFault (λ f. ReadsLayer whole (Err f)) e
 joined law text more whole fails.Memory is h = tt
 joined law text more whole (fails.Refused f) is h = subst (λ (t : List ℕ). ReadsLayer t (Err f)) is (law text more f h)
@@ -91,6 +94,6 @@ drill_written bytes file (Ok v) h is = (h.0, h.1, sym (is ∙ ap (λ (d : DrillF
 drill_written bytes file (Err fails.Memory) h is = tt
 drill_written bytes file (Err (fails.Refused f)) h is = inr (h.0, h.1, sym (is ∙ ap (λ (d : DrillFile). d.text) h.2))
 
-pub layer_fault : (keep : Keep) (bytes : List ℕ) (e : Fail) → Answers {T = LayerImage} (λ layer. layer) (ReadsKept keep bytes) (Err e) → IfFault (λ f. ReadsLayer bytes (Err f)) e
-layer_fault keep bytes fails.Memory h = tt
-layer_fault keep bytes (fails.Refused f) h = h
+pub layer_fault : (keep : Keep) (left : List WidePad) (bytes : List ℕ) (e : Fail) → Answers {T = KeptLayer} (λ layer. layer) (ReadsKeptIn Strict keep left bytes) (Err e) → IfFault (λ f. ReadsLayer bytes (Err f)) e
+layer_fault keep left bytes fails.Memory h = tt
+layer_fault keep left bytes (fails.Refused f) h = h

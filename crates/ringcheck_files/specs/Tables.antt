@@ -16,17 +16,14 @@ use Rattle.drill_lines.specs.declared.command.DrillCommand.{DrillCommand}
 use Rattle.drill_text.specs.Holes.{holes_of}
 use Rattle.drill_text.specs.Profiles.{ReadsAsIn}
 use Rattle.drill_text.specs.Texts.{ReadsAs}
-use Rattle.layer_image.specs.declared.flash.Flash.{Flash}
-use Rattle.layer_image.specs.declared.flash.What.{What}
-use Rattle.layer_image.specs.declared.flash.What.TheVariants as whats
-use Rattle.layer_image.specs.declared.flash.Why.{Why}
-use Rattle.layer_image.specs.declared.flash.Why.TheVariants as whys
-use Rattle.layer_image.specs.Layers.{LayerImage, ReadsLayer, ReadsLayerIn}
-use Rattle.further_copper.specs.declared.feature.Feature.{Feature}
-use Rattle.further_copper.specs.declared.feature.FeatureKind.{FeatureKind}
-use Rattle.further_copper.specs.declared.feature.FeatureKind.TheVariants as kind
-use Rattle.further_copper.specs.Features.{pad_in}
-use Rattle.wide_layers.specs.WideLayers.{ReadsWideLayer, WideImage}
+use Rattle.pad_shapes.specs.declared.row.Why.{Why}
+use Rattle.pad_shapes.specs.declared.row.Why.TheVariants as whys
+use Rattle.gerber_text.specs.Writing.{without_places}
+use Rattle.layer_image.specs.Layers.{LayerImage, ReadsLayerIn}
+use Rattle.layer_features.specs.declared.feature.Feature.{Feature}
+use Rattle.layer_features.specs.declared.feature.FeatureKind.{FeatureKind}
+use Rattle.layer_features.specs.declared.feature.FeatureKind.TheVariants as kind
+use Rattle.layer_features.specs.Features.{features_of, pad_in}
 use Rattle.ringcheck_files.specs.Rows.{rows_from}
 
 -- ---- a flash or a contour
@@ -55,6 +52,7 @@ abbrev pub feature_word : FeatureKind → List ℕ
 feature_word (kind.Pad pad) = pad_word pad
 feature_word (kind.Contour pad) = codes "contour"
 feature_word (kind.Other why) = reason_word why
+feature_word (kind.Macro why) = reason_word why
 feature_word kind.Clear = codes "clear"
 feature_word kind.Cleared = codes "cleared"
 
@@ -92,15 +90,6 @@ height_of k = option_map_or (λ pad. millimetres (pos (wide_pad_height pad))) (p
 abbrev pub feature_fields : ℕ → Feature → List (List ℕ)
 feature_fields n f = decimal n ∷ feature_word f.what ∷ millimetres f.at.x ∷ millimetres f.at.y ∷ width_of f.what ∷ height_of f.what ∷ []
 
--- what a flash is in the strict profile, where only standard apertures make pads and nothing is clear
-abbrev pub strict_kind : What → FeatureKind
-strict_kind (whats.Pad pad) = kind.Pad (Plain pad)
-strict_kind (whats.Other why) = kind.Other why
-
--- a flash of the strict profile at its point
-abbrev pub strict_feature : Flash → Feature
-strict_feature flash = record { at = flash.at; what = strict_kind flash.what }
-
 -- ---- a hole
 
 -- the row of a hole: `1,0.000000000,0.000000000,2.000000000,0.000000000,0.500000000` is a slot 2 mm long; a round hole has its point twice
@@ -127,8 +116,7 @@ drill_table holes = drill_header ++ rows_from hole_fields 1 holes
 
 -- in the profile the bytes are read as a layer with these flashes and contours; in the strict one it has flashes alone
 abbrev pub HasFeatures : Profile → List ℕ → List Feature → Type 0
-HasFeatures Strict bytes features = (layer : LayerImage) × ReadsLayer bytes (Ok layer) × (features ≡ map strict_feature layer.flashes)
-HasFeatures Wide bytes features = (layer : WideImage) × ReadsWideLayer bytes (Ok layer) × (features ≡ layer.features)
+HasFeatures profile bytes features = (layer : LayerImage) × ReadsLayerIn profile bytes (Ok layer) × (features ≡ features_of profile (without_places layer.commands))
 
 -- in the profile the bytes are read as a layer, and this is the table of its flashes and contours; or they have this fault
 abbrev pub ShowsLayer : Profile → List ℕ → Result (List ℕ) Fault → Type 0

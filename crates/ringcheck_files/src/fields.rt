@@ -5,12 +5,11 @@ ghost use Rattle.ringcheck_files.specs.Rows.{NeedNoQuotes, NeedsNoQuotes, row};
 ghost use Rattle.ringcheck_files.specs.Tables.{feature_fields, feature_word, hole_fields, pad_word, reason_word, shape_word};
 
 use crate::sides::{height_of, length_field, width_of};
-use further_copper::{Feature, FeatureKind};
 use grid_units::Hole;
 use itoa::Buffer;
-use layer_image::Why;
+use layer_features::{Feature, FeatureKind};
 use manifest::table::Table;
-use pad_shapes::{Pad, WidePad};
+use pad_shapes::{Pad, Why, WidePad};
 use std::alloc::AllocError;
 
 fn shape_word(pad: &Pad) -> &'static str
@@ -54,7 +53,7 @@ fn feature_word(what: &FeatureKind) -> &'static str
     match what {
         FeatureKind::Pad(pad) => pad_word(pad),
         FeatureKind::Contour(_) => "contour",
-        FeatureKind::Other(why) => reason_word(*why),
+        FeatureKind::Other(why) | FeatureKind::Macro(why) => reason_word(*why),
         FeatureKind::Clear => "clear",
         FeatureKind::Cleared => "cleared",
     }

@@ -16,7 +16,7 @@ pub fn rewriting_is_idempotent()
 pub fn unique_rewriting()
     ensures { RewritingIsUnique }
 {
-    layer_image::unique_reading();
+    layer_image::readings_in_profiles();
     drill_text::laws::unique_reading();
     drill_text::laws::drill_texts();
 }

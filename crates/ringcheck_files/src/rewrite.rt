@@ -13,8 +13,8 @@ ghost use Rattle.ringcheck_files.specs.Rewriting.{Rewrites, RewritesDrill, Rewri
 use crate::layer_writer::LayerWriter;
 use drill_text::laws::faults_stay;
 use drill_text::{Drill, DrillReader};
-use grid_units::Fail;
-use layer_image::{LayerReader, shown_faults};
+use grid_units::{Fail, Profile};
+use layer_image::{Keep, LayerReader, readings_in_profiles};
 use std::alloc::Global;
 
 /// How many bytes of a layer are read at a time, so that no more of its commands are held.
@@ -25,8 +25,8 @@ fn check_layer(alloc: Global, bytes: &[u8]) -> Result<(), Fail>
     ensures ok { OnOk result ((image : LayerImage) × ReadsLayer bytes.now (Ok image)) }
     ensures err { IfErr result (IfFault (λ f. ReadsLayer bytes.now (Err f))) }
 {
-    shown_faults();
-    let mut reader = LayerReader::keeping(alloc, layer_image::Keep::Pads);
+    readings_in_profiles();
+    let mut reader = LayerReader::in_profile(alloc, Keep::Pads, Profile::Strict);
     for piece in bytes.chunks(PIECE) {
         reader.feed(piece)?;
     }

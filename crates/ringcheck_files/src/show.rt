@@ -1,24 +1,21 @@
 //! The tables of a layer and of a drill file, from their bytes.
 
-ghost use Rattle.std.specs.Prelude.{◌≡◌, IfOk, map};
+ghost use Rattle.std.specs.Prelude.{◌≡◌, [], ℕ, List, IfOk, Ok};
 ghost use Rattle.grid_units.specs.Results.{Answers};
-ghost use Rattle.grid_units.specs.declared.profile.Profile.TheVariants.{Strict, Wide};
+ghost use Rattle.grid_units.specs.declared.profile.Profile.TheVariants.{Strict};
 ghost use Rattle.drill_text.specs.Outcome.{file_of};
 ghost use Rattle.drill_text.specs.declared.kept.Keep.TheVariants as drill_keep;
 ghost use Rattle.drill_text.specs.declared.platings.PlatingKind.TheVariants as plating;
-ghost use Rattle.layer_image.specs.Layers.{ReadsKept};
-ghost use Rattle.layer_image.specs.declared.keep.Keep.TheVariants as layer_keep;
-ghost use Rattle.ringcheck_files.specs.Tables.{ReadsDrill, ShowsDrill, ShowsLayer, drill_header, drill_table, layer_header, layer_table, strict_feature, strict_kind};
+ghost use Rattle.layer_image.specs.Kept.{ReadsKeptIn};
+ghost use Rattle.layer_features.specs.declared.keep.Keep.TheVariants as layer_keep;
+ghost use Rattle.ringcheck_files.specs.Tables.{HasFeatures, ReadsDrill, ShowsDrill, ShowsLayer, drill_header, drill_table, layer_header, layer_table};
 
 use crate::fields::{with_feature, with_hole, with_row};
 use drill_text::{Drill, DrillReader, readings_in_profiles};
-use further_copper::{Feature, FeatureKind};
 use grid_units::{Fail, Hole, Profile};
-use layer_image::{Flash, Layer, LayerReader, What, shown_faults};
+use layer_image::{Feature, Keep, Layer, LayerReader, strict_layers, view_in};
 use manifest::table::Table;
-use pad_shapes::WidePad;
 use std::alloc::{AllocError, Global};
-use wide_layers::read_wide_layer;
 
 /// How many bytes of a layer are read at a time, so that no more of its commands are held.
 const PIECE: usize = 65_536;
@@ -38,39 +35,6 @@ fn layer_header(alloc: Global) -> Result<Table, AllocError>
             b"height".as_slice(),
         ],
     )
-}
-
-/// What a flash is in the strict profile.
-fn strict_kind(what: &What) -> FeatureKind
-    ensures { result ≡ strict_kind what.now }
-{
-    match what {
-        What::Pad(pad) => FeatureKind::Pad(WidePad::Plain(*pad)),
-        What::Other(why) => FeatureKind::Other(*why),
-    }
-}
-
-/// A flash of the strict profile at its point.
-fn strict_feature(flash: &Flash) -> Feature
-    ensures { result ≡ strict_feature flash.now }
-{
-    Feature {
-        at: flash.at,
-        what: strict_kind(&flash.what),
-    }
-}
-
-/// The table of the flashes of the strict profile, numbered from 1.
-fn strict_table(alloc: Global, flashes: &[Flash]) -> Result<Vec<u8>, AllocError>
-    ensures { IfOk result (λ text. text.items ≡ layer_table (map strict_feature flashes.now)) }
-{
-    let mut table = layer_header(alloc)?;
-    let mut number: u64 = 1;
-    for flash in flashes {
-        table = with_feature(table, number, &strict_feature(flash))?;
-        number += 1;
-    }
-    table.into_bytes()
 }
 
 /// The table of flashes and contours, numbered from 1.
@@ -116,16 +80,25 @@ fn drill_table(alloc: Global, holes: &[Hole]) -> Result<Vec<u8>, AllocError>
     table.into_bytes()
 }
 
-/// The layer that the bytes are, of which flashes alone are kept.
-fn read_layer(alloc: Global, bytes: &[u8]) -> Result<Layer, Fail>
-    ensures { Answers (λ layer. layer) (ReadsKept layer_keep.Flashes bytes.now) result }
+/// The layer that the bytes are in a profile, of which flashes and contours are kept.
+fn read_layer(alloc: Global, profile: Profile, bytes: &[u8]) -> Result<Layer, Fail>
+    ensures { Answers (λ layer. layer) (ReadsKeptIn profile layer_keep.Rows [] bytes.now) result }
 {
-    shown_faults();
-    let mut reader = LayerReader::keeping(alloc, layer_image::Keep::Flashes);
+    layer_image::readings_in_profiles();
+    let mut reader = LayerReader::in_profile(alloc, Keep::Rows, profile);
     for piece in bytes.chunks(PIECE) {
         reader.feed(piece)?;
     }
     reader.finish()
+}
+
+/// The flashes and contours of a layer of a profile, as the profile has them.
+fn features_in(alloc: Global, profile: Profile, layer: Layer) -> Result<Vec<Feature>, AllocError>
+    ensures { (bytes : List ℕ) → ReadsKeptIn profile layer_keep.Rows [] bytes (Ok layer) → IfOk result (λ features. HasFeatures profile bytes features.items) }
+{
+    strict_layers();
+    let (features, _drawn) = layer.into_rows();
+    view_in(alloc, profile, features)
 }
 
 /// The drill file that the bytes are in a profile, of which no command is kept.
@@ -136,28 +109,6 @@ fn read_drill(alloc: Global, profile: Profile, bytes: &[u8]) -> Result<Drill, Fa
     let mut reader = DrillReader::in_profile(alloc, drill_text::Keep::Holes, profile);
     reader.feed(bytes)?;
     reader.finish()
-}
-
-/// The table of a layer in the strict profile.
-fn show_strict_layer(alloc: Global, bytes: &[u8]) -> Result<Vec<u8>, Fail>
-    ensures { Answers (λ text. text.items) (ShowsLayer Strict bytes.now) result }
-{
-    let layer = read_layer(alloc, bytes)?;
-    match strict_table(alloc, layer.flashes()) {
-        Ok(text) => Ok(text),
-        Err(_) => Err(Fail::Memory),
-    }
-}
-
-/// The table of a layer in the wide profile.
-fn show_wide_layer(alloc: Global, bytes: &[u8]) -> Result<Vec<u8>, Fail>
-    ensures { Answers (λ text. text.items) (ShowsLayer Wide bytes.now) result }
-{
-    let layer = read_wide_layer(alloc, bytes)?;
-    match layer_table(alloc, layer.features()) {
-        Ok(text) => Ok(text),
-        Err(_) => Err(Fail::Memory),
-    }
 }
 
 /// The table of a layer that is read in the strict profile, as [`show_layer_in`] has it.
@@ -191,9 +142,11 @@ pub fn show_drill(alloc: Global, bytes: &[u8]) -> Result<Vec<u8>, Fail>
 pub fn show_layer_in(alloc: Global, profile: Profile, bytes: &[u8]) -> Result<Vec<u8>, Fail>
     ensures exact { Answers (λ text. text.items) (ShowsLayer profile bytes.now) result }
 {
-    match profile {
-        Profile::Strict => show_strict_layer(alloc, bytes),
-        Profile::Wide => show_wide_layer(alloc, bytes),
+    let layer = read_layer(alloc, profile, bytes)?;
+    let features = features_in(alloc, profile, layer)?;
+    match layer_table(alloc, &features) {
+        Ok(text) => Ok(text),
+        Err(_) => Err(Fail::Memory),
     }
 }
 

@@ -9,9 +9,9 @@ ghost use Rattle.ringcheck_files.specs.Rows.{NeedsNoQuotes};
 ghost use Rattle.ringcheck_files.specs.Tables.{height_of, pad_height, pad_width, wide_pad_height, wide_pad_width, width_of};
 
 use arrayvec::ArrayString;
-use further_copper::FeatureKind;
 use grid_units::write_mm;
 use itoa::Buffer;
+use layer_features::FeatureKind;
 use pad_shapes::{Pad, PlacedRounded, WidePad};
 
 /// How many pm are a millimetre.
@@ -134,7 +134,8 @@ pub(crate) fn width_of(what: &FeatureKind) -> ArrayString<16>
     match what {
         FeatureKind::Pad(pad) => side_field(wide_pad_width(pad)),
         FeatureKind::Contour(pad) => side_field(rounded_width(pad)),
-        FeatureKind::Other(_) | FeatureKind::Clear | FeatureKind::Cleared => ArrayString::new(),
+        FeatureKind::Other(_) | FeatureKind::Macro(_) | FeatureKind::Clear | FeatureKind::Cleared =>
+            ArrayString::new(),
     }
 }
 
@@ -146,6 +147,7 @@ pub(crate) fn height_of(what: &FeatureKind) -> ArrayString<16>
     match what {
         FeatureKind::Pad(pad) => side_field(wide_pad_height(pad)),
         FeatureKind::Contour(pad) => side_field(rounded_height(pad)),
-        FeatureKind::Other(_) | FeatureKind::Clear | FeatureKind::Cleared => ArrayString::new(),
+        FeatureKind::Other(_) | FeatureKind::Macro(_) | FeatureKind::Clear | FeatureKind::Cleared =>
+            ArrayString::new(),
     }
 }

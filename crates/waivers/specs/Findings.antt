@@ -9,10 +9,10 @@ use Rattle.report.specs.declared.GapLack.{GapLack}
 use Rattle.report.specs.declared.PlacedHole.{PlacedHole}
 use Rattle.report.specs.declared.LayerHead.{LayerHead}
 use Rattle.report.specs.declared.RingCause.{RingCause}
-use Rattle.report.specs.declared.RingCause.TheVariants as causes
 use Rattle.report.specs.declared.RingLack.{RingLack}
 use Rattle.report.specs.declared.BoardReport.{BoardReport}
 use Rattle.grid_units.specs.HoleWords.{drilled_words, name_of}
+use Rattle.report.specs.Causes.{ring_of}
 
 -- a hole without its number: `pic_programmer-PTH, 0.75 at 142.24,-97.79`
 abbrev pub hole_field : List (List ℕ) → PlacedHole → List ℕ
@@ -24,14 +24,7 @@ layer_field names layers place = option_map_or (λ head. name_of names head.file
 
 -- the ring of a hole in its best pad, such as `0.099625866`; `none` where it lies in no pad or is an oblique slot
 abbrev pub has_field : RingCause → List ℕ
-has_field (causes.TooSmall place) = short_millimetres place.ring
-has_field (causes.OffCentre place) = short_millimetres place.ring
-has_field (causes.Edge at_edge) = short_millimetres at_edge.ring
-has_field (causes.Other why flash) = codes "none"
-has_field (causes.Clear flash) = codes "none"
-has_field (causes.Cleared flash) = codes "none"
-has_field causes.NoFlash = codes "none"
-has_field causes.Oblique = codes "none"
+has_field cause = option_map_or short_millimetres (ring_of cause) (codes "none")
 
 -- the fields of a hole that lacks its ring: `ring,top_layer,"pic_programmer-PTH, 0.75 at 142.24,-97.79",,none`
 abbrev pub ring_fields : List (List ℕ) → List LayerHead → RingLack → CsvRecord

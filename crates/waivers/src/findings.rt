@@ -10,7 +10,7 @@ ghost use Rattle.waivers.specs.Waiving.{compared_fields};
 
 use crate::Waiver;
 use grid_units::{DrilledWords, ShortMillimetres, name_of};
-use report::{GapLack, LayerHead, PlacedHole, RingCause, RingLack};
+use report::{GapLack, LayerHead, PlacedHole, RingCause, RingLack, ring_of};
 use std::fmt;
 use std::fmt::{Display, Formatter};
 
@@ -108,16 +108,9 @@ impl Display for RingField {
     ghost output = { λ field. Some (field_text default_writer (has_field field.0)) };
 
     fn fmt<W: fmt::Write>(&self, f: &mut Formatter<W>) -> fmt::Result {
-        match self.0 {
-            RingCause::TooSmall(place) | RingCause::OffCentre(place) => {
-                write!(f, "{}", LengthField(place.ring))
-            }
-            RingCause::Edge(at_edge) => write!(f, "{}", LengthField(at_edge.ring)),
-            RingCause::Other { .. }
-            | RingCause::Clear { .. }
-            | RingCause::Cleared { .. }
-            | RingCause::NoFlash
-            | RingCause::Oblique => f.write_str("none"),
+        match ring_of(&self.0) {
+            Some(ring) => write!(f, "{}", LengthField(ring)),
+            None => f.write_str("none"),
         }
     }
 }

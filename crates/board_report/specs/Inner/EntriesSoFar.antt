@@ -1,5 +1,5 @@
 -- The entries so far, and one more finding.
-use Rattle.std.specs.Prelude.{◌≡◌, Bool, true, false, List, [], ◌∷◌, ◌++◌, Option, length, map}
+use Rattle.std.specs.Prelude.{◌≡◌, ℕ, Bool, true, false, List, [], ◌∷◌, ◌++◌, Option, length, map}
 use Rattle.std.specs.Global.{Vec}
 use Rattle.ring_rules.specs.declared.finding.Finding.{Finding}
 use Rattle.margins.specs.declared.best.BestPad.{BestPad}
@@ -7,13 +7,18 @@ use Rattle.package_check.specs.Boards.{BoardView}
 use Rattle.board_report.specs.Measures.{AreLayerBests}
 use Rattle.board_report.specs.Rows.{AreFilesWithHoles}
 use Rattle.report.specs.Causes.{HoldsRowsAndBests}
-use Rattle.board_report.specs.BoardReport.{layer_pads, layer_rows}
+use Rattle.report.specs.declared.layer.CauseFinder.{CauseFinder}
+use Rattle.board_report.specs.BoardReport.{layer_pads, layer_rows, layer_uncounted}
 use Rattle.board_report.specs.declared.rings.CurrentLayer.{CurrentLayer}
 use Rattle.board_report.specs.declared.rings.BoardData.{BoardData}
 
--- the data kept of a layer belong to its rows and pads and to the holes of the board
+-- the data kept of a layer belong to its rows and pads, to those that do not count, and to the holes of the board
+abbrev pub HoldsLayer : BoardView → ℕ → CauseFinder → Type 0
+HoldsLayer board layer causes = HoldsRowsAndBests (layer_rows board layer) (layer_pads board layer) (layer_uncounted board layer) board.holes causes
+
+-- the data at hand are those of their layer
 abbrev pub IsCurrentLayer : BoardView → CurrentLayer → Type 0
-IsCurrentLayer board current = HoldsRowsAndBests (layer_rows board current.layer) (layer_pads board current.layer) board.holes current.causes
+IsCurrentLayer board current = HoldsLayer board current.layer current.causes
 
 -- the best pads of each layer of a board, for each of its holes
 abbrev pub AreBoardBests : BoardView → List (Vec (Option BestPad)) → Type 0

@@ -11,9 +11,8 @@ use Rattle.report.specs.declared.UnitMistake.{UnitMistake}
 use Rattle.report.specs.declared.mistakes.FileRange.{FileRange}
 use Rattle.package_check.specs.Boards.{BoardView}
 use Rattle.package_check.specs.declared.FileSum.{FileSum}
-use Rattle.board_report.specs.Rows.{RowKey, places_of}
+use Rattle.board_report.specs.Rows.{RowKey, places_of, IsUnitMistakeOf, is_plated}
 use Rattle.package_check.specs.Boards.{holes_before}
-use Rattle.board_report.specs.UnitMistakeLines.{IsUnitMistakeOf, is_plated}
 use Rattle.board_report.specs.declared.rows.LayerFileHoles.{LayerFileHoles}
 
 -- the row of a radius, on the layer and in the drill file of a stretch

@@ -1,18 +1,18 @@
 -- What is left of the files of a package in the slots of a check, and the report on it.
-use Rattle.std.specs.Prelude.{◌++◌, ◌∷◌, [], ℕ, List, Option, None, Some}
+use Rattle.std.specs.Prelude.{◌++◌, ◌∷◌, [], ℕ, List, Option, None, Some, ◌<◌, ◌≡◌, length, get_or}
 use Rattle.std.specs.List.{enumerate_from, flat_map}
 use Rattle.grid_units.specs.Holes.{GridRules}
 use Rattle.ring_rules.specs.Findings.{gap_findings}
 use Rattle.ring_rules.specs.declared.finding.Drilled.{Drilled}
 use Rattle.ring_rules.specs.declared.finding.Finding.{Finding}
-use Rattle.package_check.specs.Boards.{numbered_from}
+use Rattle.package_check.specs.Boards.{numbered_from, CountsAddUp, holes_before}
 use Rattle.package_check.specs.Package.{sum_of}
 use Rattle.package_check.specs.Reports.{ReportView}
 use Rattle.package_check.specs.SoundnessAsRead.{drilled_in}
 use Rattle.package_check.specs.declared.FileSum.{FileSum}
-use Rattle.package_check.specs.declared.FileSum.TheVariants as sum
 use Rattle.package_check.specs.declared.checking.Judged.{Judged}
 use Rattle.package_check.specs.declared.slots.Kept.{Kept}
+use Rattle.package_check.specs.declared.FileSum.TheVariants as sum
 
 -- what is left of a file: its counts, and the findings of rings on its layer
 pub record LeftView : Type 0 where
@@ -63,3 +63,13 @@ left_report rules holes slots = record {
   holes = numbered_from 0 (flat_map sums_in slots) holes;
   findings = flat_map rings_in slots ++ gap_findings rules.gap holes;
 }
+
+-- one start for each of the first so many files: the number of holes in the files before it
+pub record AreStartsOf (files : List FileSum) (count : ℕ) (starts : List ℕ) : Type 0 where
+  pub size : length starts ≡ count
+  pub each : (file : ℕ) → file < count → get_or starts file 0 ≡ holes_before files file
+
+-- the files count just these holes, and each file has its start
+pub record AreFileStarts (files : List FileSum) (holes : List Drilled) (starts : List ℕ) : Type 0 where
+  pub counted : CountsAddUp files holes
+  pub are : AreStartsOf files (length files) starts

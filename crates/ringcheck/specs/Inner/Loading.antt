@@ -4,7 +4,7 @@ use Rattle.std.specs.List.{count_by}
 use Rattle.grid_units.specs.Holes.{GridRules}
 use Rattle.grid_units.specs.Spans.{LayerSpan}
 use Rattle.grid_units.specs.declared.profile.Profile.{Profile}
-use Rattle.layer_image.specs.declared.keep.Keep.{Keep}
+use Rattle.layer_features.specs.declared.keep.Keep.{Keep}
 use Rattle.manifest.specs.declared.Entry.{Entry}
 use Rattle.manifest.specs.declared.Role.{Role}
 use Rattle.package_check.specs.CheckViews.{CheckView, setting_of}

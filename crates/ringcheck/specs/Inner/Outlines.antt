@@ -2,7 +2,7 @@
 use Rattle.std.specs.Prelude.{◌≡◌, ℕ, List, Option, Result, Ok, Err}
 use Rattle.std.specs.Global.{Vec}
 use Rattle.std.specs.Io.KnownBytes.{Appends}
-use Rattle.layer_image.specs.declared.drawn.Drawn.{Drawn}
+use Rattle.pad_shapes.specs.declared.drawn.Drawn.{Drawn}
 use Rattle.ringcheck_files.specs.LoaderRelation.{Relation}
 use Rattle.ringcheck_files.specs.declared.Status.{Status}
 use Rattle.ringcheck_files.specs.declared.Status.TheVariants as status

@@ -1,4 +1,4 @@
--- As in the strict profile.
+-- Reading gives commands just where a text spells them.
 use Rattle.gerber_text.proofs.SpellsTextLemmas.{reads_spells, spells_reads}
 use Rattle.layer_image.proofs.FaultReasons.{reason_is_of_rule}
 use Rattle.layer_image.proofs.Pieces.{shown_longer, shown_read, shown_joined}
@@ -10,6 +10,7 @@ pub returns : goal.returns
 returns c = record {
   unique = one_layer;
   each = each_answers;
+  texts = λ profile text commands. (λ t. (spells_reads profile text commands t.spells, t.legal), λ r. record { spells = reads_spells profile text commands r.0; legal = r.1 });
   reads = λ profile text image. (
     λ h. (spells_reads profile text image.commands h.0.spells, h.0.legal, h.1),
     λ r. (record { spells = reads_spells profile text image.commands r.0; legal = r.1 }, r.2),

@@ -1,14 +1,19 @@
-use Rattle.std.proofs.Common.{[]}
+use Rattle.std.proofs.Common.{List, [], subst, sym}
 use Rattle.std.proofs.lemmas.Result.{err_from_is_err_and}
+use Rattle.grid_units.specs.Results.{Answers}
 use Rattle.grid_units.specs.declared.profile.Profile.TheVariants.{Strict}
-use Rattle.layer_image.specs.declared.keep.Keep.TheVariants as keep
-use Rattle.layer_image.proofs.Pieces.{all_kept, layer_shows_reads}
+use Rattle.pad_shapes.specs.declared.wide_pad.WidePad.{WidePad}
+use Rattle.layer_features.specs.declared.keep.Keep.TheVariants as keep
+use Rattle.layer_image.specs.Holding.{has_forgotten}
+use Rattle.layer_image.specs.Kept.{KeptLayer, ReadsKeptIn}
+use Rattle.layer_image.proofs.Pieces.{all_kept, layer_shows_reads, none_left}
 use Rattle.layer_image.proofs.layer.read_layer.Goals as goal
 
 pub returns-in_err-feed : goal.returns-in_err-feed
 returns-in_err-feed c =
     let p = err_from_is_err_and c.from_residual.result c.from_residual.ensures.1 in
-    rw (p.1, p.2) (layer_shows_reads Strict c.args.bytes.now c.in_err-feed.field-0.0 (c.in_err-feed.ensures.err keep.All [] c.new-reader.ensures))
+    rw (p.1, p.2) (layer_shows_reads Strict c.args.bytes.now c.in_err-feed.field-0.0 (c.in_err-feed.ensures.err Strict keep.Layer [] [] c.new-reader.ensures))
 
 pub returns : goal.returns
-returns c = all_kept c.args.bytes.now c.finish.result (c.finish.ensures.exact keep.All c.args.bytes.now (c.in_ok-feed.ensures.ok keep.All [] c.new-reader.ensures))
+returns c = all_kept c.args.bytes.now c.finish.result (subst (λ (left : List WidePad). Answers {T = KeptLayer} (λ layer. layer) (ReadsKeptIn Strict keep.Layer left c.args.bytes.now) c.finish.result) (sym (none_left (has_forgotten c.feed.new.self)))
+    (c.finish.ensures.exact Strict keep.Layer [] c.args.bytes.now (c.in_ok-feed.ensures.ok Strict keep.Layer [] [] c.new-reader.ensures)))

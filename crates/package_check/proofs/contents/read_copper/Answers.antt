@@ -5,7 +5,7 @@ use Rattle.grid_units.specs.declared.fault.Fail.{Fail}
 use Rattle.grid_units.specs.declared.fault.Fail.TheVariants as fails
 use Rattle.grid_units.specs.declared.profile.Profile.{Profile}
 use Rattle.package_check.specs.FileTexts.{ReadsLayer}
-use Rattle.package_check.specs.LayerViews.{LayerView}
+use Rattle.package_check.specs.ContentViews.{LayerView}
 use Rattle.package_check.specs.Package.{ReadsCopper}
 use Rattle.package_check.specs.declared.contents.Content.{Content}
 use Rattle.package_check.proofs.FlashReadingLemmas.{held}

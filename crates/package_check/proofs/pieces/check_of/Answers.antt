@@ -1,7 +1,6 @@
 use Rattle.std.proofs.Common.{◌≡◌, ◌∙◌, ap, false, subst, true}
-use Rattle.layer_image.specs.declared.keep.Keep.TheVariants as keep
-use Rattle.package_check.specs.Package.{Setting}
-use Rattle.package_check.specs.Pieces.{pieced_file_views, pieced_layer_count}
+use Rattle.layer_features.specs.declared.keep.Keep.TheVariants as keep
+use Rattle.package_check.specs.Package.{Setting, pieced_file_views, pieced_layer_count}
 use Rattle.grid_units.specs.Holes.{GridRules}
 use Rattle.grid_units.specs.declared.profile.Profile.{Profile}
 use Rattle.package_check.specs.Checking.{JudgesThose}

@@ -3,7 +3,7 @@ use Rattle.std.specs.Prelude.{true, nat_lt}
 use Rattle.package_check.specs.CheckViews.{setting_of}
 use Rattle.package_check.specs.Checking.{JudgesThose, layer_number}
 use Rattle.package_check.specs.Holding.{is_kind_at}
-use Rattle.package_check.specs.Pieces.{pieced_file_views, pieced_layer_count}
+use Rattle.package_check.specs.Package.{pieced_file_views, pieced_layer_count}
 use Rattle.package_check.proofs.pieces.take_copper.Given as goal
 
 abbrev pub invariant-loop-index : goal.invariant-loop-index

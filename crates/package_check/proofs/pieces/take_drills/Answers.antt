@@ -1,6 +1,5 @@
 use Rattle.std.proofs.Common.{◌∙◌, ap, refl, subst, sym, ◌&&◌, ◌+◌, false, ltb, map}
-use Rattle.package_check.specs.Package.{FileView, Setting}
-use Rattle.package_check.specs.Pieces.{pieced_file_view, pieced_layer_count}
+use Rattle.package_check.specs.Package.{FileView, Setting, pieced_file_view, pieced_layer_count}
 use Rattle.package_check.specs.Holding.{TakesThose, setting_of, is_kind_at}
 use Rattle.grid_units.specs.declared.profile.Profile.{Profile}
 use Rattle.package_check.specs.declared.package_reader.PackageReader.{PackageReader}

@@ -1,5 +1,5 @@
 use Rattle.std.proofs.Common.{Ok, subst, sym}
-use Rattle.package_check.specs.DrillViews.{DrillView}
+use Rattle.package_check.specs.ContentViews.{DrillView}
 use Rattle.package_check.specs.FileTexts.{ReadsDrill, drill_kind}
 use Rattle.std.proofs.lemmas.Result.{err_from_is_err_and}
 use Rattle.drill_text.specs.declared.kept.Keep.TheVariants as keep

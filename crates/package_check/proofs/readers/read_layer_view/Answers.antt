@@ -1,42 +1,42 @@
--- The reader of the profile has read the text.
-use Rattle.std.proofs.Common.{Bool, OnOk, subst, sym}
-use Rattle.grid_units.specs.Results.{Answers}
+use Rattle.std.proofs.Common.{◌≡◌, ◌∙◌, List, [], Ok, sym, subst}
+use Rattle.std.proofs.lemmas.Result.{err_from_is_err_and}
 use Rattle.grid_units.specs.declared.profile.Profile.{Profile}
-use Rattle.layer_image.specs.KeptFlashes.{keeps_commands}
-use Rattle.wide_layers.specs.Holding.{WideStandsAfter}
-use Rattle.package_check.specs.FileTexts.{Draws, HasRows, ReadsLayer}
-use Rattle.package_check.specs.LayerViews.{LayerView}
-use Rattle.package_check.specs.OpenFiles.{CopperStandsIn}
-use Rattle.package_check.specs.declared.copper_reader.CopperReader.{CopperReader}
+use Rattle.pad_shapes.specs.declared.wide_pad.WidePad.{WidePad}
+use Rattle.layer_image.specs.Holding.{has_forgotten, left_pads}
+use Rattle.layer_image.specs.Kept.{ReadsKeptIn}
+use Rattle.layer_image.proofs.Pieces.{none_left}
+use Rattle.package_check.specs.FileTexts.{Draws, HasLayerView}
+use Rattle.package_check.specs.Holding.{HasShown}
+use Rattle.package_check.specs.OpenFiles.{copper_keep}
+use Rattle.package_check.proofs.OpenFiles.{layer_fault}
 use Rattle.package_check.proofs.readers.read_layer_view.Goals as goal
 
-pub returns-in-Strict-clause-image : goal.returns-in-Strict-clause-image
-returns-in-Strict-clause-image c = λ profile text stands.
-    let was = subst (λ (r : CopperReader). CopperStandsIn r profile c.args.keep text) c.in-Strict.is stands in
-    subst (λ (p : Profile). Answers {T = LayerView} (λ x. x) (ReadsLayer p text) c.read_strict.result) (sym was.0) (c.read_strict.ensures.image text was.1)
+pub returns-in_err-image-clause-image : goal.returns-in_err-image-clause-image
+returns-in_err-image-clause-image c profile text stands =
+    let p = err_from_is_err_and c.from_residual.result c.from_residual.ensures.1 in
+    let of = copper_keep c.args.keep in
+    rw (p.1, p.2) (layer_fault profile of (left_pads c.args.reader []) text c.in_err-image.field-0.0 (c.in_err-image.ensures.exact profile of [] text stands))
 
-pub returns-in-Strict-clause-flashes : goal.returns-in-Strict-clause-flashes
-returns-in-Strict-clause-flashes c = λ profile text stands keeps.
-    let was = subst (λ (r : CopperReader). CopperStandsIn r profile c.args.keep text) c.in-Strict.is stands in
-    subst (λ (p : Profile). OnOk c.read_strict.result (HasRows p text c.read_strict.new.shown.rows.items)) (sym was.0) (c.read_strict.ensures.flashes text was.1 keeps)
+pub returns-clause-image : goal.returns-clause-image
+returns-clause-image c profile text stands =
+    let of = copper_keep c.args.keep in
+    let same : c.profile-profile.result ≡ profile = c.profile-profile.ensures profile of [] text stands in
+    let none = none_left (has_forgotten c.args.reader) in
+    let read = subst (λ (left : List WidePad). ReadsKeptIn profile of left text (Ok c.in_ok-image.image)) (sym none) (c.in_ok-image.ensures.exact profile of [] text stands) in
+    subst (λ (q : Profile). HasLayerView q text c.in_ok-view.field-0) same (c.in_ok-view.ensures.view text (subst (λ (q : Profile). ReadsKeptIn q of [] text (Ok c.in_ok-image.image)) (sym same) read))
 
-pub returns-in-Strict-clause-drawn : goal.returns-in-Strict-clause-drawn
-returns-in-Strict-clause-drawn c = λ profile text stands keeps.
-    let was = subst (λ (r : CopperReader). CopperStandsIn r profile c.args.keep text) c.in-Strict.is stands in
-    subst (λ (p : Profile). OnOk c.read_strict.result (Draws p text c.read_strict.new.shown.drawn.items)) (sym was.0) (c.read_strict.ensures.drawn text was.1 keeps)
+pub returns-clause-flashes : goal.returns-clause-flashes
+returns-clause-flashes c profile text stands keeps =
+    let of = copper_keep c.args.keep in
+    let same : c.profile-profile.result ≡ profile = c.profile-profile.ensures profile of [] text stands in
+    let none = none_left (has_forgotten c.args.reader) in
+    let read = subst (λ (left : List WidePad). ReadsKeptIn profile of left text (Ok c.in_ok-image.image)) (sym none) (c.in_ok-image.ensures.exact profile of [] text stands) in
+    subst (λ (q : Profile). HasShown q text c.view.new.shown) same (c.in_ok-view.ensures.rows text (subst (λ (q : Profile). ReadsKeptIn q of [] text (Ok c.in_ok-image.image)) (sym same) read) keeps)
 
-pub returns-in-Wide-clause-image : goal.returns-in-Wide-clause-image
-returns-in-Wide-clause-image c = λ profile text stands.
-    let was = subst (λ (r : CopperReader). CopperStandsIn r profile c.args.keep text) c.in-Wide.is stands in
-    subst (λ (p : Profile). Answers {T = LayerView} (λ x. x) (ReadsLayer p text) c.read_wide.result) (sym was.0) (c.read_wide.ensures.image (keeps_commands c.args.keep) text was.1)
-
-pub returns-in-Wide-clause-flashes : goal.returns-in-Wide-clause-flashes
-returns-in-Wide-clause-flashes c = λ profile text stands keeps.
-    let was = subst (λ (r : CopperReader). CopperStandsIn r profile c.args.keep text) c.in-Wide.is stands in
-    subst (λ (p : Profile). OnOk c.read_wide.result (HasRows p text c.read_wide.new.shown.rows.items)) (sym was.0) (c.read_wide.ensures.flashes (keeps_commands c.args.keep) text was.1 keeps)
-
-pub returns-in-Wide-clause-drawn : goal.returns-in-Wide-clause-drawn
-returns-in-Wide-clause-drawn c = λ profile text stands keeps.
-    let was = subst (λ (r : CopperReader). CopperStandsIn r profile c.args.keep text) c.in-Wide.is stands in
-    subst (λ (p : Profile). OnOk c.read_wide.result (Draws p text c.read_wide.new.shown.drawn.items)) (sym was.0)
-    (c.read_wide.ensures.drawn text (subst (λ (b : Bool). WideStandsAfter b c.in-Wide.reader text) keeps was.1))
+pub returns-clause-drawn : goal.returns-clause-drawn
+returns-clause-drawn c profile text stands draws =
+    let of = copper_keep c.args.keep in
+    let same : c.profile-profile.result ≡ profile = c.profile-profile.ensures profile of [] text stands in
+    let none = none_left (has_forgotten c.args.reader) in
+    let read = subst (λ (left : List WidePad). ReadsKeptIn profile of left text (Ok c.in_ok-image.image)) (sym none) (c.in_ok-image.ensures.exact profile of [] text stands) in
+    subst (λ (q : Profile). Draws q text c.view.new.shown.drawn.items) same (c.in_ok-view.ensures.drawn text (subst (λ (q : Profile). ReadsKeptIn q of [] text (Ok c.in_ok-image.image)) (sym same) read) draws)

@@ -1,7 +1,7 @@
 use Rattle.std.proofs.Common.{◌∙◌, ap₂, sym}
 use Rattle.report.specs.declared.RingLack.{RingLack}
 use Rattle.print_text.specs.Inner.{smaller}
-use Rattle.print_text.specs.Texts.{ring_of}
+use Rattle.report.specs.Causes.{ring_of}
 use Rattle.print_text.proofs.SmallestLemmas.{smallest_more}
 use Rattle.print_text.proofs.tallies.smallest_ring.Goals as goal
 

@@ -1,4 +1,4 @@
-use Rattle.std.proofs.Common.{◌≡◌, length, List, take}
+use Rattle.std.proofs.Common.{List, take}
 use Rattle.pad_shapes.specs.WidePads.{wide_pad_covers}
 use Rattle.pad_shapes.specs.declared.wide_pad.WidePad.{WidePad}
 use Rattle.margins.specs.BestPads.{AreBare}

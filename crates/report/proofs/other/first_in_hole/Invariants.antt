@@ -1,5 +1,5 @@
 use Rattle.std.proofs.Common.{◌++◌, List, take}
-use Rattle.report.specs.Inner.FirstInHole.{IsFirstIn}
+use Rattle.report.specs.Inner.CauseParts.{IsFirstIn}
 use Rattle.report.specs.declared.other.Other.{Other}
 use Rattle.report.proofs.other.first_in_hole.Given as goal
 

@@ -1,8 +1,8 @@
 use Rattle.std.proofs.Common.{Err, List, ℕ, refl, subst}
-use Rattle.drawing.specs.Drawings.{IsDrawn, drawing_text}
-use Rattle.package_check.specs.Boards.{ReturnsBoard, reported}
+use Rattle.drawing.specs.Pages.{IsDrawn, drawing_text}
+use Rattle.package_check.specs.Boards.{IsBoard, Returns, reported}
 use Rattle.package_check.specs.declared.PackageFault.{PackageFault}
-use Rattle.layer_image.specs.declared.keep.Keep.TheVariants as keep
+use Rattle.layer_features.specs.declared.keep.Keep.TheVariants as keep
 use Rattle.package_check.proofs.BoardsLemmas.{reported_on}
 use Rattle.ringcheck.proofs.drawings.draw.Goals as goal
 
@@ -11,7 +11,7 @@ returns-clause-answers g c all named stands =
     let order = c.args.order.now in
     let board = c.in-Ok.board in
     let text = drawing_text c.in_ok-drawing.drawing in
-    let read = c.in-Ok.ensures.drawn keep.All all stands refl in
+    let read = c.in-Ok.ensures.drawn keep.RowsAndDrawn all stands refl in
     record {
       board = board;
       read = read;
@@ -23,4 +23,4 @@ returns-clause-answers g c all named stands =
     }
 
 pub returns-in-Err-File-clause-answers : goal.returns-in-Err-File-clause-answers
-returns-in-Err-File-clause-answers g c all named stands = c.refused.ensures all named (rw c.in-Err-File.field-0-is (subst (λ (f : PackageFault). ReturnsBoard all (Err f)) c.in-Err-File.field-0-is (c.in-Err-File.ensures.exact keep.All all stands)))
+returns-in-Err-File-clause-answers g c all named stands = c.refused.ensures all named (rw c.in-Err-File.field-0-is (subst (λ (f : PackageFault). Returns IsBoard all (Err f)) c.in-Err-File.field-0-is (c.in-Err-File.ensures.exact keep.RowsAndDrawn all stands)))

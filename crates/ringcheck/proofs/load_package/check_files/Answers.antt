@@ -1,7 +1,7 @@
 use Rattle.std.proofs.Common.{Some, ap, sym, take, ◌∙◌}
 use Rattle.std.proofs.lemmas.Result.{IfOk-weaker}
 use Rattle.std.specs.Option.{option_or}
-use Rattle.layer_image.specs.declared.keep.Keep.TheVariants as keep
+use Rattle.layer_features.specs.declared.keep.Keep.TheVariants as keep
 use Rattle.ringcheck_files.specs.Outcomes.{HasRisen}
 use Rattle.package_check.specs.Checking.{HasJudgedAll}
 use Rattle.package_check.specs.Holding.{HasTaken}

@@ -1,8 +1,8 @@
 use Rattle.std.proofs.Common.{Err, List, ℕ, refl, subst}
 use Rattle.std.specs.Io.KnownBytes.{Appends}
-use Rattle.package_check.specs.Boards.{ReturnsBoard}
+use Rattle.package_check.specs.Boards.{IsBoard, Returns}
 use Rattle.package_check.specs.declared.PackageFault.{PackageFault}
-use Rattle.layer_image.specs.declared.keep.Keep.TheVariants as keep
+use Rattle.layer_features.specs.declared.keep.Keep.TheVariants as keep
 use Rattle.ringcheck.specs.MeasureStatus.{measure_page}
 use Rattle.ringcheck.proofs.measures.measure.Goals as goal
 
@@ -24,4 +24,4 @@ returns-clause-answers g c all named stands =
     }
 
 pub returns-in-Err-File-clause-answers : goal.returns-in-Err-File-clause-answers
-returns-in-Err-File-clause-answers g c all named stands = c.refused.ensures all named (rw c.in-Err-File.field-0-is (subst (λ (f : PackageFault). ReturnsBoard all (Err f)) c.in-Err-File.field-0-is (c.in-Err-File.ensures.exact keep.Pads all stands)))
+returns-in-Err-File-clause-answers g c all named stands = c.refused.ensures all named (rw c.in-Err-File.field-0-is (subst (λ (f : PackageFault). Returns IsBoard all (Err f)) c.in-Err-File.field-0-is (c.in-Err-File.ensures.exact keep.Pads all stands)))

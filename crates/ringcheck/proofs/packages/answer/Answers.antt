@@ -1,4 +1,4 @@
-use Rattle.layer_image.specs.declared.keep.Keep.TheVariants as keep
+use Rattle.layer_features.specs.declared.keep.Keep.TheVariants as keep
 use Rattle.ringcheck_files.specs.Outcomes.{HasRisen}
 use Rattle.package_check.specs.Checking.{HasJudgedAll}
 use Rattle.package_check.specs.Holding.{HasTakenAll}
@@ -33,5 +33,5 @@ returns-in-Ok-3-clause-answers g c listed =
     let name = c.args.name.now in
     let contents = g.W.Write.contents in
     rw c.in-Draw.is (done_with (g.L.Loader.has c.args.loader.now) c.in-Draw.order.profile c.args.entries.now (HasRisen (g.L.Loader.failed c.args.loader.now) (g.L.Loader.failed c.take_files-in-Draw.new.loader))
-    (Holds (job.Draw c.in-Draw.order) (g.L.Loader.has c.args.loader.now) name (contents c.args.out.now) (contents c.draw.new.out)) (λ reader. HasTakenAll reader keep.All) c.in-Ok-3.reader c.as_slice-names.result.now
+    (Holds (job.Draw c.in-Draw.order) (g.L.Loader.has c.args.loader.now) name (contents c.args.out.now) (contents c.draw.new.out)) (λ reader. HasTakenAll reader keep.RowsAndDrawn) c.in-Ok-3.reader c.as_slice-names.result.now
     (rw c.as_slice-names.ensures.value c.in_ok-names.ensures) (rw c.in-Ok-3.is at c.in_ok-reader-in-Draw.ensures.loaded) c.draw.result (λ all names read_in. c.draw.ensures.answers all names))

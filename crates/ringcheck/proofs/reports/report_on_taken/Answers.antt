@@ -1,7 +1,7 @@
 use Rattle.std.proofs.Common.{◌≡◌, true, Err, refl, subst}
-use Rattle.package_check.specs.Boards.{ReturnsBoard}
+use Rattle.package_check.specs.Boards.{IsBoard, Returns}
 use Rattle.package_check.specs.declared.PackageFault.{PackageFault}
-use Rattle.layer_image.specs.KeptFlashes.{keeps_flashes}
+use Rattle.layer_features.specs.Kept.{keeps_rows}
 use Rattle.board_report.specs.BoardReport.{IsBoardReportOf}
 use Rattle.ringcheck.specs.ReportStatus.{kept_for}
 use Rattle.ringcheck.specs.declared.parsed_words.ReportFormat.{ReportFormat}
@@ -10,7 +10,7 @@ use Rattle.ringcheck.proofs.Outcomes.{neither_left}
 use Rattle.ringcheck.proofs.reports.report_on_taken.Goals as goal
 
 -- a report has the flashes, in whatever format
-has_flashes : (form : ReportFormat) → keeps_flashes (kept_for form) ≡ true
+has_flashes : (form : ReportFormat) → keeps_rows (kept_for form) ≡ true
 has_flashes format.Text = refl
 has_flashes format.Html = refl
 has_flashes format.Json = refl
@@ -33,4 +33,4 @@ returns c all named stands =
     }
 
 pub returns-in-Err-File : goal.returns-in-Err-File
-returns-in-Err-File c all named stands = c.refused.ensures all named (rw c.in-Err-File.field-0-is (subst (λ (f : PackageFault). ReturnsBoard all (Err f)) c.in-Err-File.field-0-is (c.in-Err-File.ensures.exact (kept_for c.args.options.now.format) all stands)))
+returns-in-Err-File c all named stands = c.refused.ensures all named (rw c.in-Err-File.field-0-is (subst (λ (f : PackageFault). Returns IsBoard all (Err f)) c.in-Err-File.field-0-is (c.in-Err-File.ensures.exact (kept_for c.args.options.now.format) all stands)))

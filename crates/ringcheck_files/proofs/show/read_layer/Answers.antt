@@ -1,14 +1,18 @@
 use Rattle.std.proofs.Common.{◌++◌, ℕ, List, [], ap, rules, subst, sym, ◌∙◌, append_assoc}
 use Rattle.std.proofs.lemmas.Result.{err_from_is_err_and}
 use Rattle.std.specs.Slice.Iter.{chunks_rest}
-use Rattle.layer_image.specs.declared.keep.Keep.TheVariants as keep
-use Rattle.layer_image.specs.Holding.{LayerStandsAfter}
+use Rattle.layer_features.specs.declared.keep.Keep.TheVariants as keep
+use Rattle.layer_image.specs.Holding.{LayerStands, has_forgotten}
+use Rattle.grid_units.specs.Results.{Answers}
+use Rattle.pad_shapes.specs.declared.wide_pad.WidePad.{WidePad}
+use Rattle.layer_image.specs.Kept.{KeptLayer, ReadsKeptIn}
+use Rattle.layer_image.proofs.Pieces.{none_left}
 use Rattle.ringcheck_files.proofs.Pieces.{layer_joined}
 use Rattle.ringcheck_files.proofs.show.read_layer.Goals as goal
 use Rattle.grid_units.proofs.ListLemmas.{done_is_all}
 
 pub loop-piece-init : goal.loop-piece-init
-loop-piece-init c = (search rules, tt, search rules, ([], c.keeping-reader.ensures, search rules))
+loop-piece-init c = (search rules, tt, search rules, ([], c.in_profile-reader.ensures, search rules))
 
 pub loop-piece-preserved : goal.loop-piece-preserved
 loop-piece-preserved c =
@@ -20,7 +24,7 @@ loop-piece-preserved c =
       steps.0 ∙ c.loop-piece.invariant.2,
       (
         so_far.0 ++ piece,
-        c.in_ok-feed.ensures.ok keep.Flashes so_far.0 so_far.1,
+        c.in_ok-feed.ensures.ok c.args.profile keep.Rows [] so_far.0 so_far.1,
         append_assoc so_far.0 piece (chunks_rest c.next.new.self) ∙ (ap (λ (t : List ℕ). so_far.0 ++ t) (sym steps.1.0) ∙ so_far.2),
       ),
     )
@@ -32,11 +36,12 @@ returns-in_err-feed c =
     let rest = chunks_rest c.next.new.self in
     let so_far = c.loop-piece.invariant.3 in
     let whole = append_assoc so_far.0 piece rest ∙ (ap (λ (t : List ℕ). so_far.0 ++ t) (sym c.in-Some.ensures.steps.1.0) ∙ so_far.2) in
-    rw (p.1, p.2) (layer_joined keep.Flashes c.shown_faults.ensures.joined (so_far.0 ++ piece) rest c.args.bytes.now c.in_err-feed.field-0.0 whole (c.in_err-feed.ensures.err keep.Flashes so_far.0 so_far.1))
+    rw (p.1, p.2) (layer_joined c.args.profile keep.Rows [] (c.readings_in_profiles.ensures.joined c.args.profile) (so_far.0 ++ piece) rest c.args.bytes.now c.in_err-feed.field-0.0 whole (c.in_err-feed.ensures.err c.args.profile keep.Rows [] so_far.0 so_far.1))
 
 pub returns : goal.returns
 returns c =
     let bytes = c.args.bytes.now in
     let so_far = c.loop-piece.invariant.3 in
     let all = done_is_all so_far.0 (chunks_rest c.loop-piece.piece-iterator) bytes c.in-None.ensures.steps.1.0 so_far.2 in
-    c.finish.ensures.exact keep.Flashes bytes (subst (LayerStandsAfter c.loop-piece.reader keep.Flashes) all so_far.1)
+    subst (λ (left : List WidePad). Answers {T = KeptLayer} (λ layer. layer) (ReadsKeptIn c.args.profile keep.Rows left bytes) c.finish.result) (sym (none_left (has_forgotten c.loop-piece.reader)))
+    (c.finish.ensures.exact c.args.profile keep.Rows [] bytes (subst (LayerStands c.loop-piece.reader c.args.profile keep.Rows []) all so_far.1))

@@ -1,7 +1,7 @@
-use Rattle.std.proofs.Common.{◌≡◌, ℕ, List, ◌++◌}
+use Rattle.std.proofs.Common.{◌≡◌, ℕ, List, [], ◌++◌}
 use Rattle.std.specs.Slice.Iter.{chunks_rest, chunks_size}
-use Rattle.layer_image.specs.declared.keep.Keep.TheVariants as keep
-use Rattle.layer_image.specs.Holding.{LayerStandsAfter}
+use Rattle.layer_features.specs.declared.keep.Keep.TheVariants as keep
+use Rattle.layer_image.specs.Holding.{LayerStands}
 use Rattle.ringcheck_files.proofs.show.read_layer.Given as goal
 
 abbrev pub invariant-loop-piece : goal.invariant-loop-piece
@@ -9,4 +9,4 @@ invariant-loop-piece l =
     goal.iterator-loop-piece.can_next l.piece-iterator
     × goal.iterator-loop-piece.is_finite l.piece-iterator
     × (chunks_size l.piece-iterator ≡ 65536)
-    × ((done : List ℕ) × LayerStandsAfter l.reader keep.Flashes done × (done ++ chunks_rest l.piece-iterator ≡ l.bytes))
+    × ((done : List ℕ) × LayerStands l.reader l.fn.profile keep.Rows [] done × (done ++ chunks_rest l.piece-iterator ≡ l.bytes))

@@ -1,7 +1,14 @@
+use Rattle.std.proofs.Common.{[], ap, ◌∙◌}
+use Rattle.std.proofs.lemmas.Result.{err_from_is_err_and}
+use Rattle.layer_features.specs.declared.keep.Keep.TheVariants as keep
+use Rattle.ringcheck_files.specs.Tables.{layer_table}
+use Rattle.ringcheck_files.proofs.Pieces.{layer_refused}
 use Rattle.ringcheck_files.proofs.show.show_layer_in.Goals as goal
 
-pub returns-in-Strict : goal.returns-in-Strict
-returns-in-Strict c = record { exact = rw c.in-Strict.is c.show_strict_layer.ensures }
+pub returns-in_err-layer : goal.returns-in_err-layer
+returns-in_err-layer c =
+    let p = err_from_is_err_and c.from_residual.result c.from_residual.ensures.1 in
+    record { exact = rw (p.1, p.2) (layer_refused c.args.profile keep.Rows [] c.args.bytes.now c.in_err-layer.field-0.0 c.in_err-layer.ensures) }
 
-pub returns-in-Wide : goal.returns-in-Wide
-returns-in-Wide c = record { exact = rw c.in-Wide.is c.show_wide_layer.ensures }
+pub returns-in-Ok : goal.returns-in-Ok
+returns-in-Ok c = record { exact = (c.in_ok-features.features.items, c.in_ok-features.ensures c.args.bytes.now c.in_ok-layer.ensures, c.in-Ok.ensures ∙ ap layer_table c.deref.ensures.value) }

@@ -2,10 +2,10 @@
 use Rattle.std.proofs.Common.{◌≡◌, ℕ, List, [], ◌∷◌, ◌++◌, sym, ap, subst, ◌∙◌}
 use Rattle.gerber_text.specs.declared.reader.WordReader.{WordReader}
 use Rattle.gerber_text.specs.Holding.{StandsIn, held, passed_text, text_entries}
-use Rattle.layer_image.specs.KeptFlashes.{keeps_commands, without_pads}
+use Rattle.layer_features.specs.Kept.{keeps_commands}
 use Rattle.gerber_text.specs.FastPath.{text_command}
 use Rattle.gerber_text.specs.Reading.{placed}
-use Rattle.layer_image.specs.Holding.{HasScannedLegal}
+use Rattle.layer_image.specs.Holding.{HasContent}
 use Rattle.layer_image.proofs.Pieces.{none_kept}
 use Rattle.layer_image.proofs.reader.LayerReader.take_other.Goals as goal
 
@@ -16,10 +16,11 @@ returns-in_ok-text-in-Some-clause-ok c profile keep taken text h =
     record {
       sound = h.sound;
       same = h.same;
+      same_profile = h.same_profile;
       gone = gone;
       words = c.in-Some.ensures.some_in h.none profile h.gone text h.words;
       none = c.pass_text.ensures.held ∙ h.none;
-      scanned = subst (λ (t : List ℕ). HasScannedLegal c.text.new.self (without_pads keep taken) (h.gone ++ placed passed.place passed.byte (text_command passed.item.kind t ∷ []))) c.text_in.ensures (c.in_ok-text-in-Some.ensures (without_pads keep taken) h.gone passed.place passed.byte h.scanned);
+      content = subst (λ (t : List ℕ). HasContent profile keep taken c.text.new.self (h.gone ++ placed passed.place passed.byte (text_command passed.item.kind t ∷ []))) c.text_in.ensures (c.in_ok-text-in-Some.ensures profile keep taken h.gone passed.place passed.byte h.content);
       kept = h.kept ∙ none_kept (keeps_commands keep) h.gone gone (ap keeps_commands (sym h.same) ∙ c.requires.dropped);
     }
 
@@ -30,9 +31,24 @@ returns-in-None-clause-err c profile keep taken text h =
     c.take_part-in-None.ensures.err profile keep taken text (record {
       sound = h.sound;
       same = h.same;
+      same_profile = h.same_profile;
       gone = h.gone;
       words = subst (λ (w : WordReader). StandsIn w profile h.gone text) (sym same) h.words;
       none = ap held same ∙ h.none;
-      scanned = h.scanned;
+      content = h.content;
+      kept = h.kept;
+    })
+
+pub returns-in-None-clause-ok : goal.returns-in-None-clause-ok
+returns-in-None-clause-ok c profile keep taken text h =
+    let same : c.pass_text.new.self ≡ c.args.self.now.words = c.in-None.ensures.none in
+    c.take_part-in-None.ensures.ok profile keep taken text (record {
+      sound = h.sound;
+      same = h.same;
+      same_profile = h.same_profile;
+      gone = h.gone;
+      words = subst (λ (w : WordReader). StandsIn w profile h.gone text) (sym same) h.words;
+      none = ap held same ∙ h.none;
+      content = h.content;
       kept = h.kept;
     })

@@ -4,8 +4,8 @@ use Rattle.std.proofs.lemmas.List.{length-drop, length-take, take-append-drop, t
 use Rattle.std.proofs.lemmas.Result.{err_from_is_err_and}
 use Rattle.grid_units.specs.Results.{IfFault}
 use Rattle.gerber_text.proofs.ShowsLemmas.{two_takes}
-use Rattle.layer_image.specs.Holding.{LayerStandsInAfterPads, ShowsLayerFaultIn}
-use Rattle.layer_image.specs.KeptFlashes.{keeps_commands}
+use Rattle.layer_image.specs.Holding.{LayerStands, ShowsLayerFaultIn}
+use Rattle.layer_features.specs.Kept.{keeps_commands}
 use Rattle.layer_image.proofs.reader.LayerReader.take_parts.Goals as goal
 
 pub returns-in_err-taken-clause-err : goal.returns-in_err-taken-clause-err
@@ -27,11 +27,11 @@ loop-taken-preserved c =
       dropped = ap keeps_commands c.in_ok-taken.ensures.keep ∙ c.loop-taken.invariant.dropped;
       stands = λ profile keep taken text h.
           let so_far = text ++ take n piece in
-          subst (LayerStandsInAfterPads c.take_leading.new.self profile keep taken) (two_takes text piece n k) (c.in_ok-taken.ensures.ok profile keep taken so_far (c.loop-taken.invariant.stands profile keep taken text h));
+          subst (LayerStands c.take_leading.new.self profile keep taken) (two_takes text piece n k) (c.in_ok-taken.ensures.ok profile keep taken so_far (c.loop-taken.invariant.stands profile keep taken text h));
     }
 
 pub returns-clause-ok : goal.returns-clause-ok
 returns-clause-ok c profile keep taken text h =
     let piece = c.args.piece.now in
     let n = c.loop-taken.taken in
-    subst (λ (x : List ℕ). LayerStandsInAfterPads c.loop-taken.self profile keep taken (text ++ x)) (take_all n piece (omega arith)) (c.loop-taken.invariant.stands profile keep taken text h)
+    subst (λ (x : List ℕ). LayerStands c.loop-taken.self profile keep taken (text ++ x)) (take_all n piece (omega arith)) (c.loop-taken.invariant.stands profile keep taken text h)

@@ -1,16 +1,16 @@
 use Rattle.std.proofs.Common.{◌≡◌, ◌≤◌, ◌-◌, ◌++◌, ℕ, List, length, take, false}
 use Rattle.grid_units.specs.declared.profile.Profile.{Profile}
-use Rattle.pad_shapes.specs.declared.pad.Pad.{Pad}
-use Rattle.layer_image.specs.declared.keep.Keep.{Keep}
-use Rattle.layer_image.specs.Holding.{LayerStandsInAfterPads}
-use Rattle.layer_image.specs.KeptFlashes.{keeps_commands}
+use Rattle.pad_shapes.specs.declared.wide_pad.WidePad.{WidePad}
+use Rattle.layer_features.specs.declared.keep.Keep.{Keep}
+use Rattle.layer_image.specs.Holding.{LayerStands}
+use Rattle.layer_features.specs.Kept.{keeps_commands}
 use Rattle.layer_image.proofs.reader.LayerReader.take_parts.Given as goal
 
 abbrev pub invariant-loop-taken : goal.invariant-loop-taken
 invariant-loop-taken l = record {
   within : l.taken ≤ length l.piece;
   dropped : keeps_commands l.self.keep ≡ false;
-  stands : (profile : Profile) (keep : Keep) (taken : List Pad) (text : List ℕ) → LayerStandsInAfterPads l.initial.self profile keep taken text → LayerStandsInAfterPads l.self profile keep taken (text ++ take l.taken l.piece);
+  stands : (profile : Profile) (keep : Keep) (taken : List WidePad) (text : List ℕ) → LayerStands l.initial.self profile keep taken text → LayerStands l.self profile keep taken (text ++ take l.taken l.piece);
 }
 
 abbrev pub decreases-loop-taken : goal.decreases-loop-taken

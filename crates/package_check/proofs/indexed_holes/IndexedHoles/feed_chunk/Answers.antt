@@ -1,18 +1,35 @@
-use Rattle.std.proofs.Common.{◌++◌, map}
+use Rattle.std.proofs.Common.{◌≡◌, ◌∙◌, ◌++◌, List, Bool, [], map, ap, subst, sym}
+use Rattle.std.specs.Prelude.{if◌then◌else◌}
 use Rattle.std.proofs.lemmas.Result.{err_from_is_err_and}
-use Rattle.layer_image.specs.declared.keep.Keep.TheVariants as keep
-use Rattle.package_check.specs.LayerViews.{plain}
-use Rattle.package_check.proofs.JudgedCopper.{tried_more}
+use Rattle.grid_units.specs.Holes.{GridRules}
+use Rattle.grid_units.specs.declared.profile.Profile.{Profile}
+use Rattle.pad_shapes.specs.declared.wide_pad.WidePad.{WidePad}
+use Rattle.layer_features.specs.declared.keep.Keep.TheVariants as keep
+use Rattle.layer_image.specs.Holding.{LayerStands, standing_pads}
+use Rattle.layer_image.specs.Kept.{plain}
+use Rattle.package_check.specs.Judging.{HasTriedIn}
 use Rattle.package_check.proofs.indexed_holes.IndexedHoles.feed_chunk.Goals as goal
 
 pub returns-in_err-feed-clause-err : goal.returns-in_err-feed-clause-err
 returns-in_err-feed-clause-err c = λ text before.
     let p = err_from_is_err_and c.from_residual.result c.from_residual.ensures.1 in
-    rw (p.1, p.2) (c.in_err-feed.ensures.err_after_pads keep.Pads before.dropped text before.read)
+    rw (p.1, p.2) (c.in_err-feed.ensures.err c.args.self.now.rules.profile keep.Pads before.taken text before.read)
 
 pub returns-clause-ok : goal.returns-clause-ok
 returns-clause-ok c = λ text before.
     let whole = text ++ c.args.chunk.now in
-    tried_more c.try_pads.new.self c.args.layer c.feed.new.self c.clear_pads.new.self whole before.dropped c.pads.result.now c.pads.ensures
-    (c.clear_pads.ensures.gone keep.Pads before.dropped whole (c.in_ok-feed.ensures.ok_after_pads keep.Pads before.dropped text before.read))
-    (c.in_ok-try_pads.ensures.tried (map plain before.dropped) before.tried)
+    let old = c.args.self.now in
+    let new = c.try_all.new.self in
+    let reader = c.feed.new.self in
+    let profile = old.rules.profile in
+    let rules = c.in_ok-try_all.ensures.rules ∙ c.forget_where.ensures.rules in
+    let read = c.clear_pads.ensures.gone profile keep.Pads before.taken whole (c.in_ok-feed.ensures.ok profile keep.Pads before.taken text before.read) in
+    let left : List WidePad = if c.are_forgotten.result then [] else before.taken in
+    let tried = c.in_ok-try_all.ensures.tried left (c.forget_where.ensures.tried c.args.layer before.taken before.tried) in
+    let all : left ++ (map plain c.pads.result.now ++ c.wide_pads.result.now) ≡ standing_pads reader before.taken =
+    λ i. (if c.are_forgotten.ensures i then [] else before.taken) ++ (map plain (c.pads.ensures i) ++ c.wide_pads.ensures i) in
+    record {
+      taken = standing_pads reader before.taken;
+      read = subst (λ (q : Profile). LayerStands c.clear_pads.new.self q keep.Pads (standing_pads reader before.taken) whole) (sym (ap (λ (r : GridRules). r.profile) rules)) read;
+      tried = subst (λ (ps : List WidePad). HasTriedIn new.holes new.index c.args.layer ps new.search) all tried;
+    }

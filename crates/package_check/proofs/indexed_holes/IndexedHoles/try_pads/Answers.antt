@@ -2,7 +2,7 @@ use Rattle.std.proofs.Common.{List, map, refl, ap, subst, sym, ◌∙◌}
 use Rattle.pad_shapes.specs.WidePads.{wide_pad_covers}
 use Rattle.pad_shapes.specs.Pads.{pad_covers}
 use Rattle.ring_rules.proofs.TriedPads.{tried_more_by_map}
-use Rattle.package_check.specs.LayerViews.{plain}
+use Rattle.layer_image.specs.Kept.{plain}
 use Rattle.ring_rules.specs.Search.{HasTried}
 use Rattle.ring_rules.specs.declared.finding.Drilled.{Drilled}
 use Rattle.ring_rules.specs.declared.ring_index.RingIndex.{RingIndex}

@@ -1,5 +1,5 @@
 use Rattle.std.proofs.Common.{List, Some, subst, sym, take}
-use Rattle.report.specs.Inner.FirstInHole.{IsFirstIn}
+use Rattle.report.specs.Inner.CauseParts.{IsFirstIn}
 use Rattle.report.specs.declared.other.Other.{Other}
 use Rattle.std.specs.List.{slice_range}
 use Rattle.std.proofs.lemmas.List.Elements.{All-weaker}

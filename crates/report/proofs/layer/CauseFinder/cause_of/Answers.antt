@@ -1,14 +1,28 @@
 use Rattle.std.proofs.Common.{◌≡◌, Option, false, sym, subst, ◌∙◌}
+use Rattle.std.proofs.lemmas.Result.{IfOk-weaker}
 use Rattle.grid_units.specs.declared.profile.Profile.{Profile}
 use Rattle.pad_shapes.specs.WidePads.{wide_pad_covers}
 use Rattle.ring_rules.specs.Findings.{is_refused_slot}
 use Rattle.margins.specs.BestPads.{IsBestPad}
 use Rattle.margins.specs.declared.best.BestPad.{BestPad}
+use Rattle.report.specs.Causes.{IsCause, other_in}
+use Rattle.report.specs.Inner.CauseParts.{cause_without_pad}
+use Rattle.report.specs.declared.RingCause.{RingCause}
+use Rattle.report.proofs.CauseLemmas.{without_pad_is_cause}
 use Rattle.report.proofs.layer.CauseFinder.cause_of.Goals as goal
 
 pub returns-in-None : goal.returns-in-None
-returns-in-None c =
+returns-in-None c = λ uncounted otherwise.
     let h = c.args.hole.now in
-    let holds = subst (λ (profile : Profile). is_refused_slot profile h ≡ false) c.profile.ensures (sym c.is_refused_slot.ensures ∙ c.if-is_refused_slot.false) in
-    let none = subst (λ (best : Option BestPad). IsBestPad wide_pad_covers c.args.pads.now h best) c.in-None.is c.requires.best in
-    c.cause_without_pad.ensures c.args.rules.profile c.args.pads.now c.args.rules.ring (holds, none)
+    let rows = c.args.rows.now in
+    let pads = c.args.pads.now in
+    let profile = c.args.rules.profile in
+    let holds = subst (λ (one : Profile). is_refused_slot one h ≡ false) c.profile.ensures (sym c.is_refused_slot.ensures ∙ c.if-is_refused_slot.false) in
+    let none = subst (λ (best : Option BestPad). IsBestPad wide_pad_covers pads h best) c.in-None.is c.requires.best in
+    let is = without_pad_is_cause profile rows pads uncounted c.args.rules.ring h c.args.otherwise (holds, none) otherwise in
+    IfOk-weaker c.cause_without_pad.result (λ (why : RingCause). why ≡ cause_without_pad (other_in rows h) c.args.otherwise) (IsCause profile rows pads uncounted c.args.rules.ring h)
+    (λ why same. subst (IsCause profile rows pads uncounted c.args.rules.ring h) (sym same) is)
+    c.cause_without_pad.ensures
+
+pub returns-in-Some : goal.returns-in-Some
+returns-in-Some c = λ uncounted otherwise. c.cause_in_best.ensures uncounted

@@ -1,7 +1,7 @@
 use Rattle.std.proofs.Common.{List, ap, map, subst}
 use Rattle.grid_units.specs.declared.profile.Profile.{Profile}
 use Rattle.board_report.specs.Measures.{IsMeasure}
-use Rattle.drawing.specs.Drawings.{svg_text}
+use Rattle.drawing.specs.Pages.{svg_text}
 use Rattle.package_check.specs.declared.FileSum.{FileSum}
 use Rattle.report_page.specs.Pages.{html_text}
 use Rattle.report_page.proofs.page.HtmlReport.new.Goals as goal

@@ -1,7 +1,0 @@
-use Rattle.std.proofs.Common.{◌≡◌, true, take}
-use Rattle.std.specs.List.{list_all}
-use Rattle.further_copper.specs.Contours.{is_move}
-use Rattle.further_copper.proofs.contour.are_moves.Given as goal
-
-abbrev pub invariant-loop-part : goal.invariant-loop-part
-invariant-loop-part l = list_all is_move (take l.part-index l.parts) ≡ true

@@ -1,7 +1,0 @@
-use Rattle.std.proofs.Common.{◌≡◌, false, ℕ, ◌<◌, get_or}
-use Rattle.further_copper.specs.declared.part.Part.TheVariants as part
-use Rattle.further_copper.specs.Contours.{is_move}
-use Rattle.further_copper.proofs.contour.leading_sides.Given as goal
-
-abbrev pub invariant-loop-i : goal.invariant-loop-i
-invariant-loop-i l = (k : ℕ) → k < l.i → is_move (get_or l.parts k part.Other) ≡ false

@@ -1,6 +1,0 @@
-use Rattle.std.proofs.Common.{◌≡◌, map, take}
-use Rattle.further_copper.specs.Placing.{oriented_point}
-use Rattle.further_copper.proofs.mirroring.oriented_points.Given as goal
-
-abbrev pub invariant-loop-point : goal.invariant-loop-point
-invariant-loop-point l = l.found.items ≡ map (oriented_point l.mirroring l.turns) (take l.point-index l.points)

@@ -1,3 +1,0 @@
-pub mod Forgetting
-pub mod States
-pub mod Turns

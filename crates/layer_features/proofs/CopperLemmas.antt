@@ -1,0 +1,425 @@
+-- What one more command changes of further copper.
+use Rattle.std.proofs.Common.{◌≡◌, ◌∙◌, ◌≤◌, ℕ, ℤ, suc, ◌+◌, ◌&&◌, ◌||◌, inl, inr, Bool, true, false, not, map, nat_le, None, Some, OnOk, Result, Ok, Err, List, [], ◌∷◌, ◌++◌, Option, length, unwrap_or, refl, sym, ap, subst, arith, append-nil, append_assoc}
+use Rattle.std.specs.Prelude.{min, if◌then◌else◌}
+use Rattle.std.specs.List.{cons_option, filter_map, sum_by}
+use Rattle.std.proofs.lemmas.List.Elements.{filter_map-append}
+use Rattle.std.proofs.lemmas.List.Sums.{sum_by_push}
+use Rattle.grid_units.specs.Lists.{with_prefixes}
+use Rattle.grid_units.proofs.LookbackLemmas.{last_or-more, with_prefixes-append}
+use Rattle.gerber_commands.specs.declared.command.Action.{Action}
+use Rattle.gerber_commands.specs.declared.command.Command.{Command}
+use Rattle.gerber_commands.specs.declared.command.Command.TheVariants as command
+use Rattle.gerber_text.specs.FastPath.{text_command}
+use Rattle.gerber_text.specs.declared.text_items.TextKind.{TextKind}
+use Rattle.gerber_text.specs.declared.text_items.TextKind.TheVariants as kinds
+use Rattle.std.proofs.lemmas.Bool.{cases_order}
+use Rattle.std.specs.Option.{option_map_or}
+use Rattle.pad_shapes.specs.Rounded.{GridRounded}
+use Rattle.pad_shapes.specs.declared.drawn.Drawn.{Drawn}
+use Rattle.layer_state.specs.declared.flash.Flash.{Flash}
+use Rattle.layer_state.specs.Flashes.{added_flashes}
+use Rattle.layer_state.specs.Lookback.{block_set, no_repeat, state_after}
+use Rattle.layer_features.specs.Drawn.{DrawState, draw_state_after, draw_unit, drawn_by}
+use Rattle.layer_features.specs.Inner.Pencils.{after_command, draw_state}
+use Rattle.layer_state.proofs.DigitLemmas.{test_no, test_yes}
+use Rattle.layer_features.proofs.DrawnLemmas.{draw_state_after-more}
+use Rattle.layer_features.specs.declared.part.Part.{Part}
+use Rattle.layer_features.specs.Blocks.{block_after, copy_count, is_repeated}
+use Rattle.layer_features.specs.Clearing.{clears_all, is_drawing, uncleared}
+use Rattle.layer_features.specs.DrawnCopper.{dark_part, drawn_at, uncleared_drawn}
+use Rattle.layer_state.specs.Placing.{no_mirroring, shapes_at}
+use Rattle.layer_features.specs.Contours.{contour_of, in_last_region, part_by, region_parts, starts_region}
+use Rattle.layer_features.specs.declared.copper.Copper.{Copper}
+use Rattle.layer_features.specs.declared.drawing.Drawing.{Drawing}
+use Rattle.layer_features.specs.FurtherPads.{CopperState, clears_in, contours_in, copper_state_after, ended_copies, ended_regions, has_room, max_regions, mirroring_set}
+use Rattle.layer_features.specs.declared.feature.Feature.{Feature}
+use Rattle.layer_features.specs.Features.{added_features, contour_feature, features_at, flash_feature, taken_away, wide_features_of}
+use Rattle.layer_features.specs.CopperHolding.{HasMet}
+use Rattle.layer_features.specs.Kept.{KeepsFeatures, keeps_drawn, keeps_rows}
+use Rattle.layer_features.specs.declared.keep.Keep.{Keep}
+use Rattle.layer_features.specs.declared.kept_features.KeptFeatures.{KeptFeatures}
+use Rattle.pad_shapes.specs.declared.wide_pad.WidePad.{WidePad}
+use Rattle.layer_features.specs.Inner.States.{IsLike, MakeSameContour, after, capped, copper_state, parts_after, with_parts}
+use Rattle.layer_features.proofs.ClearingLemmas.{after_last-more, clearing_after-more}
+use Rattle.layer_features.proofs.StandingLemmas.{uncleared-more, wide_features_of-more}
+
+-- what a position adds to the last region
+abbrev part_at : List Command × Command → Option Part
+part_at q = part_by (draw_state_after q.0) q.1
+
+region_parts-more : (before : List Command) (c : Command) → region_parts (before ++ c ∷ []) ≡ parts_after c (draw_state_after before) (region_parts before)
+region_parts-more before c =
+    ap (λ (l : List (List Command × Command)). filter_map part_at (in_last_region l)) (with_prefixes-append before (c ∷ [])) ∙ ap (filter_map part_at) (after_last-more (λ (p : List Command × Command). starts_region p.1) (with_prefixes before) (before, c)) ∙ by (starts_region c)
+  where
+    by : (b : Bool) → filter_map part_at (if b then [] else in_last_region (with_prefixes before) ++ (before, c) ∷ []) ≡ (if b then [] else filter_map part_at (in_last_region (with_prefixes before)) ++ cons_option (part_at (before, c)) [])
+    by true = refl
+    by false = filter_map-append part_at (in_last_region (with_prefixes before)) ((before, c) ∷ [])
+
+capped_sum : (s k most : ℕ) → min (s + k) most ≡ min (min s most + k) most
+capped_sum s k most = omega arith
+
+ended_regions-more : (before : List Command) (c : Command) → ended_regions (before ++ c ∷ []) ≡ ended_regions before + ended_copies (block_after before) c
+ended_regions-more before c =
+    let gives : List Command × Command → ℕ = λ q. ended_copies (block_after q.0) q.1 in
+    ap (sum_by gives) (with_prefixes-append before (c ∷ [])) ∙ sum_by_push gives (with_prefixes before) (before, c)
+
+-- the state after one more command
+copper_state_after-more : (before : List Command) (c : Command) → capped (copper_state_after (before ++ c ∷ [])) ≡ after c (capped (copper_state_after before))
+copper_state_after-more before c = λ i. record {
+  draw = draw_state_after-more before c i;
+  mirroring = last_or-more mirroring_set no_mirroring before c i;
+  block = last_or-more block_set no_repeat before c i;
+  parts = region_parts-more before c i;
+  regions = (ap (λ (n : ℕ). min n (suc max_regions)) (ended_regions-more before c) ∙ capped_sum (ended_regions before) (ended_copies (block_after before) c) (suc max_regions)) i;
+  clearing = clearing_after-more before c i;
+}
+
+-- ---- the flashes and contours with one more command
+
+-- the most is not passed by a count that goes no further than one more
+room_capped : (r k : ℕ) → nat_le (min r (suc max_regions) + k) max_regions ≡ nat_le (r + k) max_regions
+room_capped r k = elim (cases_order (min (r + k) (suc max_regions)) (suc max_regions)) [
+  | inl most ↦ test_no (min r (suc max_regions) + k) max_regions (omega (arith, most)) ∙ sym (test_no (r + k) max_regions (omega (arith, most)))
+  | inr (inl less) ↦ test_yes (min r (suc max_regions) + k) max_regions (omega (arith, less)) ∙ sym (test_yes (r + k) max_regions (omega (arith, less)))
+  | inr (inr more) ↦ absurd (omega (arith, more))
+]
+
+contours_capped : (s : CopperState) (c : Command) → contours_in (capped s) c ≡ contours_in s c
+contours_capped s command.RegionEnd =
+    ap (λ (room : Bool). option_map_or (shapes_at (draw_unit s.draw) s.block) (if s.draw.in_region && (not s.clearing.clear && room) then contour_of s.parts else None) []) (room_capped s.regions (copy_count s.block))
+contours_capped s c = refl
+
+added_capped : (s : CopperState) (flashes : List Flash) (c : Command) → added_features (capped s) flashes c ≡ added_features s flashes c
+added_capped s flashes c = ap (λ (pads : List GridRounded). map (flash_feature s) flashes ++ map contour_feature pads) (contours_capped s c)
+
+-- ---- a state that stands for another
+
+pub like_itself : (s : CopperState) → IsLike s s
+like_itself s = record { rest = refl; parts = λ more. refl }
+
+like_like : (s t u : CopperState) → IsLike s t → IsLike t u → IsLike s u
+like_like s t u h k = record { rest = ap (with_parts u.parts) h.rest ∙ k.rest; parts = λ more. h.parts more ∙ k.parts more }
+
+-- so it does after one more command
+after_like : (c : Command) (s t : CopperState) → IsLike s t → IsLike (after c s) (after c t)
+after_like c s t h = record {
+  rest = ap (λ (u : CopperState). with_parts (after c t).parts (after c u)) h.rest;
+  parts = λ more. by more (starts_region c);
+}
+  where
+    draws : s.draw ≡ t.draw
+    draws = ap (λ (u : CopperState). u.draw) h.rest
+
+    by : (more : List Part) (b : Bool) → contour_of ((if b then [] else s.parts ++ cons_option (part_by s.draw c) []) ++ more) ≡ contour_of ((if b then [] else t.parts ++ cons_option (part_by t.draw c) []) ++ more)
+    by more true = refl
+    by more false =
+        ap contour_of (append_assoc s.parts (cons_option (part_by s.draw c) []) more) ∙ h.parts (cons_option (part_by s.draw c) [] ++ more)
+        ∙ ap contour_of (sym (append_assoc t.parts (cons_option (part_by s.draw c) []) more))
+        ∙ ap (λ (d : DrawState). contour_of ((t.parts ++ cons_option (part_by d c) []) ++ more)) draws
+
+same_contour : (kept parts : List Part) → MakeSameContour kept parts → contour_of kept ≡ contour_of parts
+same_contour kept parts same = ap contour_of (sym (append-nil kept)) ∙ same [] ∙ ap contour_of (append-nil parts)
+
+-- the contours of a command are the same
+contours_like : (s t : CopperState) (c : Command) → IsLike s t → contours_in s c ≡ contours_in t c
+contours_like s t c h = by c ∙ ap (λ (u : CopperState). contours_in u c) h.rest
+  where
+    by : (d : Command) → contours_in s d ≡ contours_in (with_parts t.parts s) d
+    by command.RegionEnd = ap (λ (o : Option GridRounded). option_map_or (shapes_at (draw_unit s.draw) s.block) (if s.draw.in_region && (not s.clearing.clear && has_room s) then o else None) []) (same_contour s.parts t.parts h.parts)
+    by d = refl
+
+-- and so is what it adds
+added_like : (s t : CopperState) (flashes : List Flash) (c : Command) → IsLike s t → added_features s flashes c ≡ added_features t flashes c
+added_like s t flashes c h = λ i. map (flash_feature (h.rest i)) flashes ++ map contour_feature (contours_like s t c h i)
+
+clears_like : (s t : CopperState) (c : Command) → IsLike s t → clears_in s c ≡ clears_in t c
+clears_like s t c h = ap (λ (u : CopperState). clears_in u c) h.rest
+
+-- ---- one command more
+
+-- what a command draws was added, where that is asked for, or all that was drawn was taken away
+pub record IsDrawn (old : Copper) (c : Command) (drawn : Copper) : Type 0 where
+  pub parts : drawn.drawing.parts.items ≡ (if clears_in (copper_state old) c then [] else old.drawing.parts.items ++ (if old.drawing.asked then cons_option (dark_part (copper_state old) c) [] else []))
+  pub asked : drawn.drawing.asked ≡ old.drawing.asked
+  pub state : copper_state drawn ≡ copper_state old
+  pub kept : drawn.kept ≡ old.kept
+
+-- the flashes and contours of a command were added
+pub record IsAdded (old : Copper) (c : Command) (own : List Flash) (added : Copper) : Type 0 where
+  pub kept : (taken : List WidePad) (features : List Feature) → KeepsFeatures old.kept taken features → KeepsFeatures added.kept taken (features ++ added_features (copper_state old) own c)
+  pub rows : added.kept.rows ≡ old.kept.rows
+  pub state : copper_state added ≡ copper_state old
+  pub drawing : added.drawing ≡ old.drawing
+
+-- all of them were taken away where the command does
+pub record IsMarked (old : Copper) (c : Command) (marked : Copper) : Type 0 where
+  pub kept : (taken : List WidePad) (features : List Feature) → KeepsFeatures old.kept taken features → KeepsFeatures marked.kept taken (if clears_in (copper_state old) c then filter_map taken_away features else features)
+  pub rows : marked.kept.rows ≡ old.kept.rows
+  pub state : copper_state marked ≡ copper_state old
+  pub drawing : marked.drawing ≡ old.drawing
+
+-- the state stands for that after the command
+pub record IsAdvanced (old : Copper) (c : Command) (new : Copper) : Type 0 where
+  pub state : IsLike (copper_state new) (after c (copper_state old))
+  pub kept : new.kept ≡ old.kept
+  pub drawing : new.drawing ≡ old.drawing
+
+-- what is drawn and not taken away, with one more command
+uncleared_drawn-more : (before : List Command) (c : Command) → uncleared_drawn (before ++ c ∷ []) ≡ (if clears_all (before, c) then [] else uncleared_drawn before ++ cons_option (drawn_at (before, c)) [])
+uncleared_drawn-more before c = ap (filter_map drawn_at) (uncleared-more before c) ∙ by (clears_all (before, c))
+  where
+    by : (b : Bool) → filter_map drawn_at (if b then [] else uncleared before ++ (before, c) ∷ []) ≡ (if b then [] else filter_map drawn_at (uncleared before) ++ cons_option (drawn_at (before, c)) [])
+    by true = refl
+    by false = filter_map-append drawn_at (uncleared before) ((before, c) ∷ [])
+
+-- and where it is asked for
+drawn-more : (draws asked clears : Bool) (commands : List Command) (c : Command) (part : Option Drawn) (parts : List Drawn) → asked ≡ draws → clears ≡ clears_all (commands, c) → part ≡ drawn_at (commands, c) → parts ≡ (if draws then uncleared_drawn commands else [])
+    → (if clears then [] else parts ++ (if asked then cons_option part [] else [])) ≡ (if draws then uncleared_drawn (commands ++ c ∷ []) else [])
+drawn-more draws asked clears commands c part parts same clears_is part_is are =
+    (λ i. if clears_is i then [] else are i ++ (if same i then cons_option (part_is i) [] else [])) ∙ by draws (clears_all (commands, c)) refl
+  where
+    by : (b t : Bool) → clears_all (commands, c) ≡ t → (if t then [] else (if b then uncleared_drawn commands else []) ++ (if b then cons_option (drawn_at (commands, c)) [] else [])) ≡ (if b then uncleared_drawn (commands ++ c ∷ []) else [])
+    by true t e = ap (λ (u : Bool). if u then [] else uncleared_drawn commands ++ cons_option (drawn_at (commands, c)) []) (sym e) ∙ sym (uncleared_drawn-more commands c)
+    by false true e = refl
+    by false false e = refl
+
+-- these commands and one more were met
+pub met_more : (keep : Keep) (taken : List WidePad) (old drawn added marked new : Copper) (own : List Flash) (commands : List Command) (c : Command)
+    → HasMet keep taken old commands → own ≡ added_flashes (state_after commands) c → IsDrawn old c drawn → IsAdded drawn c own added → IsMarked added c marked → IsAdvanced marked c new → HasMet keep taken new (commands ++ c ∷ [])
+met_more keep taken old drawn added marked new own commands c met own_is is_drawn is_added is_marked advanced =
+    let then_state : CopperState = copper_state_after commands in
+    let features : List Feature = wide_features_of commands in
+    let more : List Feature = features_at (commands, c) in
+    let added_state : copper_state added ≡ copper_state old = is_added.state ∙ is_drawn.state in
+    let more_is : added_features (copper_state drawn) own c ≡ more =
+    (λ i. added_features (is_drawn.state i) (own_is i) c) ∙ added_like (copper_state old) (capped then_state) (added_flashes (state_after commands) c) c met.state ∙ added_capped then_state (added_flashes (state_after commands) c) c in
+    let clears : clears_in (copper_state added) c ≡ clears_all (commands, c) = ap (λ (s : CopperState). clears_in s c) added_state ∙ clears_like (copper_state old) (capped then_state) c met.state in
+    let state : IsLike (after c (copper_state marked)) (capped (copper_state_after (commands ++ c ∷ []))) =
+    subst (λ (s : CopperState). IsLike (after c s) (capped (copper_state_after (commands ++ c ∷ [])))) (sym (is_marked.state ∙ added_state))
+    (subst (IsLike (after c (copper_state old))) (sym (copper_state_after-more commands c)) (after_like c (copper_state old) (capped then_state) met.state)) in
+    let kept_drawn : KeepsFeatures drawn.kept taken features = subst (λ (k : KeptFeatures). KeepsFeatures k taken features) (sym is_drawn.kept) met.kept in
+    let kept_added : KeepsFeatures added.kept taken (features ++ more) = subst (λ (l : List Feature). KeepsFeatures added.kept taken (features ++ l)) more_is (is_added.kept taken features kept_drawn) in
+    let now : (if clears_in (copper_state added) c then filter_map taken_away (features ++ more) else features ++ more) ≡ wide_features_of (commands ++ c ∷ []) =
+    ap (λ (b : Bool). if b then filter_map taken_away (features ++ more) else features ++ more) clears ∙ sym (wide_features_of-more commands c) in
+    let kept_marked : KeepsFeatures marked.kept taken (wide_features_of (commands ++ c ∷ [])) = subst (KeepsFeatures marked.kept taken) now (is_marked.kept taken (features ++ more) kept_added) in
+    record {
+      state = like_like (copper_state new) (after c (copper_state marked)) (capped (copper_state_after (commands ++ c ∷ []))) advanced.state state;
+      rows = ap (λ (k : KeptFeatures). k.rows) advanced.kept ∙ is_marked.rows ∙ is_added.rows ∙ ap (λ (k : KeptFeatures). k.rows) is_drawn.kept ∙ met.rows;
+      kept = subst (λ (k : KeptFeatures). KeepsFeatures k taken (wide_features_of (commands ++ c ∷ []))) (sym advanced.kept) kept_marked;
+      asked = ap (λ (d : Drawing). d.asked) (advanced.drawing ∙ is_marked.drawing ∙ is_added.drawing) ∙ is_drawn.asked ∙ met.asked;
+      drawn = ap (λ (d : Drawing). d.parts.items) (advanced.drawing ∙ is_marked.drawing ∙ is_added.drawing) ∙ is_drawn.parts
+          ∙ drawn-more (keeps_drawn keep) old.drawing.asked (clears_in (copper_state old) c) commands c (dark_part (copper_state old) c) old.drawing.parts.items met.asked (clears_like (copper_state old) (capped then_state) c met.state)
+          (ap (λ (s : CopperState). dark_part s c) met.state.rest) met.drawn;
+    }
+
+-- ---- an operation that draws nothing and takes nothing away
+
+-- the flashes of an operation were added
+pub record IsFlashed (old : Copper) (own : List Flash) (added : Copper) : Type 0 where
+  pub kept : (taken : List WidePad) (features : List Feature) → KeepsFeatures old.kept taken features → KeepsFeatures added.kept taken (features ++ map (flash_feature (copper_state old)) own)
+  pub rows : added.kept.rows ≡ old.kept.rows
+  pub state : copper_state added ≡ copper_state old
+  pub drawing : added.drawing ≡ old.drawing
+
+-- the region and the pencil have gone on with an operation
+pub record IsMovedOn (added : Copper) (c : Command) (new : Copper) : Type 0 where
+  pub draw : draw_state new.pencil ≡ after_command c (draw_state added.pencil)
+  pub parts : MakeSameContour new.parts.items (added.parts.items ++ cons_option (part_by (draw_state added.pencil) c) [])
+  pub mirroring : new.mirroring ≡ added.mirroring
+  pub block : new.block ≡ added.block
+  pub regions : new.regions ≡ added.regions
+  pub clearing : new.clearing ≡ added.clearing
+  pub kept : new.kept ≡ added.kept
+  pub drawing : new.drawing ≡ added.drawing
+
+regions_stay : (r s : ℕ) → r ≡ min s (suc max_regions) → r ≡ min (r + 0) (suc max_regions)
+regions_stay r s h = omega (arith, h)
+
+no_clearing : (b d : Bool) → ((b && false) || (d && false)) ≡ false
+no_clearing true true = refl
+no_clearing true false = refl
+no_clearing false true = refl
+no_clearing false false = refl
+
+still_dark : (b : Bool) → false ≡ ((b && false) || false)
+still_dark true = refl
+still_dark false = refl
+
+-- an operation is no start of a region, so its part is added
+operation_stays : (added new : Copper) (a : Action) (x y i j : Option ℤ) → added.clearing.clear ≡ false → added.clearing.in_block ≡ false → added.regions ≡ min (added.regions + 0) (suc max_regions)
+    → IsMovedOn added (command.Operate a x y i j) new → IsLike (copper_state new) (after (command.Operate a x y i j) (copper_state added))
+operation_stays added new a x y i j dark fresh regions moved = record {
+  rest = λ k. record {
+    draw = moved.draw k;
+    mirroring = moved.mirroring k;
+    block = moved.block k;
+    parts = added.parts.items ++ cons_option (part_by (draw_state added.pencil) (command.Operate a x y i j)) [];
+    regions = (moved.regions ∙ regions) k;
+    clearing = (moved.clearing ∙ (λ l. record { clear = added.clearing.clear; in_block = (fresh ∙ still_dark (is_drawing a) ∙ (λ m. (is_drawing a && sym dark m) || sym fresh m)) l })) k;
+  };
+  parts = moved.parts;
+}
+
+-- these commands and an operation were met
+pub operation_more : (keep : Keep) (taken : List WidePad) (old added new : Copper) (own : List Flash) (commands : List Command) (a : Action) (x y i j : Option ℤ)
+    → old.drawing.asked ≡ false → old.clearing.clear ≡ false → old.clearing.in_block ≡ false
+    → HasMet keep taken old commands → own ≡ added_flashes (state_after commands) (command.Operate a x y i j) → IsFlashed old own added → IsMovedOn added (command.Operate a x y i j) new
+    → HasMet keep taken new (commands ++ command.Operate a x y i j ∷ [])
+operation_more keep taken old added new own commands a x y i j idle dark fresh met own_is flashed moved =
+    let c = command.Operate a x y i j in
+    let takes_nothing : clears_in (copper_state old) c ≡ false = (λ k. (is_drawing a && dark k) || (is_repeated old.block && fresh k)) ∙ no_clearing (is_drawing a) (is_repeated old.block) in
+    let now_dark : added.clearing.clear ≡ false = ap (λ (s : CopperState). s.clearing.clear) flashed.state ∙ dark in
+    let now_fresh : added.clearing.in_block ≡ false = ap (λ (s : CopperState). s.clearing.in_block) flashed.state ∙ fresh in
+    let regions : added.regions ≡ min (ended_regions commands) (suc max_regions) = ap (λ (s : CopperState). s.regions) flashed.state ∙ ap (λ (s : CopperState). s.regions) met.state.rest in
+    met_more keep taken old old added added new own commands c met own_is (record {
+      parts = sym (append-nil old.drawing.parts.items) ∙ (λ k. if sym takes_nothing k then [] else old.drawing.parts.items ++ (if sym idle k then cons_option (dark_part (copper_state old) c) [] else []));
+      asked = refl;
+      state = refl;
+      kept = refl;
+    }) (record {
+      kept = λ gone features h. subst (λ (l : List Feature). KeepsFeatures added.kept gone (features ++ l)) (sym (append-nil (map (flash_feature (copper_state old)) own))) (flashed.kept gone features h);
+      rows = flashed.rows;
+      state = flashed.state;
+      drawing = flashed.drawing;
+    }) (record {
+      kept = λ gone features h. subst (λ (b : Bool). KeepsFeatures added.kept gone (if b then filter_map taken_away features else features)) (sym ((λ k. (is_drawing a && now_dark k) || (is_repeated added.block && now_fresh k)) ∙ no_clearing (is_drawing a) (is_repeated added.block))) h;
+      rows = refl;
+      state = refl;
+      drawing = refl;
+    }) (record {
+      state = operation_stays added new a x y i j now_dark now_fresh (regions_stay added.regions (ended_regions commands) regions) moved;
+      kept = moved.kept;
+      drawing = moved.drawing;
+    })
+
+-- ---- a comment or an attribute
+
+-- a command that makes no flash, draws nothing, adds no contour and changes no state
+record IsIdle (c : Command) : Type 0 where
+  flashes : (commands : List Command) → [] ≡ added_flashes (state_after commands) c
+  draws : (s : DrawState) → drawn_by s c ≡ None
+  contours : (s : CopperState) → contours_in s c ≡ []
+  clears : (s : CopperState) → clears_in s c ≡ (is_repeated s.block && s.clearing.in_block)
+  stays : (s : CopperState) → s.regions ≡ min (s.regions + 0) (suc max_regions) → IsLike s (after c s)
+
+none_further : (parts : List Part) → MakeSameContour parts (parts ++ [])
+none_further parts = λ more. ap (λ (l : List Part). contour_of (l ++ more)) (sym (append-nil parts))
+
+-- a comment or an attribute is one
+text_idle : (kind : TextKind) (text : List ℕ) → IsIdle (text_command kind text)
+text_idle kinds.Comment text = record {
+  flashes = λ commands. refl;
+  draws = λ s. refl;
+  contours = λ s. refl;
+  clears = λ s. refl;
+  stays = λ s e. record { rest = λ i. record { draw = s.draw; mirroring = s.mirroring; block = s.block; parts = s.parts ++ []; regions = e i; clearing = s.clearing }; parts = none_further s.parts };
+}
+text_idle (kinds.Attribute which) text = record {
+  flashes = λ commands. refl;
+  draws = λ s. refl;
+  contours = λ s. refl;
+  clears = λ s. refl;
+  stays = λ s e. record { rest = λ i. record { draw = s.draw; mirroring = s.mirroring; block = s.block; parts = s.parts ++ []; regions = e i; clearing = s.clearing }; parts = none_further s.parts };
+}
+text_idle kinds.Remove text = record {
+  flashes = λ commands. refl;
+  draws = λ s. refl;
+  contours = λ s. refl;
+  clears = λ s. refl;
+  stays = λ s e. record { rest = λ i. record { draw = s.draw; mirroring = s.mirroring; block = s.block; parts = s.parts ++ []; regions = e i; clearing = s.clearing }; parts = none_further s.parts };
+}
+
+-- what another copy of the open block takes away was taken away
+pub record IsMarkedByCopies (old marked : Copper) : Type 0 where
+  pub kept : (taken : List WidePad) (features : List Feature) → KeepsFeatures old.kept taken features → KeepsFeatures marked.kept taken (if is_repeated old.block && old.clearing.in_block then filter_map taken_away features else features)
+  pub rows : marked.kept.rows ≡ old.kept.rows
+  pub state : copper_state marked ≡ copper_state old
+  pub parts : marked.drawing.parts.items ≡ (if is_repeated old.block && old.clearing.in_block then [] else old.drawing.parts.items)
+  pub asked : marked.drawing.asked ≡ old.drawing.asked
+
+-- nothing is drawn
+abbrev no_part : Option Drawn
+no_part = None
+
+nothing_drawn : (asked : Bool) (parts : List Drawn) (o : Option Drawn) → o ≡ None → parts ≡ parts ++ (if asked then cons_option o [] else [])
+nothing_drawn asked parts o h = sym (append-nil parts) ∙ ap (λ (l : List Drawn). parts ++ l) (by asked) ∙ ap (λ (d : Option Drawn). parts ++ (if asked then cons_option d [] else [])) (sym h)
+  where
+    by : (b : Bool) → [] ≡ (if b then cons_option no_part [] else [])
+    by true = refl
+    by false = refl
+
+-- nor in dark polarity
+no_dark : (clear : Bool) (o : Option Drawn) → o ≡ None → (if clear then no_part else o) ≡ None
+no_dark true o h = refl
+no_dark false o h = h
+
+-- these commands and a comment or an attribute were met
+pub text_more : (keep : Keep) (taken : List WidePad) (old marked : Copper) (commands : List Command) (kind : TextKind) (text : List ℕ) → HasMet keep taken old commands → IsMarkedByCopies old marked → HasMet keep taken marked (commands ++ text_command kind text ∷ [])
+text_more keep taken old marked commands kind text met is_marked =
+    let c = text_command kind text in
+    let idle = text_idle kind text in
+    let s = copper_state old in
+    let regions : marked.regions ≡ min (ended_regions commands) (suc max_regions) = ap (λ (t : CopperState). t.regions) (is_marked.state) ∙ ap (λ (t : CopperState). t.regions) met.state.rest in
+    let drawn : Copper = record {
+      alloc = old.alloc;
+      pencil = old.pencil;
+      mirroring = old.mirroring;
+      block = old.block;
+      parts = old.parts;
+      regions = old.regions;
+      clearing = old.clearing;
+      kept = old.kept;
+      drawing = marked.drawing;
+    } in
+    met_more keep taken old drawn drawn marked marked [] commands c met (idle.flashes commands) (record {
+      parts = is_marked.parts ∙ (λ k. if sym (idle.clears s) k then [] else nothing_drawn old.drawing.asked old.drawing.parts.items (dark_part s c) (no_dark s.clearing.clear (drawn_by s.draw c) (idle.draws s.draw)) k);
+      asked = is_marked.asked;
+      state = refl;
+      kept = refl;
+    }) (record {
+      kept = λ gone features h. subst (KeepsFeatures old.kept gone) (sym (append-nil features) ∙ ap (λ (l : List GridRounded). features ++ map contour_feature l) (sym (idle.contours s))) h;
+      rows = refl;
+      state = refl;
+      drawing = refl;
+    }) (record {
+      kept = λ gone features h. subst (λ (b : Bool). KeepsFeatures marked.kept gone (if b then filter_map taken_away features else features)) (sym (idle.clears s)) (is_marked.kept gone features h);
+      rows = is_marked.rows;
+      state = is_marked.state;
+      drawing = refl;
+    }) (record {
+      state = idle.stays (copper_state marked) (regions_stay marked.regions (ended_regions commands) regions);
+      kept = refl;
+      drawing = refl;
+    })
+
+-- and where that may fail
+pub text_met : {E : Type 0} (keep : Keep) (taken : List WidePad) (old marked : Copper) (commands : List Command) (kind : TextKind) (text : List ℕ) (r : Result (Unit {0}) E) → HasMet keep taken old commands
+    → ((gone : List WidePad) (features : List Feature) → KeepsFeatures old.kept gone features → OnOk r (KeepsFeatures marked.kept gone (if is_repeated old.block && old.clearing.in_block then filter_map taken_away features else features)))
+    → marked.kept.rows ≡ old.kept.rows → copper_state marked ≡ copper_state old → OnOk r (marked.drawing.parts.items ≡ (if is_repeated old.block && old.clearing.in_block then [] else old.drawing.parts.items)) → marked.drawing.asked ≡ old.drawing.asked
+    → OnOk r (HasMet keep taken marked (commands ++ text_command kind text ∷ []))
+text_met keep taken old marked commands kind text (Ok x) met kept rows state parts asked = text_more keep taken old marked commands kind text met (record { kept = kept; rows = rows; state = state; parts = parts; asked = asked })
+text_met keep taken old marked commands kind text (Err e) met kept rows state parts asked = tt
+
+-- the flashes of a command and its contours were added
+pub both_added : {E : Type 0} (taken : List WidePad) (features first second : List Feature) (new : KeptFeatures) (r : Result (Unit {0}) E) → OnOk r (KeepsFeatures new taken ((features ++ first) ++ second)) → OnOk r (KeepsFeatures new taken (features ++ (first ++ second)))
+both_added taken features first second new (Ok x) h = subst (KeepsFeatures new taken) (append_assoc features first second) h
+both_added taken features first second new (Err e) h = tt
+
+-- contours in the same state
+pub contours_of_same : {E : Type 0} (taken : List WidePad) (features : List Feature) (s t : CopperState) (c : Command) (new : KeptFeatures) (r : Result (Unit {0}) E) → s ≡ t → OnOk r (KeepsFeatures new taken (features ++ map contour_feature (contours_in s c)))
+    → OnOk r (KeepsFeatures new taken (features ++ map contour_feature (contours_in t c)))
+contours_of_same taken features s t c new r same h = subst (λ (u : CopperState). OnOk r (KeepsFeatures new taken (features ++ map contour_feature (contours_in u c)))) same h
+
+-- no command was met
+pub none_met : (keep : Keep) (copper : Copper) → copper_state copper ≡ capped (copper_state_after []) → copper.kept.rows ≡ keeps_rows keep → KeepsFeatures copper.kept [] [] → copper.drawing.asked ≡ keeps_drawn keep → copper.drawing.parts.items ≡ [] → HasMet keep [] copper []
+none_met keep copper state rows kept asked parts = record {
+  state = subst (λ (s : CopperState). IsLike s (capped (copper_state_after []))) (sym state) (like_itself (capped (copper_state_after [])));
+  rows = rows;
+  kept = kept;
+  asked = asked;
+  drawn = parts ∙ by (keeps_drawn keep);
+}
+  where
+    by : (b : Bool) → [] ≡ (if b then uncleared_drawn [] else [])
+    by true = refl
+    by false = refl

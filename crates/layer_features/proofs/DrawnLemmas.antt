@@ -1,0 +1,46 @@
+-- What one more command changes of what is drawn.
+use Rattle.std.proofs.Common.{◌≡◌, ◌∙◌, ℕ, List, [], ◌∷◌, ◌++◌, Option, pos, false, ap}
+use Rattle.std.specs.Option.{option_or}
+use Rattle.std.specs.List.{cons_option, filter_map}
+use Rattle.std.proofs.lemmas.List.Elements.{filter_map-append}
+use Rattle.grid_units.specs.Lists.{last_set, with_prefixes}
+use Rattle.grid_units.proofs.LookbackLemmas.{last_or-more, last_set-more, with_prefixes-append}
+use Rattle.gerber_commands.specs.declared.command.Command.{Command}
+use Rattle.gerber_commands.specs.declared.command.Interpolation.TheVariants.{Linear}
+use Rattle.gerber_items.specs.Pieces.{unit_scale}
+use Rattle.pad_shapes.specs.declared.drawn.Drawn.{Drawn}
+use Rattle.layer_features.specs.declared.drawn_apertures.DrawnAperture.{DrawnAperture}
+use Rattle.layer_state.specs.Lookback.{aperture_selected, region_set, scale_set, turn_set, unit_set, x_set, y_set}
+use Rattle.layer_features.specs.Drawn.{aperture_numbered, decimals_set, draw_state_after, drawn_aperture_set, drawn_by, drawn_of, macro_named, macro_set, mirror_set, mode_set, quadrant_set}
+use Rattle.layer_features.specs.Inner.Pencils.{after_command}
+
+-- the aperture of a number after one more command
+aperture_numbered-more : (before : List Command) (c : Command) (number : ℕ)
+    → aperture_numbered (before ++ c ∷ []) number ≡ option_or (drawn_aperture_set (last_set unit_set before) (macro_named before) number c) (aperture_numbered before number)
+aperture_numbered-more before c number =
+    let sets : List Command × Command → Option DrawnAperture = λ p. drawn_aperture_set (last_set unit_set p.0) (macro_named p.0) number p.1 in
+    ap (last_set sets) (with_prefixes-append before (c ∷ [])) ∙ last_set-more sets (with_prefixes before) (before, c)
+
+-- the state after one more command
+pub draw_state_after-more : (before : List Command) (c : Command) → draw_state_after (before ++ c ∷ []) ≡ after_command c (draw_state_after before)
+draw_state_after-more before c = λ i. record {
+  unit = last_set-more unit_set before c i;
+  decimals = last_or-more decimals_set 0 before c i;
+  in_region = last_or-more region_set false before c i;
+  mode = last_or-more mode_set Linear before c i;
+  quadrant = last_set-more quadrant_set before c i;
+  macros = λ name. last_set-more (macro_set name) before c i;
+  aperture = λ number. aperture_numbered-more before c number i;
+  selected = last_set-more aperture_selected before c i;
+  x = last_or-more x_set (pos 0) before c i;
+  y = last_or-more y_set (pos 0) before c i;
+  scale = last_or-more scale_set unit_scale before c i;
+  turn = last_or-more turn_set (pos 0) before c i;
+  mirrored = last_or-more mirror_set false before c i;
+}
+
+-- what is drawn with one more command
+pub drawn_of-more : (before : List Command) (c : Command) → drawn_of (before ++ c ∷ []) ≡ drawn_of before ++ cons_option (drawn_by (draw_state_after before) c) []
+drawn_of-more before c =
+    let draws : List Command × Command → Option Drawn = λ p. drawn_by (draw_state_after p.0) p.1 in
+    ap (filter_map draws) (with_prefixes-append before (c ∷ [])) ∙ filter_map-append draws (with_prefixes before) ((before, c) ∷ [])

@@ -1,0 +1,13 @@
+pub mod DrawnLemmas
+pub mod ClearingLemmas
+pub mod StandingLemmas
+pub mod KeptFeaturesLemmas
+pub mod CopperLemmas
+pub mod UnclearedPositions
+pub mod PointsLemmas
+pub mod CopiesLemmas
+pub mod ContourLemmas
+pub mod ShortRuns
+pub mod TurnsLemmas
+pub mod ForgettingLemmas
+pub mod DarkLayers

@@ -1,0 +1,15 @@
+use Rattle.std.proofs.Common.{◌≡◌, false, not, get_or, ap, sym, ◌∙◌, arith, below_more}
+use Rattle.std.proofs.lemmas.List.{get_or_default}
+use Rattle.std.proofs.lemmas.List.Sums.{prefix_len_is}
+use Rattle.layer_features.specs.declared.part.Part.TheVariants as part
+use Rattle.layer_features.specs.Contours.{is_move, is_no_move}
+use Rattle.layer_features.proofs.contour.leading_sides.Goals as goal
+
+pub loop-i-preserved : goal.loop-i-preserved
+loop-i-preserved c = below_more (λ k. is_move (get_or c.args.parts.now k part.Other) ≡ false) c.loop-i.i c.loop-i.invariant (ap is_move (get_or_default c.args.parts.now c.loop-i.i part.Other c.index-parts-i.result (omega arith) ∙ sym c.index-parts-i.is) ∙ sym c.is_move.ensures ∙ c.if-is_move.false)
+
+pub returns-then-is_move-clause-len : goal.returns-then-is_move-clause-len
+returns-then-is_move-clause-len c = sym (prefix_len_is is_no_move c.args.parts.now c.loop-i.i part.Other (omega arith) (λ k lt. ap not (c.loop-i.invariant k lt)) (λ _. ap not (ap is_move (get_or_default c.args.parts.now c.loop-i.i part.Other c.index-parts-i.result (omega arith) ∙ sym c.index-parts-i.is) ∙ sym c.is_move.ensures ∙ c.if-is_move.true)))
+
+pub returns-clause-len : goal.returns-clause-len
+returns-clause-len c = sym (prefix_len_is is_no_move c.args.parts.now _ part.Other (omega arith) (λ k lt. ap not (c.loop-i.invariant k (omega arith))) (λ lt. absurd (omega arith)))

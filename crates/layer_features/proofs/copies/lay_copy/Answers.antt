@@ -1,0 +1,19 @@
+-- The copy has a shape where it may lie there.
+use Rattle.std.proofs.Common.{◌≡◌, ◌∙◌, ◌++◌, ◌∷◌, [], List, Option, Some, map, ap, subst, sym}
+use Rattle.std.specs.List.{cons_option}
+use Rattle.pad_shapes.specs.Placed.{shape_at}
+use Rattle.pad_shapes.specs.Rounded.{GridRounded}
+use Rattle.layer_features.specs.declared.feature.Feature.{Feature}
+use Rattle.layer_state.specs.Placing.{copy_in}
+use Rattle.layer_features.specs.Features.{contour_feature}
+use Rattle.layer_features.specs.Kept.{KeepsFeatures}
+use Rattle.layer_features.proofs.CopiesLemmas.{back}
+use Rattle.layer_features.proofs.copies.lay_copy.Goals as goal
+
+pub returns-in_ok-add-clause-kept : goal.returns-in_ok-add-clause-kept
+returns-in_ok-add-clause-kept c taken features h =
+    let contour = c.args.contour.now in
+    let found : Some c.in-Some.pad ≡ shape_at contour (copy_in c.args.unit c.args.block.now c.args.u c.args.v) =
+    sym c.in-Some.is ∙ c.in_ok-pad.ensures ∙ (λ i. shape_at contour (record { x = (back c.stepped-x.result c.stepped-x.ensures.bound ∙ c.stepped-x.ensures.value) i; y = (back c.stepped-y.result c.stepped-y.ensures.bound ∙ c.stepped-y.ensures.value) i })) in
+    subst (λ (o : Option GridRounded). KeepsFeatures c.add.new.self taken (features ++ map contour_feature (cons_option o []))) found
+    (subst (λ (f : Feature). KeepsFeatures c.add.new.self taken (features ++ f ∷ [])) c.contour_feature.ensures (c.in_ok-add.ensures.kept taken features h))

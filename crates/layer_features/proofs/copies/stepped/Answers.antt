@@ -1,0 +1,16 @@
+-- The product fits in 128 bits.
+use Rattle.std.proofs.Common.{◌∙◌, ◌<◌, ◌≤◌, ◌^◌, ◌*ℤ◌, pos, unsigned_abs, arith, sym, subst, ℤ}
+use Rattle.layer_features.proofs.CopiesLemmas.{stepped_is, steps_bound}
+use Rattle.layer_features.proofs.copies.stepped.Goals as goal
+
+pub returns-clause-value : goal.returns-clause-value
+returns-clause-value c =
+    let few : c.args.count < 2 ^ 32 = omega arith in
+    stepped_is c.dec_length.result c.from.result c.args.count c.from.ensures c.dec_length.ensures.bound few
+    ∙ (λ i. pos c.args.count *ℤ c.dec_length.ensures.value i)
+
+pub returns-clause-bound : goal.returns-clause-bound
+returns-clause-bound c =
+    let few : c.args.count < 2 ^ 32 = omega arith in
+    let is = stepped_is c.dec_length.result c.from.result c.args.count c.from.ensures c.dec_length.ensures.bound few in
+    subst (λ (z : ℤ). unsigned_abs z ≤ 2 ^ 104) (sym is) (steps_bound c.dec_length.result c.args.count c.dec_length.ensures.bound few)

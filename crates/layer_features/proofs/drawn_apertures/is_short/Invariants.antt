@@ -1,0 +1,6 @@
+use Rattle.std.proofs.Common.{◌≡◌, ◌+◌, take}
+use Rattle.layer_features.specs.Drawn.{macro_len}
+use Rattle.layer_features.proofs.drawn_apertures.is_short.Given as goal
+
+abbrev pub invariant-loop-text : goal.invariant-loop-text
+invariant-loop-text l = l.left + macro_len (take l.text-index l.texts) ≡ 4096

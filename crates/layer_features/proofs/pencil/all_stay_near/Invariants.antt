@@ -1,0 +1,7 @@
+use Rattle.std.proofs.Common.{◌≡◌, true, take}
+use Rattle.std.specs.List.{list_all}
+use Rattle.layer_features.specs.Drawn.{stays_near}
+use Rattle.layer_features.proofs.pencil.all_stay_near.Given as goal
+
+abbrev pub invariant-loop-corner : goal.invariant-loop-corner
+invariant-loop-corner l = list_all (stays_near l.at) (take l.corner-index l.corners) ≡ true

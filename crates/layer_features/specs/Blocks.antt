@@ -1,0 +1,27 @@
+-- Step and repeat blocks (Gerber format, Step and repeat SR).
+use Rattle.std.specs.Prelude.{ℕ, ◌*◌, Bool, nat_lt, List, unwrap_or, is_some}
+use Rattle.grid_units.specs.Lists.{last_set}
+use Rattle.gerber_commands.specs.declared.command.StepRepeat.{StepRepeat}
+use Rattle.gerber_commands.specs.declared.command.Command.{Command}
+use Rattle.layer_state.specs.Lookback.{block_set, no_repeat}
+use Rattle.layer_features.specs.AfterLast.{after_last}
+
+-- the block that is open after these commands
+abbrev pub block_after : List Command → StepRepeat
+block_after before = unwrap_or (last_set block_set before) no_repeat
+
+-- how many copies a block makes of each of its objects (Gerber format, Step and repeat SR)
+abbrev pub copy_count : StepRepeat → ℕ
+copy_count block = block.columns * block.rows
+
+-- a block makes more than one copy of each of its objects
+abbrev pub is_repeated : StepRepeat → Bool
+is_repeated block = nat_lt 1 (copy_count block)
+
+-- a block starts or ends (Gerber format, Step and repeat SR)
+abbrev pub changes_block : Command → Bool
+changes_block c = is_some (block_set c)
+
+-- the commands of the block that is open, each with all commands before it
+abbrev pub in_open_block : List (List Command × Command) → List (List Command × Command)
+in_open_block positions = after_last (λ p. changes_block p.1) positions

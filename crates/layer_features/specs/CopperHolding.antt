@@ -1,0 +1,40 @@
+-- What further copper holds of the commands that it has met.
+use Rattle.std.specs.Prelude.{◌≡◌, Bool, List, [], ◌++◌, if◌then◌else◌}
+use Rattle.gerber_commands.specs.declared.command.Command.{Command}
+use Rattle.pad_shapes.specs.declared.wide_pad.WidePad.{WidePad}
+use Rattle.layer_features.specs.DrawnCopper.{uncleared_drawn}
+use Rattle.layer_features.specs.Features.{counts_of, pads_of, wide_features_of}
+use Rattle.layer_features.specs.FurtherPads.{copper_state_after}
+use Rattle.layer_features.specs.Inner.States.{IsLike, capped, copper_state}
+use Rattle.layer_features.specs.Kept.{KeepsFeatures, keeps_drawn, keeps_rows, left_pads}
+use Rattle.layer_features.specs.declared.copper.Copper.{Copper}
+use Rattle.layer_features.specs.declared.copper.CopperParts.{CopperParts}
+use Rattle.layer_features.specs.declared.keep.Keep.{Keep}
+
+-- Just these commands were met, and these pads were taken out on the way: the state is that of the commands, of their flashes and contours is
+-- held what is asked for, and what is drawn that is not taken away is kept where that is asked for.
+pub record HasMet (keep : Keep) (taken : List WidePad) (copper : Copper) (commands : List Command) : Type 0 where
+  pub state : IsLike (copper_state copper) (capped (copper_state_after commands))
+  pub rows : copper.kept.rows ≡ keeps_rows keep
+  pub kept : KeepsFeatures copper.kept taken (wide_features_of commands)
+  pub asked : copper.drawing.asked ≡ keeps_drawn keep
+  pub drawn : copper.drawing.parts.items ≡ (if keeps_drawn keep then uncleared_drawn commands else [])
+
+-- the pads that are held
+abbrev pub copper_pads : Copper → List WidePad
+copper_pads copper = copper.kept.pads.items
+
+-- clear polarity took away the pads that were taken out before
+abbrev pub forgets_pads : Copper → Bool
+forgets_pads copper = copper.kept.forgets
+
+-- what is left of the pads that were taken out before, and those that are held
+abbrev pub standing_pads : Copper → List WidePad → List WidePad
+standing_pads copper taken = left_pads copper.kept taken ++ copper_pads copper
+
+-- what is kept of these commands, where this is left of the pads that were taken out
+pub record IsCopperOf (keep : Keep) (left : List WidePad) (commands : List Command) (parts : CopperParts) : Type 0 where
+  pub features : parts.features.items ≡ (if keeps_rows keep then wide_features_of commands else [])
+  pub pads : left ++ parts.pads.items ≡ (if keeps_rows keep then [] else pads_of (wide_features_of commands))
+  pub drawn : parts.drawn.items ≡ (if keeps_drawn keep then uncleared_drawn commands else [])
+  pub counts : parts.counts ≡ counts_of (wide_features_of commands)

@@ -1,0 +1,120 @@
+-- The further copper that counts as pads: the flashes of macros that have a shape, and the contours of regions that are convex polygons,
+-- each by the state that its command meets (docs/FORMATS.md, Further copper).
+use Rattle.std.specs.Prelude.{ℕ, ◌+◌, Bool, not, ◌&&◌, ◌||◌, nat_le, List, [], Option, None, Some, is_none, unwrap_or, option_and_then, if◌then◌else◌}
+use Rattle.std.specs.Ordering.{int_eq}
+use Rattle.std.specs.Option.{option_map_or}
+use Rattle.std.specs.List.{list_any, sum_by}
+use Rattle.grid_units.specs.Points.{GridPoint}
+use Rattle.grid_units.specs.Lists.{last_set, with_prefixes}
+use Rattle.pad_shapes.specs.Rounded.{GridRounded}
+use Rattle.macro_shapes.specs.Primitives.{quarter_turns}
+use Rattle.gerber_commands.specs.declared.command.StepRepeat.{StepRepeat}
+use Rattle.gerber_commands.specs.declared.command.Command.{Command}
+use Rattle.gerber_commands.specs.declared.command.Command.TheVariants as command
+use Rattle.gerber_items.specs.Pieces.{unit_scale}
+use Rattle.pad_shapes.specs.declared.row.Why.{Why}
+use Rattle.pad_shapes.specs.declared.row.Why.TheVariants as why
+use Rattle.layer_features.specs.Drawn.{DrawState, draw_state_after, draw_unit, selected_aperture, shape_in}
+use Rattle.pad_shapes.specs.Placed.{shape_at}
+use Rattle.layer_features.specs.declared.clearing.Clearing.{Clearing}
+use Rattle.layer_state.specs.declared.mirroring.Mirroring.{Mirroring}
+use Rattle.layer_features.specs.declared.part.Part.{Part}
+use Rattle.layer_features.specs.Blocks.{block_after, copy_count, in_open_block, is_repeated}
+use Rattle.layer_features.specs.Clearing.{draws, is_clear_after, is_clearing}
+use Rattle.layer_state.specs.Placing.{no_mirroring, oriented_shape, shapes_at}
+use Rattle.layer_features.specs.Contours.{contour_of, region_parts}
+
+-- ---- the state that a command meets
+
+-- flashes are mirrored along these axes: along x by `%LMX*%` (Gerber format, Load mirroring LM)
+abbrev pub mirroring_set : Command → Option Mirroring
+mirroring_set (command.Mirror x y) = Some (record { x = x; y = y })
+mirroring_set _ = None
+
+-- the copies of the region that a command ends, in this block; none of any other command
+abbrev pub ended_copies : StepRepeat → Command → ℕ
+ended_copies block command.RegionEnd = copy_count block
+ended_copies block _ = 0
+
+-- the most regions of a layer, of any kind and each copy counted: only the contours of the first ones count as pads
+abbrev pub max_regions : ℕ
+max_regions = 4194304
+
+-- how the flashes after these commands are mirrored
+abbrev pub mirroring_after : List Command → Mirroring
+mirroring_after before = unwrap_or (last_set mirroring_set before) no_mirroring
+
+-- polarity after these commands, and whether something of the block that is open was drawn in clear polarity
+abbrev pub clearing_after : List Command → Clearing
+clearing_after before = record { clear = is_clear_after before; in_block = list_any is_clearing (in_open_block (with_prefixes before)) }
+
+-- how many regions ended, each copy counted
+abbrev pub ended_regions : List Command → ℕ
+ended_regions before = sum_by (λ p. ended_copies (block_after p.0) p.1) (with_prefixes before)
+
+-- the state that a command meets: what draws need, the axes that are mirrored, the block, the parts of the last region, how many
+-- regions ended, and polarity
+pub record CopperState : Type 0 where
+  pub draw : DrawState
+  pub mirroring : Mirroring
+  pub block : StepRepeat
+  pub parts : List Part
+  pub regions : ℕ
+  pub clearing : Clearing
+
+-- each field, by looking back over the commands
+abbrev pub copper_state_after : List Command → CopperState
+copper_state_after before = record {
+  draw = draw_state_after before;
+  mirroring = mirroring_after before;
+  block = block_after before;
+  parts = region_parts before;
+  regions = ended_regions before;
+  clearing = clearing_after before;
+}
+
+-- ---- what a command adds
+
+-- the shape of the macro that is selected, as it is defined
+abbrev pub macro_shape : CopperState → Option GridRounded
+macro_shape s = option_and_then shape_in (selected_aperture s.draw)
+
+-- the shape that the selected aperture flashes, about the point of the flash: that of a macro, while flashes keep their size and are
+-- turned by quarters (Gerber format, Aperture transformations LP, LM, LR, LS)
+abbrev pub flash_shape : CopperState → Option GridRounded
+flash_shape s =
+    if int_eq s.draw.scale unit_scale
+    then option_and_then (λ turns. option_and_then (oriented_shape s.mirroring turns) (macro_shape s)) (quarter_turns s.draw.turn) else None
+
+-- why the flash of a macro whose shape is known is no pad: first it is scaled, then it is turned by no multiple of 90 degrees
+abbrev pub why_of_shape : CopperState → Why
+why_of_shape s = if not (int_eq s.draw.scale unit_scale) then why.Scaled else if is_none (quarter_turns s.draw.turn) then why.Turned else why.Macro
+
+-- why the flash of the selected macro is no pad: first its shape is not known
+abbrev pub macro_why : CopperState → Why
+macro_why s = if is_none (macro_shape s) then why.Macro else why_of_shape s
+
+-- the pad of the selected macro's flash at a point, where its shape may lie there
+abbrev pub flashed_pad : CopperState → GridPoint → Option GridRounded
+flashed_pad s at = option_and_then (λ shape. shape_at shape at) (flash_shape s)
+
+-- the regions that ended and the copies of one more are no more than the most
+abbrev pub has_room : CopperState → Bool
+has_room s = nat_le (s.regions + copy_count s.block) max_regions
+
+-- the contour of the region that ends here, where it counts as a pad; in clear polarity it does not
+abbrev pub region_contour : CopperState → Option GridRounded
+region_contour s = if s.draw.in_region && (not s.clearing.clear && has_room s) then contour_of s.parts else None
+
+-- the contour that a command ends, where it counts as a pad
+abbrev pub contour_by : CopperState → Command → Option GridRounded
+contour_by s command.RegionEnd = region_contour s
+contour_by s _ = None
+
+-- the pads of a command that ends a region: its contour at each copy (Gerber format, Step and repeat SR)
+abbrev pub contours_in : CopperState → Command → List GridRounded
+contours_in s c = option_map_or (shapes_at (draw_unit s.draw) s.block) (contour_by s c) []
+
+-- at this command all is taken away that was drawn before it
+abbrev pub clears_in : CopperState → Command → Bool
+clears_in s c = (draws c && s.clearing.clear) || (is_repeated s.block && s.clearing.in_block)

@@ -1,0 +1,4 @@
+pub mod Pencils
+pub mod Forgetting
+pub mod States
+pub mod Turns

@@ -1,0 +1,13 @@
+pub mod Drawn
+pub mod AfterLast
+pub mod Arcs
+pub mod Blocks
+pub mod Clearing
+pub mod Contours
+pub mod DrawnCopper
+pub mod FurtherPads
+pub mod Features
+pub mod Kept
+pub mod CopperHolding
+pub mod CopperLaws
+pub mod Inner

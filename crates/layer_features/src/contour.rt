@@ -1,0 +1,187 @@
+//! The contour of a region, where it counts as a pad.
+
+ghost use Rattle.std.specs.Prelude.{◌≡◌, ◌≤◌, ◌∷◌, IfOk, option_map, length, reverse};
+ghost use Rattle.std.specs.List.{list_all, list_any};
+ghost use Rattle.std.specs.Option.{option_copied};
+ghost use Rattle.layer_features.specs.Contours.{after_moves, clockwise_round, contour_of, counterclockwise_round, ends_of, is_clockwise, is_counterclockwise, is_move, leading_moves, leading_sides, points_of, polygon_by, polygon_of_sides, sides_of};
+
+use crate::part::Part;
+use grid_units::Point;
+use macro_shapes::polygon_round;
+use pad_shapes::Rounded;
+use std::alloc::{AllocError, Global};
+
+/// How many moves stand first.
+fn leading_moves(parts: &[Part]) -> usize
+    ensures within { result ≤ length parts.now }
+    ensures len { result ≡ leading_moves parts.now }
+{
+    for (i, part) in parts.iter().enumerate() {
+        if !part.is_move() {
+            return i;
+        }
+    }
+    parts.len()
+}
+
+/// How many parts that are no moves stand first.
+fn leading_sides(parts: &[Part]) -> usize
+    ensures within { result ≤ length parts.now }
+    ensures len { result ≡ leading_sides parts.now }
+{
+    for (i, part) in parts.iter().enumerate() {
+        if part.is_move() {
+            return i;
+        }
+    }
+    parts.len()
+}
+
+/// Whether all parts are moves.
+fn are_moves(parts: &[Part]) -> bool
+    ensures { result ≡ list_all is_move parts.now }
+{
+    for part in parts {
+        if !part.is_move() {
+            return false;
+        }
+    }
+    true
+}
+
+/// The sides of a region's one contour.
+fn sides_of(parts: &[Part]) -> Option<&[Part]>
+    ensures { option_copied result ≡ sides_of parts.now }
+{
+    let moves = leading_moves(parts);
+    let rest = &parts[moves..];
+    let sides = leading_sides(rest);
+    if moves == 0 || !are_moves(&rest[sides..]) {
+        return None;
+    }
+    Some(&rest[..sides])
+}
+
+/// The start of a contour and the points where its sides end, where each part is a side.
+fn ends_of(alloc: Global, start: Point, sides: &[Part]) -> Result<Option<Vec<Point>>, AllocError>
+    ensures { IfOk result (λ answer. option_map (λ points. points.items) answer ≡ option_map (λ rest. start ∷ rest) (ends_of sides.now)) }
+{
+    let mut points = Vec::new(alloc);
+    points.push(start)?;
+    let mut left = sides;
+    while let [side, rest @ ..] = left {
+        let Some(end) = side.end() else {
+            return Ok(None);
+        };
+        points.push(end)?;
+        left = rest;
+    }
+    Ok(Some(points))
+}
+
+/// The points of a contour, from the start of its first side.
+pub(crate) fn points_of(alloc: Global, sides: &[Part]) -> Result<Option<Vec<Point>>, AllocError>
+    ensures { IfOk result (λ answer. option_map (λ points. points.items) answer ≡ points_of sides.now) }
+{
+    let Some(first) = sides.first() else {
+        return Ok(None);
+    };
+    match first.start() {
+        Some(start) => ends_of(alloc, start, sides),
+        None => Ok(None),
+    }
+}
+
+/// Whether some part is an arc clockwise.
+fn has_clockwise(sides: &[Part]) -> bool
+    ensures { result ≡ list_any is_clockwise sides.now }
+{
+    for side in sides {
+        if side.is_clockwise() {
+            return true;
+        }
+    }
+    false
+}
+
+/// Whether some part is an arc counterclockwise.
+fn has_counterclockwise(sides: &[Part]) -> bool
+    ensures { result ≡ list_any is_counterclockwise sides.now }
+{
+    for side in sides {
+        if side.is_counterclockwise() {
+            return true;
+        }
+    }
+    false
+}
+
+/// The polygon that points go round counterclockwise, where no side is an arc the other way.
+fn counterclockwise_round(
+    alloc: Global,
+    sides: &[Part],
+    points: &[Point],
+) -> Result<Option<Rounded>, AllocError>
+    ensures { IfOk result (λ answer. answer ≡ counterclockwise_round sides.now points.now) }
+{
+    if has_clockwise(sides) {
+        return Ok(None);
+    }
+    polygon_round(alloc, points)
+}
+
+/// The polygon that points go round clockwise, where no side is an arc the other way.
+fn clockwise_round(
+    alloc: Global,
+    sides: &[Part],
+    points: &[Point],
+) -> Result<Option<Rounded>, AllocError>
+    ensures { IfOk result (λ answer. answer ≡ clockwise_round sides.now points.now) }
+{
+    if has_counterclockwise(sides) {
+        return Ok(None);
+    }
+    let back = reversed(alloc, points)?;
+    polygon_round(alloc, &back)
+}
+
+/// Points from the last one back.
+fn reversed(alloc: Global, points: &[Point]) -> Result<Vec<Point>, AllocError>
+    ensures { IfOk result (λ found. found.items ≡ reverse points.now) }
+{
+    points.iter().rev().copied().collect(alloc)
+}
+
+/// The polygon that points go round either way.
+fn polygon_by(
+    alloc: Global,
+    sides: &[Part],
+    points: &[Point],
+) -> Result<Option<Rounded>, AllocError>
+    ensures { IfOk result (λ answer. answer ≡ polygon_by sides.now points.now) }
+{
+    match counterclockwise_round(alloc, sides, points)? {
+        Some(found) => Ok(Some(found)),
+        None => clockwise_round(alloc, sides, points),
+    }
+}
+
+/// The convex polygon that these sides go round once.
+fn polygon_of_sides(alloc: Global, sides: &[Part]) -> Result<Option<Rounded>, AllocError>
+    ensures { IfOk result (λ answer. answer ≡ polygon_of_sides sides.now) }
+{
+    match points_of(alloc, sides)? {
+        Some(points) => polygon_by(alloc, sides, &points),
+        None => Ok(None),
+    }
+}
+
+/// The convex polygon of a region with these parts, where its one contour goes round one.
+pub(crate) fn contour_of(alloc: Global, parts: &[Part]) -> Result<Option<Rounded>, AllocError>
+    ensures { IfOk result (λ answer. answer ≡ contour_of parts.now) }
+{
+    match sides_of(parts) {
+        Some(sides) => polygon_of_sides(alloc, sides),
+        None => Ok(None),
+    }
+}

@@ -1,0 +1,79 @@
+//! How many flashes and contours there are of each kind.
+
+ghost use Rattle.std.specs.Prelude.{◌≡◌, ◌+◌, ◌++◌, [], ◌∷◌, List, IfOk};
+ghost use Rattle.std.specs.List.{filter_map};
+ghost use Rattle.layer_features.specs.Features.{counts_of, taken_away};
+ghost use Rattle.layer_features.specs.declared.feature.Feature.{Feature as TheFeature};
+
+use crate::feature::{Feature, FeatureKind};
+use std::alloc::AllocError;
+
+/// How many flashes and contours there are of each kind.
+#[derive(Clone, Copy, Debug, PartialEq, Eq)]
+pub struct FeatureCounts {
+    /// Flashes that are pads.
+    pub flashed: usize,
+    /// Contours that count as pads.
+    pub contours: usize,
+    /// Flashes that are no pads.
+    pub other: usize,
+}
+
+/// A sum of counts. One past the range of a count is a failure, which no layer reaches: it has some millions of flashes and contours at most.
+fn sum(a: usize, b: usize) -> Result<usize, AllocError>
+    ensures { IfOk result (λ sum. sum ≡ a + b) }
+{
+    match a.checked_add(b) {
+        Some(sum) => Ok(sum),
+        None => Err(AllocError),
+    }
+}
+
+impl FeatureCounts {
+    /// The counts of no flash and no contour.
+    pub(crate) fn none() -> FeatureCounts
+        ensures { result ≡ counts_of [] }
+    {
+        FeatureCounts {
+            flashed: 0,
+            contours: 0,
+            other: 0,
+        }
+    }
+
+    /// The counts with one more.
+    pub(crate) fn with(self, feature: &Feature) -> Result<FeatureCounts, AllocError>
+        ensures { (features : List TheFeature) → self ≡ counts_of features → IfOk result (λ counts. counts ≡ counts_of (features ++ feature.now ∷ [])) }
+    {
+        let FeatureCounts {
+            mut flashed,
+            mut contours,
+            mut other,
+        } = self;
+        match &feature.what {
+            FeatureKind::Pad(_) => flashed = sum(flashed, 1)?,
+            FeatureKind::Contour(_) => contours = sum(contours, 1)?,
+            FeatureKind::Other(_)
+            | FeatureKind::Macro(_)
+            | FeatureKind::Clear
+            | FeatureKind::Cleared => other = sum(other, 1)?,
+        }
+        Ok(FeatureCounts {
+            flashed,
+            contours,
+            other,
+        })
+    }
+
+    /// The counts of what is left where clear polarity takes all away.
+    pub(crate) fn taken_away(self) -> Result<FeatureCounts, AllocError>
+        ensures { (features : List TheFeature) → self ≡ counts_of features → IfOk result (λ left. left ≡ counts_of (filter_map taken_away features)) }
+    {
+        let other = sum(self.flashed, self.other)?;
+        Ok(FeatureCounts {
+            flashed: 0,
+            contours: 0,
+            other,
+        })
+    }
+}

@@ -1,0 +1,35 @@
+-- What the commands so far make of a layer, with more of them.
+use Rattle.std.proofs.Common.{◌≡◌, ◌∙◌, ◌++◌, List, [], Bool, Option, None, Some, Result, Ok, Err, OnOk, map, refl, sym, ap, append-nil}
+use Rattle.std.proofs.lemmas.List.{map-append}
+use Rattle.grid_units.specs.declared.profile.Profile.{Profile}
+use Rattle.gerber_text.specs.Reading.{Entries}
+use Rattle.pad_shapes.specs.declared.pad.Pad.{Pad}
+use Rattle.pad_shapes.specs.declared.wide_pad.WidePad.{WidePad}
+use Rattle.layer_state.specs.Holding.{HasScannedLegal, scanned_pads}
+use Rattle.layer_state.specs.KeptFlashes.{KeptParts, taking_pads, without_pads}
+use Rattle.layer_features.specs.declared.keep.Keep.{Keep}
+use Rattle.layer_state.specs.declared.scan.Scan.{Scan}
+use Rattle.layer_image.specs.Holding.{HasScannedFor}
+use Rattle.layer_image.specs.Kept.{plain}
+
+-- a scan that goes on with more commands
+pub flashes_on : {E : Type 0} (profile : Profile) (of : Keep) (taken : List WidePad) (old new : Scan) (before after : Entries) (r : Result (Unit {0}) E) → HasScannedFor profile of taken old before
+    → ((parts : KeptParts) → HasScannedLegal old parts before → OnOk r (HasScannedLegal new parts after)) → OnOk r (HasScannedFor profile of taken new after)
+flashes_on profile of taken old new before after (Ok x) h on = record { kept = h.kept; is = h.is; plain_taken = h.plain_taken; same = h.same; scanned = on (without_pads h.kept h.plain_taken) h.scanned }
+flashes_on profile of taken old new before after (Err e) h on = tt
+
+-- a fact that stays, and what goes on
+pub and_on : {P E : Type 0} (Q : Type 0) (r : Result (Unit {0}) E) → P → OnOk r Q → OnOk r (P × Q)
+and_on Q (Ok x) p q = (p, q)
+and_on Q (Err e) p q = tt
+
+-- the pads that are held are taken out too
+pub flashes_taken : (profile : Profile) (of : Keep) (taken : List WidePad) (old new : Scan) (before : Entries) → HasScannedFor profile of taken old before → ((parts : KeptParts) → HasScannedLegal old parts before → HasScannedLegal new (taking_pads parts old.state.state.flashes) before)
+    → HasScannedFor profile of (taken ++ (map plain (scanned_pads old) ++ [])) new before
+flashes_taken profile of taken old new before h gone = record {
+  kept = h.kept;
+  is = h.is;
+  plain_taken = h.plain_taken ++ scanned_pads old;
+  same = (λ i. h.same i ++ append-nil (map plain (scanned_pads old)) i) ∙ sym (map-append plain h.plain_taken (scanned_pads old));
+  scanned = gone (without_pads h.kept h.plain_taken) h.scanned;
+}

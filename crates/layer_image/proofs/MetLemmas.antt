@@ -1,0 +1,70 @@
+-- The flashes of one command more, and the commands of an operation that was passed.
+use Rattle.std.proofs.Common.{◌≡◌, ◌∙◌, ℕ, List, [], ◌∷◌, ◌++◌, drop, length, Option, None, Some, sym, ap, subst, append-nil, append_assoc}
+use Rattle.std.proofs.lemmas.List.{map-append}
+use Rattle.gerber_commands.specs.declared.command.Command.{Command}
+use Rattle.gerber_commands.specs.declared.command.Command.TheVariants.{Mode}
+use Rattle.gerber_commands.specs.declared.command.Interpolation.{Interpolation}
+use Rattle.gerber_commands.specs.Rows.{modes_of}
+use Rattle.gerber_text.specs.FastPath.{text_command}
+use Rattle.gerber_text.specs.declared.placed.Placed.{Placed}
+use Rattle.gerber_text.specs.declared.text_items.TextKind.{TextKind}
+use Rattle.gerber_text.specs.declared.text_items.TextKind.TheVariants as kinds
+use Rattle.gerber_text.specs.Reading.{Entries, placed}
+use Rattle.gerber_text.specs.Writing.{without_places}
+use Rattle.gerber_text.proofs.SpelledIsWritten.{bare}
+use Rattle.layer_state.specs.declared.flash.Flash.{Flash}
+use Rattle.layer_state.specs.declared.scan.Scan.{Scan}
+use Rattle.layer_state.specs.Flashes.{added_flashes, flashes_of}
+use Rattle.layer_state.specs.Holding.{HasScannedLegal, scanned_flashes}
+use Rattle.layer_state.specs.KeptFlashes.{without_flashes}
+use Rattle.layer_state.specs.Lookback.{state_after}
+use Rattle.layer_state.proofs.OwnFlashes.{drop_first, flashes_of-more}
+
+-- an interpolation makes no flash
+pub flashes_with_mode : (before : List Command) (mode : Option Interpolation) → flashes_of (before ++ modes_of mode) ≡ flashes_of before
+flashes_with_mode before None = ap flashes_of (append-nil before)
+flashes_with_mode before (Some mode) = flashes_of-more before (Mode mode) ∙ append-nil (flashes_of before)
+
+-- a comment or an attribute makes no flash
+flashes_with_text : (before : List Command) (kind : TextKind) (text : List ℕ) → flashes_of (before ++ text_command kind text ∷ []) ≡ flashes_of before
+flashes_with_text before kind text = flashes_of-more before (text_command kind text) ∙ by kind
+  where
+    by : (k : TextKind) → flashes_of before ++ added_flashes (state_after before) (text_command k text) ≡ flashes_of before
+    by kinds.Comment = append-nil (flashes_of before)
+    by (kinds.Attribute which) = append-nil (flashes_of before)
+    by kinds.Remove = append-nil (flashes_of before)
+
+-- where all flashes before a command were dropped, those that are held are its own
+pub own_flashes : (scan : Scan) (dropped : List Flash) (entries : Entries) (commands : List Command) (c : Command) → HasScannedLegal scan (without_flashes dropped) entries → without_places entries ≡ commands ++ c ∷ [] → dropped ≡ flashes_of commands
+    → scanned_flashes scan ≡ added_flashes (state_after commands) c
+own_flashes scan dropped entries commands c h is same =
+    let own : List Flash = added_flashes (state_after commands) c in
+    let all : dropped ++ scanned_flashes scan ≡ dropped ++ own = h.met.is_state.flashes.all ∙ ap flashes_of is ∙ flashes_of-more commands c ∙ ap (λ (l : List Flash). l ++ own) (sym same) in
+    sym (drop_first dropped (scanned_flashes scan)) ∙ ap (drop (length dropped)) all ∙ drop_first dropped own
+
+-- once these are dropped too, all flashes of the commands are
+pub all_dropped : (old new : Scan) (dropped : List Flash) (entries : Entries) → HasScannedLegal old (without_flashes dropped) entries → HasScannedLegal new (without_flashes (dropped ++ scanned_flashes old)) entries
+    → HasScannedLegal new (without_flashes (flashes_of (without_places entries))) entries
+all_dropped old new dropped entries was is = subst (λ (l : List Flash). HasScannedLegal new (without_flashes l) entries) was.met.is_state.flashes.all is
+
+-- one entry more
+pub next_entry : (before : Entries) (e : Placed Command) → without_places (before ++ e ∷ []) ≡ without_places before ++ e.what ∷ []
+next_entry before e = map-append (λ (d : Placed Command). d.what) before (e ∷ [])
+
+-- the commands of an item after others
+after_item : (before : Entries) (place byte : ℕ) (cs : List Command) → without_places (before ++ placed place byte cs) ≡ without_places before ++ cs
+after_item before place byte cs = map-append (λ (d : Placed Command). d.what) before (placed place byte cs) ∙ ap (λ (l : List Command). without_places before ++ l) (bare place byte cs)
+
+-- the commands of an operation after others: its interpolation, if it has one, comes first
+pub after_operation : (before : Entries) (place byte : ℕ) (mode : Option Interpolation) (what : Command) → without_places (before ++ placed place byte (modes_of mode ++ what ∷ [])) ≡ (without_places before ++ modes_of mode) ++ what ∷ []
+after_operation before place byte mode what = after_item before place byte (modes_of mode ++ what ∷ []) ∙ sym (append_assoc (without_places before) (modes_of mode) (what ∷ []))
+
+-- the command of a text after others
+pub after_text : (before : Entries) (place byte : ℕ) (what : Command) → without_places (before ++ placed place byte (what ∷ [])) ≡ without_places before ++ what ∷ []
+after_text before place byte what = after_item before place byte (what ∷ [])
+
+-- after a text no flash is held, as before it
+pub text_dropped : (scan : Scan) (before : Entries) (place byte : ℕ) (kind : TextKind) (text : List ℕ) → HasScannedLegal scan (without_flashes (flashes_of (without_places before))) (before ++ placed place byte (text_command kind text ∷ []))
+    → HasScannedLegal scan (without_flashes (flashes_of (without_places (before ++ placed place byte (text_command kind text ∷ []))))) (before ++ placed place byte (text_command kind text ∷ []))
+text_dropped scan before place byte kind text h =
+    subst (λ (l : List Flash). HasScannedLegal scan (without_flashes l) (before ++ placed place byte (text_command kind text ∷ []))) (sym (ap flashes_of (after_text before place byte (text_command kind text)) ∙ flashes_with_text (without_places before) kind text)) h

@@ -1,6 +1,0 @@
-use Rattle.std.proofs.Common.{◌≡◌, ◌+◌, take}
-use Rattle.layer_image.specs.Drawn.{macro_len}
-use Rattle.layer_image.proofs.drawn_apertures.is_short.Given as goal
-
-abbrev pub invariant-loop-text : goal.invariant-loop-text
-invariant-loop-text l = l.left + macro_len (take l.text-index l.texts) ≡ 4096

@@ -1,6 +1,0 @@
-use Rattle.std.proofs.Common.{arith}
-use Rattle.layer_image.proofs.KeptFlashesLemmas.{pads_and_others}
-use Rattle.layer_image.proofs.flashes.Flashes.pad_count.Goals as goal
-
-pub returns : goal.returns
-returns c parts flashes h = omega (arith, h.count, h.others, pads_and_others flashes)

@@ -1,0 +1,17 @@
+-- The text is met, and it makes no flash.
+use Rattle.std.proofs.Common.{List, subst, sym}
+use Rattle.gerber_commands.specs.declared.command.Command.{Command}
+use Rattle.gerber_text.specs.FastPath.{text_command}
+use Rattle.gerber_text.specs.Writing.{without_places}
+use Rattle.layer_state.specs.Flashes.{flashes_of}
+use Rattle.layer_state.specs.KeptFlashes.{without_flashes}
+use Rattle.layer_features.specs.CopperHolding.{HasMet}
+use Rattle.layer_image.proofs.MetLemmas.{after_text, text_dropped}
+use Rattle.layer_image.proofs.met.Met.text.Goals as goal
+
+pub returns : goal.returns
+returns c keep taken before place byte h = record {
+  scanned = text_dropped c.text.new.self before place byte c.args.kind c.args.text.now (c.in_ok-text.ensures (without_flashes (flashes_of (without_places before))) before place byte h.scanned);
+  copper = subst (λ (l : List Command). HasMet keep taken c.take_text.new.self l) (sym (after_text before place byte (text_command c.args.kind c.args.text.now)))
+      (c.in_ok-take_text.ensures keep taken (without_places before) c.args.kind c.args.text.now h.copper);
+}

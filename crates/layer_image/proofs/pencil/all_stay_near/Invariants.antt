@@ -1,7 +1,0 @@
-use Rattle.std.proofs.Common.{◌≡◌, true, take}
-use Rattle.std.specs.List.{list_all}
-use Rattle.layer_image.specs.Drawn.{stays_near}
-use Rattle.layer_image.proofs.pencil.all_stay_near.Given as goal
-
-abbrev pub invariant-loop-corner : goal.invariant-loop-corner
-invariant-loop-corner l = list_all (stays_near l.at) (take l.corner-index l.corners) ≡ true

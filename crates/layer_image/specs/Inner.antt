@@ -1,5 +1,0 @@
-pub mod CopyGrids
-pub mod MovedPads
-pub mod FastOperations
-pub mod IsStateAfter
-pub mod Pencils

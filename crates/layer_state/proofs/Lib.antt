@@ -1,0 +1,17 @@
+pub mod CopyGrids
+pub mod SumLemmas
+pub mod KeptFlashesLemmas
+pub mod StateLemmas
+pub mod RulesLemmas
+pub mod MovedFlashes
+pub mod NamesLemmas
+pub mod DigitLemmas
+pub mod FirstFaultLemmas
+pub mod SplitAtCommand
+pub mod LegalLists
+pub mod LongerFaults
+pub mod FastOperations
+pub mod OperationScans
+pub mod TextScans
+pub mod OrientLemmas
+pub mod OwnFlashes

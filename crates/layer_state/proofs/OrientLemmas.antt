@@ -1,0 +1,52 @@
+-- The polygon that a call makes of corners.
+use Rattle.std.proofs.Common.{◌≡◌, ◌∙◌, ℤ, ◌<◌, Bool, true, false, ◌&&◌, List, [], ◌∷◌, length, map, reverse, Option, None, Some, unsigned_abs, refl, ap, sym}
+use Rattle.std.specs.Prelude.{◌↔◌, IsSome, IfSome, if◌then◌else◌}
+use Rattle.std.proofs.lemmas.Bool.{false≢true}
+use Rattle.std.proofs.lemmas.List.{length-reverse}
+use mathlib.Core.Bool.{beq}
+use Rattle.grid_units.proofs.BoolLemmas.{both_true}
+use Rattle.grid_units.specs.Points.{GridPoint}
+use Rattle.pad_shapes.specs.Shapes.{IsPadRadius}
+use Rattle.pad_shapes.specs.Rounded.{GridRounded, IsRounded, is_outline, max_corners}
+use Rattle.layer_state.specs.declared.mirroring.Mirroring.{Mirroring}
+use Rattle.layer_state.specs.Placing.{in_order, is_turned_over, no_mirroring, oriented_shape, rounded_by}
+
+pub rounded_is : (o : Option GridRounded) (first : GridPoint) (others : List GridPoint) (radius : ℤ) → length others < max_corners → IsPadRadius radius → IsSome o ↔ IsRounded first others radius
+    → IfSome o (λ r. r ≡ record { first = first; others = others; radius = unsigned_abs radius }) → o ≡ rounded_by first others (unsigned_abs radius)
+rounded_is o first others radius few in_range valid value = by o (is_outline first others) refl valid value
+  where
+    by : (p : Option GridRounded) (b : Bool) → is_outline first others ≡ b → IsSome p ↔ IsRounded first others radius → IfSome p (λ r. r ≡ record { first = first; others = others; radius = unsigned_abs radius })
+        → p ≡ (if b then Some (record { first = first; others = others; radius = unsigned_abs radius }) else None)
+    by (Some r) true e v w = ap (λ (q : GridRounded). Some q) w
+    by (Some r) false e v w = absurd (false≢true (sym e ∙ (v.0 refl).outline))
+    by None true e v w = absurd (false≢true (v.1 (record { few = few; in_range = in_range; outline = e })))
+    by None false e v w = refl
+
+pub in_order_length : (m : Mirroring) (points : List GridPoint) → length (in_order m points) ≡ length points
+in_order_length m points = by (is_turned_over m)
+  where
+    by : (b : Bool) → length (if b then reverse points else points) ≡ length points
+    by true = length-reverse points
+    by false = refl
+
+map-same : (ps : List GridPoint) → map (λ p. p) ps ≡ ps
+map-same [] = refl
+map-same (p ∷ ps) = ap (λ qs. p ∷ qs) (map-same ps)
+
+-- a shape that is neither mirrored nor turned
+pub unturned : (s : GridRounded) → is_outline s.first s.others ≡ true → Some s ≡ oriented_shape no_mirroring 0 s
+unturned s e = sym (ap (λ others. rounded_by s.first others s.radius) (map-same s.others) ∙ by (is_outline s.first s.others) e)
+  where
+    by : (b : Bool) → b ≡ true → (if b then Some s else None) ≡ Some s
+    by true h = refl
+    by false h = absurd (false≢true h)
+
+same : (a b : Bool) → beq a b ≡ true → a ≡ b
+same true true e = refl
+same true false e = absurd (false≢true e)
+same false true e = absurd (false≢true e)
+same false false e = refl
+
+-- what is equal by a test is equal
+pub same_mirroring : (m n : Mirroring) → (beq m.x n.x && beq m.y n.y) ≡ true → m ≡ n
+same_mirroring m n e = let h = both_true (beq m.x n.x) (beq m.y n.y) e in (λ i. record { x = same m.x n.x h.0 i; y = same m.y n.y h.1 i })

@@ -1,0 +1,51 @@
+-- A scan that meets a comment or an attribute outside of regions.
+use Rattle.std.proofs.Common.{◌≡◌, ℕ, false, [], ◌∷◌, ◌++◌, List, None, Ok, refl, sym, ap, subst, ◌∙◌}
+use Rattle.std.specs.Option.{option_or}
+use Rattle.grid_units.proofs.LookbackLemmas.{last_set-more}
+use Rattle.gerber_commands.specs.declared.command.Command.{Command}
+use Rattle.gerber_text.specs.declared.text_items.TextKind.{TextKind}
+use Rattle.gerber_text.specs.declared.text_items.TextKind.TheVariants as kinds
+use Rattle.gerber_text.specs.FastPath.{text_command}
+use Rattle.gerber_text.specs.Reading.{Entries, placed}
+use Rattle.gerber_text.specs.Writing.{without_places}
+use Rattle.layer_state.specs.declared.cached.CachedState.{CachedState}
+use Rattle.layer_state.specs.declared.scan.Scan.{Scan}
+use Rattle.layer_state.specs.declared.state.State.{State}
+use Rattle.layer_state.specs.FileFunction.{function_set}
+use Rattle.layer_state.specs.Holding.{HasScanned, HasScannedLegal, IsScanResult}
+use Rattle.layer_state.specs.Inner.IsStateAfter.{Applies, IsStateAfter, state_of}
+use Rattle.layer_state.specs.KeptFlashes.{KeptParts, flash_count}
+use Rattle.layer_state.specs.Lookback.{GraphicsState}
+use Rattle.layer_state.specs.Rules.{first_broken}
+use Rattle.layer_state.proofs.KeptFlashesLemmas.{adds_none}
+use Rattle.layer_state.proofs.OperationScans.{scanned_more}
+use Rattle.layer_state.proofs.StateLemmas.{state_after_one_more, same_rule}
+
+text_is_legal : (s : GraphicsState) (count : ℕ) (kind : TextKind) (text : List ℕ) → s.in_region ≡ false → first_broken s count (text_command kind text) ≡ None
+unfolding first_broken
+text_is_legal s count kinds.Comment text outside = refl
+text_is_legal s count (kinds.Attribute which) text outside = rw outside refl
+text_is_legal s count kinds.Remove text outside = rw outside refl
+
+text_applies : (state : State) (kind : TextKind) (text : List ℕ) → Applies state (text_command kind text) state
+text_applies state kinds.Comment text = record { state_after = refl; flashes = adds_none state.flashes }
+text_applies state (kinds.Attribute which) text = record { state_after = refl; flashes = adds_none state.flashes }
+text_applies state kinds.Remove text = record { state_after = refl; flashes = adds_none state.flashes }
+
+-- it changes nothing but the file function
+text_result : (old new : Scan) (parts : KeptParts) (before : List Command) (kind : TextKind) (text : List ℕ) → old.state.state.in_region ≡ false → new.state ≡ old.state → new.file_function ≡ option_or (function_set (text_command kind text)) old.file_function → HasScanned old parts before
+    → IsScanResult parts before (text_command kind text) new (Ok tt)
+text_result old new parts before kind text outside same named h =
+    let state = old.state.state in
+    let what = text_command kind text in (
+      sym (same_rule state parts before what h.is_state) ∙ text_is_legal (state_of state) (flash_count state.flashes) kind text outside,
+      record {
+        is_state = subst (λ (s : CachedState). IsStateAfter s.state parts (before ++ what ∷ [])) (sym same) (state_after_one_more state state parts before what h.is_state (text_applies state kind text));
+        named = named ∙ (ap (option_or (function_set what)) h.named ∙ sym (last_set-more function_set before what));
+      },
+    )
+
+pub text_scanned : (old new : Scan) (parts : KeptParts) (before : Entries) (place byte : ℕ) (kind : TextKind) (text : List ℕ) → old.state.state.in_region ≡ false → new.state ≡ old.state → new.file_function ≡ option_or (function_set (text_command kind text)) old.file_function → HasScannedLegal old parts before
+    → HasScannedLegal new parts (before ++ placed place byte (text_command kind text ∷ []))
+text_scanned old new parts before place byte kind text outside same named h =
+    scanned_more old new parts before (record { place = place; byte = byte; what = text_command kind text }) h (text_result old new parts (without_places before) kind text outside same named h.met)

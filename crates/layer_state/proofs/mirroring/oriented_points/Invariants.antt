@@ -1,0 +1,6 @@
+use Rattle.std.proofs.Common.{◌≡◌, map, take}
+use Rattle.layer_state.specs.Placing.{oriented_point}
+use Rattle.layer_state.proofs.mirroring.oriented_points.Given as goal
+
+abbrev pub invariant-loop-point : goal.invariant-loop-point
+invariant-loop-point l = l.found.items ≡ map (oriented_point l.mirroring l.turns) (take l.point-index l.points)

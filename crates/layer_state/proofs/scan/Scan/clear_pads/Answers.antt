@@ -1,0 +1,5 @@
+use Rattle.gerber_text.specs.Writing.{without_places}
+use Rattle.layer_state.proofs.scan.Scan.clear_pads.Goals as goal
+
+pub returns-clause-gone : goal.returns-clause-gone
+returns-clause-gone c parts before h = record { met = record { is_state = c.clear_pads.ensures.gone parts (without_places before) h.met.is_state; named = h.met.named }; legal = h.legal }

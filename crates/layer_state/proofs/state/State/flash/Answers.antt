@@ -1,0 +1,18 @@
+-- What is flashed at the origin, moved to each copy.
+use Rattle.std.proofs.Common.{◌≡◌, ◌∙◌, [], List, map, ap, subst, OnOk}
+use Rattle.std.specs.Option.{option_map_or}
+use Rattle.layer_state.specs.declared.flash.Flash.{Flash}
+use Rattle.layer_state.specs.Lookback.{current_aperture}
+use Rattle.layer_state.specs.Flashes.{copies, copies_at, aperture_flashes}
+use Rattle.layer_state.specs.Inner.MovedPads.{flash_moved}
+use Rattle.layer_state.specs.KeptFlashes.{Adds}
+use Rattle.layer_state.specs.Inner.IsStateAfter.{state_of}
+use Rattle.layer_state.proofs.MovedFlashes.{flashes_moved}
+use Rattle.layer_state.proofs.state.State.flash.Goals as goal
+
+pub returns-clause-flashes : goal.returns-clause-flashes
+returns-clause-flashes c =
+    let s = state_of c.args.self.now in
+    let all : map (flash_moved c.what-what.result) (copies c.grid-grid.result) ≡ option_map_or (aperture_flashes s c.args.x c.args.y) (current_aperture s) [] =
+    (λ i. map (flash_moved (c.what-what.ensures i)) (copies (c.grid-grid.ensures.value i))) ∙ flashes_moved s c.in-Some.aperture (copies_at s c.args.x c.args.y) ∙ ap (λ o. option_map_or (aperture_flashes s c.args.x c.args.y) o []) c.in-Some.ensures in
+    subst (λ (l : List Flash). OnOk c.lay.result (Adds c.args.self.now.flashes l c.lay.new.self)) all c.lay.ensures

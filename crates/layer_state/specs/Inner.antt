@@ -1,0 +1,4 @@
+pub mod CopyGrids
+pub mod MovedPads
+pub mod FastOperations
+pub mod IsStateAfter

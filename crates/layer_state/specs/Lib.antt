@@ -1,0 +1,12 @@
+pub mod Lookback
+pub mod Numbers
+pub mod Flashes
+pub mod Pads
+pub mod Rules
+pub mod Tables
+pub mod KeptFlashes
+pub mod Faults
+pub mod FileFunction
+pub mod Holding
+pub mod Inner
+pub mod Placing

@@ -1,0 +1,77 @@
+//! Which holes lie in pads that a layer's profile does not count.
+
+ghost use Rattle.std.specs.Prelude.{◌≡◌, ◌<◌, IfOk, get_or, length, not, true};
+ghost use Rattle.ring_rules.specs.Places.{hole_at};
+ghost use Rattle.report.specs.Causes.{TellsBare, TellsUncounted, uncounted_pads};
+ghost use Rattle.report.specs.Inner.CauseParts.{uncounted_cause};
+
+use crate::{FurtherCopper, RingCause};
+use margins::bare_holes;
+use pad_shapes::WidePad;
+use ring_rules::Drilled;
+use std::alloc::{AllocError, Global};
+
+/// Of each hole whether it lies in no shape of a macro's flash, and whether in no contour, of those that a layer's profile does not
+/// count. Both lists are empty where there are no such pads.
+#[derive(Drop)]
+pub(crate) struct UncountedCover {
+    macros: Vec<bool>,
+    contours: Vec<bool>,
+}
+
+/// Of each hole whether it lies in no pad. Nothing is searched, and the list is empty, where there are no pads.
+fn bare_in(alloc: Global, pads: &[WidePad], holes: &[Drilled]) -> Result<Vec<bool>, AllocError>
+    ensures { IfOk result (λ bare. TellsBare pads.now holes.now bare.items) }
+{
+    if pads.is_empty() {
+        return Ok(Vec::new(alloc));
+    }
+    bare_holes(alloc, pads, holes)
+}
+
+/// Whether the hole at a place lies in a pad, by a list that tells which do not.
+fn lies_in_pad(bare: &[bool], place: usize) -> bool
+    ensures { result ≡ not (get_or bare.now place true) }
+{
+    match bare.get(place) {
+        Some(bare) => !*bare,
+        None => false,
+    }
+}
+
+impl UncountedCover {
+    /// What is told of some holes.
+    pub(crate) fn of(
+        alloc: Global,
+        uncounted: FurtherCopper,
+        holes: &[Drilled],
+    ) -> Result<UncountedCover, AllocError>
+        ensures { IfOk result (TellsUncounted (uncounted_pads uncounted.entry) holes.now) }
+    {
+        Ok(UncountedCover {
+            macros: bare_in(alloc, uncounted.macros, holes)?,
+            contours: bare_in(alloc, uncounted.contours, holes)?,
+        })
+    }
+
+    /// Why the hole at a place lacks its ring, where it lies in no pad that the profile counts and no other flash has its point in it. The pads and
+    /// the holes must be those of which this tells.
+    pub(crate) fn cause_at(
+        &self,
+        uncounted: FurtherCopper,
+        holes: &[Drilled],
+        place: usize,
+    ) -> RingCause
+        requires told { TellsUncounted (uncounted_pads uncounted) holes.now self.now }
+        requires place { place < length holes.now }
+        ensures { result ≡ uncounted_cause (uncounted_pads uncounted.entry) (hole_at holes.now place) }
+    {
+        if lies_in_pad(&self.macros, place) {
+            RingCause::MacroShape
+        } else if lies_in_pad(&self.contours, place) {
+            RingCause::DrawnCopper
+        } else {
+            RingCause::NoFlash
+        }
+    }
+}

@@ -1,4 +1,0 @@
-pub mod Readings
-pub mod MetLemmas
-pub mod StrictReading
-pub mod CountsLemmas

@@ -1,2 +1,0 @@
-pub mod WideLayers
-pub mod Holding
