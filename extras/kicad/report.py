@@ -117,7 +117,7 @@ def explanation(program, folder, answer):
 def object_of(status, printed, complaint):
     """The JSON object that was printed, where it agrees with the status. Anything else is a Problem, so no doubtful run passes."""
     if status == 3:
-        said = (printed.splitlines() or ["usage"])[0]
+        said = complaint.strip() or (printed.splitlines() or ["usage"])[0]
         raise Problem(f"ringcheck did not take its command line: {said}. Write ring and gap in millimetres with a decimal point, such as 0.149 and 0.25.")
     if status == 5:
         raise Problem(f"The launcher of the source folder ran nothing, since the program is not proved: {last_line(printed, complaint)}")

@@ -1,10 +1,5 @@
 -- The entries of findings, one after the other.
-use Rattle.std.proofs.Common.{◌++◌, ◌∷◌, Bool, true, false, cond, List, [], sym, subst}
-use Rattle.std.specs.List.{AllZip, filter}
-use Rattle.std.proofs.lemmas.List.{append-nil}
-use Rattle.std.proofs.lemmas.List.Elements.{filter-append}
-use Rattle.ring_rules.specs.declared.finding.Finding.{Finding}
-use Rattle.board_report.specs.Inner.EntriesSoFar.{AddsEntry}
+use Rattle.board_report.proofs.Common.{◌++◌, ◌∷◌, Bool, true, false, cond, List, [], sym, subst, AllZip, filter, append-nil, filter-append, Finding, AddsEntry}
 
 module _ {T : Type 0} (R : Finding → T → Type 0) where
   zip_more : (xs : List Finding) (ts : List T) (x : Finding) (t : T) → AllZip R xs ts → R x t → AllZip R (xs ++ x ∷ []) (ts ++ t ∷ [])

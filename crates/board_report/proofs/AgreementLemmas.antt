@@ -1,22 +1,16 @@
 -- The entries of a report and the findings of its check.
-use Rattle.std.proofs.Common.{◌≡◌, ◌+◌, ◌∷◌, ℕ, Bool, true, false, not, List, [], length, refl, sym, subst, ap, ap₂, ◌∙◌}
-use Rattle.std.specs.List.{AllZip, filter}
+use Rattle.board_report.proofs.Common.{◌≡◌, ◌+◌, ◌∷◌, ℕ, Bool, true, false, List, [], length, refl, sym, subst, ap, ap₂, ◌∙◌, AllZip, filter, Result, Ok, GridRules, Finding, IsReport, BoardView, board_findings, reported, MatchesGap, MatchesRing, ReportAgreesWithCheck, IsGapEntry, IsRingEntry, is_gap}
+use Rattle.std.proofs.Common.{not}
 use Rattle.std.proofs.lemmas.List.Filters.{length-filter_both}
 use Rattle.std.proofs.lemmas.Slice.Zip.{AllZip-long}
-use Rattle.std.specs.Prelude.{Result, Ok}
-use Rattle.grid_units.specs.Holes.{GridRules}
 use Rattle.grid_units.specs.declared.fault.Fault.{Fault}
-use Rattle.ring_rules.specs.declared.finding.Finding.{Finding}
 use Rattle.ring_rules.specs.declared.finding.Finding.TheVariants.{Gap, Oblique, Ring}
 use Rattle.package_check.specs.AlikePackages.{AnswerIsUnique}
-use Rattle.package_check.specs.Package.{IsReport}
-use Rattle.package_check.specs.Boards.{BoardView, board_findings, reported}
 use Rattle.package_check.specs.Reports.{ReportView}
 use Rattle.package_check.specs.Soundness.{PassingIsSound}
 use Rattle.package_check.proofs.BoardsLemmas.{reported_on}
 use Rattle.report.specs.declared.GapLack.{GapLack}
 use Rattle.report.specs.declared.RingLack.{RingLack}
-use Rattle.board_report.specs.BoardReport.{MatchesGap, MatchesRing, ReportAgreesWithCheck, IsGapEntry, IsRingEntry, is_gap}
 
 twice : (b : Bool) → b ≡ not (not b)
 twice true = refl

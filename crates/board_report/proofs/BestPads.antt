@@ -1,14 +1,5 @@
 -- The best pads of one layer of a board.
-use Rattle.std.proofs.Common.{◌≡◌, ◌<◌, ℕ, List, [], Option, Bor, length, get_or, map, ap, sym, subst, ◌∙◌, arith}
-use Rattle.std.specs.Global.{Vec}
-use Rattle.std.proofs.lemmas.List.{get_or-map, length-map}
-use Rattle.pad_shapes.specs.WidePads.{wide_pad_covers}
-use Rattle.pad_shapes.specs.declared.wide_pad.WidePad.{WidePad}
-use Rattle.ring_rules.specs.declared.finding.Drilled.{Drilled}
-use Rattle.margins.specs.BestPads.{AreBestPads}
-use Rattle.margins.specs.declared.best.BestPad.{BestPad}
-use Rattle.package_check.specs.Boards.{BoardView}
-use Rattle.board_report.specs.Inner.EntriesSoFar.{AreBoardBests}
+use Rattle.board_report.proofs.Common.{◌≡◌, ◌<◌, ℕ, List, [], Option, Bor, length, get_or, map, ap, sym, subst, ◌∙◌, arith, Vec, get_or-map, length-map, wide_pad_covers, WidePad, Drilled, AreBestPads, BestPad, BoardView, AreBoardBests}
 
 module _ (board : BoardView) where
   -- the best pads at the place of a layer are those of its pads

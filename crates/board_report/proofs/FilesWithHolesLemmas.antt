@@ -1,21 +1,10 @@
 -- The drill files that have holes.
-use Rattle.std.proofs.Common.{◌≡◌, ℕ, ◌+◌, ◌-◌, ◌<◌, ◌≤◌, inl, inr, true, false, zero, suc, List, [], ◌∷◌, ◌++◌, length, get_or, refl, sym, subst, ap, ◌∙◌, arith}
-use Rattle.std.specs.List.{Contains, sum_by}
+use Rattle.board_report.proofs.Common.{◌≡◌, ℕ, ◌+◌, ◌-◌, ◌<◌, ◌≤◌, inl, inr, true, false, zero, suc, List, [], ◌∷◌, ◌++◌, length, get_or, refl, sym, subst, ap, ◌∙◌, arith, Contains, sum_by, cases_lt, nat_tests, get_or_append_left, get_or-append_right, get_or_default, length-append, take_all, Contains-append_left, Contains-push, All-contains, BoardView, hole_count, FileSum, AreFileHoles, AreFilesWithHoles, IsFileHoles, IsPlace, holes_before, IsLayerFileHoles, FileHoles}
 use Rattle.std.specs.List.Sorted.{IsNonDecreasingBy, IsPartitionPoint, IsPartitionedBy}
-use Rattle.std.proofs.lemmas.Bool.{cases_lt}
-use Rattle.std.proofs.lemmas.Bool.Decides.{nat_tests}
-use Rattle.std.proofs.lemmas.List.{get_or_append_left, get_or-append_right, get_or_default, length-append, take_all}
-use Rattle.std.proofs.lemmas.List.Elements.{Contains-append_left, Contains-push, All-contains}
 use Rattle.std.proofs.lemmas.List.Sorted.{IsPartitionedBy-leb}
 use Rattle.std.proofs.lemmas.List.Sums.{sum_by-take-le, sum_by_more}
 use lib.Dec.{leb}
-use Rattle.package_check.specs.Boards.{BoardView, hole_count}
-use Rattle.package_check.specs.declared.FileSum.{FileSum}
 use Rattle.package_check.specs.declared.FileSum.TheVariants as sum
-use Rattle.board_report.specs.Rows.{AreFileHoles, AreFilesWithHoles, IsFileHoles, IsPlace}
-use Rattle.package_check.specs.Boards.{holes_before}
-use Rattle.board_report.specs.Inner.Tables.{IsLayerFileHoles}
-use Rattle.board_report.specs.declared.places.FileHoles.{FileHoles}
 use Rattle.board_report.proofs.JoinedRows.{pairs_join}
 use Rattle.board_report.proofs.HolePlacesLemmas.{placed}
 

@@ -1,15 +1,7 @@
 -- The drill files of holes.
-use Rattle.std.proofs.Common.{◌≡◌, ℕ, ◌+◌, ◌-◌, ◌<◌, ◌≤◌, min, inl, inr, List, length, get_or, ap, ◌∙◌, arith}
-use Rattle.std.specs.List.{sum_by}
-use Rattle.std.proofs.lemmas.List.{take_all}
+use Rattle.board_report.proofs.Common.{◌≡◌, ℕ, ◌+◌, ◌-◌, ◌<◌, ◌≤◌, min, inl, inr, List, length, get_or, ap, ◌∙◌, arith, sum_by, take_all, cases_lt, Drilled, CountsAddUp, hole_count, FileSum, IsPlace, holes_before}
 use Rattle.std.proofs.lemmas.List.Sums.{sum_by-take-le, sum_by_more}
-use Rattle.std.proofs.lemmas.Bool.{cases_lt}
-use Rattle.ring_rules.specs.declared.finding.Drilled.{Drilled}
 use Rattle.margins.specs.NearestHoles.{IsPair}
-use Rattle.package_check.specs.Boards.{CountsAddUp, hole_count}
-use Rattle.package_check.specs.declared.FileSum.{FileSum}
-use Rattle.board_report.specs.Rows.{IsPlace}
-use Rattle.package_check.specs.Boards.{holes_before}
 
 -- the holes before the next file
 pub before_next : (files : List FileSum) (file : ℕ) (one : FileSum) → file < length files → get_or files file one ≡ one → holes_before files (file + 1) ≡ holes_before files file + hole_count one

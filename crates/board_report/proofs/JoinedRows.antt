@@ -1,13 +1,5 @@
 -- The lines of rows, joined.
-use Rattle.std.proofs.Common.{◌≡◌, ℕ, ◌+◌, ◌-◌, ◌<◌, ◌≤◌, ◌⊎◌, inl, inr, List, [], ◌++◌, length, get_or, refl, sym, subst, ap, ap₂, ◌∙◌, arith}
-use Rattle.grid_units.specs.declared.profile.Profile.{Profile}
-use Rattle.std.specs.List.{AllPairs}
-use Rattle.std.proofs.lemmas.List.{length-append, get_or_append_left, get_or-append_right}
-use Rattle.std.proofs.lemmas.List.Elements.{Contains-append_left, Contains-append_right}
-use Rattle.std.proofs.lemmas.Bool.{cases_lt}
-use Rattle.report.specs.declared.RingLine.{RingLine}
-use Rattle.package_check.specs.Boards.{BoardView}
-use Rattle.board_report.specs.Rows.{AreRowLines, IsBefore, IsRowLine, RowKey, places_of}
+use Rattle.board_report.proofs.Common.{◌≡◌, ℕ, ◌+◌, ◌-◌, ◌<◌, ◌≤◌, ◌⊎◌, inl, inr, List, [], ◌++◌, length, get_or, refl, sym, subst, ap, ap₂, ◌∙◌, arith, Profile, AllPairs, length-append, get_or_append_left, get_or-append_right, Contains-append_left, Contains-append_right, cases_lt, RingLine, BoardView, AreRowLines, IsBefore, IsRowLine, RowKey, places_of}
 
 module _ {X : Type 0} (xs ys : List X) where
   first_of : (i : ℕ) (d : X) → i < length xs → get_or (xs ++ ys) i d ≡ get_or xs i d

@@ -1,13 +1,5 @@
 -- The best pads of the layers of a board, layer by layer.
-use Rattle.std.proofs.Common.{◌≡◌, ℕ, ◌+◌, ◌++◌, ◌∷◌, inl, inr, List, [], Option, get_or, map, refl, sym, subst, ap, ◌∙◌, arith}
-use Rattle.std.specs.Global.{Vec}
-use Rattle.std.proofs.lemmas.Bool.{cases_lt}
-use Rattle.std.proofs.lemmas.List.{get_or_append_left, get_or_push, length-append, map_push}
-use Rattle.pad_shapes.specs.WidePads.{wide_pad_covers}
-use Rattle.margins.specs.BestPads.{AreBestPads}
-use Rattle.margins.specs.declared.best.BestPad.{BestPad}
-use Rattle.package_check.specs.Boards.{BoardView}
-use Rattle.board_report.specs.Measures.{AreLayerBests}
+use Rattle.board_report.proofs.Common.{◌≡◌, ℕ, ◌+◌, ◌++◌, ◌∷◌, inl, inr, List, [], Option, get_or, map, refl, sym, subst, ap, ◌∙◌, arith, Vec, cases_lt, get_or_append_left, get_or_push, length-append, map_push, wide_pad_covers, AreBestPads, BestPad, BoardView, AreLayerBests}
 
 module _ (board : BoardView) where
   -- no layer yet

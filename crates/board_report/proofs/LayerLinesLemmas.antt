@@ -1,16 +1,5 @@
 -- The lines of a layer, drill file by drill file.
-use Rattle.std.proofs.Common.{◌≡◌, ℕ, ◌+◌, ◌-◌, ◌<◌, ◌≤◌, ◌⊎◌, inl, inr, List, [], ◌++◌, length, get_or, refl, sym, subst, ap, ◌∙◌, arith}
-use Rattle.grid_units.specs.declared.profile.Profile.{Profile}
-use Rattle.std.specs.List.{Contains, filter, range_with_len}
-use Rattle.std.proofs.lemmas.List.{get_or_default}
-use Rattle.std.proofs.lemmas.Bool.{cases_lt}
-use Rattle.report.specs.declared.RingLine.{RingLine}
-use Rattle.package_check.specs.Boards.{BoardView}
-use Rattle.board_report.specs.Rows.{AreFilesWithHoles, AreRowLines, IsBefore, RowKey, is_in_row, places_of}
-use Rattle.package_check.specs.Boards.{holes_before}
-use Rattle.board_report.specs.Inner.Tables.{IsRowOf}
-use Rattle.board_report.specs.declared.places.FileHoles.{FileHoles}
-use Rattle.board_report.specs.declared.rows.LayerFileHoles.{LayerFileHoles}
+use Rattle.board_report.proofs.Common.{◌≡◌, ℕ, ◌+◌, ◌-◌, ◌<◌, ◌≤◌, ◌⊎◌, inl, inr, List, [], ◌++◌, length, get_or, refl, sym, subst, ap, ◌∙◌, arith, Profile, Contains, filter, range_with_len, get_or_default, cases_lt, RingLine, BoardView, AreFilesWithHoles, AreRowLines, IsBefore, RowKey, is_in_row, places_of, holes_before, IsRowOf, FileHoles, LayerFileHoles}
 use Rattle.board_report.proofs.FilesWithHolesLemmas.{holes_of}
 use Rattle.board_report.proofs.JoinedRows.{join, renamed}
 use Rattle.board_report.proofs.TablesLemmas.{no_file}

@@ -1,3 +1,4 @@
+pub mod Common
 pub mod MeasuresLemmas
 pub mod HolePlacesLemmas
 pub mod JoinedRows

@@ -1,21 +1,15 @@
 -- A package passes under just the rules that it meets.
-use Rattle.std.proofs.Common.{◌≡◌, ◌++◌, ℕ, List, [], ◌∷◌, map, Result, Ok, Err, IfOk, refl, sym, subst, ap, ◌∙◌}
-use Rattle.grid_units.specs.Holes.{GridRules}
+use Rattle.board_report.proofs.Common.{◌≡◌, ◌++◌, ℕ, List, [], ◌∷◌, map, Err, IfOk, refl, sym, subst, ap, ◌∙◌, GridRules, Profile, wide_pad_covers, GapsPass, GapsPassExactly, RingsPass, RingsPassExactly, BoardView, reported, IsAnswer, IsReport, FileView, AnswersMeasure, BoardPasses, IsMeasure, MeasuredPasses, PackagePasses, RefusesAlike}
+use Rattle.std.proofs.Common.{Result, Ok}
 use Rattle.grid_units.specs.declared.fault.Fault.{Fault}
-use Rattle.grid_units.specs.declared.profile.Profile.{Profile}
-use Rattle.pad_shapes.specs.WidePads.{wide_pad_covers}
 use Rattle.ring_rules.specs.Findings.{ring_findings, gap_findings}
-use Rattle.margins.specs.Meets.{GapsPass, GapsPassExactly, RingsPass, RingsPassExactly}
 use Rattle.margins.specs.declared.met.Met.{Met}
 use Rattle.package_check.specs.AlikePackages.{AnswerIsUnique}
-use Rattle.package_check.specs.Boards.{BoardView, reported}
-use Rattle.package_check.specs.Package.{IsAnswer, IsReport, FileView}
 use Rattle.package_check.specs.Reports.{ReportView}
 use Rattle.package_check.specs.declared.PackageFault.{PackageFault}
 use Rattle.package_check.specs.declared.PackageFault.TheVariants as stop
 use Rattle.package_check.proofs.BoardsLemmas.{reported_on}
 use Rattle.report.specs.declared.Measure.{Measure}
-use Rattle.board_report.specs.Measures.{AnswersMeasure, BoardPasses, IsMeasure, MeasuredPasses, PackagePasses, RefusesAlike}
 
 no_left : {X : Type 0} (xs ys : List X) → xs ++ ys ≡ [] → xs ≡ []
 no_left [] ys e = refl

@@ -1,40 +1,20 @@
 -- The lines of a drill file on a layer, from the table of its holes.
-use Rattle.std.proofs.Common.{Less, Equal, Greater, ltb, ℤ, w64, to_z, of_z, ◌≡◌, ◌++◌, ◌&&◌, ℕ, pos, ◌+◌, ◌*◌, ◌<◌, ◌≤◌, inl, inr, Bool, true, false, cond, List, [], ◌∷◌, Option, Some, None, length, map, get_or, drop, refl, sym, subst, ap, ◌∙◌, arith}
-use Rattle.grid_units.specs.declared.profile.Profile.{Profile}
-use Rattle.std.specs.Prelude.{is_some, ◌*ℤ◌}
+use Rattle.board_report.proofs.Common.{Less, Equal, Greater, ltb, ℤ, w64, to_z, of_z, ◌≡◌, ◌++◌, ◌&&◌, ℕ, pos, ◌+◌, ◌*◌, ◌<◌, ◌≤◌, inl, inr, Bool, true, false, cond, List, [], ◌∷◌, Option, Some, None, length, map, get_or, drop, refl, sym, subst, ap, ◌∙◌, arith, Profile, is_some, ◌*ℤ◌, Vec, All, Contains, slice_get, BTreeMap, IsOrdered, get, is_at, keys, values, get_or-map, length-map, drop_more, drop_all, length-append, get_or_append_left, filter_passes, cases_lt, eqb-true, eqb_tells, hole_at, default_hole, needs_ring, BestPad, RingLine, BoardView, FileSum, Drilled, AreRowLines, IsBefore, IsRowLine, RowKey, IsLeastWithNumber, is_in_row, places_in, places_of, holes_before, LayerFileHoles, IsRowOf, IsTableOf, IsNumberedLeast, is_not_empty, row_of}
 use Rattle.std.specs.Int.Signed.{mag}
 use Rattle.std.proofs.lemmas.Int.{ints}
 use Rattle.margins.proofs.PassedIntegers.{same}
-use Rattle.std.specs.Global.{Vec}
-use Rattle.std.specs.List.{All, Contains, slice_get}
 use Rattle.std.specs.Option.{option_map_or}
 use Rattle.std.specs.Ordering.{nat_cmp}
 use Rattle.std.specs.Cmp.{nat_cmp_total}
-use Rattle.std.specs.BTreeMap.{BTreeMap, IsOrdered, get, is_at, keys, values}
-use Rattle.std.proofs.lemmas.List.{get_or-map, length-map, drop_more, drop_all, length-append, get_or_append_left}
 use Rattle.std.proofs.Math.Seq.{get_or-append_seam}
-use Rattle.std.proofs.lemmas.List.Elements.{filter_passes}
 use Rattle.std.proofs.lemmas.Option.{slice_get-get_or, get_or_from_slice_get, slice_get_cases}
 use Rattle.std.proofs.lemmas.Map.Entries.{btree_map_get_place, place_from_lookup}
 use Rattle.std.proofs.lemmas.Map.Keys.{below_from_sorted}
-use Rattle.std.proofs.lemmas.Bool.{cases_lt, eqb-true}
-use Rattle.std.proofs.lemmas.Bool.Decides.{eqb_tells}
 use Rattle.std.specs.Ordering.{is_eq}
-use Rattle.ring_rules.specs.Places.{hole_at, default_hole}
-use Rattle.margins.specs.Meets.{needs_ring}
 use Rattle.margins.specs.Rows.{IsLeastRingOf, IsRingRow}
-use Rattle.margins.specs.declared.best.BestPad.{BestPad}
 use Rattle.margins.specs.declared.row.RowLeast.{RowLeast}
 use Rattle.margins.specs.declared.row.RingRow.{RingRow}
 use Rattle.report.specs.declared.LeastRing as line
-use Rattle.report.specs.declared.RingLine.{RingLine}
-use Rattle.package_check.specs.Boards.{BoardView}
-use Rattle.package_check.specs.declared.FileSum.{FileSum}
-use Rattle.ring_rules.specs.declared.finding.Drilled.{Drilled}
-use Rattle.board_report.specs.Rows.{AreRowLines, IsBefore, IsRowLine, RowKey, IsLeastWithNumber, is_in_row, places_in, places_of}
-use Rattle.package_check.specs.Boards.{holes_before}
-use Rattle.board_report.specs.declared.rows.LayerFileHoles.{LayerFileHoles}
-use Rattle.board_report.specs.Inner.Tables.{IsRowOf, IsTableOf, IsNumberedLeast, is_not_empty, row_of}
 
 -- the next element of a list
 pub next_of : {X : Type 0} (xs rest : List X) (n : ℕ) (x : X) → drop n xs ≡ x ∷ rest → (n < length xs) × (get_or xs n x ≡ x) × (rest ≡ drop (n + 1) xs)

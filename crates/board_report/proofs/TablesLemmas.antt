@@ -1,14 +1,6 @@
 -- The holes of a drill file on a layer, by their radius.
-use Rattle.std.proofs.Common.{◌≡◌, ◌||◌, ℕ, ◌+◌, ◌-◌, ◌<◌, ◌≤◌, ◌⊎◌, inl, inr, zero, suc, Bool, true, false, cond, List, [], ◌∷◌, ◌++◌, length, get_or, refl, sym, subst, ap, ◌∙◌, arith}
-use Rattle.std.specs.List.{All, filter, range_with_len, sum_by}
-use Rattle.std.proofs.lemmas.List.{take_all}
-use Rattle.std.proofs.lemmas.List.Elements.{All-filter}
+use Rattle.board_report.proofs.Common.{◌≡◌, ◌||◌, ℕ, ◌+◌, ◌-◌, ◌<◌, ◌≤◌, ◌⊎◌, inl, inr, zero, suc, Bool, true, false, cond, List, [], ◌∷◌, ◌++◌, length, get_or, refl, sym, subst, ap, ◌∙◌, arith, All, filter, range_with_len, sum_by, take_all, All-filter, BoardView, hole_count, RowKey, is_in_row, places_of, holes_before, LayerFileHoles, IsLayerFileHoles, is_not_empty, row_of}
 use Rattle.std.proofs.lemmas.List.FromFn.{length-range_with_len, get_or-range_with_len}
-use Rattle.package_check.specs.Boards.{BoardView, hole_count}
-use Rattle.board_report.specs.Rows.{RowKey, is_in_row, places_of}
-use Rattle.package_check.specs.Boards.{holes_before}
-use Rattle.board_report.specs.declared.rows.LayerFileHoles.{LayerFileHoles}
-use Rattle.board_report.specs.Inner.Tables.{IsLayerFileHoles, is_not_empty, row_of}
 
 module _ (p : ℕ → Bool) where
   -- one more number

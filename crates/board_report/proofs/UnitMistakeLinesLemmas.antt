@@ -1,23 +1,11 @@
 -- The lines of drill files whose coordinates seem to be off by a factor.
-use Rattle.std.proofs.Common.{◌≡◌, ℕ, ◌+◌, ◌-◌, ◌<◌, ◌≤◌, inl, inr, Bool, true, false, Option, Some, None, List, [], ◌∷◌, ◌++◌, length, take, drop, get_or, refl, sym, subst, ap, ◌∙◌, arith}
-use Rattle.std.specs.Prelude.{if◌then◌else◌}
-use Rattle.std.specs.List.{slice_range}
-use Rattle.std.proofs.lemmas.Bool.{cases_lt, false≢true}
-use Rattle.std.proofs.lemmas.List.{append-nil, get_or_append_left, get_or_default, get_or-append_right, length-append}
-use Rattle.std.proofs.lemmas.List.Elements.{Contains-append_left, Contains-append_right}
-use Rattle.pad_shapes.specs.declared.wide_pad.WidePad.{WidePad}
-use Rattle.ring_rules.specs.declared.finding.Drilled.{Drilled}
+use Rattle.board_report.proofs.Common.{◌≡◌, ℕ, ◌+◌, ◌-◌, ◌<◌, ◌≤◌, inl, inr, Bool, true, false, Option, Some, None, List, [], ◌∷◌, ◌++◌, length, take, drop, get_or, refl, sym, subst, ap, ◌∙◌, arith, if◌then◌else◌, slice_range, cases_lt, false≢true, append-nil, get_or_append_left, get_or_default, get_or-append_right, length-append, Contains-append_left, Contains-append_right, WidePad, Drilled, BoardView, FileSum, holes_before, AreUnitMistakes, IsUnitMistakeOf, first_pads, holes_in, is_plated, AreSearched, AreFoundMistakes, IsSearched, IsUnitMistakeOfOrNone, listed}
 use Rattle.report.specs.declared.UnitMistake.{UnitMistake}
 use Rattle.report.specs.UnitMistakes.{AreFileRanges, IsUnitMistake, IsUnitMistakeOrNone, bare_count}
 use Rattle.report.specs.UnitMistakes as scales
 use Rattle.report.specs.declared.mistakes.FileRange.{FileRange}
 use Rattle.report.proofs.FewestLemmas.{one_scale}
-use Rattle.package_check.specs.Boards.{BoardView}
-use Rattle.package_check.specs.declared.FileSum.{FileSum}
 use Rattle.package_check.specs.declared.FileSum.TheVariants as sum
-use Rattle.package_check.specs.Boards.{holes_before}
-use Rattle.board_report.specs.Rows.{AreUnitMistakes, IsUnitMistakeOf, first_pads, holes_in, is_plated}
-use Rattle.board_report.specs.Inner.Tables.{AreSearched, AreFoundMistakes, IsSearched, IsUnitMistakeOfOrNone, listed}
 use Rattle.board_report.proofs.JoinedRows.{pairs_join}
 
 module _ (board : BoardView) where

@@ -1,20 +1,7 @@
 -- A state that drilled knows one command more.
-use Rattle.std.proofs.Common.{◌≡◌, ℕ, ℤ, true, false, cond, inl, inr, List, [], ◌∷◌, ◌++◌, length, Option, None, Some, nat_eq, Result, Ok, Err, sym, ap, ◌∙◌, append-nil}
-use Rattle.std.specs.Option.{option_map, option_or, option_to_list}
-use Rattle.indexmap.specs.IndexMap.{get}
-use Rattle.grid_units.specs.Holes.{GridHole}
-use Rattle.grid_units.specs.declared.item_fail.ItemFail.{ItemFail}
+use Rattle.drill_text.proofs.Common.{◌≡◌, ℕ, ℤ, true, false, cond, inl, inr, List, [], ◌∷◌, ◌++◌, length, Option, None, Some, nat_eq, Result, Ok, Err, sym, ap, ◌∙◌, option_map, option_or, option_to_list, get, GridHole, ItemFail, Coordinates, DrillCommand, PlatingKind, DrillState, tool_defined, DrillPath, hole_of, diameters, calls_plated, plating_set, tool_made, drills, first_broken, state_of, IsStateAfter, AppliesOrRefuses, DrillsOrRefuses, after, heard, moved, drill_path, hole_in, mark_of, picked_plating, plating_in}
+use Rattle.std.proofs.Common.{append-nil}
 use Rattle.grid_units.specs.declared.item_fail.ItemFail.TheVariants as stops
-use Rattle.drill_lines.specs.declared.command.Coordinates.{Coordinates}
-use Rattle.drill_lines.specs.declared.command.DrillCommand.{DrillCommand}
-use Rattle.drill_text.specs.declared.platings.PlatingKind.{PlatingKind}
-use Rattle.drill_text.specs.declared.state.DrillState.{DrillState}
-use Rattle.drill_text.specs.Lookback.{tool_defined}
-use Rattle.drill_text.specs.Holes.{DrillPath, hole_of}
-use Rattle.drill_text.specs.Outcome.{diameters}
-use Rattle.drill_text.specs.Plating.{calls_plated, plating_set, tool_made}
-use Rattle.drill_text.specs.Rules.{drills, first_broken}
-use Rattle.drill_text.specs.Inner.StateSteps.{state_of, IsStateAfter, AppliesOrRefuses, DrillsOrRefuses, after, heard, moved, drill_path, hole_in, mark_of, picked_plating, plating_in}
 use Rattle.drill_text.proofs.Lookbacks.{breaks_first, breaks_none, breaks_own, knows_more}
 use Rattle.drill_text.proofs.HoleLines.{ok_unless, unless_ok, unless_err, not_redefined}
 use Rattle.drill_text.proofs.PlatingLemmas.{own_hole}

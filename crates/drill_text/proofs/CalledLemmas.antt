@@ -1,19 +1,9 @@
 -- What the holes of a mixed file are called, and what is listed of them.
-use Rattle.std.proofs.Common.{◌≡◌, ℕ, suc, Bool, true, false, cond, ◌&&◌, ◌||◌, List, [], ◌∷◌, ◌++◌, length, Option, None, Some, is_some, unwrap_or, refl, sym, ap, ◌∙◌}
-use Rattle.std.specs.List.{cons_option, filter, filter_map, flat_map, list_any, AllZip}
-use Rattle.std.specs.Option.{option_and_then, option_map}
-use Rattle.grid_units.specs.Lists.{last_set, violation_at, with_prefixes_from}
-use Rattle.grid_units.specs.declared.fault.Reason.{Reason}
-use Rattle.grid_units.specs.declared.fault.Reason.TheVariants.{NoPlating}
-use Rattle.drill_lines.specs.declared.command.DrillCommand.{DrillCommand}
+use Rattle.drill_text.proofs.Common.{◌≡◌, ℕ, suc, Bool, true, false, cond, ◌&&◌, ◌||◌, List, [], ◌∷◌, ◌++◌, length, Option, None, Some, is_some, unwrap_or, refl, sym, ap, ◌∙◌, cons_option, filter, filter_map, flat_map, list_any, AllZip, option_and_then, option_map, last_set, violation_at, with_prefixes_from, Reason, NoPlating, DrillCommand, holes_at, ends_header, tool_set, IsCalled, is_plated, is_unsaid, lacks_plating, plated_at, plating_after, plating_of_tool, plating_rule, plating_set, drills}
 use Rattle.drill_lines.specs.declared.command.DrillCommand.TheVariants as command
 use Rattle.drill_lines.specs.declared.plating.Plating.{Plating}
 use Rattle.drill_lines.specs.declared.plating.Plating.TheVariants.{Plated, Unplated, Unsaid}
-use Rattle.drill_text.specs.Holes.{holes_at}
-use Rattle.drill_text.specs.Lookback.{ends_header, tool_set}
 use Rattle.drill_text.specs.MixedLaws.{CalledIsListed, ListedIsCalled, OneForEach}
-use Rattle.drill_text.specs.Plating.{IsCalled, is_plated, is_unsaid, lacks_plating, plated_at, plating_after, plating_of_tool, plating_rule, plating_set}
-use Rattle.drill_text.specs.Rules.{drills}
 
 -- ---- one hole
 

@@ -1,16 +1,7 @@
 -- Lengths of a drill file in pm.
-use Rattle.std.proofs.Common.{◌≡◌, ℤ, pos, ◌≤ℤ◌, ◌≤◌, ◌||◌, ◌↔◌, Bool, true, false, cond, unsigned_abs, refl, sym, ap, subst, ◌∙◌, arith, Option, Some, None, Result, Ok, Err, IfOk, IsSome, IfSome}
-use Rattle.std.specs.Option.{ok_or}
-use Rattle.std.proofs.lemmas.Int.{ints}
-use Rattle.std.proofs.lemmas.Bool.{ltb-false}
+use Rattle.drill_text.proofs.Common.{◌≡◌, ℤ, pos, ◌≤ℤ◌, ◌≤◌, ◌||◌, ◌↔◌, Bool, true, false, cond, unsigned_abs, refl, sym, ap, subst, ◌∙◌, arith, Option, Some, None, Result, Ok, Err, IfOk, IsSome, IfSome, ok_or, ints, ltb-false, Inch, Millimetre, Reason, TooFar, picometres, is_too_far, within_limit, guard_ok, IsWidth}
 use Rattle.grid_units.specs.declared.lengths.Unit.{Unit as Units}
-use Rattle.grid_units.specs.declared.lengths.Unit.TheVariants.{Inch, Millimetre}
-use Rattle.grid_units.specs.declared.fault.Reason.{Reason}
-use Rattle.grid_units.specs.declared.fault.Reason.TheVariants.{TooFar}
-use Rattle.grid_units.specs.Numbers.{picometres, is_too_far, within_limit}
 use Rattle.grid_units.specs.Points.{GridPoint, IsCoordinate, max_coordinate}
-use Rattle.grid_units.proofs.ResultLemmas.{guard_ok}
-use Rattle.drill_text.specs.Inner.StateSteps.{IsWidth}
 
 pub no_length : (unit : Units) → Ok (pos 0) ≡ within_limit (picometres unit 8 (pos 0))
 unfolding within_limit

@@ -1,9 +1,5 @@
 -- Examples of holes.
-use Rattle.std.proofs.Common.{pos, List, [], ◌∷◌, None, Some, refl}
-use Rattle.grid_units.specs.Holes.{GridHole}
-use Rattle.grid_units.specs.declared.lengths.Unit.TheVariants.{Millimetre}
-use Rattle.drill_lines.specs.declared.command.DrillCommand.{DrillCommand}
-use Rattle.drill_lines.specs.declared.command.DrillCommand.TheVariants.{Start, UnitLine, Tool, HeaderEnd, Pick, Hit, Finish}
+use Rattle.drill_text.proofs.Common.{pos, List, [], ◌∷◌, None, Some, refl, GridHole, Millimetre, DrillCommand, Start, UnitLine, Tool, HeaderEnd, Pick, Hit, Finish}
 use Rattle.drill_text.specs.Drilling.{AreHoles}
 
 -- a hit at 1 mm, 2 mm

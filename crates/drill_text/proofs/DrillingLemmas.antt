@@ -1,30 +1,10 @@
 -- The holes that are listed of commands, and those that the commands drill.
-use Rattle.std.proofs.Common.{◌≡◌, ℕ, ℤ, ◌*◌, ◌/◌, pos, unsigned_abs, Bool, true, false, cond, List, [], ◌∷◌, ◌++◌, length, Option, None, Some, is_some, is_none, refl, sym, ap, subst, ◌∙◌, arith}
-use Rattle.std.specs.Prelude.{int_le}
-use Rattle.std.specs.List.{list_any, filter, filter_map, flat_map, find, cons_option, AllByRecursion, AllZip}
-use Rattle.std.specs.Option.{option_and_then, option_map}
-use Rattle.std.proofs.lemmas.Int.{ints}
-use Rattle.grid_units.specs.declared.fault.Reason.{Reason}
-use Rattle.grid_units.specs.declared.fault.Reason.TheVariants.{BadSize}
+use Rattle.drill_text.proofs.Common.{◌≡◌, ℕ, ℤ, ◌*◌, ◌/◌, pos, unsigned_abs, Bool, true, false, cond, List, [], ◌∷◌, ◌++◌, length, Option, None, Some, is_some, is_none, refl, sym, ap, subst, ◌∙◌, arith, int_le, list_any, filter, filter_map, flat_map, find, cons_option, AllByRecursion, AllZip, option_and_then, option_map, ints, Reason, BadSize, Inch, Millimetre, picometres, last_set, with_prefixes_from, violation_at, IsLegal, GridHole, both_true, Coordinates, Part, DrillCommand, is_sayable, StateView, state_after, part_after, header, ends_header, unit_set, tool_set, diameter_set, points_of, DrillPath, unit_or, unit_after, coordinate_in, point_at, diameter_after, path_at, hole_of, holes_at, holes_of, drills, applies, first_broken, broken_rule, lacks_unit, has_bad_size, part_with, part_from, are_sayable, is_after_end, ListedHolesAreDrilled, DrilledHolesAreListed, DrillsAtMostOneList, given_last}
 use Rattle.grid_units.specs.declared.lengths.Unit.{Unit as Units}
-use Rattle.grid_units.specs.declared.lengths.Unit.TheVariants.{Inch, Millimetre}
-use Rattle.grid_units.specs.Numbers.{picometres}
-use Rattle.grid_units.specs.Lists.{last_set, with_prefixes_from, violation_at, IsLegal}
-use Rattle.grid_units.specs.Holes.{GridHole}
-use Rattle.grid_units.proofs.BoolLemmas.{both_true}
-use Rattle.drill_lines.specs.declared.command.Coordinates.{Coordinates}
-use Rattle.drill_lines.specs.declared.command.Part.{Part}
 use Rattle.drill_lines.specs.declared.command.Part.TheVariants as part
-use Rattle.drill_lines.specs.declared.command.DrillCommand.{DrillCommand}
 use Rattle.drill_lines.specs.declared.command.DrillCommand.TheVariants as command
-use Rattle.drill_lines.specs.Writing.{is_sayable}
-use Rattle.drill_text.specs.Lookback.{StateView, state_after, part_after, header, ends_header, unit_set, tool_set, diameter_set, points_of}
-use Rattle.drill_text.specs.Holes.{DrillPath, unit_or, unit_after, coordinate_in, point_at, diameter_after, path_at, hole_of, holes_at, holes_of}
-use Rattle.drill_text.specs.Rules.{drills, applies, first_broken, broken_rule, rules, lacks_unit, has_bad_size}
-use Rattle.drill_text.specs.Writing.{part_with, part_from, are_sayable, is_after_end}
+use Rattle.drill_text.specs.Rules.{rules}
 use Rattle.drill_text.specs.Drilling.{IsPath, IsHoleOf, AreHoles}
-use Rattle.drill_text.specs.Laws.{ListedHolesAreDrilled, DrilledHolesAreListed, DrillsAtMostOneList}
-use Rattle.drill_text.specs.Inner.StateSteps.{given_last}
 use Rattle.drill_text.proofs.Lookbacks.{header-more}
 use Rattle.drill_text.proofs.RoundTrip.{part_more}
 use Rattle.drill_text.proofs.TextIsSayable.{text_sayable}

@@ -1,24 +1,12 @@
 -- Those hits that are read by the fast path.
-use Rattle.std.proofs.Common.{◌≡◌, ◌≤◌, ◌+◌, ◌-◌, ℕ, ℤ, true, not, eqb, cond, List, [], ◌∷◌, ◌++◌, length, Option, Some, None, Result, Ok, refl, sym, ap, ◌∙◌, arith, append_assoc}
+use Rattle.drill_text.proofs.Common.{◌≡◌, ◌≤◌, ◌+◌, ◌-◌, ℕ, ℤ, true, not, eqb, cond, List, [], ◌∷◌, ◌++◌, length, Option, Some, None, Result, Ok, refl, sym, ap, ◌∙◌, arith, append_assoc, false≢true, list_all, append-nil, length-append, Reason, is_number_char, ◌>>=◌, both, is_blank, trimmed, one_command, meaning, line_in, begins_comment, Settings, coordinate, coordinates, coordinate_of, field, hole_from, hole_line, HasLeadingDecimal, HasLineEnd, HasLeadingHit, both_true}
 use Rattle.std.specs.Prelude.{IfSome, is_some}
-use Rattle.std.proofs.lemmas.Bool.{false≢true}
-use Rattle.std.specs.List.{list_all}
-use Rattle.std.proofs.lemmas.List.{append-nil, length-append}
-use Rattle.grid_units.specs.declared.fault.Reason.{Reason}
-use Rattle.grid_units.specs.Numbers.{is_number_char}
-use Rattle.grid_units.specs.Results.{◌>>=◌, both}
-use Rattle.drill_lines.specs.Lines.{is_blank, trimmed}
-use Rattle.drill_lines.specs.Meaning.{one_command, meaning, line_in, begins_comment}
 use Rattle.drill_lines.specs.declared.command.Part.TheVariants as part
-use Rattle.drill_lines.specs.declared.command.Settings.{Settings}
 use Rattle.drill_lines.specs.declared.command.DrillCommand.TheVariants as command
-use Rattle.drill_lines.specs.HoleLines.{coordinate, coordinates, coordinate_of, field, hole_from, hole_line}
 use Rattle.drill_lines.proofs.Runs.{is_no_blank_or_break, solid_kept}
 use Rattle.drill_lines.proofs.TrimmedLemmas.{trim_blank}
 use Rattle.drill_lines.proofs.CanonicalParses.{numbers_solid, solid_no_break}
 use Rattle.drill_lines.proofs.Fronts.{pointed_coordinate}
-use Rattle.drill_text.specs.Inner.FastPath.{HasLeadingDecimal, HasLineEnd, HasLeadingHit}
-use Rattle.grid_units.proofs.BoolLemmas.{both_true}
 use Rattle.grid_units.proofs.ListLemmas.{list_all_weaker, list_all_append, take_while_append, drop_run_append, take_while_all, drop_run_all}
 
 -- ---- the line

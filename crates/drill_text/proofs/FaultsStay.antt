@@ -1,18 +1,7 @@
 -- A fault that a text shows stays with what follows it.
-use Rattle.std.proofs.Common.{◌≡◌, ℕ, zero, suc, ◌-◌, ◌<◌, cond, ltb, List, [], ◌∷◌, ◌++◌, length, take, Result, Ok, Err, refl, sym, ap, subst, ◌∙◌, arith, inl, inr}
-use Rattle.std.proofs.lemmas.List.{take-append-le, length-append}
-use Rattle.std.proofs.lemmas.Bool.{lt-ltb, ltb-true}
-use Rattle.drill_lines.specs.declared.command.DrillCommand.{DrillCommand}
-use Rattle.grid_units.specs.declared.fault.Fault.{Fault}
-use Rattle.grid_units.specs.declared.fault.Reason.TheVariants.{TooLong}
-use Rattle.drill_text.specs.Lines.{Splits}
-use Rattle.grid_units.specs.Results.{◌>>=◌, fault}
-use Rattle.grid_units.proofs.ResultLemmas.{bind_err, guard_err}
-use Rattle.drill_text.specs.Profiles.{Kind, shown_by, ShowsBy, ReadsBy}
-use Rattle.drill_text.specs.Holding.{HasFault}
+use Rattle.drill_text.proofs.Common.{◌≡◌, ℕ, zero, suc, ◌-◌, ◌<◌, cond, ltb, List, [], ◌∷◌, ◌++◌, length, take, Result, Ok, Err, refl, sym, ap, subst, ◌∙◌, arith, inl, inr, take-append-le, length-append, lt-ltb, ltb-true, DrillCommand, Fault, TooLong, Splits, ◌>>=◌, fault, bind_err, guard_err, Kind, shown_by, ShowsBy, ReadsBy, HasFault, text_limit}
 use Rattle.drill_text.proofs.PieceLemmas.{fault_stays}
 use Rattle.drill_text.proofs.FinishLemmas.{shows_reads}
-use Rattle.grid_units.specs.Limits.{text_limit}
 
 checks_len : ℕ → List (List ℕ) → List DrillCommand → Result (List DrillCommand) Fault
 checks_len len lines commands = cond (ltb text_limit len) (Err (fault (suc (length lines)) text_limit TooLong)) (Ok commands)

@@ -1,24 +1,6 @@
 -- The end of a text, from what a reader holds.
-use Rattle.std.proofs.Common.{◌≡◌, ℕ, suc, ◌≤◌, true, false, cond, ltb, List, length, Result, Ok, Err, sym, ap, subst, ◌∙◌, arith, inl, inr}
-use Rattle.std.specs.List.{list_any}
-use Rattle.std.proofs.lemmas.List.{take_all}
-use Rattle.std.proofs.lemmas.Bool.{le-ltb}
-use Rattle.drill_lines.specs.declared.command.DrillCommand.{DrillCommand}
-use Rattle.grid_units.specs.declared.fault.Fault.{Fault}
-use Rattle.grid_units.specs.declared.fault.Fail.{Fail}
+use Rattle.drill_text.proofs.Common.{◌≡◌, ℕ, suc, ◌≤◌, true, false, cond, ltb, List, length, Result, Ok, Err, sym, ap, subst, ◌∙◌, arith, inl, inr, list_any, take_all, le-ltb, DrillCommand, Fault, Fail, TooLong, Truncated, Strict, Keep, Progress, Splits, ◌>>=◌, fault, Answers, IfFault, Kind, ReadsAsBy, ReadsBy, Shows, ShowsBy, ended, is_finish, place_after_count, plain, shown_by, with_rest, DrillFile, file_of, ReadsAs, Holds, bind_err, guard_err, text_limit}
 use Rattle.grid_units.specs.declared.fault.Fail.TheVariants as fails
-use Rattle.grid_units.specs.declared.fault.Reason.TheVariants.{TooLong, Truncated}
-use Rattle.grid_units.specs.declared.profile.Profile.TheVariants.{Strict}
-use Rattle.drill_text.specs.declared.kept.Keep.{Keep}
-use Rattle.drill_text.specs.declared.reader.Progress.{Progress}
-use Rattle.drill_text.specs.Lines.{Splits}
-use Rattle.grid_units.specs.Results.{◌>>=◌, fault, Answers, IfFault}
-use Rattle.drill_text.specs.Profiles.{Kind, ReadsAsBy, ReadsBy, Shows, ShowsBy, ended, is_finish, place_after_count, plain, shown_by, with_rest}
-use Rattle.drill_text.specs.Outcome.{DrillFile, file_of}
-use Rattle.drill_text.specs.Texts.{ReadsAs}
-use Rattle.drill_text.specs.Holding.{Holds}
-use Rattle.grid_units.proofs.ResultLemmas.{bind_err, guard_err}
-use Rattle.grid_units.specs.Limits.{text_limit}
 
 ends_with : Kind → ℕ → List (List ℕ) → List ℕ → List DrillCommand → Result (List DrillCommand) Fault
 ends_with p len lines rest commands = cond (ltb text_limit len) (Err (fault (suc (length lines)) text_limit TooLong)) (with_rest p lines rest commands >>= ended len lines rest)

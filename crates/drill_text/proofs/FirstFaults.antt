@@ -1,28 +1,8 @@
 -- A text has a fault exactly where it is its first one.
-use Rattle.std.proofs.Common.{◌≡◌, ◌⊎◌, inl, inr, ℕ, suc, ◌<◌, ◌≤◌, Bool, true, false, cond, eqb, ltb, List, [], ◌∷◌, ◌++◌, length, take, Option, None, Some, Result, Ok, Err, refl, sym, ap, ◌∙◌, append_assoc}
-use Rattle.std.specs.List.{list_any}
-use Rattle.std.specs.Option.{option_to_list}
-use Rattle.std.proofs.lemmas.List.{append-nil}
-use Rattle.std.proofs.lemmas.Bool.{le-ltb, lt-ltb, ltb-true, ltb-false, eqb-true, eqb-false}
-use Rattle.grid_units.specs.declared.fault.Fault.{Fault}
-use Rattle.grid_units.specs.declared.fault.Reason.{Reason}
-use Rattle.grid_units.specs.declared.fault.Reason.TheVariants.{TooLong, Truncated}
-use Rattle.grid_units.specs.Results.{◌>>=◌, fault, with_place}
-use Rattle.grid_units.proofs.ResultLemmas.{bind_cong, bind_ok, bind_err}
-use Rattle.grid_units.specs.declared.profile.Profile.TheVariants.{Strict}
-use Rattle.drill_lines.specs.declared.command.DrillCommand.{DrillCommand}
-use Rattle.drill_lines.specs.Lines.{trimmed}
-use Rattle.drill_lines.specs.Meaning.{meaning}
-use Rattle.drill_text.specs.Lines.{bytes_of, Splits}
-use Rattle.drill_text.specs.Lookback.{settings_after}
-use Rattle.drill_text.specs.Rules.{broken_rule}
-use Rattle.drill_text.specs.Profiles.{Kind, Reads, ReadsBy, add_unless, checked, commands_by, ended, is_finish, place_after, plain, read_by, shown_by, spelled_in, step_in}
-use Rattle.drill_text.specs.Texts.{spelled_after, AreWithinLimit}
+use Rattle.drill_text.proofs.Common.{◌≡◌, ◌⊎◌, inl, inr, ℕ, suc, ◌<◌, ◌≤◌, Bool, true, false, cond, eqb, ltb, List, [], ◌∷◌, ◌++◌, length, take, Option, None, Some, Result, Ok, Err, refl, sym, ap, ◌∙◌, append_assoc, list_any, option_to_list, append-nil, le-ltb, lt-ltb, ltb-true, ltb-false, eqb-true, eqb-false, Fault, Reason, TooLong, Truncated, ◌>>=◌, fault, with_place, bind_cong, bind_ok, bind_err, Strict, DrillCommand, trimmed, meaning, bytes_of, Splits, settings_after, broken_rule, Kind, Reads, ReadsBy, add_unless, checked, commands_by, ended, is_finish, place_after, plain, read_by, shown_by, spelled_in, step_in, spelled_after, AreWithinLimit, text_limit, line_limit, IsLegal}
 use Rattle.drill_text.specs.Faults.{SpellLegally, IsRefused, HasRefusedLine, HasFaultWithin, HasFaultBeyond, IsFirstFault, HasAnswer}
 use Rattle.drill_text.proofs.ProfileLemmas.{commands_by-append, commands_by-push, show_by_err, show_by_long, show_by_ok, shown_by_err, shown_by_ok, too_long}
 use Rattle.drill_text.proofs.SpellsTextLemmas.{all_kept, all_spelled, last_short, reads_drill_text, strict_rest}
-use Rattle.grid_units.specs.Limits.{text_limit, line_limit}
-use Rattle.grid_units.specs.Lists.{IsLegal}
 
 at_err : {A : Type 0} (place byte : ℕ) (r : Result A Reason) (f : Fault) → with_place place byte r ≡ Err f → (r ≡ Err f.reason) × (f.place ≡ place) × (f.byte ≡ byte)
 at_err place byte (Ok y) f e = absurd cc

@@ -1,12 +1,5 @@
 -- An example of a drill text.
-use Rattle.std.proofs.Common.{pos, ℕ, List, [], ◌∷◌, map, None, Some, refl, arith, lit≤}
-use Rattle.std.specs.Prelude.{codes}
-use Rattle.grid_units.specs.declared.lengths.Unit.TheVariants.{Millimetre}
-use Rattle.grid_units.specs.Numbers.{parse_decimal}
-use Rattle.drill_lines.specs.declared.command.DrillCommand.TheVariants.{Start, UnitLine, Tool, HeaderEnd, Pick, Finish}
-use Rattle.drill_lines.specs.HoleLines.{coordinate_of}
-use Rattle.grid_units.specs.declared.profile.Profile.TheVariants.{Strict}
-use Rattle.drill_text.specs.Grammar.{IsText, lines_of}
+use Rattle.drill_text.proofs.Common.{pos, ℕ, List, [], ◌∷◌, map, None, Some, refl, arith, lit≤, codes, Millimetre, parse_decimal, Start, UnitLine, Tool, HeaderEnd, Pick, Finish, coordinate_of, Strict, IsText, lines_of}
 use Rattle.drill_text.proofs.DrillingExamples.{hit, commands}
 
 abbrev text : List ℕ

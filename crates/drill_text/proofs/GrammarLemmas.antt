@@ -1,24 +1,8 @@
 -- A text that spells commands, and one that is written for them.
-use Rattle.std.proofs.Common.{◌≡◌, ℕ, zero, suc, Bool, true, false, cond, ◌||◌, List, [], ◌∷◌, ◌++◌, map, Ok, refl, sym, ap, subst, ◌∙◌, arith, append_assoc}
-use Rattle.std.specs.List.{list_any, flat_map, AllByRecursion, Contains, onto_first}
-use Rattle.std.specs.Option.{option_to_list}
-use Rattle.std.proofs.lemmas.Bool.{ne_eqb}
-use Rattle.grid_units.specs.Results.{◌>>=◌}
-use Rattle.grid_units.proofs.ResultLemmas.{bind_ok}
+use Rattle.drill_text.proofs.Common.{◌≡◌, ℕ, zero, suc, Bool, true, false, cond, ◌||◌, List, [], ◌∷◌, ◌++◌, map, Ok, refl, sym, ap, subst, ◌∙◌, arith, append_assoc, list_any, flat_map, AllByRecursion, Contains, onto_first, option_to_list, ne_eqb, ◌>>=◌, bind_ok, Strict, DrillCommand, trimmed, meaning, written_is_answered, bytes_of, HasNoBreak, Splits, settings_after, is_finish, spelled_after, AreWithinLimit, SpellsText, lines_of, AreEntries, IsText, IsWithinLimits, SpelledIsWritten}
 use Rattle.grid_units.proofs.ListLemmas.{list_any_element}
-use Rattle.grid_units.specs.declared.profile.Profile.TheVariants.{Strict}
-use Rattle.drill_lines.specs.declared.command.DrillCommand.{DrillCommand}
 use Rattle.drill_lines.specs.declared.command.DrillCommand.TheVariants as command
-use Rattle.drill_lines.specs.Lines.{trimmed}
-use Rattle.drill_lines.specs.Meaning.{meaning}
-use Rattle.drill_lines.proofs.Answered.{written_is_answered}
 use Rattle.drill_lines.proofs.Written.{answers_are_written}
-use Rattle.drill_text.specs.Lines.{bytes_of, HasNoBreak, Splits}
-use Rattle.drill_text.specs.Lookback.{settings_after}
-use Rattle.drill_text.specs.Profiles.{is_finish}
-use Rattle.drill_text.specs.Texts.{spelled_after, AreWithinLimit, SpellsText}
-use Rattle.drill_text.specs.Grammar.{lines_of, AreEntries, IsText}
-use Rattle.drill_text.specs.Laws.{IsWithinLimits, SpelledIsWritten}
 use Rattle.drill_text.proofs.FirstFaults.{cut}
 
 -- ---- lines

@@ -1,20 +1,7 @@
 -- What is drilled, and the first rule that it breaks.
-use Rattle.std.proofs.Common.{◌≡◌, ℕ, ℤ, Bool, true, false, cond, ◌||◌, ◌/◌, unsigned_abs, nat_le, [], ◌∷◌, Option, None, Some, Result, Ok, Err, refl}
-use Rattle.std.specs.List.{find}
-use Rattle.grid_units.specs.declared.fault.Reason.{Reason}
-use Rattle.grid_units.specs.declared.fault.Reason.TheVariants.{NoUnit, UnitConflict, FormatConflict, Redefined, UnknownTool, NoTool, BadSize, TooFar, TooManyHoles}
-use Rattle.grid_units.specs.Results.{◌>>=◌}
+use Rattle.drill_text.proofs.Common.{◌≡◌, ℕ, ℤ, Bool, true, false, cond, ◌||◌, ◌/◌, unsigned_abs, nat_le, [], ◌∷◌, Option, None, Some, Result, Ok, Err, refl, find, Reason, NoUnit, UnitConflict, FormatConflict, Redefined, UnknownTool, NoTool, BadSize, TooFar, TooManyHoles, ◌>>=◌, is_too_far, within_limit, GridHole, Coordinates, DrillCommand, StateView, option_or, DrillPath, hole_of, unit_or, first_broken, applies, has_no_tool, has_bad_size, redefines_tool, max_holes, path_between, no_point, hole_in, width_in, width_of, point_in, hole_between, round_hole}
 use Rattle.grid_units.specs.Points.{GridPoint}
-use Rattle.grid_units.specs.Numbers.{is_too_far, within_limit}
-use Rattle.grid_units.specs.Holes.{GridHole}
-use Rattle.drill_lines.specs.declared.command.Coordinates.{Coordinates}
-use Rattle.drill_lines.specs.declared.command.DrillCommand.{DrillCommand}
 use Rattle.drill_lines.specs.declared.command.DrillCommand.TheVariants as command
-use Rattle.drill_text.specs.Lookback.{StateView}
-use Rattle.std.specs.Option.{option_or}
-use Rattle.drill_text.specs.Holes.{DrillPath, hole_of, unit_or}
-use Rattle.drill_text.specs.Rules.{first_broken, applies, has_no_tool, has_bad_size, redefines_tool, max_holes}
-use Rattle.drill_text.specs.Inner.StateSteps.{path_between, no_point, hole_in, width_in, width_of, point_in, hole_between, round_hole}
 
 -- a value, unless a rule is broken
 pub ok_unless : {A : Type 0} → Option Reason → A → Result A Reason

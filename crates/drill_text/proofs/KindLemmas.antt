@@ -1,25 +1,6 @@
 -- A file of each kind is read as one of the same commands whose role is believed, but for the rule that the kind has beside the others.
-use Rattle.std.proofs.Common.{◌≡◌, ℕ, suc, Bool, true, false, cond, ltb, ◌||◌, List, [], ◌∷◌, ◌++◌, length, map, Option, None, Some, Ok, Err, refl, sym, ap, subst, ◌∙◌, append_assoc}
-use Rattle.std.specs.List.{cons_option, filter_map, list_any}
-use Rattle.std.specs.Option.{option_map, option_or, option_to_list}
-use Rattle.std.proofs.lemmas.List.{append-nil}
-use Rattle.grid_units.specs.Limits.{line_limit}
-use Rattle.grid_units.specs.Lists.{IsLegal, violation_at, with_prefixes_from}
-use Rattle.grid_units.specs.Results.{◌>>=◌, with_place}
-use Rattle.grid_units.specs.declared.fault.Reason.{Reason}
-use Rattle.grid_units.specs.declared.fault.Reason.TheVariants.{PlatingConflict, TooLong}
-use Rattle.grid_units.proofs.LookbackLemmas.{violations-more}
-use Rattle.grid_units.proofs.ResultLemmas.{bind_ok}
-use Rattle.drill_lines.specs.Lines.{trimmed}
-use Rattle.drill_lines.specs.Routes.{meaning_in}
-use Rattle.drill_lines.specs.declared.command.DrillCommand.{DrillCommand}
-use Rattle.drill_text.specs.Lines.{bytes_of}
-use Rattle.drill_text.specs.Lookback.{settings_after}
+use Rattle.drill_text.proofs.Common.{◌≡◌, ℕ, suc, Bool, true, false, cond, ltb, ◌||◌, List, [], ◌∷◌, ◌++◌, length, map, Option, None, Some, Ok, Err, refl, sym, ap, subst, ◌∙◌, append_assoc, cons_option, filter_map, list_any, option_map, option_or, option_to_list, append-nil, line_limit, IsLegal, violation_at, with_prefixes_from, ◌>>=◌, with_place, Reason, PlatingConflict, TooLong, violations-more, bind_ok, trimmed, meaning_in, DrillCommand, bytes_of, settings_after, calls_plated, contradiction_rule, own_rule, rule_in, PlatingKind, Kind, ReadsBy, ReadsIn, add_unless, checked, checked_by, commands_by, plain, spelled_in, step_in, with_rest, broken_rule}
 use Rattle.drill_text.specs.MixedLaws.{KindsReadTheSame, UncontradictedIsLegal}
-use Rattle.drill_text.specs.Plating.{calls_plated, contradiction_rule, own_rule, rule_in}
-use Rattle.drill_text.specs.declared.platings.PlatingKind.{PlatingKind}
-use Rattle.drill_text.specs.Profiles.{Kind, ReadsBy, ReadsIn, add_unless, checked, checked_by, commands_by, plain, spelled_in, step_in, with_rest}
-use Rattle.drill_text.specs.Rules.{broken_rule}
 use Rattle.drill_text.proofs.PlatingLemmas.{rules_are}
 use Rattle.drill_text.proofs.ProfileLemmas.{at_ok, ending, guarded, read_alike}
 use Rattle.drill_text.proofs.SpellsTextLemmas.{judged_ok, last_keeps, legal_start}

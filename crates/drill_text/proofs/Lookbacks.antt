@@ -1,26 +1,11 @@
 -- What one more command changes of the words that look back.
-use Rattle.std.proofs.Common.{◌≡◌, ℕ, ℤ, List, [], ◌∷◌, ◌++◌, length, Option, None, Some, unwrap_or, Bool, true, false, cond, ◌||◌, refl, sym, ap, subst, ◌∙◌, append-nil}
-use Rattle.std.proofs.lemmas.List.Concat.{flat_map-append}
-use Rattle.std.proofs.lemmas.List.Elements.{filter_map-append}
-use Rattle.std.specs.Option.{option_or, option_map, option_to_list}
-use Rattle.std.specs.List.{list_any, cons_option}
-use Rattle.grid_units.specs.Lists.{last_set}
-use Rattle.grid_units.proofs.LookbackLemmas.{option_or_none, option_or_assoc, unwrap_or_or, last_set-append, last_set-more, list_any-more, flat_positions-more}
+use Rattle.drill_text.proofs.Common.{◌≡◌, ℕ, ℤ, List, [], ◌∷◌, ◌++◌, length, Option, None, Some, unwrap_or, Bool, true, false, cond, ◌||◌, refl, sym, ap, subst, ◌∙◌, flat_map-append, filter_map-append, option_or, option_map, option_to_list, list_any, cons_option, last_set, option_or_none, option_or_assoc, unwrap_or_or, last_set-append, last_set-more, list_any-more, flat_positions-more, Coordinates, DrillCommand, Reason, PlatingKind, DrillState, own_rule, rule_in, tool_made, StateView, state_after, settings_after, header, ends_header, part_set, unit_set, zeros_set, format_set, diameter_set, tool_set, tool_defined, tools_of, points_in, points_of, x_set, y_set, unit_after, point_at, coordinate_in, diameter_after, path_at, hole_of, holes_at, holes_of, broken_rule, drills, first_broken, redefines_tool, state_of, AreWordsAfter, IsStateAfter, Applies, mark_of, own_broken, picked_plating, after, settings_with, given_last, moved, no_point, drill_path, resolved_point}
+use Rattle.std.proofs.Common.{append-nil}
 use Rattle.grid_units.specs.declared.lengths.Unit.{Unit as Units}
-use Rattle.drill_lines.specs.declared.command.Coordinates.{Coordinates}
-use Rattle.drill_lines.specs.declared.command.DrillCommand.{DrillCommand}
 use Rattle.drill_lines.specs.declared.command.DrillCommand.TheVariants as command
 use Rattle.drill_lines.specs.declared.command.Part.TheVariants as part
-use Rattle.grid_units.specs.declared.fault.Reason.{Reason}
-use Rattle.drill_text.specs.declared.platings.PlatingKind.{PlatingKind}
 use Rattle.drill_text.specs.declared.platings.PlatingWords.{PlatingWords}
-use Rattle.drill_text.specs.declared.state.DrillState.{DrillState}
-use Rattle.drill_text.specs.Plating.{own_rule, rule_in, tool_made}
 use Rattle.drill_text.proofs.PlatingLemmas.{marks_more, picked_is, rules_are, same_own, tool_more, words_more}
-use Rattle.drill_text.specs.Lookback.{StateView, state_after, settings_after, header, ends_header, part_set, unit_set, zeros_set, format_set, diameter_set, tool_set, tool_defined, tools_of, points_in, points_of, x_set, y_set}
-use Rattle.drill_text.specs.Holes.{unit_after, point_at, coordinate_in, diameter_after, path_at, hole_of, holes_at, holes_of}
-use Rattle.drill_text.specs.Rules.{broken_rule, drills, first_broken, redefines_tool}
-use Rattle.drill_text.specs.Inner.StateSteps.{state_of, AreWordsAfter, IsStateAfter, Applies, mark_of, own_broken, picked_plating, after, settings_with, given_last, moved, no_point, drill_path, resolved_point}
 
 -- ---- the header as a whole
 

@@ -1,14 +1,6 @@
 -- What a text shows as it goes on: the first fault stays, and so do a reader's commands.
-use Rattle.std.proofs.Common.{◌≡◌, ◌≢◌, ℕ, inl, inr, Bool, true, false, eqb, List, [], ◌∷◌, ◌++◌, take, drop, Err, refl, sym, ap, subst, ◌∙◌, arith, append_assoc}
-use Rattle.std.proofs.lemmas.List.{append-nil, length-append, take-append-drop}
-use Rattle.std.proofs.lemmas.Bool.{eqb-true, eqb-false}
-use Rattle.grid_units.specs.declared.fault.Fault.{Fault}
-use Rattle.grid_units.specs.declared.fault.Fail.{Fail}
+use Rattle.drill_text.proofs.Common.{◌≡◌, ◌≢◌, ℕ, inl, inr, Bool, true, false, eqb, List, [], ◌∷◌, ◌++◌, take, drop, Err, refl, sym, ap, subst, ◌∙◌, arith, append_assoc, append-nil, length-append, take-append-drop, eqb-true, eqb-false, Fault, Fail, Keep, Progress, Kind, spelled_in, shown_by, Holds, HasFault, Advances, Refuses}
 use Rattle.grid_units.specs.declared.fault.Fail.TheVariants as fails
-use Rattle.drill_text.specs.declared.kept.Keep.{Keep}
-use Rattle.drill_text.specs.declared.reader.Progress.{Progress}
-use Rattle.drill_text.specs.Profiles.{Kind, spelled_in, shown_by}
-use Rattle.drill_text.specs.Holding.{Holds, HasFault, Advances, Refuses}
 use Rattle.drill_text.proofs.SplitsLemmas.{Splits-grow, Splits-close}
 use Rattle.drill_text.proofs.ProfileLemmas.{shown_by_ok, shown_by_err, show_by_err, show_by_long, show_by_push, show_by_push_err, too_long}
 

@@ -1,23 +1,9 @@
 -- What one more command changes of what the comments say of tools and holes.
-use Rattle.std.proofs.Common.{◌≡◌, ℕ, Bool, true, false, cond, ◌||◌, ◌&&◌, List, [], ◌∷◌, ◌++◌, Option, None, Some, is_some, unwrap_or, nat_eq, refl, sym, ap, ◌∙◌}
-use Rattle.std.specs.Option.{option_and_then, option_map, option_or}
-use Rattle.std.specs.List.{list_any}
-use Rattle.indexmap.specs.IndexMap.{get}
-use Rattle.grid_units.specs.Lists.{last_set, with_prefixes}
-use Rattle.grid_units.proofs.LookbackLemmas.{flat_positions-more, last_or-more, last_set-more, list_any-more, option_or_none, with_prefixes-append}
-use Rattle.grid_units.specs.declared.fault.Reason.TheVariants.{NoPlating, PlatingConflict}
-use Rattle.drill_lines.specs.declared.command.DrillCommand.{DrillCommand}
+use Rattle.drill_text.proofs.Common.{◌≡◌, ℕ, Bool, true, false, cond, ◌||◌, ◌&&◌, List, [], ◌∷◌, ◌++◌, Option, None, Some, is_some, unwrap_or, nat_eq, refl, sym, ap, ◌∙◌, option_and_then, option_map, option_or, list_any, get, last_set, with_prefixes, flat_positions-more, last_or-more, last_set-more, list_any-more, option_or_none, with_prefixes-append, NoPlating, PlatingConflict, DrillCommand, DrillState, PlatingKind, StateView, ends_header, kept_platings, calls_plated, calls_unplated, is_unsaid, own_rule, plated_at, plating_after, plating_of_tool, plating_set, rule_in, said_after, tool_made, broken_rule, drills, AreWordsAfter, IsStateAfter, heard, hole_rule, mark_of, own_broken, picked_plating, plating_in}
 use Rattle.drill_lines.specs.declared.plating.Plating.{Plating}
 use Rattle.drill_lines.specs.declared.plating.Plating.TheVariants as plating
-use Rattle.drill_text.specs.declared.state.DrillState.{DrillState}
-use Rattle.drill_text.specs.declared.platings.PlatingKind.{PlatingKind}
 use Rattle.drill_text.specs.declared.platings.PlatingKind.TheVariants as kinds
 use Rattle.drill_text.specs.declared.platings.PlatingWords.{PlatingWords}
-use Rattle.drill_text.specs.Lookback.{StateView, ends_header}
-use Rattle.drill_text.specs.Outcome.{kept_platings}
-use Rattle.drill_text.specs.Plating.{calls_plated, calls_unplated, is_unsaid, own_rule, plated_at, plating_after, plating_of_tool, plating_set, rule_in, said_after, tool_made}
-use Rattle.drill_text.specs.Rules.{broken_rule, drills}
-use Rattle.drill_text.specs.Inner.StateSteps.{AreWordsAfter, IsStateAfter, heard, hole_rule, mark_of, own_broken, picked_plating, plating_in}
 
 -- a member of what was looked up
 pub mapped_then : {A B : Type 0} (f : A → B) (g : ℕ → Option A) (o : Option ℕ) → option_map f (option_and_then g o) ≡ option_and_then (λ number. option_map f (g number)) o

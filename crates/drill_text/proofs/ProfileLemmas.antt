@@ -1,21 +1,5 @@
 -- What lines and texts spell in a profile.
-use Rattle.std.proofs.Common.{◌≡◌, ℕ, suc, ◌<◌, ◌≤◌, ◌⊎◌, inl, inr, Bool, true, false, cond, ltb, List, [], ◌∷◌, ◌++◌, length, map, Option, Result, Ok, Err, refl, sym, ap, subst, ◌∙◌, append_assoc}
-use Rattle.std.specs.List.{list_any}
-use Rattle.std.proofs.lemmas.List.{append-nil, take_all}
-use Rattle.std.proofs.lemmas.Bool.{lt-ltb, le-ltb, ltb-true, ltb-false}
-use Rattle.grid_units.specs.declared.fault.Reason.{Reason}
-use Rattle.grid_units.specs.declared.fault.Reason.TheVariants.{TooLong, Truncated}
-use Rattle.grid_units.specs.declared.fault.Fault.{Fault}
-use Rattle.grid_units.specs.Results.{◌>>=◌, fault, with_place}
-use Rattle.grid_units.proofs.ResultLemmas.{bind_ok, bind_err, bind_assoc, bind_cong, bind_Ok, guard_ok, guard_err}
-use Rattle.grid_units.specs.Limits.{line_limit, text_limit}
-use Rattle.drill_lines.specs.declared.command.DrillCommand.{DrillCommand}
-use Rattle.drill_lines.specs.Lines.{trimmed}
-use Rattle.drill_lines.specs.Routes.{meaning_in}
-use Rattle.drill_text.specs.Lines.{bytes_of, Splits}
-use Rattle.drill_text.specs.Lookback.{settings_after}
-use Rattle.drill_text.specs.Plating.{rule_in}
-use Rattle.drill_text.specs.Profiles.{Kind, ReadsBy, checked_by, commands_by, ended, is_finish, place_after, shown_by, spelled_in, step_in, with_rest}
+use Rattle.drill_text.proofs.Common.{◌≡◌, ℕ, suc, ◌<◌, ◌≤◌, ◌⊎◌, inl, inr, Bool, true, false, cond, ltb, List, [], ◌∷◌, ◌++◌, length, map, Option, Result, Ok, Err, refl, sym, ap, subst, ◌∙◌, append_assoc, list_any, append-nil, take_all, lt-ltb, le-ltb, ltb-true, ltb-false, Reason, TooLong, Truncated, Fault, ◌>>=◌, fault, with_place, bind_ok, bind_err, bind_assoc, bind_cong, bind_Ok, guard_ok, guard_err, line_limit, text_limit, DrillCommand, trimmed, meaning_in, bytes_of, Splits, settings_after, rule_in, Kind, ReadsBy, checked_by, commands_by, ended, is_finish, place_after, shown_by, spelled_in, step_in, with_rest}
 
 -- ---- tests
 

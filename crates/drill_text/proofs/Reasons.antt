@@ -1,34 +1,16 @@
 -- A drill text has a fault of one of its own reasons.
-use Rattle.std.proofs.Common.{◌≡◌, ◌⊎◌, inl, inr, ℕ, ℤ, Bool, true, false, cond, ◌&&◌, eqb, leb, ltb, List, [], ◌∷◌, ◌++◌, length, drop, Option, None, Some, Result, Ok, Err, refl, ap, subst, ◌∙◌}
-use Rattle.std.specs.Prelude.{codes}
-use Rattle.std.specs.List.{list_all, list_any, find, prefix_len, AllByRecursion}
-use Rattle.std.specs.Option.{option_map}
-use Rattle.grid_units.specs.declared.fault.Fault.{Fault}
-use Rattle.grid_units.specs.declared.fault.Reason.{Reason}
+use Rattle.drill_text.proofs.Common.{◌≡◌, ◌⊎◌, inl, inr, ℕ, ℤ, Bool, true, false, cond, ◌&&◌, eqb, leb, ltb, List, [], ◌∷◌, ◌++◌, length, drop, Option, None, Some, Result, Ok, Err, refl, ap, subst, ◌∙◌, codes, list_all, list_any, find, prefix_len, AllByRecursion, option_map, Fault, Reason, Inch, Millimetre, ◌>>=◌, both, is_digits, is_number_char, without_sign, is_decimal, fits_eight_decimals, fraction, whole, value, value_without_point, signed, to_units, parse_decimal, zeros_to_fill, zero_filled, parse_zero_filled, Part, Settings, DrillCommand, Comment, UnitLine, Finish, Tool, Pick, Hit, Slot, trimmed, format_in, zeros_in, coordinate_of, coordinate, Runs, runs_of, coordinates, slot_line, hole_from, hole_line, one_command, lines_before, common_lines, common_rows, header_ends, header_rows, body_prefixes, body_rows, line_in, begins_comment, meaning, settings_after, state_after, path_at, holes_of, applies, first_broken, broken_rule, Reads}
 use Rattle.grid_units.specs.declared.fault.Reason.TheVariants as reason
 use Rattle.grid_units.specs.declared.lengths.Unit.{Unit as Units}
-use Rattle.grid_units.specs.declared.lengths.Unit.TheVariants.{Inch, Millimetre}
 use Rattle.grid_units.specs.declared.zero_filling.Zeros.{Zeros}
 use Rattle.grid_units.specs.declared.zero_filling.Zeros.TheVariants.{Leading, Trailing, Full}
 use Rattle.grid_units.specs.Reasons.{reason_number}
-use Rattle.grid_units.specs.Results.{◌>>=◌, both}
 use Rattle.grid_units.specs.Rows.{first_match_or, strip_prefix, literal_row}
-use Rattle.grid_units.specs.Numbers.{is_digits, is_number_char, without_sign, is_decimal, fits_eight_decimals, fraction, whole, value, value_without_point, signed, to_units, parse_decimal, zeros_to_fill, zero_filled, parse_zero_filled}
-use Rattle.drill_lines.specs.declared.command.Part.{Part}
 use Rattle.drill_lines.specs.declared.command.Part.TheVariants as part
-use Rattle.drill_lines.specs.declared.command.Settings.{Settings}
-use Rattle.drill_lines.specs.declared.command.DrillCommand.{DrillCommand}
-use Rattle.drill_lines.specs.declared.command.DrillCommand.TheVariants.{Comment, UnitLine, Finish, Tool, Pick, Hit, Slot}
-use Rattle.drill_lines.specs.Lines.{trimmed}
 use Rattle.drill_lines.specs.Header.{is_zero, is_digit_count, digit_counts, pattern_from, pattern, unit_format, unit_line}
 use Rattle.drill_lines.specs.Tools.{is_point, tool_number, diameter_of, tool_fields, tool_line, pick_fields, pick_line}
-use Rattle.drill_lines.specs.HoleLines.{format_in, zeros_in, coordinate_of, coordinate, Runs, runs_of, coordinates, slot_line, hole_from, hole_line}
-use Rattle.drill_lines.specs.Meaning.{one_command, lines_before, common_lines, common_rows, header_ends, header_rows, body_prefixes, body_rows, line_in, begins_comment, meaning}
 use Rattle.drill_lines.proofs.Rows.{RowHas, first_match_has, just_has, beginning_has, prefix_has}
-use Rattle.drill_text.specs.Lookback.{settings_after, state_after}
-use Rattle.drill_text.specs.Holes.{path_at, holes_of}
-use Rattle.drill_text.specs.Rules.{applies, rules, first_broken, broken_rule}
-use Rattle.drill_text.specs.Profiles.{Reads}
+use Rattle.drill_text.specs.Rules.{rules}
 use Rattle.drill_text.specs.Faults.{is_drill_reason, IsRefused, HasRefusedLine, IsFirstFault}
 use Rattle.drill_text.proofs.FirstFaults.{err_first}
 

@@ -1,29 +1,11 @@
 -- The canonical text of a sayable list spells just the list.
-use Rattle.std.proofs.Common.{◌≡◌, ◌≢◌, ℕ, ◌≤◌, true, false, not, ◌&&◌, eqb, List, [], ◌∷◌, ◌++◌, length, map, take, drop, get_or, Ok, Err, refl, sym, ap, subst, ◌∙◌, arith, append_assoc, append-nil, lit≤, add-one, suc, ◌+◌, ◌<◌, cond}
-use Rattle.std.specs.List.{list_any, list_all, AllByRecursion}
-use Rattle.std.specs.Option.{option_to_list}
-use Rattle.std.proofs.lemmas.List.{map-append, length-append, take-append-drop}
-use Rattle.std.proofs.lemmas.List.Concat.{flat_map-append}
-use Rattle.std.proofs.Math.Seq.{drop-cons}
-use Rattle.std.proofs.lemmas.Bool.{eq-eqb, false≢true, lt-ltb, le-ltb}
-use Rattle.grid_units.specs.declared.fault.Reason.TheVariants.{TooLong}
-use Rattle.grid_units.specs.Results.{◌>>=◌, fault}
-use Rattle.grid_units.proofs.LookbackLemmas.{last_or-more}
-use Rattle.drill_lines.specs.declared.command.Part.{Part}
+use Rattle.drill_text.proofs.Common.{◌≡◌, ◌≢◌, ℕ, ◌≤◌, true, false, not, ◌&&◌, eqb, List, [], ◌∷◌, ◌++◌, length, map, take, drop, get_or, Ok, Err, refl, sym, ap, subst, ◌∙◌, arith, append_assoc, lit≤, add-one, suc, ◌+◌, ◌<◌, cond, list_any, list_all, AllByRecursion, option_to_list, map-append, length-append, take-append-drop, flat_map-append, drop-cons, eq-eqb, false≢true, lt-ltb, le-ltb, TooLong, ◌>>=◌, fault, last_or-more, Part, DrillCommand, meaning, canonical, is_sayable, IsInRange, ended_line, bytes_of, HasNoBreak, settings_after, part_after, part_set, is_finish, spelled_after, AreWithinLimit, SpellsText, text_limit, both_true}
+use Rattle.std.proofs.Common.{append-nil}
 use Rattle.drill_lines.specs.declared.command.Part.TheVariants as part
-use Rattle.drill_lines.specs.declared.command.DrillCommand.{DrillCommand}
 use Rattle.drill_lines.specs.declared.command.DrillCommand.TheVariants as command
-use Rattle.drill_lines.specs.Meaning.{meaning}
-use Rattle.drill_lines.specs.Writing.{canonical, is_sayable, IsInRange}
 use Rattle.drill_lines.proofs.CanonicalParses.{parses}
-use Rattle.drill_text.specs.Lines.{ended_line, bytes_of, HasNoBreak}
-use Rattle.drill_text.specs.Lookback.{settings_after, part_after, part_set}
-use Rattle.drill_text.specs.Profiles.{is_finish}
-use Rattle.drill_text.specs.Texts.{spelled_after, AreWithinLimit, SpellsText}
 use Rattle.drill_text.specs.Writing.{part_with, part_from, are_sayable, is_after_end, drill_sayable, canonical_lines, written as written_result}
 use Rattle.drill_text.proofs.SplitsLemmas.{AllR-append, bytes_of-push}
-use Rattle.grid_units.specs.Limits.{text_limit}
-use Rattle.grid_units.proofs.BoolLemmas.{both_true}
 
 pub AreTyped : List DrillCommand → Type 0
 AreTyped cs = AllByRecursion IsInRange cs

@@ -1,25 +1,8 @@
 -- A line that is read and judged.
-use Rattle.std.proofs.Common.{◌≡◌, ℕ, ◌<◌, List, [], ◌∷◌, ◌++◌, length, map, None, Some, Result, Ok, Err, sym, ap, subst, ◌∙◌, refl, arith}
-use Rattle.std.proofs.lemmas.List.{map-append}
-use Rattle.grid_units.specs.declared.fault.Reason.{Reason}
-use Rattle.grid_units.specs.declared.fault.Fault.{Fault}
-use Rattle.grid_units.specs.declared.fault.Fail.{Fail}
-use Rattle.grid_units.specs.Results.{fault, with_place, IfFault}
-use Rattle.drill_lines.specs.declared.command.DrillCommand.{DrillCommand}
-use Rattle.drill_lines.specs.declared.command.Settings.{Settings}
+use Rattle.drill_text.proofs.Common.{◌≡◌, ℕ, ◌<◌, List, [], ◌∷◌, ◌++◌, length, map, None, Some, Result, Ok, Err, sym, ap, subst, ◌∙◌, refl, arith, map-append, Reason, Fault, Fail, fault, with_place, IfFault, DrillCommand, Settings, trimmed, HasReadLines, PlatingKind, DrillState, Keep, StateView, settings_after, rule_in, Kind, add_unless, checked_by, spelled_in, with_rest, IsStateAfter, ResultsIn, ResultsInLine}
 use Rattle.grid_units.specs.declared.profile.Profile.{Profile}
 use Rattle.drill_lines.specs.declared.line_reader.LineReader.{LineReader}
-use Rattle.drill_lines.specs.Lines.{trimmed}
-use Rattle.drill_lines.specs.LineReading.{HasReadLines}
-use Rattle.drill_text.specs.declared.platings.PlatingKind.{PlatingKind}
-use Rattle.drill_text.specs.declared.state.DrillState.{DrillState}
-use Rattle.drill_text.specs.declared.kept.Keep.{Keep}
 use Rattle.drill_text.specs.declared.kept.KeptCommands.{KeptCommands}
-use Rattle.drill_text.specs.Lookback.{StateView, settings_after}
-use Rattle.drill_text.specs.Plating.{rule_in}
-use Rattle.drill_text.specs.Profiles.{Kind, add_unless, checked_by, spelled_in, with_rest}
-use Rattle.drill_text.specs.Inner.StateSteps.{IsStateAfter}
-use Rattle.drill_text.specs.Keeping.{ResultsIn, ResultsInLine}
 
 pub checked_kept : (plating : PlatingKind) (before : List DrillCommand) (place byte : ℕ) (c : DrillCommand) → rule_in plating before c ≡ None → with_place place byte (checked_by (rule_in plating) before (Some c)) ≡ Ok (before ++ c ∷ [])
 checked_kept plating before place byte c legal = ap (λ o. with_place place byte (add_unless o before c)) legal

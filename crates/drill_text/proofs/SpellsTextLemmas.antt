@@ -1,26 +1,7 @@
 -- A text is read where its lines spell a legal list of commands.
-use Rattle.std.proofs.Common.{◌≡◌, ℕ, suc, ◌≤◌, Bool, true, false, cond, ltb, List, [], ◌∷◌, ◌++◌, length, Option, None, Some, Result, Ok, Err, refl, sym, ap, subst, ◌∙◌, append_assoc, append-nil}
-use Rattle.std.specs.List.{filter_map, cons_option}
-use Rattle.std.specs.Option.{option_to_list, option_map}
-use Rattle.std.proofs.lemmas.Bool.{ltb-false}
-use Rattle.grid_units.specs.declared.fault.Fail.{Fail}
+use Rattle.drill_text.proofs.Common.{◌≡◌, ℕ, suc, ◌≤◌, Bool, true, false, cond, ltb, List, [], ◌∷◌, ◌++◌, length, Option, None, Some, Result, Ok, Err, refl, sym, ap, subst, ◌∙◌, append_assoc, filter_map, cons_option, option_to_list, option_map, ltb-false, Fail, Reason, TooLong, Strict, ◌>>=◌, with_place, Answers, violations, violation_at, with_prefixes_from, IsLegal, line_limit, bind_ok, violations-more, violations-append, DrillCommand, trimmed, meaning, bytes_of, settings_after, broken_rule, Reads, ReadsAsIn, add_unless, checked, commands_by, plain, spelled_in, step_in, with_rest, spelled_after, AreWithinLimit, IsDrillText, ReadsAs}
+use Rattle.std.proofs.Common.{append-nil}
 use Rattle.grid_units.specs.declared.fault.Fail.TheVariants as fails
-use Rattle.grid_units.specs.declared.fault.Reason.{Reason}
-use Rattle.grid_units.specs.declared.fault.Reason.TheVariants.{TooLong}
-use Rattle.grid_units.specs.declared.profile.Profile.TheVariants.{Strict}
-use Rattle.grid_units.specs.Results.{◌>>=◌, with_place, Answers}
-use Rattle.grid_units.specs.Lists.{violations, violation_at, with_prefixes_from, IsLegal}
-use Rattle.grid_units.specs.Limits.{line_limit}
-use Rattle.grid_units.proofs.ResultLemmas.{bind_ok}
-use Rattle.grid_units.proofs.LookbackLemmas.{violations-more, violations-append}
-use Rattle.drill_lines.specs.declared.command.DrillCommand.{DrillCommand}
-use Rattle.drill_lines.specs.Lines.{trimmed}
-use Rattle.drill_lines.specs.Meaning.{meaning}
-use Rattle.drill_text.specs.Lines.{bytes_of}
-use Rattle.drill_text.specs.Lookback.{settings_after}
-use Rattle.drill_text.specs.Rules.{broken_rule}
-use Rattle.drill_text.specs.Profiles.{Reads, ReadsAsIn, add_unless, checked, commands_by, plain, spelled_in, step_in, with_rest}
-use Rattle.drill_text.specs.Texts.{spelled_after, AreWithinLimit, IsDrillText, ReadsAs}
 use Rattle.drill_text.proofs.ProfileLemmas.{at_ok, commands_by-push, ended_so, ending, spelled_in_is}
 
 -- ---- one line

@@ -1,9 +1,5 @@
 -- A text that goes on: its lines and its rest.
-use Rattle.std.proofs.Common.{◌≡◌, ◌≢◌, ℕ, List, [], ◌∷◌, ◌++◌, sym, ap, ◌∙◌, append_assoc}
-use Rattle.std.specs.List.{AllByRecursion}
-use Rattle.std.proofs.lemmas.List.{append-nil}
-use Rattle.std.proofs.lemmas.List.Concat.{flat_map-append}
-use Rattle.drill_text.specs.Lines.{ended_line, bytes_of, HasNoBreak, Splits}
+use Rattle.drill_text.proofs.Common.{◌≡◌, ◌≢◌, ℕ, List, [], ◌∷◌, ◌++◌, sym, ap, ◌∙◌, append_assoc, AllByRecursion, append-nil, flat_map-append, ended_line, bytes_of, HasNoBreak, Splits}
 
 pub AllR-append : {A : Type 0} (P : A → Type 0) (xs ys : List A) → AllByRecursion P xs → AllByRecursion P ys → AllByRecursion P (xs ++ ys)
 AllR-append P [] ys h k = k

@@ -1,34 +1,14 @@
 -- The commands that a text spells are sayable.
-use Rattle.std.proofs.Common.{◌≡◌, ◌≢◌, ℕ, Bool, true, false, not, eqb, List, [], ◌∷◌, ◌++◌, Option, None, Some, Result, Ok, Err, IfOk, refl, sym, ap, subst, ◌∙◌, append_assoc, append-nil}
-use Rattle.std.specs.List.{list_any, list_all, AllByRecursion}
-use Rattle.std.specs.Option.{option_to_list}
-use Rattle.std.proofs.lemmas.Bool.{eqb-true}
-use Rattle.grid_units.specs.declared.fault.Fail.{Fail}
+use Rattle.drill_text.proofs.Common.{◌≡◌, ◌≢◌, ℕ, Bool, true, false, not, eqb, List, [], ◌∷◌, ◌++◌, Option, None, Some, Result, Ok, Err, IfOk, refl, sym, ap, subst, ◌∙◌, append_assoc, list_any, list_all, AllByRecursion, option_to_list, eqb-true, Fail, Answers, bind_ok, Strict, Part, DrillCommand, trimmed, meaning, is_sayable, HasNoBreak, settings_after, part_after, Reads, is_finish, plain, spelled_after, AreWithinLimit, SpellsText, IsDrillText, ReadsAs, part_with, part_from, are_sayable, is_after_end, drill_sayable, Commands, Stated, DrillFile, commands_in, file_of, both_true, and_true}
+use Rattle.std.proofs.Common.{append-nil}
 use Rattle.grid_units.specs.declared.fault.Fail.TheVariants as fails
-use Rattle.grid_units.specs.Results.{Answers}
-use Rattle.grid_units.proofs.ResultLemmas.{bind_ok}
-use Rattle.grid_units.specs.declared.profile.Profile.TheVariants.{Strict}
-use Rattle.drill_lines.specs.declared.command.Part.{Part}
 use Rattle.drill_lines.specs.declared.command.Part.TheVariants as part
-use Rattle.drill_lines.specs.declared.command.DrillCommand.{DrillCommand}
 use Rattle.drill_lines.specs.declared.command.DrillCommand.TheVariants as command
-use Rattle.drill_lines.specs.Lines.{trimmed}
-use Rattle.drill_lines.specs.Meaning.{meaning}
-use Rattle.drill_lines.specs.Writing.{is_sayable}
 use Rattle.drill_lines.proofs.ParsedIsSayable.{line_sayable}
-use Rattle.drill_text.specs.Lines.{HasNoBreak}
-use Rattle.drill_text.specs.Lookback.{settings_after, part_after}
-use Rattle.drill_text.specs.Profiles.{Reads, is_finish, plain}
-use Rattle.drill_text.specs.Texts.{spelled_after, AreWithinLimit, SpellsText, IsDrillText, ReadsAs}
-use Rattle.drill_text.specs.Writing.{part_with, part_from, are_sayable, is_after_end, drill_sayable}
-use Rattle.drill_text.specs.declared.kept.Keep.TheVariants.{Commands}
-use Rattle.drill_text.specs.declared.platings.PlatingKind.TheVariants.{Stated}
-use Rattle.drill_text.specs.Outcome.{DrillFile, commands_in, file_of}
 use Rattle.drill_text.proofs.SplitsLemmas.{AllR-append}
 use Rattle.drill_text.proofs.SpellsTextLemmas.{drill_text_reads}
 use Rattle.drill_text.proofs.UniqueReading.{one_read_in}
 use Rattle.drill_text.proofs.RoundTrip.{part_more}
-use Rattle.grid_units.proofs.BoolLemmas.{both_true, and_true}
 
 not_ten : (b : ℕ) → b ≢ 10 → (t : Bool) → eqb b 10 ≡ t → not t ≡ true
 not_ten b h true e = absurd (h (eqb-true b 10 e))

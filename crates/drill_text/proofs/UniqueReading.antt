@@ -1,14 +1,6 @@
 -- A text is cut into lines in one way, so it has one reading.
-use Rattle.std.proofs.Common.{◌≡◌, ◌≢◌, ℕ, Bool, true, false, cond, eqb, List, [], ◌∷◌, ◌++◌, length, take, Result, refl, sym, ap, ◌∙◌, append_assoc}
-use Rattle.std.specs.List.{fold, AllByRecursion}
-use Rattle.std.proofs.lemmas.List.{append-nil}
+use Rattle.drill_text.proofs.Common.{◌≡◌, ◌≢◌, ℕ, Bool, true, false, cond, eqb, List, [], ◌∷◌, ◌++◌, length, take, Result, refl, sym, ap, ◌∙◌, append_assoc, fold, AllByRecursion, append-nil, eqb-true, Fault, DrillCommand, bytes_of, HasNoBreak, Splits, Kind, ShowsBy, ReadsBy, shown_within, read_by, text_limit}
 use Rattle.std.proofs.lemmas.List.Sums.{fold-append}
-use Rattle.std.proofs.lemmas.Bool.{eqb-true}
-use Rattle.grid_units.specs.declared.fault.Fault.{Fault}
-use Rattle.drill_lines.specs.declared.command.DrillCommand.{DrillCommand}
-use Rattle.drill_text.specs.Lines.{bytes_of, HasNoBreak, Splits}
-use Rattle.drill_text.specs.Profiles.{Kind, ShowsBy, ReadsBy, shown_within, read_by}
-use Rattle.grid_units.specs.Limits.{text_limit}
 
 -- one more byte: the LF of a line, or another
 next : List (List ℕ) × List ℕ → ℕ → List (List ℕ) × List ℕ

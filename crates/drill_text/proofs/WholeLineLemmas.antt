@@ -1,19 +1,6 @@
 -- A line that stands in a piece from its first byte to its LF, for a reader that holds no unfinished line.
-use Rattle.std.proofs.Common.{◌≡◌, ◌+◌, ℕ, Bool, true, false, not, eqb, refl, List, [], ◌∷◌, ◌++◌, Ok, Err, length, sym, ap, subst, ◌∙◌, arith, append_assoc}
-use Rattle.std.specs.List.{list_all}
-use Rattle.std.proofs.lemmas.List.{length-append}
-use Rattle.std.proofs.lemmas.Bool.{eqb-false}
-use Rattle.grid_units.proofs.BoolLemmas.{both_true}
-use Rattle.drill_lines.specs.declared.command.DrillCommand.{DrillCommand}
-use Rattle.grid_units.specs.declared.fault.Fail.{Fail}
+use Rattle.drill_text.proofs.Common.{◌≡◌, ◌+◌, ℕ, Bool, true, false, not, eqb, refl, List, [], ◌∷◌, ◌++◌, Ok, Err, length, sym, ap, subst, ◌∙◌, arith, append_assoc, list_all, length-append, eqb-false, both_true, DrillCommand, Fail, IfFault, Progress, HasNoBreak, Splits, bytes_of, Kind, shown_by, spelled_in, Keep, HasReadIn, Holds, Refuses}
 use Rattle.grid_units.specs.declared.fault.Fail.TheVariants.{Memory, Refused}
-use Rattle.grid_units.specs.Results.{IfFault}
-use Rattle.drill_text.specs.declared.reader.Progress.{Progress}
-use Rattle.drill_text.specs.Lines.{HasNoBreak, Splits, bytes_of}
-use Rattle.drill_text.specs.Profiles.{Kind, shown_by, spelled_in}
-use Rattle.drill_text.specs.declared.kept.Keep.{Keep}
-use Rattle.drill_text.specs.Keeping.{HasReadIn}
-use Rattle.drill_text.specs.Holding.{Holds, Refuses}
 use Rattle.drill_text.proofs.SplitsLemmas.{Splits-grow, Splits-close, bytes_of-push}
 use Rattle.drill_text.proofs.PieceLemmas.{closed}
 

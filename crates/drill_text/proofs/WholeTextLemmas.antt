@@ -1,20 +1,6 @@
 -- What a whole text shows, from what a reader holds.
-use Rattle.std.proofs.Common.{◌≡◌, ℕ, suc, ◌+◌, ◌<◌, ◌≤◌, cond, ltb, List, ◌++◌, length, Result, Ok, Err, sym, ap, subst, ◌∙◌, arith, append_assoc}
-use Rattle.std.proofs.lemmas.List.{take_all, take_at, length-append}
-use Rattle.std.proofs.lemmas.Bool.{lt-ltb}
-use Rattle.drill_lines.specs.declared.command.DrillCommand.{DrillCommand}
-use Rattle.grid_units.specs.declared.fault.Fault.{Fault}
-use Rattle.grid_units.specs.declared.fault.Fail.{Fail}
+use Rattle.drill_text.proofs.Common.{◌≡◌, ℕ, suc, ◌+◌, ◌<◌, ◌≤◌, cond, ltb, List, ◌++◌, length, Result, Ok, Err, sym, ap, subst, ◌∙◌, arith, append_assoc, take_all, take_at, length-append, lt-ltb, DrillCommand, Fault, Fail, TooLong, Keep, Progress, Splits, ◌>>=◌, fault, Kind, ShowsBy, Holds, HasFault, Refuses, RefusesText, text_limit}
 use Rattle.grid_units.specs.declared.fault.Fail.TheVariants as fails
-use Rattle.grid_units.specs.declared.fault.Reason.TheVariants.{TooLong}
-use Rattle.drill_text.specs.declared.kept.Keep.{Keep}
-use Rattle.drill_text.specs.declared.reader.Progress.{Progress}
-use Rattle.drill_text.specs.Lines.{Splits}
-use Rattle.grid_units.specs.Results.{◌>>=◌}
-use Rattle.grid_units.specs.Results.{fault}
-use Rattle.drill_text.specs.Profiles.{Kind, ShowsBy}
-use Rattle.drill_text.specs.Holding.{Holds, HasFault, Refuses, RefusesText}
-use Rattle.grid_units.specs.Limits.{text_limit}
 
 -- the length is checked last: where the first bytes of a text show a fault, the whole shows it too
 checks_len : ℕ → List (List ℕ) → List DrillCommand → Result (List DrillCommand) Fault

@@ -1,19 +1,8 @@
 -- The legal commands of a wide text drill in the body alone, and so they drill the holes that are listed of them.
-use Rattle.std.proofs.Common.{◌≡◌, ℕ, Bool, true, List, [], ◌∷◌, ◌++◌, Option, None, Some, inl, inr, refl, sym, subst, ◌∙◌, append_assoc, append-nil}
-use Rattle.std.specs.Option.{option_to_list}
-use Rattle.drill_lines.specs.declared.command.Part.{Part}
+use Rattle.drill_text.proofs.Common.{◌≡◌, ℕ, Bool, true, List, [], ◌∷◌, ◌++◌, Option, None, Some, inl, inr, refl, sym, subst, ◌∙◌, append_assoc, option_to_list, Part, Settings, DrillCommand, Wide, trimmed, IsAlone, is_routing, settings_after, part_after, drills, AreEntries, IsEntry, WideHolesAreDrilled}
+use Rattle.std.proofs.Common.{append-nil}
 use Rattle.drill_lines.specs.declared.command.Part.TheVariants as part
-use Rattle.drill_lines.specs.declared.command.Settings.{Settings}
-use Rattle.drill_lines.specs.declared.command.DrillCommand.{DrillCommand}
 use Rattle.drill_lines.specs.declared.command.DrillCommand.TheVariants as command
-use Rattle.grid_units.specs.declared.profile.Profile.TheVariants.{Wide}
-use Rattle.drill_lines.specs.Lines.{trimmed}
-use Rattle.drill_lines.specs.RouteGrammar.{IsAlone}
-use Rattle.drill_lines.specs.Routes.{is_routing}
-use Rattle.drill_text.specs.Lookback.{settings_after, part_after}
-use Rattle.drill_text.specs.Rules.{drills}
-use Rattle.drill_text.specs.Grammar.{AreEntries, IsEntry}
-use Rattle.drill_text.specs.Laws.{WideHolesAreDrilled}
 use Rattle.drill_text.proofs.DrillingLemmas.{AreInBody, legal_are_drilled}
 use Rattle.drill_text.proofs.RoundTrip.{part_more}
 use Rattle.std.specs.Prelude.{map}

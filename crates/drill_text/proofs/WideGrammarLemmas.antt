@@ -1,35 +1,7 @@
 -- A text of the wide profile, by its grammar, is read as its commands. By the grammar of each profile a text has one list of commands.
-use Rattle.std.proofs.Common.{◌≡◌, ◌≤◌, ◌⊎◌, inl, inr, ℕ, suc, Bool, true, false, cond, List, [], ◌∷◌, ◌++◌, length, map, Option, None, Some, unwrap_or, Result, Ok, Err, refl, sym, ap, subst, ◌∙◌, arith, append_assoc}
-use Rattle.std.specs.Option.{option_to_list}
-use Rattle.std.proofs.lemmas.List.{append-nil}
-use Rattle.grid_units.specs.declared.fault.Reason.{Reason}
-use Rattle.grid_units.specs.declared.fault.Reason.TheVariants.{Routed}
-use Rattle.grid_units.specs.Results.{◌>>=◌, fault, with_place}
-use Rattle.grid_units.specs.Lists.{IsLegal}
-use Rattle.grid_units.specs.Limits.{line_limit}
-use Rattle.grid_units.proofs.BoolLemmas.{and_false}
-use Rattle.grid_units.proofs.ResultLemmas.{bind_ok}
-use Rattle.drill_lines.specs.declared.command.Coordinates.{Coordinates}
-use Rattle.drill_lines.specs.declared.command.Part.{Part}
+use Rattle.drill_text.proofs.Common.{◌≡◌, ◌≤◌, ◌⊎◌, inl, inr, ℕ, suc, Bool, true, false, cond, List, [], ◌∷◌, ◌++◌, length, map, Option, None, Some, unwrap_or, Result, Ok, Err, refl, sym, ap, subst, ◌∙◌, arith, append_assoc, option_to_list, append-nil, Reason, Routed, ◌>>=◌, fault, with_place, IsLegal, line_limit, and_false, bind_ok, Coordinates, Part, Settings, DrillCommand, Slot, Strict, Wide, trimmed, meaning, starts, lowers, cuts, last_line, is_routing, second_line, third_line, fourth_line, wide_row, unless_routing, other_line, wide_meaning, IsAlone, IsRoute, IsFree, written_is_answered, bytes_of, settings_after, broken_rule, commands_by, plain, spelled_in, with_rest, AreWithinLimit, spelled_after, AreEntries, IsText, lines_of, IsTextOfAtMostOne, WrittenIsRead}
 use Rattle.drill_lines.specs.declared.command.Part.TheVariants as part
-use Rattle.drill_lines.specs.declared.command.Settings.{Settings}
-use Rattle.drill_lines.specs.declared.command.DrillCommand.{DrillCommand}
-use Rattle.drill_lines.specs.declared.command.DrillCommand.TheVariants.{Slot}
-use Rattle.grid_units.specs.declared.profile.Profile.TheVariants.{Strict, Wide}
-use Rattle.drill_lines.specs.Lines.{trimmed}
-use Rattle.drill_lines.specs.Meaning.{meaning}
-use Rattle.drill_lines.specs.Routes.{starts, lowers, cuts, last_line, is_routing, second_line, third_line, fourth_line, wide_row, unless_routing, other_line, wide_meaning}
-use Rattle.drill_lines.specs.RouteGrammar.{IsAlone, IsRoute}
-use Rattle.drill_lines.specs.Inner.RouteSteps.{IsFree}
-use Rattle.drill_lines.proofs.Answered.{written_is_answered}
 use Rattle.drill_lines.proofs.RouteReads.{alone_read, early_end_read, route_read}
-use Rattle.drill_text.specs.Lines.{bytes_of}
-use Rattle.drill_text.specs.Lookback.{settings_after}
-use Rattle.drill_text.specs.Rules.{broken_rule}
-use Rattle.drill_text.specs.Profiles.{commands_by, plain, spelled_in, with_rest}
-use Rattle.drill_text.specs.Texts.{AreWithinLimit, spelled_after}
-use Rattle.drill_text.specs.Grammar.{AreEntries, IsText, lines_of}
-use Rattle.drill_text.specs.Laws.{IsTextOfAtMostOne, WrittenIsRead}
 use Rattle.drill_text.proofs.FirstFaults.{cut}
 use Rattle.drill_text.proofs.GrammarLemmas.{end_found, lines_in, same_lines, text_spells}
 use Rattle.drill_text.proofs.SpellsTextLemmas.{keeps_judged, legal_prefix, last_short}

@@ -1,20 +1,6 @@
 -- A text that is read in the strict profile is read alike in the wide one.
-use Rattle.std.proofs.Common.{◌≡◌, ℕ, suc, false, cond, ltb, List, [], ◌∷◌, ◌++◌, length, map, Ok, Err, refl, sym, ap, subst, ◌∙◌, append_assoc}
-use Rattle.std.proofs.lemmas.List.{append-nil}
-use Rattle.grid_units.specs.declared.fault.Reason.TheVariants.{TooLong}
-use Rattle.grid_units.specs.Results.{◌>>=◌, with_place}
-use Rattle.grid_units.proofs.ResultLemmas.{bind_ok}
-use Rattle.grid_units.specs.Limits.{line_limit}
-use Rattle.drill_lines.specs.declared.command.DrillCommand.{DrillCommand}
-use Rattle.grid_units.specs.declared.profile.Profile.TheVariants.{Strict, Wide}
-use Rattle.drill_lines.specs.Lines.{trimmed}
-use Rattle.drill_lines.specs.Meaning.{meaning}
-use Rattle.drill_lines.specs.Routes.{is_routing, wide_meaning}
-use Rattle.drill_lines.specs.Inner.RouteSteps.{IsFree}
+use Rattle.drill_text.proofs.Common.{◌≡◌, ℕ, suc, false, cond, ltb, List, [], ◌∷◌, ◌++◌, length, map, Ok, Err, refl, sym, ap, subst, ◌∙◌, append_assoc, append-nil, TooLong, ◌>>=◌, with_place, bind_ok, line_limit, DrillCommand, Strict, Wide, trimmed, meaning, is_routing, wide_meaning, IsFree, bytes_of, settings_after, Reads, ReadsIn, checked, commands_by, plain, spelled_in, step_in, with_rest}
 use Rattle.drill_lines.proofs.RouteLemmas.{strict_line}
-use Rattle.drill_text.specs.Lines.{bytes_of}
-use Rattle.drill_text.specs.Lookback.{settings_after}
-use Rattle.drill_text.specs.Profiles.{Reads, ReadsIn, checked, commands_by, plain, spelled_in, step_in, with_rest}
 use Rattle.drill_text.proofs.SpelledLemmas.{trimmed_more}
 use Rattle.drill_text.proofs.ProfileLemmas.{at_ok, ending, guarded, read_alike}
 

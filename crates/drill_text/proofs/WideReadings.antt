@@ -1,43 +1,11 @@
 -- A text that is read in the wide profile is a wide text, by its grammar, of what it is read as.
-use Rattle.std.proofs.Common.{◌≡◌, ◌≤◌, inl, inr, ℕ, suc, Bool, true, false, ltb, ◌||◌, List, [], ◌∷◌, ◌++◌, length, map, Option, None, Some, Ok, refl, sym, ap, subst, ◌∙◌, arith, append_assoc}
-use Rattle.std.specs.Prelude.{codes}
-use Rattle.std.specs.List.{list_any}
-use Rattle.std.specs.Option.{option_to_list}
-use Rattle.std.proofs.lemmas.Bool.{ltb-false}
-use Rattle.std.proofs.lemmas.List.{append-nil}
-use Rattle.std.proofs.lemmas.List.Concat.{flat_map-append}
-use Rattle.grid_units.specs.declared.fault.Reason.TheVariants.{TooLong}
-use Rattle.grid_units.specs.Results.{◌>>=◌}
-use Rattle.grid_units.specs.Lists.{IsLegal}
-use Rattle.grid_units.specs.Limits.{line_limit}
-use Rattle.grid_units.proofs.BoolLemmas.{and_false}
-use Rattle.grid_units.proofs.LookbackLemmas.{last_or-more, list_any-more}
-use Rattle.grid_units.proofs.ResultLemmas.{bind_ok}
-use Rattle.drill_lines.specs.declared.command.Coordinates.{Coordinates}
-use Rattle.drill_lines.specs.declared.command.Part.{Part}
+use Rattle.drill_text.proofs.Common.{◌≡◌, ◌≤◌, inl, inr, ℕ, suc, Bool, true, false, ltb, ◌||◌, List, [], ◌∷◌, ◌++◌, length, map, Option, None, Some, Ok, refl, sym, ap, subst, ◌∙◌, arith, append_assoc, codes, list_any, option_to_list, ltb-false, append-nil, flat_map-append, TooLong, ◌>>=◌, IsLegal, line_limit, and_false, last_or-more, list_any-more, bind_ok, Coordinates, Part, Settings, DrillCommand, Wide, trimmed, line_in, is_routing, wide_meaning, IsAlone, IsRoute, IsLater, IsRouteAfter, read_in_part, means, written_is_answered, bytes_of, part_set, part_after, settings_after, broken_rule, checked, commands_by, is_finish, plain, spelled_in, step_in, with_rest, AreWithinLimit, IsEntry, AreEntries, lines_of, ReadIsWritten}
 use Rattle.drill_lines.specs.declared.command.Part.TheVariants as part
-use Rattle.drill_lines.specs.declared.command.Settings.{Settings}
-use Rattle.drill_lines.specs.declared.command.DrillCommand.{DrillCommand}
 use Rattle.drill_lines.specs.declared.command.DrillCommand.TheVariants as command
-use Rattle.grid_units.specs.declared.profile.Profile.TheVariants.{Wide}
 use Rattle.drill_lines.specs.declared.route.Route.{Route}
 use Rattle.drill_lines.specs.declared.route.Route.TheVariants as route
 use Rattle.drill_lines.specs.Grammar.{IsPointText}
-use Rattle.drill_lines.specs.Lines.{trimmed}
-use Rattle.drill_lines.specs.Meaning.{line_in}
-use Rattle.drill_lines.specs.Routes.{is_routing, wide_meaning}
-use Rattle.drill_lines.specs.RouteGrammar.{IsAlone, IsRoute}
-use Rattle.drill_lines.specs.LineReading.{IsLater}
-use Rattle.drill_lines.specs.Inner.RouteSteps.{IsRouteAfter}
-use Rattle.drill_lines.proofs.Answered.{read_in_part, means, written_is_answered}
 use Rattle.drill_lines.proofs.RouteReads.{IsWritten, empty_line, reads_on}
-use Rattle.drill_text.specs.Lines.{bytes_of}
-use Rattle.drill_text.specs.Lookback.{part_set, part_after, settings_after}
-use Rattle.drill_text.specs.Rules.{broken_rule}
-use Rattle.drill_text.specs.Profiles.{checked, commands_by, is_finish, plain, spelled_in, step_in, with_rest}
-use Rattle.drill_text.specs.Texts.{AreWithinLimit}
-use Rattle.drill_text.specs.Grammar.{IsEntry, AreEntries, lines_of}
-use Rattle.drill_text.specs.Laws.{ReadIsWritten}
 use Rattle.drill_text.proofs.SplitsLemmas.{AllR-append}
 use Rattle.drill_text.proofs.GrammarLemmas.{is_end, lines_in, same_lines, has_end}
 use Rattle.drill_text.proofs.SpellsTextLemmas.{judged_ok}

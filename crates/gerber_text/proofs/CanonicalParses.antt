@@ -1,27 +1,7 @@
 -- The canonical item of a sayable command spells just it, since it is so written.
-use Rattle.std.proofs.Common.{◌≡◌, inl, inr, ℕ, Bool, true, false, not, eqb, leb, List, [], ◌∷◌, length, refl, ap, ◌∙◌, arith}
-use Rattle.std.specs.Prelude.{codes, decimal}
-use Rattle.std.proofs.lemmas.Bool.{leb-true}
-use Rattle.grid_units.specs.declared.lengths.Unit.TheVariants.{Inch, Millimetre}
-use Rattle.grid_units.specs.declared.profile.Profile.TheVariants.{Strict}
-use Rattle.grid_units.specs.Limits.{item_limit}
+use Rattle.gerber_text.proofs.Common.{◌≡◌, inl, inr, ℕ, Bool, true, false, not, eqb, leb, List, [], ◌∷◌, length, refl, ap, ◌∙◌, arith, codes, decimal, leb-true, Inch, Millimetre, Strict, item_limit, both_true, not_true, list_all_weaker, digits_numbers, Command, Comment, Mode, Quadrant, RegionStart, RegionEnd, UnitIs, FormatIs, Define, Macro, Select, Operate, Dark, Clear, Mirror, Turn, Scale, Repeat, RepeatEnd, Attribute, Remove, Finish, Linear, Clockwise, Counterclockwise, Single, Multi, canonical, is_negative_comment, is_negative_image, IsWord, SpellsOne, IsPlain, is_not_break, without_breaks, Spells, IsItemIn, is_text_byte, is_text, is_nat, has_valid_fields, is_short, is_sayable}
 use Rattle.grid_units.specs.Spellings.{canonical as canonical_dec}
-use Rattle.grid_units.proofs.BoolLemmas.{both_true, not_true}
-use Rattle.grid_units.proofs.ListLemmas.{list_all_weaker}
-use Rattle.grid_units.proofs.ReadPrefix.{digits_numbers}
-use Rattle.gerber_commands.specs.declared.command.Command.{Command}
-use Rattle.gerber_commands.specs.declared.command.Command.TheVariants.{Comment, Mode, Quadrant, RegionStart, RegionEnd, UnitIs, FormatIs, Define, Macro, Select, Operate, Dark, Clear, Mirror, Turn, Scale, Repeat, RepeatEnd, Attribute, Remove, Finish}
-use Rattle.gerber_commands.specs.declared.command.Interpolation.TheVariants.{Linear, Clockwise, Counterclockwise}
-use Rattle.gerber_commands.specs.declared.command.QuadrantMode.TheVariants.{Single, Multi}
 use Rattle.gerber_commands.specs.declared.command.AttributeKind.TheVariants as kinds
-use Rattle.gerber_commands.specs.Canonical.{canonical}
-use Rattle.gerber_commands.specs.Negative.{is_negative_comment, is_negative_image}
-use Rattle.gerber_items.specs.WordGrammar.{IsWord}
-use Rattle.gerber_items.specs.PieceGrammar.{SpellsOne}
-use Rattle.gerber_items.proofs.RowLemmas.{IsPlain}
-use Rattle.gerber_text.specs.CutItems.{is_not_break, without_breaks, Spells}
-use Rattle.gerber_text.specs.Grammar.{IsItemFor}
-use Rattle.gerber_text.specs.Sayable.{is_text_byte, is_text, is_nat, has_valid_fields, is_short, is_sayable}
 use Rattle.gerber_text.proofs.GrammarItems.{item_means}
 use Rattle.gerber_text.proofs.ItemLemmas.{text_kept, text_no_star, text_no_percent, word_item, word_unbroken, piece_item, piece_unbroken}
 use Rattle.gerber_text.proofs.NumberLemmas.{numbers_text, nat_is, dec_is}
@@ -31,7 +11,7 @@ use Rattle.gerber_text.proofs.PieceLemmas.{format_text, format_written, format_w
 
 -- the canonical item of a command without its line breaks is so written
 abbrev IsWritten : Command → Type 0
-IsWritten c = (plotting : Bool) → IsItemFor plotting (without_breaks (canonical c)) (c ∷ [])
+IsWritten c = (plotting : Bool) → IsItemIn Strict plotting (without_breaks (canonical c)) (c ∷ [])
 
 word_written : (c : Command) (w : List ℕ) → canonical c ≡ word_item w → is_text w ≡ true → ((plotting : Bool) → IsWord plotting w (c ∷ [])) → IsWritten c
 word_written c w whole h written plotting = inl (w, ap without_breaks whole ∙ word_unbroken w h, none_passes is_text_byte (λ b. eqb b 42) text_no_star w h, written plotting)

@@ -1,39 +1,10 @@
 -- Operations that are written as most are: `G01X10Y20D01*`.
-use Rattle.std.proofs.Common.{◌≡◌, inl, inr, ℕ, zero, suc, ◌+◌, ◌-◌, ◌<◌, ◌≤◌, Bool, true, false, cond, eqb, ◌||◌, List, [], ◌∷◌, ◌++◌, length, take, drop, get_or, Option, None, Some, Result, Ok, refl, sym, ap, subst, ◌∙◌, arith}
-use Rattle.std.specs.Prelude.{ℤ, pos, neg_ℤ, is_some, not, IfSome}
-use Rattle.std.specs.Option.{option_map}
-use Rattle.std.specs.List.{list_all, list_any, AllByRecursion}
-use Rattle.std.proofs.lemmas.Bool.{false≢true}
-use Rattle.std.proofs.lemmas.List.{length-append, length-take, take-append-drop, take_all}
-use Rattle.std.proofs.Math.Seq.{take-append_seam}
-use Rattle.grid_units.specs.Results.{◌>>=◌}
-use Rattle.grid_units.specs.Numbers.{is_digit, is_number_char, value, without_sign, is_negative}
-use Rattle.grid_units.specs.declared.fault.Reason.{Reason}
-use Rattle.grid_units.specs.declared.profile.Profile.{Profile}
-use Rattle.grid_units.specs.declared.profile.Profile.TheVariants.{Strict}
-use Rattle.gerber_commands.specs.declared.command.Command.{Command}
-use Rattle.gerber_commands.specs.declared.command.Command.TheVariants.{Operate}
-use Rattle.gerber_commands.specs.declared.command.Interpolation.{Interpolation}
-use Rattle.gerber_commands.specs.declared.command.Interpolation.TheVariants.{Linear, Clockwise, Counterclockwise}
-use Rattle.gerber_commands.specs.declared.command.Action.{Action}
-use Rattle.gerber_commands.specs.declared.command.Action.TheVariants.{Plot, Move, Flash}
-use Rattle.gerber_commands.specs.Numbers.{int_of}
-use Rattle.gerber_commands.specs.Rows.{modes_of}
-use Rattle.gerber_commands.specs.Canonical.{action_code}
-use Rattle.gerber_items.specs.Words.{coordinate, is_plot}
-use Rattle.gerber_items.specs.WordGrammar.{NamesInt}
-use Rattle.gerber_text.specs.CutItems.{is_not_break}
-use Rattle.gerber_text.specs.FastPath.{HasLeadingOperation, HasLeadingInt, HasLeadingCoordinate, coordinate_field, mode_prefix}
-use Rattle.gerber_text.specs.Grammar.{IsItemIn}
-use Rattle.gerber_text.specs.Items.{is_line_break}
-use Rattle.gerber_text.specs.Sayable.{is_text_byte, is_finish}
+use Rattle.gerber_text.proofs.Common.{◌≡◌, inl, inr, ℕ, zero, suc, ◌+◌, ◌-◌, ◌<◌, ◌≤◌, Bool, true, false, cond, eqb, ◌||◌, List, [], ◌∷◌, ◌++◌, length, take, drop, get_or, Option, None, Some, Result, Ok, refl, sym, ap, subst, ◌∙◌, arith, neg_ℤ, IfSome, option_map, list_all, list_any, AllByRecursion, false≢true, length-append, length-take, take-append-drop, take_all, take-append_seam, ◌>>=◌, is_digit, is_number_char, value, without_sign, is_negative, Reason, Profile, Strict, Command, Operate, Interpolation, Linear, Clockwise, Counterclockwise, Action, Plot, Move, Flash, int_of, modes_of, action_code, coordinate, is_plot, NamesInt, is_not_break, HasLeadingOperation, HasLeadingInt, HasLeadingCoordinate, coordinate_field, mode_prefix, IsItemIn, is_line_break, is_text_byte, is_finish, and_true, both_true, not_true, list_all_weaker, list_all_append, bind_ok}
+use Rattle.std.specs.Prelude.{ℤ, pos, is_some, not}
 use Rattle.gerber_text.proofs.GrammarItems.{item_means, item_ends}
 use Rattle.gerber_text.proofs.ItemLemmas.{text_kept, text_no_star}
 use Rattle.gerber_text.proofs.RunLemmas.{none_passes}
 use Rattle.gerber_text.proofs.WordLemmas.{operation_word, word_written, AreNumbers, word_bytes, append_to_ended, word_ends}
-use Rattle.grid_units.proofs.BoolLemmas.{and_true, both_true, not_true}
-use Rattle.grid_units.proofs.ListLemmas.{list_all_weaker, list_all_append}
-use Rattle.grid_units.proofs.ResultLemmas.{bind_ok}
 use Rattle.gerber_commands.proofs.NumberLemmas.{spells}
 
 -- ---- an integer

@@ -1,23 +1,10 @@
 -- What a text shows as its fault, each longer text shows too.
-use Rattle.std.proofs.Common.{◌≡◌, ℕ, suc, ◌+◌, ◌-◌, ◌<◌, ◌≤◌, Bool, true, false, cond, ltb, List, [], ◌++◌, length, take, Result, Ok, Err, refl, sym, ap, subst, ◌∙◌, arith, inl, inr}
-use Rattle.std.proofs.lemmas.List.{take_all, take-append-le, length-append}
-use Rattle.std.proofs.lemmas.Bool.{lt-ltb, le-ltb, ltb-true, ltb-false, false≢true}
-use Rattle.std.proofs.Math.Seq.{take-append-add}
-use Rattle.grid_units.specs.declared.profile.Profile.{Profile}
-use Rattle.grid_units.specs.declared.fault.Fault.{Fault}
-use Rattle.grid_units.specs.declared.fault.Fail.{Fail}
+use Rattle.gerber_text.proofs.Common.{◌≡◌, ℕ, suc, ◌+◌, ◌-◌, ◌<◌, ◌≤◌, Bool, true, false, cond, ltb, List, [], ◌++◌, length, take, Result, Ok, Err, refl, sym, ap, subst, ◌∙◌, arith, inl, inr, take_all, take-append-le, length-append, lt-ltb, le-ltb, ltb-true, ltb-false, false≢true, take-append-add, Profile, Fault, Fail, TooLong, ◌>>=◌, fault, bind_err, guard_err, OffsetByte, offset_bytes, offset_bytes_from, Splits, Entries, commands_by, shown_by, ShowsIn, SpellsPrefixIn, FailsOnBytes, FailsWithIn, text_limit}
 use Rattle.grid_units.specs.declared.fault.Fail.TheVariants as fails
-use Rattle.grid_units.specs.declared.fault.Reason.TheVariants.{TooLong}
-use Rattle.grid_units.specs.Results.{◌>>=◌, fault}
-use Rattle.grid_units.proofs.ResultLemmas.{bind_err, guard_err}
-use Rattle.gerber_text.specs.Cut.{OffsetByte, offset_bytes, offset_bytes_from, Splits}
-use Rattle.gerber_text.specs.Reading.{Entries, commands_by, shown_by, ShowsIn, SpellsPrefixIn}
-use Rattle.gerber_text.specs.Holding.{FailsOnBytes, FailsWithIn}
 use Rattle.gerber_text.proofs.OffsetByteLemmas.{offset_bytes-append}
 use Rattle.gerber_text.proofs.ShowsLemmas.{stops_stay}
 use Rattle.gerber_text.proofs.UniqueReading.{same_items}
 use Rattle.gerber_text.proofs.FinishLemmas.{fails_by}
-use Rattle.grid_units.specs.Limits.{text_limit}
 
 -- ---- a text above the limit: its first bytes are those of the longer one
 

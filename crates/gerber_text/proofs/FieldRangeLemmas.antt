@@ -1,20 +1,8 @@
 -- The ranges of numbers that are read.
-use Rattle.std.proofs.Common.{◌≡◌, ℕ, zero, suc, ◌+◌, ◌-◌, ◌*◌, ◌<◌, ◌≤◌, ◌^◌, Bool, true, false, cond, not, ◌&&◌, eqb, leb, ltb, List, [], ◌∷◌, length, take, drop, ℤ, pos, Result, Ok, Err, refl, sym, ap, ◌∙◌, arith}
+use Rattle.gerber_text.proofs.Common.{◌≡◌, ℕ, zero, suc, ◌+◌, ◌-◌, ◌*◌, ◌<◌, ◌≤◌, ◌^◌, Bool, true, false, cond, not, ◌&&◌, eqb, leb, ltb, List, [], ◌∷◌, length, take, drop, ℤ, pos, Result, Ok, Err, refl, sym, ap, ◌∙◌, arith, unsigned_abs, neg_ℤ, decimal, list_all, prefix_len, AllByRecursion, length-take, All-from_recursion, length-decimal-le, leb-true, le-leb, lt-ltb, ltb-false, Reason, BadNumber, TooManyDigits, TooFine, TooFar, is_digit, is_digits, value, without_sign, is_negative, signed, to_units, whole, fraction, is_decimal, fits_eight_decimals, value_without_point, parse_decimal, max_units, significant_digits, int_of, nat_of, is_nat, is_int, is_dec, and_true, both_true}
 use Rattle.std.proofs.Math.Nat.{pow-le-pow_right}
-use Rattle.std.specs.Prelude.{unsigned_abs, neg_ℤ, decimal}
-use Rattle.std.specs.List.{list_all, prefix_len, AllByRecursion}
-use Rattle.std.proofs.lemmas.List.{length-take}
-use Rattle.std.proofs.lemmas.List.Elements.{All-from_recursion}
-use Rattle.std.proofs.lemmas.Fmt.{length-decimal-le}
-use Rattle.std.proofs.lemmas.Bool.{leb-true, le-leb, lt-ltb, ltb-false}
-use Rattle.grid_units.specs.declared.fault.Reason.{Reason}
-use Rattle.grid_units.specs.declared.fault.Reason.TheVariants.{BadNumber, TooManyDigits, TooFine, TooFar}
-use Rattle.grid_units.specs.Numbers.{is_digit, is_digits, value, without_sign, is_negative, signed, to_units, whole, fraction, is_decimal, fits_eight_decimals, value_without_point, parse_decimal, max_units}
 use Rattle.grid_units.proofs.DigitLemmas.{value_lt, to_units_is, filled_lt}
-use Rattle.gerber_commands.specs.Numbers.{significant_digits, int_of, nat_of}
 use Rattle.gerber_commands.proofs.NumberLemmas.{value_significant}
-use Rattle.gerber_text.specs.Sayable.{is_nat, is_int, is_dec}
-use Rattle.grid_units.proofs.BoolLemmas.{and_true, both_true}
 
 -- ---- what a test let through
 

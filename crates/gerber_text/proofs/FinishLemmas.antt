@@ -1,22 +1,7 @@
 -- What a whole text shows and reads as, from what a reader holds.
-use Rattle.std.proofs.Common.{◌≡◌, ℕ, suc, ◌+◌, ◌<◌, ◌≤◌, Bool, true, false, cond, ltb, List, [], ◌∷◌, ◌++◌, length, take, Result, Ok, Err, sym, ap, subst, ◌∙◌, arith, append_assoc, inl, inr}
-use Rattle.std.specs.List.{list_all}
-use Rattle.std.proofs.lemmas.List.{take_all, take_at, length-append}
-use Rattle.std.proofs.lemmas.Bool.{lt-ltb, le-ltb, false≢true}
-use Rattle.grid_units.specs.declared.profile.Profile.{Profile}
-use Rattle.grid_units.specs.declared.profile.Profile.TheVariants.{Strict}
-use Rattle.grid_units.specs.declared.fault.Fault.{Fault}
-use Rattle.grid_units.specs.declared.fault.Fail.{Fail}
+use Rattle.gerber_text.proofs.Common.{◌≡◌, ℕ, suc, ◌+◌, ◌<◌, ◌≤◌, Bool, true, false, cond, ltb, List, [], ◌∷◌, ◌++◌, length, take, Result, Ok, Err, sym, ap, subst, ◌∙◌, arith, append_assoc, inl, inr, list_all, take_all, take_at, length-append, lt-ltb, le-ltb, false≢true, Profile, Fault, Fail, TooLong, Truncated, Progress, OffsetByte, offset_bytes, bytes_of, first_offset, has_end, Splits, ◌>>=◌, fault, Answers, AnswersAlways, Entries, commands_by, shown_by, ShowsIn, ended, ReadsIn, is_blank, SpellsPrefixIn, SpellsBeforeFaultIn, ReadsUpToFault, entries_of, entries_after, Holds, FailsOnBytes, Refuses, FailsWithIn, RefusesText, Ends, bind_err, guard_err, text_limit}
 use Rattle.grid_units.specs.declared.fault.Fail.TheVariants as fails
-use Rattle.grid_units.specs.declared.fault.Reason.TheVariants.{TooLong, Truncated}
-use Rattle.gerber_text.specs.declared.reader.Progress.{Progress}
-use Rattle.gerber_text.specs.Cut.{OffsetByte, offset_bytes, bytes_of, first_offset, has_end, Splits}
-use Rattle.grid_units.specs.Results.{◌>>=◌, fault, Answers, AnswersAlways}
-use Rattle.gerber_text.specs.Reading.{Entries, commands_by, shown_by, ShowsIn, ended, ReadsIn, is_blank, SpellsPrefixIn, SpellsBeforeFaultIn, ReadsUpToFault, entries_of, entries_after}
-use Rattle.gerber_text.specs.Holding.{Holds, FailsOnBytes, Refuses, FailsWithIn, RefusesText, Ends}
-use Rattle.grid_units.proofs.ResultLemmas.{bind_err, guard_err}
 use Rattle.gerber_text.proofs.ShowsLemmas.{kept_all}
-use Rattle.grid_units.specs.Limits.{text_limit}
 
 -- the length is checked last: where the first bytes of a text show a fault, the whole shows it too
 checks_len : ℕ → List (List OffsetByte) → Entries → Result Entries Fault
@@ -122,9 +107,9 @@ pub answers_err : (profile : Profile) (text : List ℕ) (cs : Entries) (e : Fail
 answers_err profile text cs fails.Memory h = tt
 answers_err profile text cs (fails.Refused f) h = shows_reads profile text f h.reported
 
-pub keeps_err : (text : List ℕ) (cs : Entries) (e : Fail) → FailsWithIn Strict text cs e → ReadsUpToFault {X = Unit {0}} text cs (Err e)
-keeps_err text cs fails.Memory h = (tt, h.kept)
-keeps_err text cs (fails.Refused f) h = (shows_reads Strict text f h.reported, h.kept)
+pub keeps_err : (profile : Profile) (text : List ℕ) (cs : Entries) (e : Fail) → FailsWithIn profile text cs e → ReadsUpToFault {X = Unit {0}} profile text cs (Err e)
+keeps_err profile text cs fails.Memory h = (tt, h.kept)
+keeps_err profile text cs (fails.Refused f) h = (shows_reads profile text f h.reported, h.kept)
 
 pub ends_answers : (profile : Profile) (text : List ℕ) (gone cs : Entries) (e : Fail) → Ends {X = Unit {0}} profile text cs (Err e) → AnswersAlways (entries_after gone) (λ answer. ReadsIn profile text answer) (Err e)
 ends_answers profile text gone cs fails.Memory h = absurd h
@@ -134,10 +119,10 @@ pub ends_kept : (profile : Profile) (text : List ℕ) (cs : Entries) (e : Fail) 
 ends_kept profile text cs fails.Memory h = absurd h
 ends_kept profile text cs (fails.Refused f) h = h.1
 
-pub ends_keeps : (text : List ℕ) (cs : Entries) (r : Result (Unit {0}) Fail) → Ends Strict text cs r → ReadsUpToFault text cs r
-ends_keeps text cs (Ok x) h = h
-ends_keeps text cs (Err fails.Memory) h = absurd h
-ends_keeps text cs (Err (fails.Refused f)) h = (h.0, h.1)
+pub ends_keeps : (profile : Profile) (text : List ℕ) (cs : Entries) (r : Result (Unit {0}) Fail) → Ends profile text cs r → ReadsUpToFault profile text cs r
+ends_keeps profile text cs (Ok x) h = h
+ends_keeps profile text cs (Err fails.Memory) h = absurd h
+ends_keeps profile text cs (Err (fails.Refused f)) h = (h.0, h.1)
 
 -- what a reader holds is what its text shows
 pub holds_shows : (profile : Profile) (r : Progress) (gone : Entries) (text : List ℕ) (cs : Entries) → cs ≡ gone ++ r.commands.items → r.offset ≤ text_limit → Holds r profile gone text → ShowsIn profile text (Ok cs)

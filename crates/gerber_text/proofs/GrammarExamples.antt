@@ -1,32 +1,14 @@
 -- Texts that are written for these commands, or for none.
-use Rattle.std.proofs.Common.{◌≡◌, ◌≢◌, inl, inr, ℕ, Bool, true, List, [], ◌∷◌, ◌++◌, pos, Some, None, Ok, Err, refl, arith}
-use Rattle.std.specs.Prelude.{codes}
-use Rattle.std.proofs.lemmas.List.Elements.{All-from_recursion}
-use Rattle.grid_units.specs.Numbers.{parse_decimal}
-use Rattle.grid_units.specs.declared.lengths.Unit.TheVariants.{Millimetre}
-use Rattle.gerber_commands.specs.declared.command.Command.{Command}
-use Rattle.gerber_commands.specs.declared.command.Command.TheVariants.{UnitIs, FormatIs, Define, Select, Operate, Clear, Finish}
-use Rattle.gerber_commands.specs.declared.command.Action.TheVariants.{Flash}
-use Rattle.gerber_commands.specs.declared.command.Standard.TheVariants.{Rectangle}
+use Rattle.gerber_text.proofs.Common.{◌≡◌, ◌≢◌, inl, inr, ℕ, Bool, true, List, [], ◌∷◌, ◌++◌, pos, Some, None, Ok, Err, refl, arith, codes, All-from_recursion, parse_decimal, Millimetre, Command, UnitIs, FormatIs, Define, Select, Operate, Clear, Finish, Flash, Rectangle, Strict, Wide, int_of, nat_of, may_follow, no_effect_row, split_mode, mode_row, quadrant_row, region_row, unit_row, incremental_row, select_row, fields, operation_row, finish_row, word, IsItemIn, IsTextIn, IsItem, meaning_in, spelled_in, ReadsIn, fault, AfterEnd}
 use Rattle.gerber_commands.specs.declared.command.Template.TheVariants as templates
-use Rattle.grid_units.specs.declared.profile.Profile.TheVariants.{Strict, Wide}
-use Rattle.gerber_commands.specs.Numbers.{int_of, nat_of}
 use Rattle.gerber_items.proofs.PieceExamples.{format, millimetres}
-use Rattle.gerber_text.specs.Reading.{may_follow}
-use Rattle.gerber_items.specs.Words.{no_effect_row, split_mode, mode_row, quadrant_row, region_row, unit_row, incremental_row, select_row, fields, operation_row, finish_row, word}
-use Rattle.gerber_text.specs.Grammar.{IsItemFor, IsText, IsTextIn}
-use Rattle.gerber_text.specs.Items.{IsItem}
-use Rattle.gerber_text.specs.Meaning.{meaning_in}
-use Rattle.gerber_text.specs.Reading.{spelled_in, Reads}
 use Rattle.gerber_text.proofs.ItemLemmas.{word_is_item}
 use Rattle.gerber_text.proofs.SpellsTextLemmas.{spells_reads}
 use Rattle.gerber_text.proofs.UniqueReading.{one_read}
 use Rattle.gerber_text.proofs.WrittenIsSpelled.{written_is_spelled}
-use Rattle.grid_units.specs.Results.{fault}
-use Rattle.grid_units.specs.declared.fault.Reason.TheVariants.{AfterEnd}
 
 -- the end of the text, and nothing else
-end_alone : IsText (codes "M02*") (Finish ∷ [])
+end_alone : IsTextIn Strict (codes "M02*") (Finish ∷ [])
 end_alone = record {
   items = [];
   end = codes "M02*";
@@ -59,22 +41,22 @@ clear_text = record {
 
 -- ---- a layer that flashes a square of 0.65 mm
 
-format_item : (plotting : Bool) → IsItemFor plotting (codes "%FSLAX46Y46*%") (FormatIs (record { whole = 4; decimals = 6 }) ∷ [])
+format_item : (plotting : Bool) → IsItemIn Strict plotting (codes "%FSLAX46Y46*%") (FormatIs (record { whole = 4; decimals = 6 }) ∷ [])
 format_item plotting = inr (codes "FSLAX46Y46", refl, refl, format)
 
-unit_item : (plotting : Bool) → IsItemFor plotting (codes "%MOMM*%") (UnitIs Millimetre ∷ [])
+unit_item : (plotting : Bool) → IsItemIn Strict plotting (codes "%MOMM*%") (UnitIs Millimetre ∷ [])
 unit_item plotting = inr (codes "MOMM", refl, refl, millimetres)
 
-define_item : (plotting : Bool) → IsItemFor plotting (codes "%ADD10R,0.65X0.65*%") (Define 10 (templates.Standard Rectangle (pos 65000000 ∷ pos 65000000 ∷ [])) ∷ [])
+define_item : (plotting : Bool) → IsItemIn Strict plotting (codes "%ADD10R,0.65X0.65*%") (Define 10 (templates.Standard Rectangle (pos 65000000 ∷ pos 65000000 ∷ [])) ∷ [])
 unfolding nat_of parse_decimal
 define_item plotting =
     inr (codes "ADD10R,0.65X0.65", refl, refl, inr (refl, inr (inl (_, (codes "10", codes "R,0.65X0.65", refl, omega arith, (codes "R", 2, 4, codes "0.65" ∷ codes "0.65" ∷ [], (1, omega arith, refl), refl, omega arith, omega arith, refl), refl), refl))))
 
-select_item : (plotting : Bool) → IsItemFor plotting (codes "D10*") (Select 10 ∷ [])
+select_item : (plotting : Bool) → IsItemIn Strict plotting (codes "D10*") (Select 10 ∷ [])
 unfolding nat_of
 select_item plotting = inl (codes "D10", refl, refl, inr (inr (inr (inl (codes "10", 10, inl refl, refl, omega arith, refl)))))
 
-flash_item : (plotting : Bool) → IsItemFor plotting (codes "X0Y0D03*") (Operate Flash (Some (pos 0)) (Some (pos 0)) None None ∷ [])
+flash_item : (plotting : Bool) → IsItemIn Strict plotting (codes "X0Y0D03*") (Operate Flash (Some (pos 0)) (Some (pos 0)) None None ∷ [])
 unfolding int_of nat_of
 flash_item plotting = inl (
   codes "X0Y0D03",
@@ -112,7 +94,7 @@ before =
     ∷ Operate Flash (Some (pos 0)) (Some (pos 0)) None None
     ∷ []
 
-one_flash : IsText layer (before ++ Finish ∷ [])
+one_flash : IsTextIn Strict layer (before ++ Finish ∷ [])
 one_flash = record {
   items = codes "%FSLAX46Y46*%" ∷ codes "%MOMM*%" ∷ codes "%ADD10R,0.65X0.65*%" ∷ codes "D10*" ∷ codes "X0Y0D03*" ∷ [];
   end = codes "M02*";
@@ -130,12 +112,12 @@ one_flash = record {
 -- ---- texts that are written for no commands
 
 -- no item stands after the end of the text, not even one without an effect
-no_item_after_end : (commands : List Command) → IsText (codes "M02*G90*") commands → ⊥
+no_item_after_end : (commands : List Command) → IsTextIn Strict (codes "M02*G90*") commands → ⊥
 unfolding spelled_in meaning_in word no_effect_row mode_row split_mode quadrant_row region_row unit_row incremental_row select_row operation_row fields finish_row
 no_item_after_end commands h =
     let s = written_is_spelled Strict (codes "M02*G90*") commands h in
     let end : IsItem (codes "M02*") = word_is_item (codes "M02") refl refl in
-    let refused : Reads (codes "M02*G90*") (Err (fault 2 4 AfterEnd)) = record {
+    let refused : ReadsIn Strict (codes "M02*G90*") (Err (fault 2 4 AfterEnd)) = record {
       items = ((0, 77) ∷ (1, 48) ∷ (2, 50) ∷ (3, 42) ∷ []) ∷ [];
       rest = (4, 71) ∷ (5, 57) ∷ (6, 48) ∷ (7, 42) ∷ [];
       splits = record { whole = refl; each = (end, λ _. refl, tt); partial = λ none. absurd cc };

@@ -1,31 +1,9 @@
 -- Items and their grammar, both ways.
-use Rattle.std.proofs.Common.{◌≡◌, ◌≢◌, inl, inr, ℕ, Bool, true, false, cond, ◌||◌, eqb, List, [], ◌∷◌, ◌++◌, Ok, Err, Contains, refl, sym, ap, subst, ◌∙◌, arith, append_assoc}
-use Rattle.std.specs.Prelude.{codes}
-use Rattle.std.specs.Str.{bytes_eq}
-use Rattle.std.specs.List.{list_any, AllByRecursion}
-use Rattle.std.proofs.lemmas.List.Elements.{All-contains, All-from_recursion}
-use Rattle.std.proofs.lemmas.List.Folds.{list_any-append}
-use Rattle.std.proofs.lemmas.Bool.{eqb-true, ne_eqb}
-use Rattle.grid_units.specs.declared.fault.Reason.TheVariants.{BadWord}
-use Rattle.grid_units.specs.declared.profile.Profile.{Profile}
-use Rattle.grid_units.specs.declared.profile.Profile.TheVariants.{Strict, Wide}
-use Rattle.gerber_commands.specs.declared.command.Command.{Command}
-use Rattle.gerber_commands.specs.declared.command.Command.TheVariants.{Finish}
-use Rattle.gerber_commands.specs.Rows.{Meaning}
-use Rattle.gerber_items.specs.Words.{word}
+use Rattle.gerber_text.proofs.Common.{◌≡◌, ◌≢◌, inl, inr, ℕ, Bool, true, false, cond, ◌||◌, eqb, List, [], ◌∷◌, ◌++◌, Ok, Err, Contains, refl, sym, ap, subst, ◌∙◌, arith, append_assoc, codes, bytes_eq, list_any, AllByRecursion, All-contains, All-from_recursion, list_any-append, eqb-true, ne_eqb, BadWord, Profile, Strict, Wide, Command, Finish, Meaning, word, extended_in, IsPieceIn, HasNo, fixed_pieces, SpellsOne, IsPiece, fixed_words, modes, IsWord, bytes_are, end_byte, IsUnfinished, IsItem, is_end_item, without_end, meaning_in, IsItemIn, IsEnd, is_finish, or_is_false}
 use Rattle.gerber_items.proofs.WrittenWords.{word_written}
 use Rattle.gerber_items.proofs.Exact.{word_exact}
-use Rattle.gerber_items.specs.Profiles.{extended_in, IsPieceIn}
-use Rattle.gerber_items.specs.PieceGrammar.{HasNo, fixed_pieces, SpellsOne, IsPiece}
-use Rattle.gerber_items.specs.WordGrammar.{fixed_words, modes, IsWord}
-use Rattle.gerber_items.proofs.RowLemmas.{bytes_are}
 use Rattle.gerber_items.proofs.ProfileLemmas.{items_written_in, items_answered_in}
-use Rattle.gerber_text.specs.Items.{end_byte, IsUnfinished, IsItem, is_end_item}
-use Rattle.gerber_text.specs.Meaning.{without_end, meaning_in}
-use Rattle.gerber_text.specs.Grammar.{IsItemFor, IsItemIn, IsEnd}
-use Rattle.gerber_text.specs.Sayable.{is_finish}
 use Rattle.gerber_text.proofs.ItemLemmas.{without_end_push, word_means, word_is_item, extended_means, piece_is_item}
-use Rattle.grid_units.proofs.BoolLemmas.{or_is_false}
 
 -- ---- bytes that are none of one kind
 
@@ -82,7 +60,7 @@ piece_anywhere : (profile : Profile) (text : List ℕ) (cs : List Command) → I
 piece_anywhere Strict text cs h = h
 piece_anywhere Wide text cs h = inr h
 
-pub item_anywhere : (profile : Profile) (plotting : Bool) (item : List ℕ) (cs : List Command) → IsItemFor plotting item cs → IsItemIn profile plotting item cs
+pub item_anywhere : (profile : Profile) (plotting : Bool) (item : List ℕ) (cs : List Command) → IsItemIn Strict plotting item cs → IsItemIn profile plotting item cs
 item_anywhere profile plotting item cs (inl h) = inl h
 item_anywhere profile plotting item cs (inr (text, is, percent, h)) = inr (text, is, percent, piece_anywhere profile text cs h)
 

@@ -1,20 +1,6 @@
 -- Items by what they hold: the text of a word, and the text of pieces.
-use Rattle.std.proofs.Common.{◌≡◌, ◌≢◌, ℕ, ◌-◌, Bool, true, false, cond, eqb, List, [], ◌∷◌, ◌++◌, length, take, refl, sym, ap, subst, ◌∙◌, arith, append_assoc}
-use Rattle.std.specs.List.{list_all, list_any, AllByRecursion}
-use Rattle.std.proofs.lemmas.List.{length-append, take_at}
-use Rattle.std.proofs.lemmas.Bool.{eqb-false}
-use Rattle.std.proofs.lemmas.Bool.Decides.{nat_tests}
-use Rattle.grid_units.specs.declared.profile.Profile.{Profile}
-use Rattle.gerber_text.specs.Items.{end_byte, after_percent, IsItem}
-use Rattle.gerber_items.specs.Words.{word}
-use Rattle.gerber_items.specs.PieceGrammar.{HasNo}
-use Rattle.gerber_items.specs.Profiles.{extended_in}
-use Rattle.gerber_text.specs.Meaning.{without_end, meaning_in}
-use Rattle.gerber_text.specs.CutItems.{is_not_break, without_breaks}
-use Rattle.gerber_text.specs.Sayable.{is_text_byte, is_text}
+use Rattle.gerber_text.proofs.Common.{◌≡◌, ◌≢◌, ℕ, ◌-◌, Bool, true, false, cond, eqb, List, [], ◌∷◌, ◌++◌, length, take, refl, sym, ap, subst, ◌∙◌, arith, append_assoc, list_all, list_any, AllByRecursion, length-append, take_at, eqb-false, nat_tests, Profile, end_byte, after_percent, IsItem, word, HasNo, extended_in, without_end, meaning_in, is_not_break, without_breaks, is_text_byte, is_text, or_is_false, list_all_weaker, list_all_append}
 use Rattle.gerber_text.proofs.RunLemmas.{kept_whole}
-use Rattle.grid_units.proofs.BoolLemmas.{or_is_false}
-use Rattle.grid_units.proofs.ListLemmas.{list_all_weaker, list_all_append}
 
 -- ---- bytes of texts
 

@@ -1,20 +1,10 @@
 -- An item that a reader takes whole.
-use Rattle.std.proofs.Common.{◌≡◌, ℕ, suc, ◌+◌, ◌≤◌, false, List, [], ◌∷◌, ◌++◌, length, Ok, refl, sym, ap, subst, ◌∙◌, arith, append_assoc}
-use Rattle.std.specs.List.{enumerate_from, AllByRecursion}
-use Rattle.std.proofs.lemmas.Bool.{le-ltb}
-use Rattle.std.proofs.lemmas.List.{length-append}
+use Rattle.gerber_text.proofs.Common.{◌≡◌, ℕ, suc, ◌+◌, ◌≤◌, false, List, [], ◌∷◌, ◌++◌, length, Ok, refl, sym, ap, subst, ◌∙◌, arith, append_assoc, enumerate_from, AllByRecursion, le-ltb, length-append, Profile, Command, is_line_break, end_byte, IsUnfinished, IsItem, is_end_item, meaning_in, OffsetByte, offset_bytes, bytes_of, first_offset, has_end, Splits, Entries, is_plotting, placed, spelled_in, shown_by, item_limit}
 use Rattle.std.proofs.lemmas.List.FromFn.{length-enumerate_from}
-use Rattle.grid_units.specs.declared.profile.Profile.{Profile}
-use Rattle.gerber_commands.specs.declared.command.Command.{Command}
-use Rattle.gerber_text.specs.Items.{is_line_break, end_byte, IsUnfinished, IsItem, is_end_item}
-use Rattle.gerber_text.specs.Meaning.{meaning_in}
-use Rattle.gerber_text.specs.Cut.{OffsetByte, offset_bytes, bytes_of, first_offset, has_end, Splits}
-use Rattle.gerber_text.specs.Reading.{Entries, is_plotting, placed, spelled_in, shown_by}
 use Rattle.gerber_text.proofs.OffsetByteLemmas.{offset_bytes-append, offset_bytes_from-kept, bytes_of-enumerate}
 use Rattle.gerber_text.proofs.SplitsLemmas.{Splits-grow}
 use Rattle.gerber_text.proofs.ShowsLemmas.{running_ok, show_ok}
 use Rattle.gerber_text.proofs.ReaderStepLemmas.{closes}
-use Rattle.grid_units.specs.Limits.{item_limit}
 
 pub spelled_ok : (profile : Profile) (place byte : ℕ) (item : List ℕ) (before : Entries) (commands : List Command) → length item ≤ item_limit → meaning_in profile (is_plotting before) item ≡ Ok commands → spelled_in profile place byte item before ≡ Ok (before ++ placed place byte commands)
 unfolding spelled_in

@@ -1,13 +1,7 @@
 -- Runs of bytes inside an item, and items at the start of bytes, as a search for their end finds them.
-use Rattle.std.proofs.Common.{◌≡◌, ◌≢◌, ℕ, suc, ◌+◌, ◌<◌, ◌≤◌, Bool, true, false, cond, ◌||◌, eqb, List, [], ◌∷◌, ◌++◌, length, take, drop, get_or, All, refl, sym, ap, subst, ◌∙◌, arith}
-use Rattle.std.specs.List.{AllByRecursion}
-use Rattle.std.proofs.lemmas.Bool.{false≢true, eqb-false}
-use Rattle.std.proofs.lemmas.List.{get_or-take, length-take}
-use Rattle.std.proofs.lemmas.List.Elements.{All-from_get_or, recursion_from_All}
+use Rattle.gerber_text.proofs.Common.{◌≡◌, ◌≢◌, ℕ, suc, ◌+◌, ◌<◌, ◌≤◌, Bool, true, false, cond, ◌||◌, eqb, List, [], ◌∷◌, ◌++◌, length, take, drop, get_or, All, refl, sym, ap, subst, ◌∙◌, arith, AllByRecursion, false≢true, eqb-false, get_or-take, length-take, All-from_get_or, recursion_from_All, is_line_break, end_byte, IsUnfinished, IsInside, HasLeadingItem}
 use Rattle.std.proofs.lemmas.Grind.{take_at_read}
 use Rattle.memchr.specs.Find.{Nowhere, Passes, is_byte3}
-use Rattle.gerber_text.specs.Items.{is_line_break, end_byte, IsUnfinished}
-use Rattle.gerber_text.specs.Inner.Bytes.{IsInside, HasLeadingItem}
 use Rattle.gerber_text.proofs.ReaderStepLemmas.{run_inside, run_kept, ender_stays}
 
 -- ---- runs

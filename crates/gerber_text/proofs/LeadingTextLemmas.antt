@@ -1,24 +1,9 @@
 -- Comments and attributes at the start of bytes, as a search for their end finds them, and what they spell.
-use Rattle.std.proofs.Common.{◌≡◌, inl, inr, ℕ, ◌+◌, ◌≤◌, Bool, false, ◌||◌, eqb, List, [], ◌∷◌, ◌++◌, length, take, drop, All, None, Ok, refl, sym, ap, subst, ◌∙◌, arith, append_assoc}
-use Rattle.std.specs.List.{list_any, AllByRecursion}
-use Rattle.std.proofs.Math.Seq.{take-append_seam}
-use Rattle.std.proofs.lemmas.List.{length-append, length-take, take-append-drop}
-use Rattle.std.proofs.lemmas.List.Elements.{recursion_from_All}
-use Rattle.grid_units.specs.declared.profile.Profile.{Profile}
-use Rattle.grid_units.specs.declared.profile.Profile.TheVariants.{Strict}
+use Rattle.gerber_text.proofs.Common.{◌≡◌, inl, inr, ℕ, ◌+◌, ◌≤◌, Bool, false, ◌||◌, eqb, List, [], ◌∷◌, ◌++◌, length, take, drop, All, None, Ok, refl, sym, ap, subst, ◌∙◌, arith, append_assoc, list_any, AllByRecursion, take-append_seam, length-append, length-take, take-append-drop, recursion_from_All, Profile, Strict, Attribute, Remove, Meaning, HasNo, is_line_break, IsItem, is_end_item, meaning_in, plot_of, HasLeadingText, is_negative_text, text_code, text_end, text_command, IsItemIn, IsInside}
 use Rattle.gerber_commands.specs.declared.command.AttributeKind.TheVariants as attributes
-use Rattle.gerber_commands.specs.declared.command.Command.TheVariants.{Attribute, Remove}
-use Rattle.gerber_commands.specs.Rows.{Meaning}
-use Rattle.gerber_items.specs.PieceGrammar.{HasNo}
 use Rattle.gerber_text.specs.declared.text_items.LeadingText.{LeadingText}
 use Rattle.gerber_text.specs.declared.text_items.TextKind.{TextKind}
 use Rattle.gerber_text.specs.declared.text_items.TextKind.TheVariants as kinds
-use Rattle.gerber_text.specs.Items.{is_line_break, IsItem, is_end_item}
-use Rattle.gerber_text.specs.Meaning.{meaning_in}
-use Rattle.gerber_text.specs.Reading.{plot_of}
-use Rattle.gerber_text.specs.FastPath.{HasLeadingText, is_negative_text, text_code, text_end, text_command}
-use Rattle.gerber_text.specs.Grammar.{IsItemFor}
-use Rattle.gerber_text.specs.Inner.Bytes.{IsInside}
 use Rattle.gerber_text.proofs.GrammarItems.{Means, item_means, item_anywhere}
 use Rattle.gerber_text.proofs.LeadingItemLemmas.{joined}
 use Rattle.gerber_text.proofs.ReaderStepLemmas.{run_kept}
@@ -56,7 +41,7 @@ text_found bytes rest text end more found is within inside text_is end_is ends p
 abbrev pub item_of : TextKind → List ℕ → List ℕ
 item_of kind text = text_code kind ++ text ++ text_end kind
 
-item_for : (plotting : Bool) (kind : TextKind) (text : List ℕ) → HasNo 42 text → HasNo 37 text → is_negative_text kind text ≡ false → IsItemFor plotting (item_of kind text) (text_command kind text ∷ [])
+item_for : (plotting : Bool) (kind : TextKind) (text : List ℕ) → HasNo 42 text → HasNo 37 text → is_negative_text kind text ≡ false → IsItemIn Strict plotting (item_of kind text) (text_command kind text ∷ [])
 item_for plotting kinds.Comment text star percent positive = inl (text_code kinds.Comment ++ text, refl, star, inr (inr (inl (text, refl, refl, positive, percent))))
 item_for plotting (kinds.Attribute attributes.File) text star percent positive = inr (84 ∷ 70 ∷ text, refl, percent, inr (star, inr (inl (Attribute attributes.File text, (refl, positive), refl))))
 item_for plotting (kinds.Attribute attributes.Aperture) text star percent positive = inr (84 ∷ 65 ∷ text, refl, percent, inr (star, inr (inl (Attribute attributes.Aperture text, refl, refl))))

@@ -1,37 +1,14 @@
 -- How long canonical items are.
-use Rattle.std.proofs.Common.{◌≡◌, ℕ, suc, ◌+◌, ◌-◌, ◌*◌, ◌≤◌, Bool, true, false, cond, not, ◌||◌, ◌&&◌, leb, List, [], ◌∷◌, ◌++◌, length, ℤ, Option, Some, None, is_some, refl, sym, ap, ◌∙◌, arith, lit≤}
-use Rattle.std.specs.Prelude.{filter, decimal}
-use Rattle.std.specs.List.{list_all}
-use Rattle.std.proofs.lemmas.List.{length-append}
-use Rattle.std.proofs.lemmas.Bool.{leb-true, le-leb}
-use Rattle.grid_units.specs.declared.lengths.Unit.TheVariants.{Inch, Millimetre}
+use Rattle.gerber_text.proofs.Common.{◌≡◌, ℕ, suc, ◌+◌, ◌-◌, ◌*◌, ◌≤◌, Bool, true, false, cond, not, ◌||◌, ◌&&◌, leb, List, [], ◌∷◌, ◌++◌, length, ℤ, Option, Some, None, is_some, refl, sym, ap, ◌∙◌, arith, lit≤, filter, decimal, list_all, length-append, leb-true, le-leb, Inch, Millimetre, Command, Comment, Mode, Quadrant, RegionStart, RegionEnd, UnitIs, FormatIs, Define, Macro, Select, Operate, Dark, Clear, Mirror, Turn, Scale, Repeat, RepeatEnd, Attribute, Remove, Finish, Linear, Clockwise, Counterclockwise, Single, Multi, Action, Plot, Move, Flash, Standard, Circle, Rectangle, Obround, Polygon, Template, is_negative_comment, is_negative_image, is_plot, is_name, standard_template, min_sizes, max_sizes, canonical, coordinate_text, action_code, sizes_text, standard_name, is_not_break, without_breaks, is_text_byte, is_text, is_nat, is_optional_int, is_dec, is_aperture_number, is_macro_name, are_parameters, is_operation, is_block, has_valid_fields, is_short, item_limit, both_true, list_all_weaker, list_all_append}
 use Rattle.grid_units.specs.Spellings.{canonical as canonical_dec}
-use Rattle.gerber_commands.specs.declared.command.Command.{Command}
-use Rattle.gerber_commands.specs.declared.command.Command.TheVariants.{Comment, Mode, Quadrant, RegionStart, RegionEnd, UnitIs, FormatIs, Define, Macro, Select, Operate, Dark, Clear, Mirror, Turn, Scale, Repeat, RepeatEnd, Attribute, Remove, Finish}
-use Rattle.gerber_commands.specs.declared.command.Interpolation.TheVariants.{Linear, Clockwise, Counterclockwise}
-use Rattle.gerber_commands.specs.declared.command.QuadrantMode.TheVariants.{Single, Multi}
-use Rattle.gerber_commands.specs.declared.command.Action.{Action}
-use Rattle.gerber_commands.specs.declared.command.Action.TheVariants.{Plot, Move, Flash}
 use Rattle.gerber_commands.specs.declared.command.StepRepeat.{StepRepeat}
 use Rattle.gerber_commands.specs.declared.command.AttributeKind.{AttributeKind}
 use Rattle.gerber_commands.specs.declared.command.AttributeKind.TheVariants as kinds
-use Rattle.gerber_commands.specs.declared.command.Standard.{Standard}
-use Rattle.gerber_commands.specs.declared.command.Standard.TheVariants.{Circle, Rectangle, Obround, Polygon}
-use Rattle.gerber_commands.specs.declared.command.Template.{Template}
 use Rattle.gerber_commands.specs.declared.command.Template.TheVariants as templates
-use Rattle.gerber_commands.specs.Negative.{is_negative_comment, is_negative_image}
-use Rattle.gerber_items.specs.Words.{is_plot}
-use Rattle.gerber_items.specs.Pieces.{is_name, standard_template, min_sizes, max_sizes}
-use Rattle.gerber_commands.specs.Canonical.{canonical, coordinate_text, action_code, sizes_text, standard_name}
-use Rattle.gerber_text.specs.CutItems.{is_not_break, without_breaks}
-use Rattle.gerber_text.specs.Sayable.{is_text_byte, is_text, is_nat, is_optional_int, is_dec, is_aperture_number, is_macro_name, are_parameters, is_operation, is_block, has_valid_fields, is_short}
 use Rattle.gerber_text.proofs.RunLemmas.{kept_whole}
 use Rattle.gerber_text.proofs.ItemLemmas.{text_kept, piece_unbroken}
 use Rattle.gerber_text.proofs.NumberLemmas.{nat_is, int_is, dec_is}
 use Rattle.gerber_text.proofs.PieceLemmas.{format_text, format_whole, named, define_text, define_whole, define_bytes, starred, macro_kept}
-use Rattle.grid_units.specs.Limits.{item_limit}
-use Rattle.grid_units.proofs.BoolLemmas.{both_true}
-use Rattle.grid_units.proofs.ListLemmas.{list_all_weaker, list_all_append}
 
 -- two comparisons of numbers with one answer
 pub same_test : (a b m n : ℕ) → (a ≤ b → m ≤ n) → (m ≤ n → a ≤ b) → leb a b ≡ leb m n

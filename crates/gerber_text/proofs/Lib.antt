@@ -1,3 +1,4 @@
+pub mod Common
 pub mod PlottingLemmas
 pub mod LeadingItemLemmas
 pub mod LeadingTextLemmas

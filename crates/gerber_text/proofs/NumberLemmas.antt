@@ -1,22 +1,8 @@
 -- Numbers as they are written: their bytes, what they are read as, and how long they are.
-use Rattle.std.proofs.Common.{◌≡◌, ℕ, ◌<◌, ◌≤◌, ◌/◌, ◌%◌, ◌^◌, true, false, cond, not, ◌||◌, ◌&&◌, eqb, leb, ltb, List, [], ◌∷◌, ◌++◌, length, ℤ, pos, negsuc, Ok, Err, refl, ap, ◌∙◌, arith, lit<, lit≤}
-use Rattle.std.specs.Prelude.{unsigned_abs, decimal, neg_ℤ}
-use Rattle.std.specs.List.{list_all, prefix_len}
-use Rattle.std.proofs.lemmas.List.{length-append, length-drop}
-use Rattle.std.proofs.lemmas.Fmt.{length-decimal-le}
-use Rattle.std.proofs.lemmas.Bool.{leb-true, le-leb, le-ltb, ltb-true}
-use Rattle.std.proofs.lemmas.Bool.Decides.{nat_tests}
-use Rattle.grid_units.specs.declared.fault.Reason.TheVariants.{BadNumber, TooManyDigits}
-use Rattle.grid_units.specs.Numbers.{is_digit, is_digits, is_number_char, value, without_sign, signed, parse_decimal, max_units}
+use Rattle.gerber_text.proofs.Common.{◌≡◌, ℕ, ◌<◌, ◌≤◌, ◌/◌, ◌%◌, ◌^◌, true, false, cond, not, ◌||◌, ◌&&◌, eqb, leb, ltb, List, [], ◌∷◌, ◌++◌, length, ℤ, pos, negsuc, Ok, Err, refl, ap, ◌∙◌, arith, lit<, lit≤, unsigned_abs, decimal, neg_ℤ, list_all, prefix_len, length-append, length-drop, length-decimal-le, leb-true, le-leb, le-ltb, ltb-true, nat_tests, BadNumber, TooManyDigits, is_digit, is_digits, is_number_char, value, without_sign, signed, parse_decimal, max_units, significant_digits, int_of, nat_of, integer, is_text_byte, is_text, is_nat, is_int, is_dec, and_true, both_true, not_empty, list_all_weaker, list_all_append, digits_numbers}
 use Rattle.grid_units.specs.Spellings.{minus, decimals, fraction_text, canonical, places}
 use Rattle.grid_units.proofs.TrailingZeros.{length-places}
 use Rattle.grid_units.proofs.SpellingsLemmas.{IsSpelling, spells_decimal, digits-places, trims, canonical_reads, minus_numbers, minus_short}
-use Rattle.gerber_commands.specs.Numbers.{significant_digits, int_of, nat_of}
-use Rattle.gerber_commands.specs.Canonical.{integer}
-use Rattle.gerber_text.specs.Sayable.{is_text_byte, is_text, is_nat, is_int, is_dec}
-use Rattle.grid_units.proofs.BoolLemmas.{and_true, both_true, not_empty}
-use Rattle.grid_units.proofs.ListLemmas.{list_all_weaker, list_all_append}
-use Rattle.grid_units.proofs.ReadPrefix.{digits_numbers}
 
 -- ---- bytes
 

@@ -1,10 +1,6 @@
 -- Bytes after a text, with their offsets.
-use Rattle.std.proofs.Common.{◌≡◌, ℕ, suc, ◌+◌, ◌<◌, true, false, cond, not, List, [], ◌∷◌, ◌++◌, length, refl, sym, ap, ◌∙◌, arith, add-zero, append_assoc}
-use Rattle.std.specs.List.{enumerate_from, filter, AllByRecursion}
-use Rattle.std.proofs.lemmas.List.{append-nil}
-use Rattle.std.proofs.lemmas.List.Elements.{filter-append}
-use Rattle.gerber_text.specs.Items.{is_line_break}
-use Rattle.gerber_text.specs.Cut.{OffsetByte, offset_bytes_from, offset_bytes, bytes_of, first_offset}
+use Rattle.gerber_text.proofs.Common.{◌≡◌, ℕ, suc, ◌+◌, ◌<◌, true, false, cond, not, List, [], ◌∷◌, ◌++◌, length, refl, sym, ap, ◌∙◌, arith, add-zero, append_assoc, enumerate_from, AllByRecursion, append-nil, filter-append, is_line_break, OffsetByte, offset_bytes_from, offset_bytes, bytes_of, first_offset}
+use Rattle.std.specs.List.{filter}
 
 enumerate-append : (n : ℕ) (xs ys : List ℕ) → enumerate_from n (xs ++ ys) ≡ enumerate_from n xs ++ enumerate_from (n + length xs) ys
 enumerate-append n [] ys = ap (λ k. enumerate_from k ys) (sym (add-zero n))

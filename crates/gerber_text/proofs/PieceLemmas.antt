@@ -1,34 +1,14 @@
 -- The pieces of commands are so written.
-use Rattle.std.proofs.Common.{◌≡◌, ◌≢◌, ℕ, ◌+◌, ◌≤◌, Bool, true, false, not, ◌||◌, ◌&&◌, eqb, leb, ltb, List, [], ◌∷◌, ◌++◌, length, map, ℤ, Option, Some, None, is_some, Ok, Contains, refl, sym, ap, ◌∙◌, arith, append_assoc, append-nil}
-use Rattle.std.specs.Prelude.{decimal, codes}
-use Rattle.std.specs.List.{list_all, flat_map, join_with_byte, AllByRecursion}
-use Rattle.std.proofs.lemmas.List.{length-map}
-use Rattle.std.proofs.lemmas.List.Elements.{All-from_recursion, filter-append}
-use Rattle.std.proofs.lemmas.Bool.{leb-true, ltb-true}
-use Rattle.std.proofs.lemmas.Bool.Decides.{nat_tests}
-use Rattle.std.proofs.lemmas.Fmt.{decimal_digit}
-use Rattle.grid_units.specs.Numbers.{is_digit, is_number_char, parse_decimal}
+use Rattle.gerber_text.proofs.Common.{◌≡◌, ◌≢◌, ℕ, ◌+◌, ◌≤◌, Bool, true, false, not, ◌||◌, ◌&&◌, eqb, leb, ltb, List, [], ◌∷◌, ◌++◌, length, map, ℤ, Option, Some, None, is_some, Ok, Contains, refl, sym, ap, ◌∙◌, arith, append_assoc, decimal, codes, list_all, flat_map, join_with_byte, AllByRecursion, length-map, All-from_recursion, filter-append, leb-true, ltb-true, nat_tests, decimal_digit, is_digit, is_number_char, parse_decimal, FormatIs, Define, Macro, Repeat, Standard, Circle, Rectangle, Obround, Polygon, Template, canonical, pieces_text, sizes_text, template_text, standard_name, is_name_start, is_name_byte, is_name, standard_template, min_sizes, max_sizes, HasNo, standards, IsMacroName, IsTemplate, IsMacro, SpellsOne, block_fields_are, is_not_break, without_breaks, is_text_byte, is_text, is_nat, is_dec, is_format, is_aperture_number, is_macro_name, is_template, is_block, digits_numbers, and_true, both_true, list_all_weaker, list_all_append}
+use Rattle.std.proofs.Common.{append-nil}
 use Rattle.grid_units.specs.Spellings.{canonical as canonical_dec}
-use Rattle.gerber_commands.specs.declared.command.Command.TheVariants.{FormatIs, Define, Macro, Repeat}
 use Rattle.gerber_commands.specs.declared.command.Format.{Format}
 use Rattle.gerber_commands.specs.declared.command.StepRepeat.{StepRepeat}
-use Rattle.gerber_commands.specs.declared.command.Standard.{Standard}
-use Rattle.gerber_commands.specs.declared.command.Standard.TheVariants.{Circle, Rectangle, Obround, Polygon}
-use Rattle.gerber_commands.specs.declared.command.Template.{Template}
 use Rattle.gerber_commands.specs.declared.command.Template.TheVariants as templates
-use Rattle.gerber_commands.specs.Canonical.{canonical, pieces_text, sizes_text, template_text, standard_name}
-use Rattle.gerber_items.specs.Pieces.{is_name_start, is_name_byte, is_name, standard_template, min_sizes, max_sizes}
-use Rattle.gerber_items.specs.PieceGrammar.{HasNo, standards, IsMacroName, IsTemplate, IsMacro, SpellsOne}
-use Rattle.gerber_items.proofs.RowLemmas.{block_fields_are}
-use Rattle.gerber_text.specs.CutItems.{is_not_break, without_breaks}
-use Rattle.gerber_text.specs.Sayable.{is_text_byte, is_text, is_nat, is_dec, is_format, is_aperture_number, is_macro_name, is_template, is_block}
 use Rattle.gerber_text.proofs.RunLemmas.{none_passes, kept_whole}
 use Rattle.gerber_text.proofs.ItemLemmas.{text_kept, text_no_star, piece_item}
 use Rattle.gerber_text.proofs.WordLemmas.{append_to_ended}
 use Rattle.gerber_text.proofs.NumberLemmas.{number_text, numbers_text, nat_is, dec_is}
-use Rattle.grid_units.proofs.ReadPrefix.{digits_numbers}
-use Rattle.grid_units.proofs.BoolLemmas.{and_true, both_true}
-use Rattle.grid_units.proofs.ListLemmas.{list_all_weaker, list_all_append}
 
 -- ---- formats
 

@@ -1,12 +1,7 @@
 -- Commands that a reader passes: they are gone, and the last operation is that among them, or before them.
-use Rattle.std.proofs.Common.{◌≡◌, ℕ, Bool, false, [], ◌∷◌, ◌++◌, Option, None, Some, unwrap_or, refl, sym, ap, ◌∙◌, append-nil}
+use Rattle.gerber_text.proofs.Common.{◌≡◌, ℕ, Bool, false, [], ◌∷◌, ◌++◌, Option, None, Some, unwrap_or, refl, sym, ap, ◌∙◌, last_or-append, option_or_none, Command, Interpolation, modes_of, Placed, Entries, plot_of, placed, is_plotting}
+use Rattle.std.proofs.Common.{append-nil}
 use Rattle.grid_units.specs.Lists.{last_set}
-use Rattle.grid_units.proofs.LookbackLemmas.{last_or-append, option_or_none}
-use Rattle.gerber_commands.specs.declared.command.Command.{Command}
-use Rattle.gerber_commands.specs.declared.command.Interpolation.{Interpolation}
-use Rattle.gerber_commands.specs.Rows.{modes_of}
-use Rattle.gerber_text.specs.declared.placed.Placed.{Placed}
-use Rattle.gerber_text.specs.Reading.{Entries, plot_of, placed, is_plotting}
 
 -- commands that are not held count among those that are gone, where no others are held
 pub counted_gone : (gone held added : Entries) → held ≡ [] → (gone ++ held) ++ added ≡ (gone ++ added) ++ held

@@ -1,16 +1,6 @@
 -- Items in the two profiles.
-use Rattle.std.proofs.Common.{◌≡◌, ℕ, suc, Bool, true, false, cond, eqb, List, [], ◌∷◌, Ok, sym, ap, ◌∙◌}
-use Rattle.grid_units.specs.Results.{◌>>=◌}
-use Rattle.grid_units.proofs.ResultLemmas.{bind_ok}
-use Rattle.gerber_commands.specs.declared.command.Command.{Command}
-use Rattle.grid_units.specs.declared.profile.Profile.TheVariants.{Strict, Wide}
-use Rattle.gerber_items.specs.Words.{word}
-use Rattle.gerber_items.specs.Pieces.{extended}
-use Rattle.gerber_items.specs.Profiles.{extended_in}
+use Rattle.gerber_text.proofs.Common.{◌≡◌, ℕ, suc, Bool, true, false, cond, eqb, List, [], ◌∷◌, Ok, sym, ap, ◌∙◌, ◌>>=◌, bind_ok, Command, Strict, Wide, word, extended, extended_in, meaning_in, without_end, OffsetByte, bytes_of, first_offset, Entries, is_plotting, spelled_in, commands_by, SpellsTextIn}
 use Rattle.gerber_items.proofs.ProfileLemmas.{wide_reads_more as extended_reads_more}
-use Rattle.gerber_text.specs.Meaning.{meaning_in, without_end}
-use Rattle.gerber_text.specs.Cut.{OffsetByte, bytes_of, first_offset}
-use Rattle.gerber_text.specs.Reading.{Entries, is_plotting, spelled_in, commands_by, SpellsTextIn}
 use Rattle.gerber_text.proofs.Items.{spelled_ok}
 use Rattle.gerber_text.proofs.SpelledIsWritten.{added}
 

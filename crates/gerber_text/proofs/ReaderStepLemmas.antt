@@ -1,17 +1,6 @@
 -- What one step of a reader does to the items and the rest.
-use Rattle.std.proofs.Common.{◌≡◌, ◌≢◌, ℕ, suc, ◌+◌, ◌<◌, Bool, true, false, cond, eqb, List, [], ◌∷◌, ◌++◌, length, Result, Ok, Err, refl, sym, ap, subst, ◌∙◌, arith}
-use Rattle.std.specs.List.{enumerate_from, AllByRecursion}
-use Rattle.std.proofs.lemmas.List.{map-append, length-append, length-map}
+use Rattle.gerber_text.proofs.Common.{◌≡◌, ◌≢◌, ℕ, suc, ◌+◌, ◌<◌, Bool, true, false, cond, eqb, List, [], ◌∷◌, ◌++◌, length, Result, Ok, Err, refl, sym, ap, subst, ◌∙◌, arith, enumerate_from, AllByRecursion, map-append, length-append, length-map, eqb-false, Profile, fault, with_place, Reason, Fault, IsInside, is_line_break, end_byte, IsUnfinished, is_end_item, OffsetByte, offset_bytes, bytes_of, first_offset, has_end, Splits, Entries, spelled_in, shown_by}
 use Rattle.std.proofs.lemmas.List.FromFn.{length-enumerate_from}
-use Rattle.std.proofs.lemmas.Bool.{eqb-false}
-use Rattle.grid_units.specs.declared.profile.Profile.{Profile}
-use Rattle.grid_units.specs.Results.{fault, with_place}
-use Rattle.grid_units.specs.declared.fault.Reason.{Reason}
-use Rattle.grid_units.specs.declared.fault.Fault.{Fault}
-use Rattle.gerber_text.specs.Inner.Bytes.{IsInside}
-use Rattle.gerber_text.specs.Items.{is_line_break, end_byte, IsUnfinished, is_end_item}
-use Rattle.gerber_text.specs.Cut.{OffsetByte, offset_bytes, bytes_of, first_offset, has_end, Splits}
-use Rattle.gerber_text.specs.Reading.{Entries, spelled_in, shown_by}
 use Rattle.gerber_text.proofs.OffsetByteLemmas.{offset_bytes-append, offset_bytes_from-kept, bytes_of-enumerate, AllR-weaker}
 use Rattle.gerber_text.proofs.SplitsLemmas.{Splits-grow, Splits-close, IsUnfinished-append, bytes_of-push, has_end-push}
 use Rattle.gerber_text.proofs.ShowsLemmas.{running_ok, show_push}

@@ -1,33 +1,8 @@
 -- A text that is refused is refused for a reason of reading.
-use Rattle.std.proofs.Common.{ℕ, suc, Bool, true, false, cond, eqb, ltb, List, [], ◌∷◌, length, drop, Option, None, Some, Result, Ok, Err, unwrap_or, sym, subst}
-use Rattle.std.specs.Prelude.{ℤ, codes, map, is_some, unwrap_or, not, ◌&&◌}
-use Rattle.std.specs.Str.{bytes_eq}
-use Rattle.std.specs.List.{AllByRecursion, list_any, prefix_len, take_while}
-use Rattle.std.specs.Option.{option_map, option_or}
-use Rattle.grid_units.specs.declared.fault.Reason.{Reason}
-use Rattle.grid_units.specs.declared.fault.Fault.{Fault}
-use Rattle.grid_units.specs.declared.fault.Reason.TheVariants.{BadWord, ClearPolarity, NegativeImage, Incremental, TrailingZeros, SeveralInOne, BadNumber, TooFine, TooFar}
-use Rattle.grid_units.specs.declared.lengths.Unit.TheVariants.{Inch, Millimetre}
-use Rattle.grid_units.specs.Results.{◌>>=◌, both, with_place}
-use Rattle.grid_units.specs.Numbers.{is_digit, is_number_char, parse_decimal, value, whole, fraction, value_without_point, to_units, signed, is_decimal, fits_eight_decimals}
-use Rattle.grid_units.specs.declared.profile.Profile.{Profile}
-use Rattle.grid_units.specs.declared.profile.Profile.TheVariants.{Strict, Wide}
-use Rattle.gerber_items.specs.Profiles.{extended_in}
-use Rattle.gerber_commands.specs.declared.command.Command.TheVariants.{Quadrant, RegionStart, RegionEnd, UnitIs, Dark, Clear, Mirror, Macro, RepeatEnd}
-use Rattle.gerber_commands.specs.declared.command.QuadrantMode.TheVariants.{Single, Multi}
-use Rattle.gerber_commands.specs.declared.command.Action.{Action}
-use Rattle.gerber_commands.specs.declared.command.Action.TheVariants.{Plot, Move, Flash}
-use Rattle.gerber_commands.specs.declared.command.Standard.{Standard}
+use Rattle.gerber_text.proofs.Common.{ℕ, suc, Bool, true, false, cond, eqb, ltb, List, [], ◌∷◌, length, drop, Option, None, Some, Result, Ok, Err, unwrap_or, sym, subst, codes, bytes_eq, AllByRecursion, list_any, prefix_len, take_while, option_map, option_or, Reason, Fault, BadWord, ClearPolarity, NegativeImage, Incremental, TrailingZeros, SeveralInOne, BadNumber, TooFine, TooFar, Inch, Millimetre, ◌>>=◌, both, with_place, is_digit, is_number_char, parse_decimal, value, whole, fraction, value_without_point, to_units, signed, is_decimal, fits_eight_decimals, Profile, Strict, Wide, extended_in, Quadrant, RegionStart, RegionEnd, UnitIs, Dark, Clear, Mirror, Macro, RepeatEnd, Single, Multi, Action, Plot, Move, Flash, Standard, Interpolation, int_of, nat_of, Meaning, Row, first_match, field, Fields, no_effect_row, comment, mode_row, quadrant_row, region_row, unit_row, incremental_row, action, d_word, g54_word, select_row, coordinate, action_with, kind, operands, operate, operation_row, finish_row, deprecated_row, words, word, split_by, last_byte, before_last, is_name, standard_template, are_sizes, before_comma, after_comma, has_several_pieces, refused_format_row, format_fields, format_row, unit_piece_row, all_values, sizes_of, aperture_number, define_standard, define_named, define_template, define, definition, macro_of, macro_definition, polarity_row, mirror_row, turn, scale, transform_row, block_fields, repeat, repeat_fields, repeat_start, repeat_row, file_attribute, attribute, removal, no_effect_piece_row, neutral_axes_row, negative_row, deprecated_piece_row, block_aperture_row, pieces, piece, extended, meaning_in, without_end, OffsetByte, Entries, spelled_in, commands_by, after_end, shown_by, read_by, ReadsIn}
+use Rattle.std.specs.Prelude.{ℤ, map, is_some, unwrap_or, not, ◌&&◌}
 use Rattle.gerber_commands.specs.declared.command.AttributeKind.{AttributeKind}
-use Rattle.gerber_commands.specs.declared.command.Interpolation.{Interpolation}
-use Rattle.gerber_commands.specs.Numbers.{int_of, nat_of}
 use Rattle.grid_units.specs.Rows.{strip_prefix}
-use Rattle.gerber_commands.specs.Rows.{Meaning, Row, first_match, field}
-use Rattle.gerber_items.specs.Words.{Fields, no_effect_row, comment, mode_row, quadrant_row, region_row, unit_row, incremental_row, action, d_word, g54_word, select_row, coordinate, action_with, kind, operands, operate, operation_row, finish_row, deprecated_row, words, word}
-use Rattle.gerber_items.specs.Pieces.{split_by, last_byte, before_last, is_name, standard_template, are_sizes, before_comma, after_comma, has_several_pieces, refused_format_row, format_fields, format_row, unit_piece_row, all_values, sizes_of, aperture_number, define_standard, define_named, define_template, define, definition, macro_of, macro_definition, polarity_row, mirror_row, turn, scale, transform_row, block_fields, repeat, repeat_fields, repeat_start, repeat_row, file_attribute, attribute, removal, no_effect_piece_row, neutral_axes_row, negative_row, deprecated_piece_row, block_aperture_row, pieces, piece, extended}
-use Rattle.gerber_text.specs.Meaning.{meaning_in, without_end}
-use Rattle.gerber_text.specs.Cut.{OffsetByte}
-use Rattle.gerber_text.specs.Reading.{Entries, spelled_in, commands_by, after_end, shown_by, read_by, ReadsIn}
 use Rattle.gerber_text.specs.Reasons.{IsReasonOfReading}
 
 -- ---- answers whose reason is one of reading

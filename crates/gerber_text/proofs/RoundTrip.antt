@@ -1,25 +1,10 @@
 -- The canonical text of a sayable list spells just this list.
-use Rattle.std.proofs.Common.{◌≡◌, ℕ, suc, ◌+◌, ◌≤◌, Bool, true, false, cond, not, ◌||◌, ◌&&◌, List, [], ◌∷◌, ◌++◌, length, Ok, refl, sym, ap, subst, ◌∙◌, arith, append_assoc}
-use Rattle.std.specs.List.{flat_map}
-use Rattle.std.proofs.lemmas.List.{append-nil, length-append}
-use Rattle.std.proofs.lemmas.Bool.{le-ltb, false≢true}
-use Rattle.grid_units.specs.Results.{◌>>=◌}
-use Rattle.grid_units.specs.declared.profile.Profile.TheVariants.{Strict}
-use Rattle.gerber_commands.specs.declared.command.Command.{Command}
-use Rattle.gerber_text.specs.Items.{is_line_break, is_end_item, IsItem}
-use Rattle.gerber_commands.specs.Canonical.{canonical}
-use Rattle.gerber_text.specs.Cut.{OffsetByte, offset_bytes_from, offset_bytes, bytes_of, first_offset, has_end, AreItems, Splits}
-use Rattle.gerber_text.specs.Reading.{spelled_in, Entries, is_plotting, spelled, commands_from, placed}
-use Rattle.gerber_text.specs.CutItems.{without_breaks, Spells}
-use Rattle.gerber_text.specs.Sayable.{is_sayable, is_finish}
+use Rattle.gerber_text.proofs.Common.{◌≡◌, ℕ, suc, ◌+◌, ◌≤◌, Bool, true, false, cond, not, ◌||◌, ◌&&◌, List, [], ◌∷◌, ◌++◌, length, Ok, refl, sym, ap, subst, ◌∙◌, arith, append_assoc, flat_map, append-nil, length-append, le-ltb, false≢true, ◌>>=◌, Strict, Command, is_line_break, is_end_item, IsItem, canonical, OffsetByte, offset_bytes_from, offset_bytes, bytes_of, first_offset, has_end, AreItems, Splits, spelled_in, Entries, is_plotting, commands_by, placed, without_breaks, Spells, is_sayable, is_finish, lines, sayable, without_places, ReadsAs, text_limit, both_true, not_true}
 use Rattle.gerber_text.proofs.CanonicalParses.{parses as canonical_spells}
 use Rattle.gerber_text.proofs.SpelledCommands.{canonical_ends}
-use Rattle.gerber_text.specs.Writing.{lines, sayable, without_places, ReadsAs}
 use Rattle.gerber_text.proofs.OffsetByteLemmas.{offset_bytes_from-append}
 use Rattle.gerber_text.proofs.ShowsLemmas.{shown_ended}
 use Rattle.gerber_text.proofs.FinishLemmas.{reads_ok}
-use Rattle.grid_units.specs.Limits.{text_limit}
-use Rattle.grid_units.proofs.BoolLemmas.{both_true, not_true}
 
 -- each command is one that its canonical item spells, and the end of the text is the last and no other
 abbrev IsSayable : List Command → Type 0
@@ -55,10 +40,10 @@ record Found (n place : ℕ) (cs : List Command) (before : Entries) : Type 0 whe
   whole : offset_bytes_from n (lines cs) ≡ flat_map (λ (i : List OffsetByte). i) (items_of_lines n cs)
   each : AreItems (items_of_lines n cs)
   ends : has_end (items_of_lines n cs) ≡ true
-  commands : commands_from place (items_of_lines n cs) before ≡ Ok (before ++ more)
+  commands : commands_by Strict place (items_of_lines n cs) before ≡ Ok (before ++ more)
   same : without_places more ≡ cs
 
-parses : (place n : ℕ) (c : Command) (before : Entries) → Spells (canonical c) c → spelled place (first_offset (offset_bytes_from n (canonical c))) (bytes_of (offset_bytes_from n (canonical c))) before ≡ Ok (before ++ placed place (first_offset (offset_bytes_from n (canonical c))) (c ∷ []))
+parses : (place n : ℕ) (c : Command) (before : Entries) → Spells (canonical c) c → spelled_in Strict place (first_offset (offset_bytes_from n (canonical c))) (bytes_of (offset_bytes_from n (canonical c))) before ≡ Ok (before ++ placed place (first_offset (offset_bytes_from n (canonical c))) (c ∷ []))
 unfolding spelled_in
 parses place n c before s = rw (bytes_of_marks n (canonical c), le-ltb _ _ s.short, s.parses (is_plotting before)) refl
 
@@ -95,7 +80,7 @@ found n place (c ∷ d ∷ cs) before h =
       whole = one_line n (canonical c) (lines (d ∷ cs)) ∙ ap (λ (x : List OffsetByte). offset_bytes_from n (canonical c) ++ x) rest.whole;
       each = (is_one n c h.0, λ e. absurd (false≢true (sym not_end ∙ e)), rest.each);
       ends = ap (λ t. t || has_end (items_of_lines (n + length (canonical c) + 1) (d ∷ cs))) not_end ∙ rest.ends;
-      commands = ap (λ r. r >>= commands_from (suc place) (items_of_lines (n + length (canonical c) + 1) (d ∷ cs))) (parses place n c before h.0) ∙ (rest.commands ∙ ap (λ (x : Entries). Ok x) (append_assoc before now rest.more));
+      commands = ap (λ r. r >>= commands_by Strict (suc place) (items_of_lines (n + length (canonical c) + 1) (d ∷ cs))) (parses place n c before h.0) ∙ (rest.commands ∙ ap (λ (x : Entries). Ok x) (append_assoc before now rest.more));
       same = ap (λ (x : List Command). c ∷ x) rest.same;
     }
 

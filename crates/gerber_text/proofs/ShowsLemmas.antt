@@ -1,25 +1,8 @@
 -- What a text shows as it goes on: commands that stay, and the first fault, which stays too.
-use Rattle.std.proofs.Common.{◌≡◌, ◌≢◌, ℕ, zero, suc, ◌+◌, ◌-◌, ◌<◌, ◌≤◌, ◌⊎◌, inl, inr, Bool, true, false, cond, eqb, ltb, not, ◌||◌, List, [], ◌∷◌, ◌++◌, length, take, drop, get_or, Result, Ok, Err, refl, sym, ap, subst, ◌∙◌, arith, append_assoc}
-use Rattle.std.specs.List.{AllByRecursion}
-use Rattle.std.proofs.lemmas.List.{append-nil, length-append, length-map, take-append-drop, take-append-le, take_all, take_rest}
-use Rattle.std.proofs.Math.Seq.{take-add}
-use Rattle.std.proofs.lemmas.Bool.{eqb-true, eqb-false, lt-ltb, le-ltb, ltb-true, ltb-false, false≢true}
-use Rattle.grid_units.specs.declared.profile.Profile.{Profile}
-use Rattle.grid_units.specs.declared.fault.Fault.{Fault}
-use Rattle.grid_units.specs.declared.fault.Fail.{Fail}
+use Rattle.gerber_text.proofs.Common.{◌≡◌, ◌≢◌, ℕ, zero, suc, ◌+◌, ◌-◌, ◌<◌, ◌≤◌, ◌⊎◌, inl, inr, Bool, true, false, cond, eqb, ltb, not, ◌||◌, List, [], ◌∷◌, ◌++◌, length, take, drop, get_or, Result, Ok, Err, refl, sym, ap, subst, ◌∙◌, arith, append_assoc, AllByRecursion, append-nil, length-append, length-map, take-append-drop, take-append-le, take_all, take_rest, take-add, eqb-true, eqb-false, lt-ltb, le-ltb, ltb-true, ltb-false, false≢true, Profile, Fault, Fail, TooLong, AfterEnd, Progress, is_line_break, end_byte, IsUnfinished, OffsetByte, offset_bytes_from, offset_bytes, bytes_of, first_offset, has_end, Splits, may_follow_end, ◌>>=◌, fault, IfFault, Entries, spelled_in, commands_by, may_follow, after_end, shown_by, Holds, FailsOnBytes, Advances, Refuses, bind_ok, bind_err, guard_ok, guard_err, item_limit}
 use Rattle.grid_units.specs.declared.fault.Fail.TheVariants as fails
-use Rattle.grid_units.specs.declared.fault.Reason.TheVariants.{TooLong, AfterEnd}
-use Rattle.gerber_text.specs.declared.reader.Progress.{Progress}
-use Rattle.gerber_text.specs.Items.{is_line_break, end_byte, IsUnfinished}
-use Rattle.gerber_text.specs.Cut.{OffsetByte, offset_bytes_from, offset_bytes, bytes_of, first_offset, has_end, Splits}
-use Rattle.gerber_text.specs.Inner.Bytes.{may_follow_end}
-use Rattle.grid_units.specs.Results.{◌>>=◌, fault, IfFault}
-use Rattle.gerber_text.specs.Reading.{Entries, spelled_in, commands_by, may_follow, after_end, shown_by}
-use Rattle.gerber_text.specs.Holding.{Holds, FailsOnBytes, Advances, Refuses}
-use Rattle.grid_units.proofs.ResultLemmas.{bind_ok, bind_err, guard_ok, guard_err}
 use Rattle.gerber_text.proofs.OffsetByteLemmas.{offset_bytes-append, first_offset-append}
-use Rattle.gerber_text.proofs.SplitsLemmas.{Splits-grow, Splits-close, IsUnfinished-push, bytes_of-push, commands_from-push}
-use Rattle.grid_units.specs.Limits.{item_limit}
+use Rattle.gerber_text.proofs.SplitsLemmas.{Splits-grow, Splits-close, IsUnfinished-push, bytes_of-push, commands_by-push}
 
 -- ---- after the end of the text
 
@@ -96,7 +79,7 @@ rest_shows t place (Err x) = refl
 pub show_push : (profile : Profile) (items : List (List OffsetByte)) (item : List OffsetByte) (cs : Entries) → commands_by profile 1 items [] ≡ Ok cs → shown_by profile (items ++ item ∷ []) [] ≡ spelled_in profile (suc (length items)) (first_offset item) (bytes_of item) cs
 show_push profile items item cs e =
     let k : 1 + length items ≡ suc (length items) = omega arith in
-    let cmds : commands_by profile 1 (items ++ item ∷ []) [] ≡ spelled_in profile (suc (length items)) (first_offset item) (bytes_of item) cs = commands_from-push profile 1 items item [] ∙ (ap (λ r. r >>= spelled_in profile (1 + length items) (first_offset item) (bytes_of item)) e ∙ ap (λ p. spelled_in profile p (first_offset item) (bytes_of item) cs) k) in
+    let cmds : commands_by profile 1 (items ++ item ∷ []) [] ≡ spelled_in profile (suc (length items)) (first_offset item) (bytes_of item) cs = commands_by-push profile 1 items item [] ∙ (ap (λ r. r >>= spelled_in profile (1 + length items) (first_offset item) (bytes_of item)) e ∙ ap (λ p. spelled_in profile p (first_offset item) (bytes_of item) cs) k) in
     rest_shows (has_end (items ++ item ∷ [])) (suc (length (items ++ item ∷ []))) (commands_by profile 1 (items ++ item ∷ []) []) ∙ cmds
 
 -- ---- a fault stays, and the items before it
@@ -159,7 +142,7 @@ too_long profile place byte bytes before lt = rw (lt-ltb _ _ lt) refl
 
 show_push_err : (profile : Profile) (items : List (List OffsetByte)) (item : List OffsetByte) (f : Fault) → commands_by profile 1 items [] ≡ Err f → shown_by profile (items ++ item ∷ []) [] ≡ Err f
 show_push_err profile items item f e =
-    let cmds : commands_by profile 1 (items ++ item ∷ []) [] ≡ Err f = commands_from-push profile 1 items item [] ∙ ap (λ r. r >>= spelled_in profile (1 + length items) (first_offset item) (bytes_of item)) e in
+    let cmds : commands_by profile 1 (items ++ item ∷ []) [] ≡ Err f = commands_by-push profile 1 items item [] ∙ ap (λ r. r >>= spelled_in profile (1 + length items) (first_offset item) (bytes_of item)) e in
     first_err profile (items ++ item ∷ []) [] f cmds
 
 pub take_of_push : (items : List (List OffsetByte)) (item : List OffsetByte) (n : ℕ) → n ≤ length items → (n ≤ length (items ++ item ∷ [])) × (take n (items ++ item ∷ []) ≡ take n items)

@@ -1,14 +1,7 @@
 -- Each text is cut into items and a rest, so it shows something, and has a reading.
-use Rattle.std.proofs.Common.{◌↔◌, ℕ, List, [], ◌∷◌, ◌++◌, length, take, eqb, Result, Ok, refl, sym, subst, append_assoc}
-use Rattle.std.proofs.lemmas.List.{append-nil}
-use Rattle.grid_units.specs.declared.profile.Profile.{Profile}
-use Rattle.grid_units.specs.declared.fault.Fault.{Fault}
-use Rattle.gerber_text.specs.Items.{end_byte}
-use Rattle.gerber_text.specs.Cut.{OffsetByte, offset_bytes, bytes_of, has_end, Splits}
-use Rattle.gerber_text.specs.Reading.{Entries, read_by, ReadsIn, SpellsTextIn}
+use Rattle.gerber_text.proofs.Common.{◌↔◌, ℕ, List, [], ◌∷◌, ◌++◌, length, take, eqb, Result, Ok, refl, sym, subst, append_assoc, append-nil, Profile, Fault, end_byte, OffsetByte, offset_bytes, bytes_of, has_end, Splits, Entries, read_by, ReadsIn, SpellsTextIn, text_limit}
 use Rattle.gerber_text.proofs.ShowsLemmas.{by_end}
 use Rattle.gerber_text.proofs.SpellsTextLemmas.{reads_spells, spells_reads}
-use Rattle.grid_units.specs.Limits.{text_limit}
 
 abbrev IsCutUp : List OffsetByte → Type 0
 IsCutUp ms = (items : List (List OffsetByte)) × (rest : List OffsetByte) × Splits ms items rest

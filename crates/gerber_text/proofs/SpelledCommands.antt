@@ -1,18 +1,7 @@
 -- The commands that items spell are the sayable ones.
-use Rattle.std.proofs.Common.{◌≡◌, ℕ, Bool, true, false, cond, List, [], ◌∷◌, Ok, refl, sym, ◌∙◌, lit<}
-use Rattle.std.specs.Prelude.{All, filter}
-use Rattle.std.specs.List.{list_all}
+use Rattle.gerber_text.proofs.Common.{◌≡◌, ℕ, Bool, true, false, cond, List, [], ◌∷◌, Ok, refl, sym, ◌∙◌, lit<, filter, list_all, All-contains, AllPass-from_list_all, and_true, Strict, Command, canonical, is_end_item, meaning_in, is_not_break, without_breaks, IsCutItem, IsSpelled, is_sayable, is_finish}
+use Rattle.std.specs.Prelude.{All}
 use Rattle.std.proofs.Math.Bool.{or-false}
-use Rattle.std.proofs.lemmas.List.Elements.{All-contains}
-use Rattle.std.proofs.lemmas.List.Sums.{AllPass-from_list_all}
-use Rattle.grid_units.proofs.BoolLemmas.{and_true}
-use Rattle.grid_units.specs.declared.profile.Profile.TheVariants.{Strict}
-use Rattle.gerber_commands.specs.declared.command.Command.{Command}
-use Rattle.gerber_commands.specs.Canonical.{canonical}
-use Rattle.gerber_text.specs.Items.{is_end_item}
-use Rattle.gerber_text.specs.Meaning.{meaning}
-use Rattle.gerber_text.specs.CutItems.{is_not_break, without_breaks, IsCutItem, IsSpelled}
-use Rattle.gerber_text.specs.Sayable.{is_sayable, is_finish}
 use Rattle.gerber_text.proofs.CanonicalParses.{parses}
 use Rattle.gerber_text.proofs.GrammarItems.{item_written, item_ends}
 use Rattle.gerber_text.proofs.WrittenIsSayable.{item_sayable}
@@ -27,7 +16,7 @@ filter_all p (x ∷ xs) = by (p x) refl (filter_all p xs)
     by false e h = h
 
 -- each command that an item spells is sayable
-pub said : (plotting : Bool) (item : List ℕ) (commands : List Command) → IsCutItem item → meaning plotting item ≡ Ok commands → All (λ c. is_sayable c ≡ true) commands
+pub said : (plotting : Bool) (item : List ℕ) (commands : List Command) → IsCutItem item → meaning_in Strict plotting item ≡ Ok commands → All (λ c. is_sayable c ≡ true) commands
 said plotting item commands cut e = AllPass-from_list_all is_sayable commands (item_sayable plotting item commands (item_written Strict plotting item commands cut.one e) cut.kept cut.short)
 
 pub was_spelled : (c : Command) → IsSpelled c → is_sayable c ≡ true

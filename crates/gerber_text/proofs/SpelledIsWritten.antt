@@ -1,29 +1,6 @@
 -- A text that spells commands is written for them.
-use Rattle.std.proofs.Common.{◌≡◌, ◌≢◌, ℕ, suc, ◌≤◌, Bool, true, false, cond, ◌||◌, ltb, List, [], ◌∷◌, ◌++◌, length, Result, Ok, Err, unwrap_or, refl, sym, ap, subst, ◌∙◌, append_assoc}
-use Rattle.std.specs.Option.{option_or}
-use Rattle.std.specs.List.{flat_map, concat, list_any, AllByRecursion}
-use Rattle.std.proofs.lemmas.List.{append-nil, map-append}
-use Rattle.std.proofs.lemmas.List.Elements.{All-from_recursion}
-use Rattle.std.proofs.lemmas.Bool.{ltb-false, false≢true}
-use Rattle.grid_units.specs.declared.fault.Fault.{Fault}
-use Rattle.grid_units.specs.declared.fault.Reason.{Reason}
-use Rattle.grid_units.specs.declared.fault.Reason.TheVariants.{TooLong}
-use Rattle.grid_units.specs.Limits.{item_limit}
+use Rattle.gerber_text.proofs.Common.{◌≡◌, ◌≢◌, ℕ, suc, ◌≤◌, Bool, true, false, cond, ◌||◌, ltb, List, [], ◌∷◌, ◌++◌, length, Result, Ok, Err, unwrap_or, refl, sym, ap, subst, ◌∙◌, append_assoc, option_or, flat_map, concat, list_any, AllByRecursion, append-nil, map-append, All-from_recursion, ltb-false, false≢true, Fault, Reason, TooLong, item_limit, ◌>>=◌, with_place, or_is_false, last_or-append, bind_ok, Command, Finish, Profile, IsItem, is_end_item, meaning_in, is_finish, OffsetByte, bytes_of, first_offset, has_end, AreItems, Entries, plot_of, is_plotting, placed, spelled_in, commands_by, may_follow, without_places, AreItemsIn, plots_after, IsEnd}
 use Rattle.grid_units.specs.Lists.{last_set}
-use Rattle.grid_units.specs.Results.{◌>>=◌, with_place}
-use Rattle.grid_units.proofs.BoolLemmas.{or_is_false}
-use Rattle.grid_units.proofs.LookbackLemmas.{last_or-append}
-use Rattle.grid_units.proofs.ResultLemmas.{bind_ok}
-use Rattle.gerber_commands.specs.declared.command.Command.{Command}
-use Rattle.gerber_commands.specs.declared.command.Command.TheVariants.{Finish}
-use Rattle.grid_units.specs.declared.profile.Profile.{Profile}
-use Rattle.gerber_text.specs.Items.{IsItem, is_end_item}
-use Rattle.gerber_text.specs.Meaning.{meaning_in}
-use Rattle.gerber_text.specs.Sayable.{is_finish}
-use Rattle.gerber_text.specs.Cut.{OffsetByte, bytes_of, first_offset, has_end, AreItems}
-use Rattle.gerber_text.specs.Reading.{Entries, plot_of, is_plotting, placed, spelled_in, commands_by, may_follow}
-use Rattle.gerber_text.specs.Writing.{without_places}
-use Rattle.gerber_text.specs.Grammar.{AreItemsIn, plots_after, IsEnd}
 use Rattle.gerber_text.specs.Laws.{SpelledTextsAreWrittenIn}
 use Rattle.gerber_text.proofs.GrammarItems.{item_written, is_end, end_means, item_ends}
 use Rattle.gerber_text.proofs.RoundTrip.{bytes_of_marks}

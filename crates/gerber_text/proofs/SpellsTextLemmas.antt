@@ -1,25 +1,9 @@
 -- A text reads as commands just where it spells them.
-use Rattle.std.proofs.Common.{◌≡◌, ℕ, suc, ◌≤◌, Bool, true, false, cond, ltb, List, [], ◌∷◌, length, Result, Ok, Err, refl, sym, ap, subst, ◌∙◌}
-use Rattle.std.specs.List.{list_all, AllByRecursion}
-use Rattle.std.proofs.lemmas.List.{take_all}
-use Rattle.std.proofs.lemmas.Bool.{ltb-false}
-use Rattle.grid_units.specs.declared.fault.Fault.{Fault}
-use Rattle.grid_units.specs.declared.fault.Fail.{Fail}
+use Rattle.gerber_text.proofs.Common.{◌≡◌, ℕ, suc, ◌≤◌, Bool, true, false, cond, ltb, List, [], ◌∷◌, length, Result, Ok, Err, refl, sym, ap, subst, ◌∙◌, list_all, AllByRecursion, take_all, ltb-false, Fault, Fail, TooLong, AfterEnd, Truncated, IfOk, Vec, Profile, Command, Placed, fault, Answers, AnswersAlways, bind_ok, OffsetByte, offset_bytes, bytes_of, first_offset, has_end, Splits, Entries, shown_by, ended, ReadsIn, is_blank, may_follow, after_end, SpellsTextIn, entries_of, text_limit}
 use Rattle.grid_units.specs.declared.fault.Fail.TheVariants as fails
-use Rattle.grid_units.specs.declared.fault.Reason.TheVariants.{TooLong, AfterEnd, Truncated}
-use Rattle.std.specs.Prelude.{IfOk}
-use Rattle.std.specs.Global.{Vec}
-use Rattle.grid_units.specs.declared.profile.Profile.{Profile}
-use Rattle.gerber_commands.specs.declared.command.Command.{Command}
-use Rattle.gerber_text.specs.declared.placed.Placed.{Placed}
-use Rattle.grid_units.specs.Results.{fault, Answers, AnswersAlways}
-use Rattle.grid_units.proofs.ResultLemmas.{bind_ok}
-use Rattle.gerber_text.specs.Cut.{OffsetByte, offset_bytes, bytes_of, first_offset, has_end, Splits}
-use Rattle.gerber_text.specs.Reading.{Entries, shown_by, ended, ReadsIn, is_blank, may_follow, after_end, SpellsTextIn, entries_of}
 use Rattle.gerber_text.proofs.ShowsLemmas.{shown_spelled, shown_ended}
 use Rattle.gerber_text.proofs.UniqueReading.{one_read}
 use Rattle.gerber_text.proofs.FinishLemmas.{reads_ok}
-use Rattle.grid_units.specs.Limits.{text_limit}
 
 follow_by : (t : Bool) (m : OffsetByte) (ms : List OffsetByte) (place : ℕ) (cs ds : Entries) → may_follow m.1 ≡ t → after_end place cs (m ∷ ms) ≡ Ok ds → (may_follow m.1 ≡ true) × (after_end place cs ms ≡ Ok ds)
 follow_by true m ms place cs ds h e = (h, sym (ap (λ t. cond t (after_end place cs ms) (Err (fault place m.0 AfterEnd))) h) ∙ e)

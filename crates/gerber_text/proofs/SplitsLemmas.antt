@@ -1,17 +1,6 @@
 -- A text that goes on: its items, its rest, and what they show.
-use Rattle.std.proofs.Common.{◌≡◌, ◌≢◌, ℕ, suc, ◌+◌, ◌<◌, Bool, true, false, cond, eqb, ◌||◌, List, [], ◌∷◌, ◌++◌, length, Result, Ok, Err, refl, sym, ap, subst, ◌∙◌, arith, append_assoc}
-use Rattle.std.specs.List.{flat_map, AllByRecursion}
-use Rattle.std.proofs.lemmas.List.{append-nil, map-append}
-use Rattle.std.proofs.lemmas.List.Concat.{flat_map-append}
-use Rattle.std.proofs.lemmas.List.Folds.{list_any-append}
-use Rattle.std.proofs.lemmas.Bool.{false≢true}
-use Rattle.grid_units.specs.declared.profile.Profile.{Profile}
-use Rattle.gerber_text.specs.Items.{end_byte, after_percent, IsUnfinished, IsItem, is_end_item}
-use Rattle.gerber_text.specs.Cut.{OffsetByte, bytes_of, first_offset, has_end, AreItems, Splits}
-use Rattle.grid_units.specs.Results.{◌>>=◌}
-use Rattle.gerber_text.specs.Reading.{Entries, spelled_in, commands_by}
+use Rattle.gerber_text.proofs.Common.{◌≡◌, ◌≢◌, ℕ, suc, ◌+◌, ◌<◌, Bool, true, false, cond, eqb, ◌||◌, List, [], ◌∷◌, ◌++◌, length, Result, Ok, Err, refl, sym, ap, subst, ◌∙◌, arith, append_assoc, flat_map, AllByRecursion, append-nil, map-append, flat_map-append, list_any-append, false≢true, Profile, end_byte, after_percent, IsUnfinished, IsItem, is_end_item, OffsetByte, bytes_of, first_offset, has_end, AreItems, Splits, ◌>>=◌, Entries, spelled_in, commands_by, bind_cong, bind_Ok}
 use Rattle.gerber_text.proofs.OffsetByteLemmas.{AllR-append}
-use Rattle.grid_units.proofs.ResultLemmas.{bind_cong, bind_Ok}
 
 -- ---- unfinished items
 
@@ -86,13 +75,13 @@ bind_assoc : {A B C E : Type 0} (r : Result A E) (f : A → Result B E) (g : B �
 bind_assoc (Ok x) f g = refl
 bind_assoc (Err e) f g = refl
 
-pub commands_from-push : (profile : Profile) (place : ℕ) (items : List (List OffsetByte)) (item : List OffsetByte) (before : Entries) → commands_by profile place (items ++ item ∷ []) before ≡ (commands_by profile place items before >>= spelled_in profile (place + length items) (first_offset item) (bytes_of item))
-commands_from-push profile place [] item before =
+pub commands_by-push : (profile : Profile) (place : ℕ) (items : List (List OffsetByte)) (item : List OffsetByte) (before : Entries) → commands_by profile place (items ++ item ∷ []) before ≡ (commands_by profile place items before >>= spelled_in profile (place + length items) (first_offset item) (bytes_of item))
+commands_by-push profile place [] item before =
     let k : place + 0 ≡ place = omega arith in
     bind_Ok (spelled_in profile place (first_offset item) (bytes_of item) before) ∙ sym (ap (λ p. spelled_in profile p (first_offset item) (bytes_of item) before) k)
-commands_from-push profile place (x ∷ items) item before =
+commands_by-push profile place (x ∷ items) item before =
     let k : suc place + length items ≡ place + suc (length items) = omega arith in
-    let rest : (commands : Entries) → commands_by profile (suc place) (items ++ item ∷ []) commands ≡ (commands_by profile (suc place) items commands >>= spelled_in profile (place + suc (length items)) (first_offset item) (bytes_of item)) = λ commands. commands_from-push profile (suc place) items item commands ∙ ap (λ p. commands_by profile (suc place) items commands >>= spelled_in profile p (first_offset item) (bytes_of item)) k in
+    let rest : (commands : Entries) → commands_by profile (suc place) (items ++ item ∷ []) commands ≡ (commands_by profile (suc place) items commands >>= spelled_in profile (place + suc (length items)) (first_offset item) (bytes_of item)) = λ commands. commands_by-push profile (suc place) items item commands ∙ ap (λ p. commands_by profile (suc place) items commands >>= spelled_in profile p (first_offset item) (bytes_of item)) k in
     let first = spelled_in profile place (first_offset x) (bytes_of x) before in
     bind_cong first (commands_by profile (suc place) (items ++ item ∷ [])) (λ commands. commands_by profile (suc place) items commands >>= spelled_in profile (place + suc (length items)) (first_offset item) (bytes_of item)) rest
     ∙ sym (bind_assoc first (commands_by profile (suc place) items) (spelled_in profile (place + suc (length items)) (first_offset item) (bytes_of item)))

@@ -1,34 +1,15 @@
 -- The commands that a text spells are sayable.
-use Rattle.std.proofs.Common.{◌≡◌, ◌≢◌, ℕ, suc, ◌+◌, ◌<◌, ◌≤◌, Bool, true, false, not, ◌&&◌, List, [], ◌∷◌, ◌++◌, length, drop, get_or, Result, Ok, Err, refl, sym, ap, ◌∙◌, arith, append_assoc, drop-cons}
-use Rattle.std.specs.Prelude.{IfOk}
-use Rattle.std.specs.Global.{Vec}
-use Rattle.std.specs.List.{list_all, concat, AllByRecursion}
-use Rattle.std.proofs.lemmas.List.{drop_all}
-use Rattle.std.proofs.lemmas.List.Elements.{recursion_from_All}
-use Rattle.std.proofs.lemmas.List.Folds.{list_all-append}
-use Rattle.grid_units.specs.declared.fault.Fail.{Fail}
-use Rattle.grid_units.specs.Results.{AnswersAlways}
-use Rattle.grid_units.specs.declared.profile.Profile.TheVariants.{Strict}
-use Rattle.gerber_commands.specs.declared.command.Command.{Command}
-use Rattle.gerber_commands.specs.declared.command.Command.TheVariants.{Finish}
-use Rattle.gerber_commands.specs.Canonical.{canonical}
-use Rattle.gerber_text.specs.CutItems.{is_not_break}
-use Rattle.gerber_text.specs.Sayable.{has_valid_fields, is_sayable, is_finish}
-use Rattle.gerber_text.specs.declared.placed.Placed.{Placed}
-use Rattle.gerber_text.specs.Grammar.{AreItemsFor, plots_after}
-use Rattle.gerber_text.specs.Reading.{Entries, Reads, SpellsText, entries_of}
-use Rattle.gerber_text.specs.Writing.{without_places, sayable}
+use Rattle.gerber_text.proofs.Common.{◌≡◌, ◌≢◌, ℕ, suc, ◌+◌, ◌<◌, ◌≤◌, Bool, true, false, not, ◌&&◌, List, [], ◌∷◌, ◌++◌, length, drop, get_or, Result, Ok, Err, refl, sym, ap, ◌∙◌, arith, append_assoc, drop-cons, IfOk, Vec, list_all, concat, AllByRecursion, drop_all, recursion_from_All, list_all-append, Fail, AnswersAlways, Strict, Command, Finish, canonical, is_not_break, has_valid_fields, is_sayable, is_finish, Placed, AreItemsIn, plots_after, Entries, ReadsIn, SpellsTextIn, entries_of, without_places, sayable, both_true}
 use Rattle.gerber_text.proofs.GrammarItems.{other}
 use Rattle.gerber_text.proofs.RunLemmas.{all_parts}
 use Rattle.gerber_text.proofs.SpelledCommands.{filter_all}
 use Rattle.gerber_text.proofs.SpelledIsWritten.{spelled_is_written}
 use Rattle.gerber_text.proofs.SpellsTextLemmas.{reads_spells}
 use Rattle.gerber_text.proofs.WrittenIsSayable.{item_sayable}
-use Rattle.grid_units.proofs.BoolLemmas.{both_true}
 
 -- ---- what is written
 
-items_sayable : (plotting : Bool) (items : List (List ℕ)) (rest : List ℕ) (cs : List Command) → AreItemsFor plotting items cs → list_all is_not_break (concat items ++ rest) ≡ true → list_all is_sayable cs ≡ true
+items_sayable : (plotting : Bool) (items : List (List ℕ)) (rest : List ℕ) (cs : List Command) → AreItemsIn Strict plotting items cs → list_all is_not_break (concat items ++ rest) ≡ true → list_all is_sayable cs ≡ true
 items_sayable plotting [] rest cs h k = ap (list_all is_sayable) h
 items_sayable plotting (item ∷ items) rest cs (first, others, is, short, written, more) k =
     let kept = all_parts is_not_break item (concat items ++ rest) (ap (list_all is_not_break) (sym (append_assoc item (concat items) rest)) ∙ k) in
@@ -44,7 +25,7 @@ ends [] h k = ap (λ t. t && true) finish_sayable
 ends (c ∷ []) h k = λ i. (both_true (is_sayable c) true h).0 i && (not (other c k.0 i) && ends [] refl tt i)
 ends (c ∷ d ∷ cs) h k = let said = both_true (is_sayable c) (list_all is_sayable (d ∷ cs)) h in λ i. said.0 i && (not (other c k.0 i) && ends (d ∷ cs) said.1 k.1 i)
 
-pub text_sayable : (text : List ℕ) (cs : Entries) → SpellsText text cs → sayable (without_places cs) ≡ true
+pub text_sayable : (text : List ℕ) (cs : Entries) → SpellsTextIn Strict text cs → sayable (without_places cs) ≡ true
 text_sayable text cs s =
     let w = spelled_is_written Strict text cs s in
     let kept : list_all is_not_break (concat w.items ++ (w.end ++ w.tail)) ≡ true = ap (list_all is_not_break) (sym (w.written ∙ append_assoc (concat w.items) w.end w.tail)) ∙ filter_all is_not_break text in
@@ -52,7 +33,7 @@ text_sayable text cs s =
 
 -- ---- what a call returned
 
-pub always_sayable : (text : List ℕ) (r : Result (Vec (Placed Command)) Fail) → AnswersAlways entries_of (λ answer. Reads text answer) r → IfOk r (λ v. sayable (without_places v.items) ≡ true)
+pub always_sayable : (text : List ℕ) (r : Result (Vec (Placed Command)) Fail) → AnswersAlways entries_of (λ answer. ReadsIn Strict text answer) r → IfOk r (λ v. sayable (without_places v.items) ≡ true)
 always_sayable text (Ok v) h = text_sayable text v.items (reads_spells Strict text v.items h)
 always_sayable text (Err e) h = tt
 

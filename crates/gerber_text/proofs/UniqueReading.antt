@@ -1,16 +1,6 @@
 -- A text is cut in one way, so it has one reading.
-use Rattle.std.proofs.Common.{◌≡◌, ◌≢◌, ℕ, Bool, true, false, cond, eqb, ◌||◌, List, [], ◌∷◌, ◌++◌, length, take, Result, refl, sym, ap, subst, ◌∙◌, arith, append_assoc}
-use Rattle.std.specs.List.{fold, flat_map, AllByRecursion}
-use Rattle.std.proofs.lemmas.List.{append-nil, map-append}
-use Rattle.std.proofs.lemmas.List.Sums.{fold-append}
-use Rattle.std.proofs.lemmas.Bool.{eqb-true, eq-eqb}
-use Rattle.grid_units.specs.declared.profile.Profile.{Profile}
-use Rattle.grid_units.specs.declared.fault.Fault.{Fault}
-use Rattle.gerber_text.specs.Items.{end_byte, after_percent, IsUnfinished, IsItem, is_end_item}
-use Rattle.gerber_text.specs.Cut.{OffsetByte, offset_bytes, bytes_of, has_end, AreItems, Splits}
-use Rattle.gerber_text.specs.Reading.{Entries, ShowsIn, ReadsIn, shown_within, read_by}
+use Rattle.gerber_text.proofs.Common.{◌≡◌, ◌≢◌, ℕ, Bool, true, false, cond, eqb, ◌||◌, List, [], ◌∷◌, ◌++◌, length, take, Result, refl, sym, ap, subst, ◌∙◌, arith, append_assoc, fold, flat_map, AllByRecursion, append-nil, map-append, fold-append, eqb-true, eq-eqb, Profile, Fault, end_byte, after_percent, IsUnfinished, IsItem, is_end_item, OffsetByte, offset_bytes, bytes_of, has_end, AreItems, Splits, Entries, ShowsIn, ReadsIn, shown_within, read_by, text_limit}
 use Rattle.gerber_text.proofs.SplitsLemmas.{cond-append, has_end-push}
-use Rattle.grid_units.specs.Limits.{text_limit}
 
 abbrev pub Parts : Type 0
 Parts = List (List OffsetByte) × List OffsetByte

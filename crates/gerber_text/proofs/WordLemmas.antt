@@ -1,24 +1,8 @@
 -- The words of operations are so written.
-use Rattle.std.proofs.Common.{◌≡◌, ◌⊎◌, inl, inr, ℕ, Bool, true, false, not, ◌||◌, ◌&&◌, List, [], ◌∷◌, ◌++◌, ℤ, Option, Some, None, is_some, Ok, Contains, refl, sym, ap, ◌∙◌, arith, append_assoc}
-use Rattle.std.specs.Prelude.{IfSome}
-use Rattle.std.specs.List.{list_all}
-use Rattle.std.specs.Option.{option_map}
-use Rattle.grid_units.specs.Numbers.{is_number_char}
-use Rattle.gerber_commands.specs.declared.command.Command.TheVariants.{Operate}
-use Rattle.gerber_commands.specs.declared.command.Action.{Action}
-use Rattle.gerber_commands.specs.declared.command.Action.TheVariants.{Plot, Move, Flash}
-use Rattle.gerber_commands.specs.declared.command.Interpolation.{Interpolation}
-use Rattle.gerber_commands.specs.declared.command.Interpolation.TheVariants.{Linear, Clockwise, Counterclockwise}
-use Rattle.gerber_commands.specs.Numbers.{nat_of}
-use Rattle.gerber_commands.specs.Rows.{modes_of}
-use Rattle.gerber_commands.specs.Canonical.{integer, coordinate_text, action_code}
-use Rattle.gerber_items.specs.Words.{is_plot}
+use Rattle.gerber_text.proofs.Common.{◌≡◌, ◌⊎◌, inl, inr, ℕ, Bool, true, false, not, ◌||◌, ◌&&◌, List, [], ◌∷◌, ◌++◌, ℤ, Option, Some, None, is_some, Ok, Contains, refl, sym, ap, ◌∙◌, arith, append_assoc, IfSome, list_all, option_map, is_number_char, Operate, Action, Plot, Move, Flash, Interpolation, Linear, Clockwise, Counterclockwise, nat_of, modes_of, integer, coordinate_text, action_code, is_plot, mode_prefix, coordinate_field, and_true, both_true, list_all_append}
 use Rattle.gerber_items.specs.WordGrammar.{field, modes, NamesInt, IsOperation, code as code_number}
-use Rattle.gerber_text.specs.FastPath.{mode_prefix, coordinate_field}
 use Rattle.gerber_text.specs.Sayable.{is_text_byte, is_text, is_optional_int, is_operation as has_operands}
 use Rattle.gerber_text.proofs.NumberLemmas.{numbers_text, int_is}
-use Rattle.grid_units.proofs.BoolLemmas.{and_true, both_true}
-use Rattle.grid_units.proofs.ListLemmas.{list_all_append}
 
 -- the digits of an operation's D code
 digits_of : Action → List ℕ

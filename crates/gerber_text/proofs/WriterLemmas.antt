@@ -1,20 +1,6 @@
 -- What the writer answers.
-use Rattle.std.proofs.Common.{◌≡◌, ℕ, ◌+◌, ◌<◌, ◌≤◌, Bool, true, false, cond, ltb, List, [], ◌∷◌, ◌++◌, length, take, get_or, Result, Ok, Err, refl, sym, ap, subst, ◌∙◌}
-use Rattle.std.specs.List.{flat_map}
-use Rattle.std.specs.Prelude.{IfOk}
-use Rattle.std.specs.Global.{Vec}
-use Rattle.std.proofs.lemmas.List.{take_more, take_all, append-nil}
-use Rattle.std.proofs.lemmas.List.Concat.{flat_map-append}
-use Rattle.std.proofs.lemmas.Bool.{ltb-false}
-use Rattle.grid_units.specs.Results.{fault, Answers, AnswersAlways}
-use Rattle.grid_units.specs.declared.fault.Fail.{Fail}
+use Rattle.gerber_text.proofs.Common.{◌≡◌, ℕ, ◌+◌, ◌<◌, ◌≤◌, Bool, true, false, cond, ltb, List, [], ◌∷◌, ◌++◌, length, take, get_or, Result, Ok, Err, refl, sym, ap, subst, ◌∙◌, flat_map, IfOk, Vec, take_more, take_all, append-nil, flat_map-append, ltb-false, fault, Answers, AnswersAlways, Fail, TooLong, Command, canonical, Placed, text_limit, lines, limited_text, canonical_text, without_places, sayable, ReadsAs, vec_bytes}
 use Rattle.grid_units.specs.declared.fault.Fail.TheVariants as fails
-use Rattle.grid_units.specs.declared.fault.Reason.TheVariants.{TooLong}
-use Rattle.gerber_commands.specs.declared.command.Command.{Command}
-use Rattle.gerber_commands.specs.Canonical.{canonical}
-use Rattle.gerber_text.specs.declared.placed.Placed.{Placed}
-use Rattle.grid_units.specs.Limits.{text_limit}
-use Rattle.gerber_text.specs.Writing.{lines, limited_text, canonical_text, without_places, sayable, ReadsAs, vec_bytes}
 use Rattle.gerber_text.proofs.RoundTrip.{reads_as}
 
 -- one more element is written after the others

@@ -1,37 +1,9 @@
 -- What the grammar of items writes is sayable.
-use Rattle.std.proofs.Common.{◌≡◌, ◌≢◌, ◌⊎◌, inl, inr, ℕ, suc, ◌+◌, ◌≤◌, Bool, true, false, cond, not, ◌||◌, ◌&&◌, eqb, leb, List, [], ◌∷◌, ◌++◌, length, map, ℤ, Option, Some, None, is_some, Ok, Contains, refl, sym, ap, ◌∙◌, arith, lit≤}
-use Rattle.std.specs.Prelude.{All, codes, decimal}
-use Rattle.std.specs.Str.{bytes_eq}
-use Rattle.std.specs.List.{list_all, list_any, join_with_byte, AllByRecursion}
-use Rattle.std.proofs.lemmas.List.{length-append}
-use Rattle.std.proofs.lemmas.List.Elements.{All-contains, All-from_recursion, recursion_from_All}
-use Rattle.std.proofs.lemmas.List.Folds.{list_all-append}
-use Rattle.std.proofs.lemmas.List.Sums.{AllPass-from_list_all}
-use Rattle.std.proofs.lemmas.Bool.{le-leb}
-use Rattle.std.proofs.lemmas.Bool.Decides.{nat_tests}
-use Rattle.grid_units.specs.Limits.{item_limit}
-use Rattle.grid_units.specs.Numbers.{parse_decimal}
-use Rattle.grid_units.proofs.BoolLemmas.{and_true, both_true, or_is_false}
-use Rattle.grid_units.proofs.ListLemmas.{list_all_append}
-use Rattle.gerber_commands.specs.declared.command.Command.{Command}
-use Rattle.gerber_commands.specs.declared.command.Command.TheVariants.{Comment, FormatIs, Define, Macro, Select, Operate, Turn, Scale, Repeat, Attribute, Remove}
-use Rattle.gerber_commands.specs.declared.command.Action.{Action}
-use Rattle.gerber_commands.specs.declared.command.Action.TheVariants.{Plot}
+use Rattle.gerber_text.proofs.Common.{◌≡◌, ◌≢◌, ◌⊎◌, inl, inr, ℕ, suc, ◌+◌, ◌≤◌, Bool, true, false, cond, not, ◌||◌, ◌&&◌, eqb, leb, List, [], ◌∷◌, ◌++◌, length, map, ℤ, Option, Some, None, is_some, Ok, Contains, refl, sym, ap, ◌∙◌, arith, lit≤, codes, decimal, bytes_eq, list_all, list_any, join_with_byte, AllByRecursion, length-append, All-contains, All-from_recursion, recursion_from_All, list_all-append, AllPass-from_list_all, le-leb, nat_tests, item_limit, parse_decimal, and_true, both_true, or_is_false, list_all_append, Strict, Command, Comment, FormatIs, Define, Macro, Select, Operate, Turn, Scale, Repeat, Attribute, Remove, Action, Plot, Circle, Rectangle, Obround, Polygon, Template, canonical, is_negative_comment, is_negative_image, int_of, nat_of, standard_template, min_sizes, max_sizes, is_plot, NamesInt, fixed_words, modes, IsOperation, IsWord, HasNo, fixed_pieces, standards, IsMacroName, IsTemplate, SpellsOne, IsPiece, bytes_are, is_not_break, IsItemIn, is_text_byte, is_text, is_optional_text, is_optional_int, is_dec, is_macro_name, is_template, has_valid_fields, is_short, is_sayable}
+use Rattle.std.specs.Prelude.{All}
 use Rattle.gerber_commands.specs.declared.command.AttributeKind.TheVariants as kinds
-use Rattle.gerber_commands.specs.declared.command.Standard.TheVariants.{Circle, Rectangle, Obround, Polygon}
-use Rattle.gerber_commands.specs.declared.command.Template.{Template}
 use Rattle.gerber_commands.specs.declared.command.Template.TheVariants as templates
-use Rattle.gerber_commands.specs.Canonical.{canonical}
-use Rattle.gerber_commands.specs.Negative.{is_negative_comment, is_negative_image}
-use Rattle.gerber_commands.specs.Numbers.{int_of, nat_of}
-use Rattle.gerber_items.specs.Pieces.{standard_template, min_sizes, max_sizes}
-use Rattle.gerber_items.specs.Words.{is_plot}
-use Rattle.gerber_items.specs.WordGrammar.{NamesInt, fixed_words, modes, IsOperation, IsWord}
-use Rattle.gerber_items.specs.PieceGrammar.{field, HasNo, fixed_pieces, standards, IsMacroName, IsTemplate, SpellsOne, IsPiece}
-use Rattle.gerber_items.proofs.RowLemmas.{bytes_are}
-use Rattle.gerber_text.specs.CutItems.{is_not_break}
-use Rattle.gerber_text.specs.Grammar.{IsItemFor}
-use Rattle.gerber_text.specs.Sayable.{is_text_byte, is_text, is_optional_text, is_optional_int, is_dec, is_macro_name, is_template, has_valid_fields, is_short, is_sayable}
+use Rattle.gerber_items.specs.PieceGrammar.{field}
 use Rattle.gerber_text.proofs.FieldRangeLemmas.{was_nat, was_int, was_dec}
 use Rattle.gerber_text.proofs.LengthLemmas.{is_bounded, bounded_short, short_true, comment_test, attribute_test, removal_test, macro_test, named_test, plain_test, standard_test}
 use Rattle.gerber_text.proofs.PieceLemmas.{starred, joined_ends}
@@ -224,7 +196,7 @@ piece_sayable text cs (inr (star, inr (inr (idle, none)))) h l = ap (list_all is
 -- ---- items
 
 -- each command of an item that the grammar writes is sayable
-pub item_sayable : (plotting : Bool) (item : List ℕ) (cs : List Command) → IsItemFor plotting item cs → list_all is_not_break item ≡ true → length item ≤ item_limit → list_all is_sayable cs ≡ true
+pub item_sayable : (plotting : Bool) (item : List ℕ) (cs : List Command) → IsItemIn Strict plotting item cs → list_all is_not_break item ≡ true → length item ≤ item_limit → list_all is_sayable cs ≡ true
 item_sayable plotting item cs (inl (w, is, star, written)) h l =
     word_sayable plotting w cs written (all_parts is_not_break w (42 ∷ []) (ap (list_all is_not_break) (sym is) ∙ h)).0 star (omega (arith, l, ap length is, length-append w (42 ∷ [])))
 item_sayable plotting item cs (inr (text, is, percent, written)) h l =

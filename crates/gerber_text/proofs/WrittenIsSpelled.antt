@@ -1,21 +1,5 @@
 -- A text that is written for commands spells just these, and is written for no others.
-use Rattle.std.proofs.Common.{◌≡◌, ◌≢◌, inl, inr, ℕ, suc, ◌≤◌, Bool, true, false, ◌||◌, List, [], ◌∷◌, ◌++◌, length, Result, Ok, refl, sym, ap, subst, ◌∙◌, arith, append_assoc}
-use Rattle.std.specs.List.{flat_map, concat, list_any, AllByRecursion}
-use Rattle.std.proofs.lemmas.List.{append-nil}
-use Rattle.std.proofs.lemmas.List.Elements.{recursion_from_All}
-use Rattle.std.proofs.lemmas.Bool.{false≢true}
-use Rattle.grid_units.specs.declared.profile.Profile.{Profile}
-use Rattle.grid_units.specs.declared.fault.Fault.{Fault}
-use Rattle.grid_units.specs.Limits.{item_limit}
-use Rattle.grid_units.specs.Results.{◌>>=◌}
-use Rattle.gerber_commands.specs.declared.command.Command.{Command}
-use Rattle.gerber_commands.specs.declared.command.Command.TheVariants.{Finish}
-use Rattle.gerber_text.specs.Items.{is_end_item}
-use Rattle.gerber_text.specs.Sayable.{is_finish}
-use Rattle.gerber_text.specs.Cut.{OffsetByte, offset_bytes, bytes_of, first_offset, has_end, AreItems}
-use Rattle.gerber_text.specs.Reading.{Entries, is_plotting, placed, commands_by, may_follow}
-use Rattle.gerber_text.specs.Writing.{without_places}
-use Rattle.gerber_text.specs.Grammar.{IsItemIn, AreItemsIn, plots_after, IsEnd}
+use Rattle.gerber_text.proofs.Common.{◌≡◌, ◌≢◌, inl, inr, ℕ, suc, ◌≤◌, Bool, true, false, ◌||◌, List, [], ◌∷◌, ◌++◌, length, Result, Ok, refl, sym, ap, subst, ◌∙◌, arith, append_assoc, flat_map, concat, list_any, AllByRecursion, append-nil, recursion_from_All, false≢true, Profile, Fault, item_limit, ◌>>=◌, Command, Finish, is_end_item, is_finish, OffsetByte, offset_bytes, bytes_of, first_offset, has_end, AreItems, Entries, is_plotting, placed, commands_by, may_follow, without_places, IsItemIn, AreItemsIn, plots_after, IsEnd}
 use Rattle.gerber_text.specs.Laws.{WrittenTextsAreSpelledIn, TextsSpellOneListIn}
 use Rattle.gerber_text.proofs.GrammarItems.{item_means, end_means, other, item_ends}
 use Rattle.gerber_text.proofs.Items.{spelled_ok}

@@ -1,9 +1,10 @@
 -- Items as they are cut from a text, and what they spell (docs/FORMATS.md, Cutting; What an item spells).
 use Rattle.std.specs.Prelude.{◌≡◌, ℕ, ◌≤◌, Bool, true, not, List, [], ◌∷◌, length, filter, Ok, Contains}
 use Rattle.std.specs.List.{list_all}
+use Rattle.grid_units.specs.declared.profile.Profile.TheVariants.{Strict}
 use Rattle.gerber_commands.specs.declared.command.Command.{Command}
 use Rattle.gerber_text.specs.Items.{is_line_break, IsItem}
-use Rattle.gerber_text.specs.Meaning.{meaning}
+use Rattle.gerber_text.specs.Meaning.{meaning_in}
 use Rattle.grid_units.specs.Limits.{item_limit}
 
 -- a byte that is kept where a text is cut: neither CR nor LF
@@ -20,17 +21,18 @@ pub record IsCutItem (bytes : List ℕ) : Type 0 where
   pub kept : list_all is_not_break bytes ≡ true
   pub short : length bytes ≤ item_limit
 
--- A text without its line breaks is an item within the limit, and spells just this command whatever stands before it.
+-- A text without its line breaks is an item within the limit, and spells just this command in the strict profile, whatever stands
+-- before it.
 pub record Spells (text : List ℕ) (command : Command) : Type 0 where
   pub one : IsItem (without_breaks text)
   pub short : length (without_breaks text) ≤ item_limit
-  pub parses : (plotting : Bool) → meaning plotting (without_breaks text) ≡ Ok (command ∷ [])
+  pub parses : (plotting : Bool) → meaning_in Strict plotting (without_breaks text) ≡ Ok (command ∷ [])
 
--- some item spells this command, alone or with another one: `G01X5D01*` spells a Mode and an Operate
+-- some item of the strict profile spells this command, alone or with another one: `G01X5D01*` spells a Mode and an Operate
 pub record IsSpelled (command : Command) : Type 0 where
   pub plotting : Bool
   pub item : List ℕ
   pub cut : IsCutItem item
   pub commands : List Command
-  pub spells : meaning plotting item ≡ Ok commands
+  pub spells : meaning_in Strict plotting item ≡ Ok commands
   pub among : Contains commands command

@@ -6,7 +6,6 @@ use Rattle.grid_units.specs.Limits.{text_limit, item_limit}
 use Rattle.gerber_commands.specs.declared.command.Command.{Command}
 use Rattle.gerber_commands.specs.declared.command.Command.TheVariants.{Finish}
 use Rattle.grid_units.specs.declared.profile.Profile.{Profile}
-use Rattle.grid_units.specs.declared.profile.Profile.TheVariants.{Strict}
 use Rattle.gerber_items.specs.WordGrammar.{IsWord}
 use Rattle.gerber_items.specs.PieceGrammar.{HasNo}
 use Rattle.gerber_items.specs.Profiles.{IsPieceIn}
@@ -22,10 +21,6 @@ IsItemIn profile plotting item commands =
     ((text : List ℕ) × (item ≡ text ++ codes "*") × HasNo ascii.asterisk text × IsWord plotting text commands)
     ⊎ ((text : List ℕ) × (item ≡ codes "%" ++ text ++ codes "*%") × HasNo ascii.percent text × IsPieceIn profile text commands)
 
--- the same in the strict profile
-abbrev pub IsItemFor : Bool → List ℕ → List Command → Type 0
-IsItemFor plotting item commands = IsItemIn Strict plotting item commands
-
 -- whether the last operation is a plot after these commands, given whether it is one before them: `D10*` changes nothing (Gerber format, Coordinate data without operation code)
 abbrev pub plots_after : Bool → List Command → Bool
 plots_after plotting commands = unwrap_or (last_set plot_of commands) plotting
@@ -35,10 +30,6 @@ abbrev pub AreItemsIn : Profile → Bool → List (List ℕ) → List Command �
 AreItemsIn profile plotting [] commands = commands ≡ []
 AreItemsIn profile plotting (item ∷ items) commands =
     (first others : List Command) × (commands ≡ first ++ others) × (length item ≤ item_limit) × IsItemIn profile plotting item first × AreItemsIn profile (plots_after plotting first) items others
-
--- the same in the strict profile
-abbrev pub AreItemsFor : Bool → List (List ℕ) → List Command → Type 0
-AreItemsFor plotting items commands = AreItemsIn Strict plotting items commands
 
 -- ---- texts
 
@@ -60,7 +51,3 @@ pub record IsTextIn (profile : Profile) (text : List ℕ) (commands : List Comma
   pub follows : All (λ b. may_follow b ≡ true) tail
   pub is : commands ≡ before ++ Finish ∷ []
   pub short : length text ≤ text_limit
-
--- The same in the strict profile.
-abbrev pub IsText : List ℕ → List Command → Type 0
-IsText text commands = IsTextIn Strict text commands

@@ -5,7 +5,6 @@ use Rattle.grid_units.specs.Results.{IfFault}
 use Rattle.grid_units.specs.declared.fault.Fail.{Fail}
 use Rattle.grid_units.specs.declared.fault.Fail.TheVariants as fails
 use Rattle.grid_units.specs.declared.profile.Profile.{Profile}
-use Rattle.grid_units.specs.declared.profile.Profile.TheVariants.{Strict}
 use Rattle.gerber_text.specs.declared.reader.Progress.{Progress}
 use Rattle.gerber_text.specs.declared.reader.WordReader.{WordReader}
 use Rattle.gerber_text.specs.declared.placed.PassedOperation.{PassedOperation}
@@ -46,20 +45,18 @@ Advances old new bytes = (profile : Profile) (gone : Entries) (text : List ℕ) 
 
 -- whatever text the reader has read, it stops within these bytes after it, and keeps these commands
 abbrev pub Refuses : Progress → Entries → List ℕ → Fail → Type 0
-Refuses old left bytes e = (profile : Profile) (gone : Entries) (text : List ℕ) → Holds old profile gone text → FailsOnBytes profile (offset_bytes (text ++ bytes)) (gone ++ left) e
+Refuses old left bytes e = (profile : Profile) (gone : Entries) (text : List ℕ) → Holds old profile gone text
+    → FailsOnBytes profile (offset_bytes (text ++ bytes)) (gone ++ left) e
 
 -- the failure is the fault that this text shows in the profile, or memory ran out; and these are the commands before it
 pub record FailsWithIn (profile : Profile) (text : List ℕ) (commands : Entries) (e : Fail) : Type 0 where
   pub reported : IfFault (λ f. ShowsIn profile text (Err f)) e
   pub kept : SpellsBeforeFaultIn profile text e commands
 
--- the same in the strict profile
-abbrev pub FailsWith : List ℕ → Entries → Fail → Type 0
-FailsWith text commands e = FailsWithIn Strict text commands e
-
 -- whatever text the reader has read, it fails within this piece after it, and keeps these commands
 abbrev pub RefusesText : Progress → Entries → List ℕ → Fail → Type 0
-RefusesText old left piece e = (profile : Profile) (gone : Entries) (text : List ℕ) → Holds old profile gone text → FailsWithIn profile (text ++ piece) (gone ++ left) e
+RefusesText old left piece e = (profile : Profile) (gone : Entries) (text : List ℕ) → Holds old profile gone text
+    → FailsWithIn profile (text ++ piece) (gone ++ left) e
 
 -- the text ends here: in the profile it has no fault and these commands, or it has this fault and these commands before it
 abbrev pub Ends : {X : Type 0} → Profile → List ℕ → Entries → Result X Fail → Type 0
@@ -80,26 +77,10 @@ pub record StandsIn (reader : WordReader) (profile : Profile) (gone : Entries) (
   pub sound : failure reader ≡ None
   pub holds : Holds reader.progress profile gone text
 
--- The reader reads in the strict profile, has read this text, which shows no fault, and has dropped these commands, the first ones.
-abbrev pub StandsAfterDrop : WordReader → Entries → List ℕ → Type 0
-StandsAfterDrop reader gone text = StandsIn reader Strict gone text
-
--- The reader has read this text, which shows no fault, and holds all of its commands.
-abbrev pub StandsAfter : WordReader → List ℕ → Type 0
-StandsAfter reader text = StandsAfterDrop reader [] text
-
 -- The reader has failed within this text, read in this profile, with this failure, and had dropped these commands, the first ones.
 pub record FailedIn (reader : WordReader) (profile : Profile) (gone : Entries) (text : List ℕ) (e : Fail) : Type 0 where
   pub failed : failure reader ≡ Some e
   pub fails : FailsWithIn profile text (gone ++ reader.progress.commands.items) e
-
--- The same in the strict profile.
-abbrev pub FailedAfterDrop : WordReader → Entries → List ℕ → Fail → Type 0
-FailedAfterDrop reader gone text e = FailedIn reader Strict gone text e
-
--- The reader has failed within this text, with this failure, and holds all commands before it.
-abbrev pub HasFailed : WordReader → List ℕ → Fail → Type 0
-HasFailed reader text e = FailedAfterDrop reader [] text e
 
 -- the commands of an operation that a reader has passed, each with the number of the item and the offset of its first byte
 abbrev pub passed_entries : PassedOperation → Entries

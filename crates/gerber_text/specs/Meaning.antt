@@ -2,7 +2,6 @@
 use Rattle.std.specs.Prelude.{ℕ, ◌-◌, Bool, ◌==◌, List, [], ◌∷◌, length, take, if◌then◌else◌, Err}
 use Rattle.grid_units.specs.declared.fault.Reason.TheVariants.{BadWord}
 use Rattle.grid_units.specs.declared.profile.Profile.{Profile}
-use Rattle.grid_units.specs.declared.profile.Profile.TheVariants.{Strict}
 use Rattle.gerber_commands.specs.Rows.{Meaning}
 use Rattle.gerber_items.specs.Profiles.{extended_in}
 use Rattle.gerber_items.specs.Words.{word}
@@ -16,7 +15,3 @@ without_end bytes = take (length bytes - 1) bytes
 unfoldable pub meaning_in : Profile → Bool → List ℕ → Meaning
 meaning_in profile plotting [] = Err BadWord
 meaning_in profile plotting (b ∷ bs) = if b == ascii.percent then extended_in profile (without_end bs) else word plotting (without_end (b ∷ bs))
-
--- what an item spells in the strict profile
-abbrev pub meaning : Bool → List ℕ → Meaning
-meaning plotting item = meaning_in Strict plotting item

@@ -1,5 +1,5 @@
 -- The commands of a Gerber text in a profile, or its first fault (docs/FORMATS.md, Cutting; The first fault; What an item spells; The
--- wide profile). Where no profile is named, it is the strict one.
+-- wide profile).
 use Rattle.std.specs.Prelude.{◌≡◌, ℕ, suc, ◌≤◌, Bool, true, false, ◌||◌, ◌==◌, nat_lt, List, [], ◌∷◌, ◌++◌, length, take, map, if◌then◌else◌, Result, Ok, Err, Option, Some, None, unwrap_or}
 use Rattle.std.specs.List.{list_all, AllByRecursion}
 use Rattle.std.specs.Global.{Vec}
@@ -12,7 +12,6 @@ use Rattle.grid_units.specs.declared.fault.Fail.TheVariants as fails
 use Rattle.gerber_commands.specs.declared.command.Command.{Command}
 use Rattle.gerber_commands.specs.declared.command.Command.TheVariants.{Operate}
 use Rattle.grid_units.specs.declared.profile.Profile.{Profile}
-use Rattle.grid_units.specs.declared.profile.Profile.TheVariants.{Strict}
 use Rattle.gerber_text.specs.Meaning.{meaning_in}
 use Rattle.gerber_text.specs.declared.placed.Placed.{Placed}
 use Rattle.gerber_text.specs.Cut.{OffsetByte, offset_bytes, bytes_of, first_offset, has_end, Splits}
@@ -37,13 +36,11 @@ is_plotting before = unwrap_or (last_set (λ entry. plot_of entry.what) before) 
 abbrev pub placed : ℕ → ℕ → List Command → Entries
 placed place byte commands = map (λ what. record { place = place; byte = byte; what = what }) commands
 
--- these commands, and after them those that the item of these bytes spells; or the item's fault
+-- these commands, and after them those that the item of these bytes spells in the profile; or the item's fault
 unfoldable pub spelled_in : Profile → ℕ → ℕ → List ℕ → Entries → Result Entries Fault
-spelled_in profile place byte bytes before = with_place place byte (if nat_lt item_limit (length bytes) then Err TooLong else (meaning_in profile (is_plotting before) bytes >>= λ commands. Ok (before ++ placed place byte commands)))
-
--- the same in the strict profile
-abbrev pub spelled : ℕ → ℕ → List ℕ → Entries → Result Entries Fault
-spelled place byte bytes before = spelled_in Strict place byte bytes before
+spelled_in profile place byte bytes before =
+    with_place place byte (if nat_lt item_limit (length bytes) then Err TooLong
+    else (meaning_in profile (is_plotting before) bytes >>= λ commands. Ok (before ++ placed place byte commands)))
 
 -- What a call leaves is what reading gives, running out of memory aside: the commands after it, or the fault.
 abbrev pub ResultsIn : {X : Type 0} → Result X Fail → Entries → Result Entries Fault → Type 0
@@ -55,10 +52,6 @@ ResultsIn (Err (fails.Refused f)) new read = read ≡ Err f
 abbrev pub commands_by : Profile → ℕ → List (List OffsetByte) → Entries → Result Entries Fault
 commands_by profile place [] before = Ok before
 commands_by profile place (item ∷ items) before = spelled_in profile place (first_offset item) (bytes_of item) before >>= commands_by profile (suc place) items
-
--- the same in the strict profile
-abbrev pub commands_from : ℕ → List (List OffsetByte) → Entries → Result Entries Fault
-commands_from place items before = commands_by Strict place items before
 
 -- a space, a tab or `*`, which may stand after the end of the text, as CR and LF may
 abbrev pub may_follow : ℕ → Bool
@@ -75,13 +68,10 @@ shown_by profile items rest = commands_by profile 1 items [] >>= λ commands.
     if has_end items then after_end (suc (length items)) commands rest
     else if nat_lt item_limit (length rest) then Err (fault (suc (length items)) (first_offset rest) TooLong) else Ok commands
 
--- the same in the strict profile
-abbrev pub shown : List (List OffsetByte) → List OffsetByte → Result Entries Fault
-shown items rest = shown_by Strict items rest
-
 -- what is shown in a text of this length: TooLong above 268,435,456 bytes, unless there is an earlier fault
 abbrev pub shown_within : Profile → ℕ → List (List OffsetByte) → List OffsetByte → Result Entries Fault
-shown_within profile len items rest = shown_by profile items rest >>= λ commands. if nat_lt text_limit len then Err (fault (suc (length items)) text_limit TooLong) else Ok commands
+shown_within profile len items rest = shown_by profile items rest >>= λ commands.
+    if nat_lt text_limit len then Err (fault (suc (length items)) text_limit TooLong) else Ok commands
 
 -- A text shows these commands or this fault in the profile, whatever bytes follow it.
 pub record ShowsIn (profile : Profile) (text : List ℕ) (answer : Result Entries Fault) : Type 0 where
@@ -89,10 +79,6 @@ pub record ShowsIn (profile : Profile) (text : List ℕ) (answer : Result Entrie
   pub rest : List OffsetByte
   pub splits : Splits (offset_bytes (take text_limit text)) items rest
   pub answer_is : answer ≡ shown_within profile (length text) items rest
-
--- the same in the strict profile
-abbrev pub Shows : List ℕ → Result Entries Fault → Type 0
-Shows text answer = ShowsIn Strict text answer
 
 -- a space or a tab
 abbrev pub is_blank : ℕ → Bool
@@ -106,11 +92,8 @@ ended len items rest commands =
 
 -- the commands of a whole text of this length, or its first fault
 abbrev pub read_by : Profile → ℕ → List (List OffsetByte) → List OffsetByte → Result Entries Fault
-read_by profile len items rest = shown_by profile items rest >>= λ commands. if nat_lt text_limit len then Err (fault (suc (length items)) text_limit TooLong) else ended len items rest commands
-
--- the same in the strict profile
-abbrev pub read_in : ℕ → List (List OffsetByte) → List OffsetByte → Result Entries Fault
-read_in len items rest = read_by Strict len items rest
+read_by profile len items rest = shown_by profile items rest >>= λ commands.
+    if nat_lt text_limit len then Err (fault (suc (length items)) text_limit TooLong) else ended len items rest commands
 
 -- A whole text spells these commands in the profile, or has this as its first fault.
 pub record ReadsIn (profile : Profile) (text : List ℕ) (answer : Result Entries Fault) : Type 0 where
@@ -118,10 +101,6 @@ pub record ReadsIn (profile : Profile) (text : List ℕ) (answer : Result Entrie
   pub rest : List OffsetByte
   pub splits : Splits (offset_bytes (take text_limit text)) items rest
   pub answer_is : answer ≡ read_by profile (length text) items rest
-
--- the same in the strict profile
-abbrev pub Reads : List ℕ → Result Entries Fault → Type 0
-Reads text answer = ReadsIn Strict text answer
 
 -- A text spells these commands in the profile: its items spell them in order, the last one is the end of the text, and only spaces,
 -- tabs and `*` stand after it.
@@ -134,10 +113,6 @@ pub record SpellsTextIn (profile : Profile) (text : List ℕ) (commands : Entrie
   pub follows : AllByRecursion (λ m. may_follow m.1 ≡ true) tail
   pub short : length text ≤ text_limit
 
--- the same in the strict profile
-abbrev pub SpellsText : List ℕ → Entries → Type 0
-SpellsText text commands = SpellsTextIn Strict text commands
-
 -- The first items of a text, as many as `kept`, spell these commands in the profile.
 pub record SpellsPrefixIn (profile : Profile) (text : List ℕ) (kept : ℕ) (commands : Entries) : Type 0 where
   pub items : List (List OffsetByte)
@@ -146,23 +121,15 @@ pub record SpellsPrefixIn (profile : Profile) (text : List ℕ) (kept : ℕ) (co
   pub within : kept ≤ length items
   pub spelled : commands_by profile 1 (take kept items) [] ≡ Ok commands
 
--- the same in the strict profile
-abbrev pub SpellsPrefix : List ℕ → ℕ → Entries → Type 0
-SpellsPrefix text kept commands = SpellsPrefixIn Strict text kept commands
-
 -- the items before the place of a fault spell these commands; where memory ran out, some first items do
 abbrev pub SpellsBeforeFaultIn : Profile → List ℕ → Fail → Entries → Type 0
 SpellsBeforeFaultIn profile text fails.Memory commands = (kept : ℕ) × SpellsPrefixIn profile text kept commands
 SpellsBeforeFaultIn profile text (fails.Refused f) commands = (kept : ℕ) × (f.place ≡ suc kept) × SpellsPrefixIn profile text kept commands
 
--- the same in the strict profile
-abbrev pub SpellsBeforeFault : List ℕ → Fail → Entries → Type 0
-SpellsBeforeFault text e commands = SpellsBeforeFaultIn Strict text e commands
-
--- the commands of a whole text without a fault, or the fault and the commands before it
-abbrev pub ReadsUpToFault : {X : Type 0} → List ℕ → Entries → Result X Fail → Type 0
-ReadsUpToFault text commands (Ok _) = Reads text (Ok commands)
-ReadsUpToFault text commands (Err e) = IfFault (λ f. Reads text (Err f)) e × SpellsBeforeFault text e commands
+-- the commands of a whole text without a fault in the profile, or the fault and the commands before it
+abbrev pub ReadsUpToFault : {X : Type 0} → Profile → List ℕ → Entries → Result X Fail → Type 0
+ReadsUpToFault profile text commands (Ok _) = ReadsIn profile text (Ok commands)
+ReadsUpToFault profile text commands (Err e) = IfFault (λ f. ReadsIn profile text (Err f)) e × SpellsBeforeFaultIn profile text e commands
 
 -- the commands that were dropped, and after them those of a vector
 abbrev pub entries_after : Entries → Vec (Placed Command) → Entries

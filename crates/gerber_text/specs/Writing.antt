@@ -5,10 +5,11 @@ use Rattle.std.specs.Global.{Vec}
 use Rattle.grid_units.specs.Results.{fault}
 use Rattle.grid_units.specs.declared.fault.Fault.{Fault}
 use Rattle.grid_units.specs.declared.fault.Reason.TheVariants.{TooLong}
+use Rattle.grid_units.specs.declared.profile.Profile.TheVariants.{Strict}
 use Rattle.gerber_commands.specs.declared.command.Command.{Command}
 use Rattle.gerber_commands.specs.Canonical.{canonical}
 use Rattle.gerber_text.specs.Sayable.{is_sayable, is_finish}
-use Rattle.gerber_text.specs.Reading.{Entries, Reads}
+use Rattle.gerber_text.specs.Reading.{Entries, ReadsIn}
 use Rattle.grid_units.specs.Limits.{text_limit}
 use Rattle.grid_units.specs.Ascii as ascii
 
@@ -35,10 +36,10 @@ sayable [] = false
 sayable (c ∷ []) = is_sayable c && is_finish c
 sayable (c ∷ d ∷ cs) = is_sayable c && (not (is_finish c) && sayable (d ∷ cs))
 
--- The text spells just these commands, at whatever places.
+-- In the strict profile the text spells just these commands, at whatever places.
 pub record ReadsAs (text : List ℕ) (commands : List Command) : Type 0 where
   pub entries : Entries
-  pub reads : Reads text (Ok entries)
+  pub reads : ReadsIn Strict text (Ok entries)
   pub same : without_places entries ≡ commands
 
 -- the bytes that a vector holds, in order

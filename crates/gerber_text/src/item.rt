@@ -2,7 +2,8 @@
 
 ghost use Rattle.std.specs.Prelude.{◌≡◌, ◌↔◌, IsTrue};
 ghost use Rattle.gerber_text.specs.Items.{is_end_item, end_byte, IsEnded};
-ghost use Rattle.gerber_text.specs.Meaning.{meaning, meaning_in, without_end};
+ghost use Rattle.gerber_text.specs.Meaning.{meaning_in, without_end};
+ghost use Rattle.grid_units.specs.declared.profile.Profile.TheVariants.{Strict};
 ghost use Rattle.grid_units.specs.Results.{Gives};
 
 use gerber_commands::ItemCommands;
@@ -55,7 +56,7 @@ fn prefix(bytes: &[u8]) -> &[u8]
 /// `Memory` where an allocation failed, else the first reason of the reading order.
 pub fn read_item(alloc: Global, plotting: bool, bytes: &[u8]) -> Result<ItemCommands, ItemFail>
     requires item { IsEnded bytes.now }
-    ensures { Gives result (meaning plotting bytes.now) }
+    ensures { Gives result (meaning_in Strict plotting bytes.now) }
 {
     read_item_in(alloc, Profile::Strict, plotting, bytes)
 }

@@ -9,7 +9,6 @@ mod operation_fields;
 mod placed;
 mod reader;
 mod sayable_items;
-mod sayable_lists;
 mod text_items;
 mod writer;
 
@@ -22,12 +21,10 @@ pub use gerber_commands::{
 pub use gerber_items::{is_name, max_sizes, min_sizes, standard_template};
 pub use item::{end_byte, is_end_item, is_ended, read_item, read_item_in};
 pub use laws::{
-    canonical_items, exact_texts, readings_in_profiles, sayable_texts, spelled_commands,
-    strict_profile, unique_reading, wide_grammar, wide_reads_more, written_texts,
+    canonical_items, exact_texts, sayable_texts, spelled_commands, unique_reading, wide_reads_more,
 };
 pub use placed::{PassedOperation, PassedText, Placed};
 pub use reader::{Kept, WordReader, read_kept, read_words};
-pub use sayable_items::is_sayable;
-pub use sayable_lists::sayable;
+pub use sayable_items::{is_sayable, sayable};
 pub use text_items::{LeadingText, TextKind, leading_text};
 pub use writer::{write_commands, write_placed};

@@ -8,7 +8,8 @@ ghost use Rattle.grid_units.specs.Results.{fault, Answers};
 ghost use Rattle.gerber_text.specs.Items.{end_byte, is_line_break, IsEnded};
 ghost use Rattle.gerber_commands.specs.Rows.{modes_of};
 ghost use Rattle.gerber_commands.specs.declared.command.Command.TheVariants.{Mode};
-ghost use Rattle.gerber_text.specs.Reading.{Entries, Shows, spelled_in, placed, ResultsIn, plot_of, is_plotting, Reads, SpellsText, ReadsUpToFault, SpellsBeforeFault, entries_of, entries_after, is_blank};
+ghost use Rattle.grid_units.specs.declared.profile.Profile.TheVariants.{Strict};
+ghost use Rattle.gerber_text.specs.Reading.{Entries, spelled_in, placed, ResultsIn, plot_of, is_plotting, ReadsIn, SpellsTextIn, ReadsUpToFault, SpellsBeforeFaultIn, entries_of, entries_after, is_blank};
 ghost use Rattle.gerber_text.specs.Inner.Bytes.{IsInside, HasLeadingItem, may_follow_end};
 ghost use Rattle.gerber_text.specs.Writing.{without_places, sayable};
 
@@ -265,7 +266,6 @@ impl Progress {
     ghost use Rattle.gerber_text.specs.Holding.{Advances, Refuses, RefusesText, Holds, Ends, passed_entries, passed_text, text_entries};
     ghost use Rattle.grid_units.specs.Results.{AnswersAlways};
     ghost use Rattle.grid_units.specs.declared.profile.Profile.{Profile as TheProfile};
-    ghost use Rattle.gerber_text.specs.Reading.{ReadsIn, SpellsBeforeFaultIn};
 
     /// The refusal of the next item, for this reason.
     fn refuse(&self, byte: u64, reason: Reason) -> Fail
@@ -719,12 +719,12 @@ impl WordReader {
     ghost use Rattle.grid_units.specs.declared.fault.Fail.{Fail as TheFail};
     ghost use Rattle.grid_units.specs.Results.{AnswersAlways};
     ghost use Rattle.grid_units.specs.declared.profile.Profile.{Profile as TheProfile};
-    ghost use Rattle.gerber_text.specs.Reading.{Shows, ShowsIn, Reads, ReadsIn, ReadsUpToFault, SpellsBeforeFaultIn};
-    ghost use Rattle.gerber_text.specs.Holding.{StandsAfter, StandsAfterDrop, StandsIn, FailedIn, HasFailed, FailedAfterDrop, failure, held, passed_entries, passed_text, text_entries};
+    ghost use Rattle.gerber_text.specs.Reading.{ShowsIn};
+    ghost use Rattle.gerber_text.specs.Holding.{StandsIn, FailedIn, failure, held, passed_entries, passed_text, text_entries};
 
     /// A reader that has read nothing.
     pub fn new(alloc: Global) -> WordReader
-        ensures { StandsAfter result [] }
+        ensures { StandsIn result Strict [] [] }
     {
         WordReader::in_profile(alloc, Profile::Strict)
     }
@@ -757,10 +757,8 @@ impl WordReader {
     /// The first fault that the text shows so far, whatever follows; `Memory` where an allocation failed. A
     /// reader that has failed gives its failure again.
     pub fn feed(&mut self, piece: &[u8]) -> Result<(), Fail>
-        ensures ok { (gone : Entries) (text : List ℕ) → StandsAfterDrop self.old gone text → OnOk result (StandsAfterDrop self.new gone (text ++ piece.now)) }
-        ensures err { (gone : Entries) (text : List ℕ) → StandsAfterDrop self.old gone text → IfErr result (FailedAfterDrop self.new gone (text ++ piece.now)) }
-        ensures ok_in { (profile : TheProfile) (gone : Entries) (text : List ℕ) → StandsIn self.old profile gone text → OnOk result (StandsIn self.new profile gone (text ++ piece.now)) }
-        ensures err_in { (profile : TheProfile) (gone : Entries) (text : List ℕ) → StandsIn self.old profile gone text → IfErr result (FailedIn self.new profile gone (text ++ piece.now)) }
+        ensures ok { (profile : TheProfile) (gone : Entries) (text : List ℕ) → StandsIn self.old profile gone text → OnOk result (StandsIn self.new profile gone (text ++ piece.now)) }
+        ensures err { (profile : TheProfile) (gone : Entries) (text : List ℕ) → StandsIn self.old profile gone text → IfErr result (FailedIn self.new profile gone (text ++ piece.now)) }
         ensures failed { IfSome (failure self.old) (λ e. (result ≡ Err e) × (self.new ≡ self.old)) }
         ensures fails { IfErr result (λ e. failure self.new ≡ Some e) }
     {
@@ -781,8 +779,7 @@ impl WordReader {
     pub fn pass_operation(&mut self, bytes: &[u8]) -> Option<PassedOperation>
         ensures within { IfSome result (λ passed. (0 < passed.len) × (passed.len ≤ length bytes.now)) }
         ensures held { held self.new ≡ held self.old }
-        ensures some { held self.old ≡ [] → (gone : Entries) (text : List ℕ) → StandsAfterDrop self.old gone text → IfSome result (λ passed. StandsAfterDrop self.new (gone ++ passed_entries passed) (text ++ take passed.len bytes.now)) }
-        ensures some_in { held self.old ≡ [] → (profile : TheProfile) (gone : Entries) (text : List ℕ) → StandsIn self.old profile gone text → IfSome result (λ passed. StandsIn self.new profile (gone ++ passed_entries passed) (text ++ take passed.len bytes.now)) }
+        ensures some { held self.old ≡ [] → (profile : TheProfile) (gone : Entries) (text : List ℕ) → StandsIn self.old profile gone text → IfSome result (λ passed. StandsIn self.new profile (gone ++ passed_entries passed) (text ++ take passed.len bytes.now)) }
         ensures none { IfNone result (self.new ≡ self.old) }
         ensures failed { failure self.new ≡ failure self.old }
     {
@@ -796,8 +793,7 @@ impl WordReader {
         ensures within { IfSome result (λ passed. (0 < passed.len) × (passed.len ≤ length bytes.now)) }
         ensures text { IfSome result (λ passed. passed.item.text_len + 3 ≤ length bytes.now) }
         ensures held { held self.new ≡ held self.old }
-        ensures some { held self.old ≡ [] → (gone : Entries) (text : List ℕ) → StandsAfterDrop self.old gone text → IfSome result (λ passed. StandsAfterDrop self.new (gone ++ text_entries passed (passed_text passed bytes.now)) (text ++ take passed.len bytes.now)) }
-        ensures some_in { held self.old ≡ [] → (profile : TheProfile) (gone : Entries) (text : List ℕ) → StandsIn self.old profile gone text → IfSome result (λ passed. StandsIn self.new profile (gone ++ text_entries passed (passed_text passed bytes.now)) (text ++ take passed.len bytes.now)) }
+        ensures some { held self.old ≡ [] → (profile : TheProfile) (gone : Entries) (text : List ℕ) → StandsIn self.old profile gone text → IfSome result (λ passed. StandsIn self.new profile (gone ++ text_entries passed (passed_text passed bytes.now)) (text ++ take passed.len bytes.now)) }
         ensures none { IfNone result (self.new ≡ self.old) }
         ensures failed { failure self.new ≡ failure self.old }
     {
@@ -813,10 +809,8 @@ impl WordReader {
     pub fn feed_part(&mut self, piece: &[u8]) -> Result<usize, Fail>
         requires { 0 < length piece.now }
         ensures taken { IfOk result (λ n. (0 < n) × (n ≤ length piece.now)) }
-        ensures ok { (gone : Entries) (text : List ℕ) → StandsAfterDrop self.old gone text → IfOk result (λ n. StandsAfterDrop self.new gone (text ++ take n piece.now)) }
-        ensures err { (gone : Entries) (text : List ℕ) → StandsAfterDrop self.old gone text → IfErr result (FailedAfterDrop self.new gone (text ++ piece.now)) }
-        ensures ok_in { (profile : TheProfile) (gone : Entries) (text : List ℕ) → StandsIn self.old profile gone text → IfOk result (λ n. StandsIn self.new profile gone (text ++ take n piece.now)) }
-        ensures err_in { (profile : TheProfile) (gone : Entries) (text : List ℕ) → StandsIn self.old profile gone text → IfErr result (FailedIn self.new profile gone (text ++ piece.now)) }
+        ensures ok { (profile : TheProfile) (gone : Entries) (text : List ℕ) → StandsIn self.old profile gone text → IfOk result (λ n. StandsIn self.new profile gone (text ++ take n piece.now)) }
+        ensures err { (profile : TheProfile) (gone : Entries) (text : List ℕ) → StandsIn self.old profile gone text → IfErr result (FailedIn self.new profile gone (text ++ piece.now)) }
         ensures failed { IfSome (failure self.old) (λ e. (result ≡ Err e) × (self.new ≡ self.old)) }
         ensures fails { IfErr result (λ e. failure self.new ≡ Some e) }
     {
@@ -834,10 +828,8 @@ impl WordReader {
     /// running out of memory those of some first items.
     pub fn commands(&self) -> &[Placed<Command>]
         ensures held { result.now ≡ held self.now }
-        ensures shown { (gone : Entries) (text : List ℕ) → StandsAfterDrop self.now gone text → Shows text (Ok (gone ++ result.now)) }
-        ensures kept { (gone : Entries) (text : List ℕ) (e : TheFail) → FailedAfterDrop self.now gone text e → SpellsBeforeFault text e (gone ++ result.now) }
-        ensures shown_in { (profile : TheProfile) (gone : Entries) (text : List ℕ) → StandsIn self.now profile gone text → ShowsIn profile text (Ok (gone ++ result.now)) }
-        ensures kept_in { (profile : TheProfile) (gone : Entries) (text : List ℕ) (e : TheFail) → FailedIn self.now profile gone text e → SpellsBeforeFaultIn profile text e (gone ++ result.now) }
+        ensures shown { (profile : TheProfile) (gone : Entries) (text : List ℕ) → StandsIn self.now profile gone text → ShowsIn profile text (Ok (gone ++ result.now)) }
+        ensures kept { (profile : TheProfile) (gone : Entries) (text : List ℕ) (e : TheFail) → FailedIn self.now profile gone text e → SpellsBeforeFaultIn profile text e (gone ++ result.now) }
     {
         &self.progress.commands
     }
@@ -845,8 +837,7 @@ impl WordReader {
     /// Drops the commands so far: from here on [`WordReader::commands`] gives those that come after them.
     pub fn clear_commands(&mut self)
         ensures none { held self.new ≡ [] }
-        ensures gone { (gone : Entries) (text : List ℕ) → StandsAfterDrop self.old gone text → StandsAfterDrop self.new (gone ++ held self.old) text }
-        ensures gone_in { (profile : TheProfile) (gone : Entries) (text : List ℕ) → StandsIn self.old profile gone text → StandsIn self.new profile (gone ++ held self.old) text }
+        ensures gone { (profile : TheProfile) (gone : Entries) (text : List ℕ) → StandsIn self.old profile gone text → StandsIn self.new profile (gone ++ held self.old) text }
         ensures failed { failure self.new ≡ failure self.old }
     {
         self.progress.commands.clear();
@@ -856,8 +847,7 @@ impl WordReader {
     pub fn take_commands(&mut self) -> Vec<Placed<Command>>
         ensures taken { result.items ≡ held self.old }
         ensures none { held self.new ≡ [] }
-        ensures gone { (gone : Entries) (text : List ℕ) → StandsAfterDrop self.old gone text → StandsAfterDrop self.new (gone ++ held self.old) text }
-        ensures gone_in { (profile : TheProfile) (gone : Entries) (text : List ℕ) → StandsIn self.old profile gone text → StandsIn self.new profile (gone ++ held self.old) text }
+        ensures gone { (profile : TheProfile) (gone : Entries) (text : List ℕ) → StandsIn self.old profile gone text → StandsIn self.new profile (gone ++ held self.old) text }
         ensures failed { failure self.new ≡ failure self.old }
     {
         let alloc = self.progress.alloc;
@@ -870,12 +860,10 @@ impl WordReader {
     ///
     /// The first fault of the text. A reader that has failed gives its failure again.
     pub fn finish(self) -> Result<Vec<Placed<Command>>, Fail>
-        ensures exact { (gone : Entries) (text : List ℕ) → StandsAfterDrop self gone text → AnswersAlways (entries_after gone) (λ answer. Reads text answer) result }
-        ensures exact_in { (profile : TheProfile) (gone : Entries) (text : List ℕ) → StandsIn self profile gone text → AnswersAlways (entries_after gone) (λ answer. ReadsIn profile text answer) result }
+        ensures exact { (profile : TheProfile) (gone : Entries) (text : List ℕ) → StandsIn self profile gone text → AnswersAlways (entries_after gone) (λ answer. ReadsIn profile text answer) result }
         ensures held { IfOk result (λ v. v.items ≡ held self) }
-        ensures kept { (gone : Entries) (text : List ℕ) → StandsAfterDrop self gone text → IfErr result (λ e. SpellsBeforeFault text e (gone ++ held self)) }
-        ensures kept_in { (profile : TheProfile) (gone : Entries) (text : List ℕ) → StandsIn self profile gone text → IfErr result (λ e. SpellsBeforeFaultIn profile text e (gone ++ held self)) }
-        ensures sayable { (text : List ℕ) → StandsAfter self text → IfOk result (λ v. sayable (without_places v.items) ≡ true) }
+        ensures kept { (profile : TheProfile) (gone : Entries) (text : List ℕ) → StandsIn self profile gone text → IfErr result (λ e. SpellsBeforeFaultIn profile text e (gone ++ held self)) }
+        ensures sayable { (text : List ℕ) → StandsIn self Strict [] text → IfOk result (λ v. sayable (without_places v.items) ≡ true) }
         ensures failed { IfSome (failure self) (λ e. result ≡ Err e) }
     {
         match self.failed {
@@ -886,8 +874,8 @@ impl WordReader {
 
     /// The commands so far and no fault where the text has ended; else the commands before the fault, and the fault.
     fn into_kept(self) -> Kept
-        ensures stands { (text : List ℕ) → StandsAfter self text → ReadsUpToFault text result.commands.items result.outcome }
-        ensures failed { (text : List ℕ) (e : TheFail) → HasFailed self text e → ReadsUpToFault text result.commands.items result.outcome }
+        ensures stands { (profile : TheProfile) (text : List ℕ) → StandsIn self profile [] text → ReadsUpToFault profile text result.commands.items result.outcome }
+        ensures failed { (profile : TheProfile) (text : List ℕ) (e : TheFail) → FailedIn self profile [] text e → ReadsUpToFault profile text result.commands.items result.outcome }
     {
         let outcome = self.outcome();
         Kept {
@@ -898,8 +886,8 @@ impl WordReader {
 
     /// The failure of the reader, or Truncated unless the text has ended.
     fn outcome(&self) -> Result<(), Fail>
-        ensures stands { (text : List ℕ) → StandsAfter self.now text → ReadsUpToFault text self.now.progress.commands.items result }
-        ensures failed { (text : List ℕ) (e : TheFail) → HasFailed self.now text e → ReadsUpToFault text self.now.progress.commands.items result }
+        ensures stands { (profile : TheProfile) (text : List ℕ) → StandsIn self.now profile [] text → ReadsUpToFault profile text self.now.progress.commands.items result }
+        ensures failed { (profile : TheProfile) (text : List ℕ) (e : TheFail) → FailedIn self.now profile [] text e → ReadsUpToFault profile text self.now.progress.commands.items result }
     {
         match self.failed {
             Some(fail) => Err(fail),
@@ -921,9 +909,9 @@ pub struct Kept {
 ///
 /// The first fault of the text; `Memory` where an allocation failed.
 pub fn read_words(alloc: Global, bytes: &[u8]) -> Result<Vec<Placed<Command>>, Fail>
-    ensures exact { Answers entries_of (λ answer. Reads bytes.now answer) result }
-    ensures found { IfOk result (λ v. SpellsText bytes.now v.items) }
-    ensures only { (cs : Entries) → SpellsText bytes.now cs → Answers entries_of (λ answer. answer ≡ Ok cs) result }
+    ensures exact { Answers entries_of (λ answer. ReadsIn Strict bytes.now answer) result }
+    ensures found { IfOk result (λ v. SpellsTextIn Strict bytes.now v.items) }
+    ensures only { (cs : Entries) → SpellsTextIn Strict bytes.now cs → Answers entries_of (λ answer. answer ≡ Ok cs) result }
     ensures sayable { IfOk result (λ v. sayable (without_places v.items) ≡ true) }
 {
     let mut reader = WordReader::new(alloc);
@@ -934,7 +922,7 @@ pub fn read_words(alloc: Global, bytes: &[u8]) -> Result<Vec<Placed<Command>>, F
 /// The commands that a text spells, or those of the items before its first fault, and this fault. Where an
 /// allocation failed they are those of some first items.
 pub fn read_kept(alloc: Global, bytes: &[u8]) -> Kept
-    ensures { ReadsUpToFault bytes.now result.commands.items result.outcome }
+    ensures { ReadsUpToFault Strict bytes.now result.commands.items result.outcome }
 {
     let mut reader = WordReader::new(alloc);
     let _ = reader.feed(bytes);

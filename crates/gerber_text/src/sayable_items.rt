@@ -1,11 +1,12 @@
-//! Whether some item of a Gerber text spells a command.
+//! Whether some item of a Gerber text spells a command, and some text a list of commands.
 
 ghost use Rattle.std.specs.Prelude.{◌≡◌, ◌+◌, ◌≤◌, ◌++◌, true, nat_le, length, codes, decimal};
 ghost use Rattle.std.specs.List.{flat_map};
 ghost use Rattle.gerber_commands.specs.declared.command.Command.TheVariants.{Define};
 ghost use Rattle.gerber_commands.specs.declared.command.Template.TheVariants.{Named};
 ghost use Rattle.grid_units.specs.Limits.{item_limit};
-ghost use Rattle.gerber_text.specs.Sayable.{has_valid_fields, is_short, is_sayable};
+ghost use Rattle.gerber_text.specs.Sayable.{has_valid_fields, is_short, is_sayable, is_finish};
+ghost use Rattle.gerber_text.specs.Writing.{sayable};
 
 use crate::operation_fields::{
     is_aperture_number, is_attribute, is_block, is_comment, is_dec, is_definition, is_format,
@@ -125,4 +126,26 @@ pub fn is_sayable(command: &Command) -> bool
     ensures { result ≡ is_sayable command.now }
 {
     has_valid_fields(command) && is_short(command)
+}
+
+fn is_finish(command: &Command) -> bool
+    ensures { result ≡ is_finish command.now }
+{
+    matches!(command, Command::Finish)
+}
+
+/// Whether `Finish` is the last command of a list and stands nowhere else, each command is one that some
+/// item of a Gerber text spells, and each canonical item is at most 1,048,576 bytes without its line breaks.
+/// It takes no memory.
+pub fn sayable(commands: &[Command]) -> bool
+    ensures { result ≡ sayable commands.now }
+{
+    let mut ended = false;
+    for command in commands {
+        if ended || !is_sayable(command) {
+            return false;
+        }
+        ended = is_finish(command);
+    }
+    ended
 }

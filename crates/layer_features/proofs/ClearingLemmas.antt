@@ -1,20 +1,9 @@
 -- What one more command changes of the positions that count and of those that do not.
-use Rattle.std.proofs.Common.{◌≡◌, ◌∙◌, ℕ, suc, ◌+◌, ◌&&◌, ◌||◌, Bool, true, false, not, List, [], ◌∷◌, ◌++◌, cond, drop, reverse, refl, ap, sym, length, arith, append-nil, append_assoc, length-append}
-use Rattle.std.specs.Prelude.{if◌then◌else◌, unwrap_or}
-use Rattle.std.specs.List.{list_any, prefix_len, take_while}
-use Rattle.std.proofs.lemmas.List.{reverse-append, reverse-reverse}
-use Rattle.std.proofs.lemmas.List.Sums.{take_while-cons}
-use Rattle.grid_units.specs.Lists.{with_prefixes, with_prefixes_from}
+use Rattle.layer_features.proofs.Common.{◌≡◌, ◌∙◌, ℕ, suc, ◌+◌, ◌&&◌, ◌||◌, Bool, true, false, not, List, [], ◌∷◌, ◌++◌, cond, drop, reverse, refl, ap, sym, length, arith, append-nil, append_assoc, length-append, if◌then◌else◌, list_any, prefix_len, take_while, reverse-append, reverse-reverse, take_while-cons, with_prefixes, with_prefixes_from, last_or-more, list_any-more, with_prefixes-append, Command, after_last, up_to_last, block_after, changes_block, in_open_block, is_repeated, cleared, clears_all, draws, is_clear_after, is_clearing, polarity_set, uncleared, clearing_after, clearing_with}
+use Rattle.std.specs.Prelude.{unwrap_or}
 use Rattle.grid_units.proofs.BoolLemmas.{and_false, or_is_false}
-use Rattle.grid_units.proofs.LookbackLemmas.{last_or-more, list_any-more, with_prefixes-append}
-use Rattle.gerber_commands.specs.declared.command.Command.{Command}
 use Rattle.gerber_commands.specs.declared.command.Command.TheVariants as command
 use Rattle.layer_features.specs.declared.clearing.Clearing.{Clearing}
-use Rattle.layer_features.specs.AfterLast.{after_last, up_to_last}
-use Rattle.layer_features.specs.Blocks.{block_after, changes_block, in_open_block, is_repeated}
-use Rattle.layer_features.specs.Clearing.{cleared, clears_all, draws, is_clear_after, is_clearing, polarity_set, uncleared}
-use Rattle.layer_features.specs.FurtherPads.{clearing_after}
-use Rattle.layer_features.specs.Inner.States.{clearing_with}
 
 -- the elements after the last one that passes, with one more: none where it passes, else that one too
 pub after_last-more : {A : Type 0} (test : A → Bool) (xs : List A) (x : A) → after_last test (xs ++ x ∷ []) ≡ (if test x then [] else after_last test xs ++ x ∷ [])

@@ -1,19 +1,7 @@
 -- A contour is a convex polygon, wherever it is moved.
-use Rattle.std.proofs.Common.{◌≡◌, ◌∙◌, ℕ, Bool, true, false, ◌&&◌, List, [], ◌∷◌, length, reverse, Option, None, Some, refl, sym, subst}
-use Rattle.std.specs.Prelude.{◌↔◌, nat_le, nat_lt, if◌then◌else◌, option_and_then}
-use Rattle.std.specs.Option.{option_or}
-use Rattle.std.specs.List.{list_all, list_any}
-use Rattle.std.proofs.lemmas.Bool.{false≢true}
-use Rattle.std.proofs.lemmas.Option.{none-some}
+use Rattle.layer_features.proofs.Common.{◌≡◌, ◌∙◌, ℕ, Bool, true, false, ◌&&◌, List, [], ◌∷◌, length, reverse, Option, None, Some, refl, sym, subst, ◌↔◌, nat_le, nat_lt, if◌then◌else◌, option_and_then, option_or, list_all, list_any, false≢true, none-some, GridPoint, GridRounded, IsNear, PolygonIsLeftOfEdges, corners, is_convex, is_deep_left_of_all, is_outline, max_corners, are_different, is_closed, polygon_of, polygon_round, stops, Part, is_near, moved_shape, clockwise_round, contour_of, counterclockwise_round, is_clockwise, is_counterclockwise, points_of, polygon_by, polygon_of_sides, sides_of, ContoursAreInsideEdges}
 use Rattle.grid_units.proofs.BoolLemmas.{both_true}
-use Rattle.grid_units.specs.Points.{GridPoint}
-use Rattle.pad_shapes.specs.Rounded.{GridRounded, IsNear, PolygonIsLeftOfEdges, corners, is_convex, is_deep_left_of_all, is_outline, max_corners}
 use Rattle.pad_shapes.specs.Shapes.{max_half_side}
-use Rattle.macro_shapes.specs.Primitives.{are_different, is_closed, polygon_of, polygon_round, stops}
-use Rattle.layer_features.specs.declared.part.Part.{Part}
-use Rattle.pad_shapes.specs.Placed.{is_near, moved_shape}
-use Rattle.layer_features.specs.Contours.{clockwise_round, contour_of, counterclockwise_round, is_clockwise, is_counterclockwise, points_of, polygon_by, polygon_of_sides, sides_of}
-use Rattle.layer_features.specs.CopperLaws.{ContoursAreInsideEdges}
 use Rattle.pad_shapes.proofs.MovedShapes.{convex-moved}
 use Rattle.layer_features.proofs.PointsLemmas.{some_is}
 

@@ -1,12 +1,6 @@
 -- One copy more, and one column more.
-use Rattle.std.proofs.Common.{◌≡◌, ◌∙◌, ℕ, ℤ, pos, ◌+◌, ◌*◌, ◌^◌, ◌<◌, ◌≤◌, ◌*ℤ◌, List, [], ◌∷◌, ◌++◌, map, Option, unsigned_abs, FitsSigned, to_z, of_z, ap, sym, arith, add-one, append-nil, append_assoc, mul-le-mul}
-use Rattle.std.specs.List.{cons_option, filter_map, flat_map}
-use mir.Syntax.{w128}
-use Rattle.std.proofs.lemmas.Int.{ints, to_z-of_z, unsigned_abs-mul}
-use Rattle.std.proofs.lemmas.List.{map-append}
+use Rattle.layer_features.proofs.Common.{◌≡◌, ◌∙◌, ℕ, ℤ, pos, ◌+◌, ◌*◌, ◌^◌, ◌<◌, ◌≤◌, ◌*ℤ◌, List, [], ◌∷◌, ◌++◌, map, Option, unsigned_abs, FitsSigned, to_z, of_z, ap, sym, arith, add-one, append-nil, append_assoc, mul-le-mul, cons_option, filter_map, flat_map, w128, ints, to_z-of_z, unsigned_abs-mul, map-append, filter_map-append, numbers_below}
 use Rattle.std.proofs.lemmas.List.Concat.{flat_map-append}
-use Rattle.std.proofs.lemmas.List.Elements.{filter_map-append}
-use Rattle.layer_state.specs.Flashes.{numbers_below}
 
 -- one number more
 pub next_copy : {A B : Type 0} (gives : A → Option B) (at : ℕ → A) (n : ℕ) → filter_map gives (map at (numbers_below (n + 1))) ≡ filter_map gives (map at (numbers_below n)) ++ cons_option (gives (at n)) []

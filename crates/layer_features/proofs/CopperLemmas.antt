@@ -1,59 +1,34 @@
 -- What one more command changes of further copper.
-use Rattle.std.proofs.Common.{◌≡◌, ◌∙◌, ◌≤◌, ℕ, ℤ, suc, ◌+◌, ◌&&◌, ◌||◌, inl, inr, Bool, true, false, not, map, nat_le, None, Some, OnOk, Result, Ok, Err, List, [], ◌∷◌, ◌++◌, Option, length, unwrap_or, refl, sym, ap, subst, arith, append-nil, append_assoc}
-use Rattle.std.specs.Prelude.{min, if◌then◌else◌}
-use Rattle.std.specs.List.{cons_option, filter_map, sum_by}
-use Rattle.std.proofs.lemmas.List.Elements.{filter_map-append}
-use Rattle.std.proofs.lemmas.List.Sums.{sum_by_push}
-use Rattle.grid_units.specs.Lists.{with_prefixes}
-use Rattle.grid_units.proofs.LookbackLemmas.{last_or-more, with_prefixes-append}
+use Rattle.layer_features.proofs.Common.{◌≡◌, ◌∙◌, ℕ, ℤ, suc, ◌+◌, ◌&&◌, ◌||◌, inl, inr, Bool, true, false, not, map, None, OnOk, Result, Ok, Err, List, [], ◌∷◌, ◌++◌, Option, refl, sym, ap, subst, arith, append-nil, append_assoc, min, if◌then◌else◌, cons_option, filter_map, sum_by, filter_map-append, sum_by_push, with_prefixes, last_or-more, with_prefixes-append, Command, cases_order, option_map_or, GridRounded, Flash, added_flashes, block_set, no_repeat, state_after, DrawState, draw_state_after, draw_unit, drawn_by, after_command, draw_state, Part, block_after, copy_count, is_repeated, clears_all, is_drawing, uncleared, no_mirroring, shapes_at, PlotState, contour_of, in_last_region, part_by, region_parts, starts_region, CopperState, clears_in, contours_in, copper_state_after, ended_copies, ended_regions, has_room, max_regions, mirroring_set, plot_state, Feature, added_features, contour_feature, features_at, flash_feature, taken_away, wide_features_of, KeepsFeatures, keeps_drawn, keeps_rows, WidePad, IsLike, MakeSameContour, after, capped, copper_state, with_parts}
+use Rattle.std.proofs.Common.{nat_le}
 use Rattle.gerber_commands.specs.declared.command.Action.{Action}
-use Rattle.gerber_commands.specs.declared.command.Command.{Command}
 use Rattle.gerber_commands.specs.declared.command.Command.TheVariants as command
 use Rattle.gerber_text.specs.FastPath.{text_command}
 use Rattle.gerber_text.specs.declared.text_items.TextKind.{TextKind}
 use Rattle.gerber_text.specs.declared.text_items.TextKind.TheVariants as kinds
-use Rattle.std.proofs.lemmas.Bool.{cases_order}
-use Rattle.std.specs.Option.{option_map_or}
-use Rattle.pad_shapes.specs.Rounded.{GridRounded}
 use Rattle.pad_shapes.specs.declared.drawn.Drawn.{Drawn}
-use Rattle.layer_state.specs.declared.flash.Flash.{Flash}
-use Rattle.layer_state.specs.Flashes.{added_flashes}
-use Rattle.layer_state.specs.Lookback.{block_set, no_repeat, state_after}
-use Rattle.layer_features.specs.Drawn.{DrawState, draw_state_after, draw_unit, drawn_by}
-use Rattle.layer_features.specs.Inner.Pencils.{after_command, draw_state}
 use Rattle.layer_state.proofs.DigitLemmas.{test_no, test_yes}
 use Rattle.layer_features.proofs.DrawnLemmas.{draw_state_after-more}
-use Rattle.layer_features.specs.declared.part.Part.{Part}
-use Rattle.layer_features.specs.Blocks.{block_after, copy_count, is_repeated}
-use Rattle.layer_features.specs.Clearing.{clears_all, is_drawing, uncleared}
 use Rattle.layer_features.specs.DrawnCopper.{dark_part, drawn_at, uncleared_drawn}
-use Rattle.layer_state.specs.Placing.{no_mirroring, shapes_at}
-use Rattle.layer_features.specs.Contours.{contour_of, in_last_region, part_by, region_parts, starts_region}
 use Rattle.layer_features.specs.declared.copper.Copper.{Copper}
 use Rattle.layer_features.specs.declared.drawing.Drawing.{Drawing}
-use Rattle.layer_features.specs.FurtherPads.{CopperState, clears_in, contours_in, copper_state_after, ended_copies, ended_regions, has_room, max_regions, mirroring_set}
-use Rattle.layer_features.specs.declared.feature.Feature.{Feature}
-use Rattle.layer_features.specs.Features.{added_features, contour_feature, features_at, flash_feature, taken_away, wide_features_of}
 use Rattle.layer_features.specs.CopperHolding.{HasMet}
-use Rattle.layer_features.specs.Kept.{KeepsFeatures, keeps_drawn, keeps_rows}
 use Rattle.layer_features.specs.declared.keep.Keep.{Keep}
 use Rattle.layer_features.specs.declared.kept_features.KeptFeatures.{KeptFeatures}
-use Rattle.pad_shapes.specs.declared.wide_pad.WidePad.{WidePad}
-use Rattle.layer_features.specs.Inner.States.{IsLike, MakeSameContour, after, capped, copper_state, parts_after, with_parts}
 use Rattle.layer_features.proofs.ClearingLemmas.{after_last-more, clearing_after-more}
 use Rattle.layer_features.proofs.StandingLemmas.{uncleared-more, wide_features_of-more}
 
--- what a position adds to the last region
-abbrev part_at : List Command × Command → Option Part
-part_at q = part_by (draw_state_after q.0) q.1
-
-region_parts-more : (before : List Command) (c : Command) → region_parts (before ++ c ∷ []) ≡ parts_after c (draw_state_after before) (region_parts before)
-region_parts-more before c =
-    ap (λ (l : List (List Command × Command)). filter_map part_at (in_last_region l)) (with_prefixes-append before (c ∷ [])) ∙ ap (filter_map part_at) (after_last-more (λ (p : List Command × Command). starts_region p.1) (with_prefixes before) (before, c)) ∙ by (starts_region c)
+-- the parts of the last region with one more command
+pub region_parts-more : (meets : List Command → PlotState) (before : List Command) (c : Command)
+    → region_parts meets (before ++ c ∷ []) ≡ (if starts_region c then [] else region_parts meets before ++ cons_option (part_by (meets before) c) [])
+region_parts-more meets before c =
+    let part_at : List Command × Command → Option Part = λ q. part_by (meets q.0) q.1 in
+    ap (λ (l : List (List Command × Command)). filter_map part_at (in_last_region l)) (with_prefixes-append before (c ∷ []))
+    ∙ ap (filter_map part_at) (after_last-more (λ (p : List Command × Command). starts_region p.1) (with_prefixes before) (before, c)) ∙ by part_at (starts_region c)
   where
-    by : (b : Bool) → filter_map part_at (if b then [] else in_last_region (with_prefixes before) ++ (before, c) ∷ []) ≡ (if b then [] else filter_map part_at (in_last_region (with_prefixes before)) ++ cons_option (part_at (before, c)) [])
-    by true = refl
-    by false = filter_map-append part_at (in_last_region (with_prefixes before)) ((before, c) ∷ [])
+    by : (part_at : List Command × Command → Option Part) (b : Bool) → filter_map part_at (if b then [] else in_last_region (with_prefixes before) ++ (before, c) ∷ []) ≡ (if b then [] else filter_map part_at (in_last_region (with_prefixes before)) ++ cons_option (part_at (before, c)) [])
+    by part_at true = refl
+    by part_at false = filter_map-append part_at (in_last_region (with_prefixes before)) ((before, c) ∷ [])
 
 capped_sum : (s k most : ℕ) → min (s + k) most ≡ min (min s most + k) most
 capped_sum s k most = omega arith
@@ -69,7 +44,7 @@ copper_state_after-more before c = λ i. record {
   draw = draw_state_after-more before c i;
   mirroring = last_or-more mirroring_set no_mirroring before c i;
   block = last_or-more block_set no_repeat before c i;
-  parts = region_parts-more before c i;
+  parts = region_parts-more (λ p. plot_state (draw_state_after p)) before c i;
   regions = (ap (λ (n : ℕ). min n (suc max_regions)) (ended_regions-more before c) ∙ capped_sum (ended_regions before) (ended_copies (block_after before) c) (suc max_regions)) i;
   clearing = clearing_after-more before c i;
 }
@@ -110,12 +85,12 @@ after_like c s t h = record {
     draws : s.draw ≡ t.draw
     draws = ap (λ (u : CopperState). u.draw) h.rest
 
-    by : (more : List Part) (b : Bool) → contour_of ((if b then [] else s.parts ++ cons_option (part_by s.draw c) []) ++ more) ≡ contour_of ((if b then [] else t.parts ++ cons_option (part_by t.draw c) []) ++ more)
+    by : (more : List Part) (b : Bool) → contour_of ((if b then [] else s.parts ++ cons_option (part_by (plot_state s.draw) c) []) ++ more) ≡ contour_of ((if b then [] else t.parts ++ cons_option (part_by (plot_state t.draw) c) []) ++ more)
     by more true = refl
     by more false =
-        ap contour_of (append_assoc s.parts (cons_option (part_by s.draw c) []) more) ∙ h.parts (cons_option (part_by s.draw c) [] ++ more)
-        ∙ ap contour_of (sym (append_assoc t.parts (cons_option (part_by s.draw c) []) more))
-        ∙ ap (λ (d : DrawState). contour_of ((t.parts ++ cons_option (part_by d c) []) ++ more)) draws
+        ap contour_of (append_assoc s.parts (cons_option (part_by (plot_state s.draw) c) []) more) ∙ h.parts (cons_option (part_by (plot_state s.draw) c) [] ++ more)
+        ∙ ap contour_of (sym (append_assoc t.parts (cons_option (part_by (plot_state s.draw) c) []) more))
+        ∙ ap (λ (d : DrawState). contour_of ((t.parts ++ cons_option (part_by (plot_state d) c) []) ++ more)) draws
 
 same_contour : (kept parts : List Part) → MakeSameContour kept parts → contour_of kept ≡ contour_of parts
 same_contour kept parts same = ap contour_of (sym (append-nil kept)) ∙ same [] ∙ ap contour_of (append-nil parts)
@@ -224,7 +199,7 @@ pub record IsFlashed (old : Copper) (own : List Flash) (added : Copper) : Type 0
 -- the region and the pencil have gone on with an operation
 pub record IsMovedOn (added : Copper) (c : Command) (new : Copper) : Type 0 where
   pub draw : draw_state new.pencil ≡ after_command c (draw_state added.pencil)
-  pub parts : MakeSameContour new.parts.items (added.parts.items ++ cons_option (part_by (draw_state added.pencil) c) [])
+  pub parts : MakeSameContour new.parts.items (added.parts.items ++ cons_option (part_by (plot_state (draw_state added.pencil)) c) [])
   pub mirroring : new.mirroring ≡ added.mirroring
   pub block : new.block ≡ added.block
   pub regions : new.regions ≡ added.regions
@@ -253,7 +228,7 @@ operation_stays added new a x y i j dark fresh regions moved = record {
     draw = moved.draw k;
     mirroring = moved.mirroring k;
     block = moved.block k;
-    parts = added.parts.items ++ cons_option (part_by (draw_state added.pencil) (command.Operate a x y i j)) [];
+    parts = added.parts.items ++ cons_option (part_by (plot_state (draw_state added.pencil)) (command.Operate a x y i j)) [];
     regions = (moved.regions ∙ regions) k;
     clearing = (moved.clearing ∙ (λ l. record { clear = added.clearing.clear; in_block = (fresh ∙ still_dark (is_drawing a) ∙ (λ m. (is_drawing a && sym dark m) || sym fresh m)) l })) k;
   };

@@ -1,18 +1,8 @@
 -- What one more command changes of what is drawn.
-use Rattle.std.proofs.Common.{◌≡◌, ◌∙◌, ℕ, List, [], ◌∷◌, ◌++◌, Option, pos, false, ap}
-use Rattle.std.specs.Option.{option_or}
-use Rattle.std.specs.List.{cons_option, filter_map}
-use Rattle.std.proofs.lemmas.List.Elements.{filter_map-append}
-use Rattle.grid_units.specs.Lists.{last_set, with_prefixes}
-use Rattle.grid_units.proofs.LookbackLemmas.{last_or-more, last_set-more, with_prefixes-append}
-use Rattle.gerber_commands.specs.declared.command.Command.{Command}
+use Rattle.layer_features.proofs.Common.{◌≡◌, ◌∙◌, ℕ, List, [], ◌∷◌, ◌++◌, Option, pos, false, ap, option_or, cons_option, filter_map, filter_map-append, last_set, with_prefixes, last_or-more, last_set-more, with_prefixes-append, Command, unit_scale, aperture_selected, region_set, scale_set, turn_set, unit_set, x_set, y_set, aperture_numbered, decimals_set, draw_state_after, drawn_aperture_set, drawn_by, drawn_of, macro_named, macro_set, mirror_set, mode_set, quadrant_set, after_command}
 use Rattle.gerber_commands.specs.declared.command.Interpolation.TheVariants.{Linear}
-use Rattle.gerber_items.specs.Pieces.{unit_scale}
 use Rattle.pad_shapes.specs.declared.drawn.Drawn.{Drawn}
 use Rattle.layer_features.specs.declared.drawn_apertures.DrawnAperture.{DrawnAperture}
-use Rattle.layer_state.specs.Lookback.{aperture_selected, region_set, scale_set, turn_set, unit_set, x_set, y_set}
-use Rattle.layer_features.specs.Drawn.{aperture_numbered, decimals_set, draw_state_after, drawn_aperture_set, drawn_by, drawn_of, macro_named, macro_set, mirror_set, mode_set, quadrant_set}
-use Rattle.layer_features.specs.Inner.Pencils.{after_command}
 
 -- the aperture of a number after one more command
 aperture_numbered-more : (before : List Command) (c : Command) (number : ℕ)

@@ -1,22 +1,7 @@
 -- Parts that make no contour, whatever parts follow them.
-use Rattle.std.proofs.Common.{◌≡◌, ◌∙◌, ℕ, suc, ◌+◌, Bool, true, false, ◌&&◌, inl, inr, List, [], ◌∷◌, ◌++◌, drop, length, reverse, take, Option, None, Some, refl, sym, ap, arith, append-nil, append_assoc}
-use Rattle.std.specs.Prelude.{if◌then◌else◌, nat_lt, option_and_then, option_map}
-use Rattle.std.specs.Option.{option_map_or, option_or}
-use Rattle.std.specs.List.{cons_option, list_all, list_any}
-use Rattle.std.proofs.lemmas.Bool.{or_cases}
-use Rattle.std.proofs.lemmas.Option.{none-some}
-use Rattle.grid_units.specs.Points.{GridPoint}
-use Rattle.pad_shapes.specs.Rounded.{GridRounded}
-use Rattle.macro_shapes.specs.Primitives.{polygon_round, stops}
+use Rattle.layer_features.proofs.Common.{◌≡◌, ◌∙◌, ℕ, suc, ◌+◌, Bool, true, false, ◌&&◌, inl, inr, List, [], ◌∷◌, ◌++◌, drop, length, reverse, take, Option, None, Some, refl, sym, ap, arith, append-nil, append_assoc, if◌then◌else◌, nat_lt, option_and_then, option_map, option_map_or, option_or, cons_option, list_all, list_any, or_cases, none-some, GridPoint, GridRounded, polygon_round, stops, Command, DrawState, Part, plot_state, contour_of, ends_of, is_clockwise, is_counterclockwise, is_move, leading_sides, part_by, points_of, polygon_by, polygon_of_sides, starts_region, is_over, starts_no_pad, starts_no_polygon, MakeSameContour, parts_after, turns_both_ways}
 use Rattle.macro_shapes.proofs.RunsOfPoints.{many_stops_back, many_stops_longer, none_round_many}
-use Rattle.gerber_commands.specs.declared.command.Command.{Command}
-use Rattle.layer_features.specs.Drawn.{DrawState}
-use Rattle.layer_features.specs.declared.part.Part.{Part}
 use Rattle.layer_features.specs.declared.part.Part.TheVariants as part
-use Rattle.layer_features.specs.Contours.{contour_of, ends_of, is_clockwise, is_counterclockwise, is_move, leading_sides, part_by, points_of, polygon_by, polygon_of_sides, starts_region}
-use Rattle.layer_features.specs.Inner.Forgetting.{is_over, starts_no_pad, starts_no_polygon}
-use Rattle.layer_features.specs.Inner.States.{MakeSameContour, parts_after}
-use Rattle.layer_features.specs.Inner.Turns.{turns_both_ways}
 use Rattle.layer_features.proofs.PointsLemmas.{some_is}
 use Rattle.layer_features.proofs.TurnsLemmas.{none_round_both}
 
@@ -142,11 +127,11 @@ kept_all parts = λ more. refl
 
 -- a region starts with no parts
 pub started : (c : Command) (s : DrawState) (parts : List Part) → starts_region c ≡ true → MakeSameContour [] (parts_after c s parts)
-started c s parts h = λ more. ap (λ (b : Bool). contour_of ((if b then [] else parts ++ cons_option (part_by s c) []) ++ more)) (sym h)
+started c s parts h = λ more. ap (λ (b : Bool). contour_of ((if b then [] else parts ++ cons_option (part_by (plot_state s) c) []) ++ more)) (sym h)
 
 -- else it goes on with the part of the command
-pub went_on : (c : Command) (s : DrawState) (kept parts : List Part) → starts_region c ≡ false → MakeSameContour kept (parts ++ cons_option (part_by s c) []) → MakeSameContour kept (parts_after c s parts)
-went_on c s kept parts h same = λ more. same more ∙ ap (λ (b : Bool). contour_of ((if b then [] else parts ++ cons_option (part_by s c) []) ++ more)) (sym h)
+pub went_on : (c : Command) (s : DrawState) (kept parts : List Part) → starts_region c ≡ false → MakeSameContour kept (parts ++ cons_option (part_by (plot_state s) c) []) → MakeSameContour kept (parts_after c s parts)
+went_on c s kept parts h same = λ more. same more ∙ ap (λ (b : Bool). contour_of ((if b then [] else parts ++ cons_option (part_by (plot_state s) c) []) ++ more)) (sym h)
 
 pub none_added : (parts : List Part) → MakeSameContour parts (parts ++ [])
 none_added parts = λ more. ap (λ (l : List Part). contour_of (l ++ more)) (sym (append-nil parts))

@@ -1,20 +1,11 @@
 -- What is kept of flashes and contours with one more, and where all are taken away.
-use Rattle.std.proofs.Common.{◌≡◌, ◌∙◌, ◌≤◌, ◌+◌, ℕ, zero, suc, Bool, true, false, cond, List, [], ◌∷◌, ◌++◌, drop, length, take, refl, sym, ap, subst, arith, append-nil, append_assoc, length-append, take-append-drop}
+use Rattle.layer_features.proofs.Common.{◌≡◌, ◌∙◌, ◌≤◌, ◌+◌, ℕ, zero, suc, Bool, true, false, cond, List, [], ◌∷◌, ◌++◌, drop, length, take, refl, sym, ap, subst, arith, append-nil, append_assoc, length-append, take-append-drop, count_by, option_map, if◌then◌else◌, cons_option, filter_map, filter_map-append, sum_by-append, sum_by-cons, GridPoint, WidePad, Feature, contour_count, counts_of, flashed_count, is_contour, is_flashed_pad, is_other, other_count, pad_in, pads_of, taken_away, taken_kind, KeepsFeatures, first_taken_away, left_pads}
 use Rattle.std.specs.Global.{Vec}
-use Rattle.std.specs.Prelude.{count_by, option_map, if◌then◌else◌}
-use Rattle.std.specs.List.{cons_option, filter_map}
-use Rattle.std.proofs.lemmas.List.Elements.{filter_map-append}
-use Rattle.std.proofs.lemmas.List.Sums.{sum_by-append, sum_by-cons}
-use Rattle.grid_units.specs.Points.{GridPoint}
-use Rattle.pad_shapes.specs.declared.wide_pad.WidePad.{WidePad}
 use Rattle.layer_features.specs.declared.counts.FeatureCounts.{FeatureCounts}
-use Rattle.layer_features.specs.declared.feature.Feature.{Feature}
 use Rattle.layer_features.specs.declared.feature.FeatureKind.{FeatureKind}
 use Rattle.layer_features.specs.declared.feature.FeatureKind.TheVariants as kind
 use Rattle.layer_features.specs.declared.kept_features.KeptFeatures.{KeptFeatures}
-use Rattle.layer_features.specs.Features.{contour_count, counts_of, flashed_count, is_contour, is_flashed_pad, is_other, other_count, pad_in, pads_of, taken_away, taken_kind}
-use Rattle.layer_features.specs.Kept.{KeepsFeatures, first_taken_away, left_pads}
-use Rattle.layer_features.proofs.StandingLemmas.{left_append, left_first, left_of}
+use Rattle.layer_features.proofs.StandingLemmas.{left_first, left_of}
 
 -- ---- cuts
 
@@ -101,7 +92,7 @@ no_pad_before at (kind.Macro why) rest = refl
 no_pad_before at kind.Clear rest = refl
 no_pad_before at kind.Cleared rest = refl
 
-no_pads_left : (features : List Feature) → pads_of (left_of features) ≡ []
+pub no_pads_left : (features : List Feature) → pads_of (left_of features) ≡ []
 no_pads_left [] = refl
 no_pads_left (f ∷ fs) = no_pad_before f.at f.what (left_of fs) ∙ no_pads_left fs
 

@@ -1,3 +1,4 @@
+pub mod Common
 pub mod DrawnLemmas
 pub mod ClearingLemmas
 pub mod StandingLemmas
@@ -11,3 +12,10 @@ pub mod ShortRuns
 pub mod TurnsLemmas
 pub mod ForgettingLemmas
 pub mod DarkLayers
+pub mod LegalFlashes
+pub mod SelectedShapes
+pub mod PlotLemmas
+pub mod WidePadLemmas
+pub mod LegalWidePads
+pub mod UniqueWidePads
+pub mod WidePadExamples

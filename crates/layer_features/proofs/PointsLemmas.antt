@@ -1,19 +1,9 @@
 -- Each point of a shape that is mirrored, turned and moved comes from a point of the shape.
-use Rattle.std.proofs.Common.{◌≡◌, ◌∙◌, ℕ, zero, suc, ℤ, pos, ◌+◌, ◌*◌, ◌≤◌, ◌+ℤ◌, ◌-ℤ◌, ◌*ℤ◌, Bool, true, false, List, [], ◌∷◌, ◌++◌, map, reverse, Option, None, Some, unsigned_abs, refl, ap, sym, subst, arith}
-use Rattle.std.specs.Prelude.{neg_ℤ, ◌==◌, unwrap_or, if◌then◌else◌}
-use Rattle.std.specs.List.{Contains, list_all}
-use Rattle.std.proofs.lemmas.Int.{ints}
-use Rattle.std.proofs.lemmas.List.{reverse-append}
-use Rattle.std.proofs.lemmas.List.Elements.{All-map}
-use Rattle.std.proofs.lemmas.Option.{none-some}
-use Rattle.grid_units.specs.Points.{GridPoint, square}
-use Rattle.pad_shapes.specs.Rounded.{GridRounded, IsInRounded, IsNear, WeightedPoint, corners, is_outline, total_weight, weighted_sum}
+use Rattle.layer_features.proofs.Common.{◌≡◌, ◌∙◌, ℕ, zero, suc, ℤ, pos, ◌+◌, ◌*◌, ◌≤◌, ◌+ℤ◌, ◌-ℤ◌, ◌*ℤ◌, Bool, true, false, List, [], ◌∷◌, ◌++◌, map, reverse, Option, None, Some, unsigned_abs, refl, ap, sym, subst, arith, neg_ℤ, if◌then◌else◌, Contains, list_all, ints, reverse-append, All-map, none-some, GridPoint, square, GridRounded, IsInRounded, IsNear, WeightedPoint, corners, is_outline, total_weight, weighted_sum, is_near, moved_point, moved_shape, in_order, is_turned_over, mirrored_point, oriented_point, turned_point, FlashedShapesAreInPrimitives}
+use Rattle.std.specs.Prelude.{◌==◌, unwrap_or}
 use Rattle.pad_shapes.specs.Inner.Identities.{Is, is_add, is_mul, is_n, is_sub, is_z, same}
 use Rattle.macro_shapes.specs.Shapes.{ShapeIsInPrimitives}
 use Rattle.layer_state.specs.declared.mirroring.Mirroring.{Mirroring}
-use Rattle.pad_shapes.specs.Placed.{is_near, moved_point, moved_shape}
-use Rattle.layer_state.specs.Placing.{in_order, is_turned_over, mirrored_point, oriented_point, turned_point}
-use Rattle.layer_features.specs.CopperLaws.{FlashedShapesAreInPrimitives}
 
 -- ---- sums
 

@@ -1,7 +1,5 @@
 -- Runs of less than three points do not turn.
-use Rattle.std.proofs.Common.{◌≡◌, ◌<◌, false, List, [], ◌∷◌, length, refl, arith}
-use Rattle.grid_units.specs.Points.{GridPoint}
-use Rattle.layer_features.specs.Inner.Turns.{turns_left, turns_right}
+use Rattle.layer_features.proofs.Common.{◌≡◌, ◌<◌, false, List, [], ◌∷◌, length, refl, arith, GridPoint, turns_left, turns_right}
 
 pub no_left : (run : List GridPoint) → length run < 3 → turns_left run ≡ false
 no_left [] h = refl

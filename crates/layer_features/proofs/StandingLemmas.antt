@@ -1,19 +1,8 @@
 -- Flashes and contours that are taken away, and those of one more command.
-use Rattle.std.proofs.Common.{◌≡◌, ◌∙◌, ◌≤◌, ℕ, zero, suc, Bool, true, false, Option, None, Some, List, [], ◌∷◌, ◌++◌, drop, length, take, refl, sym, ap, arith, append-nil, append_assoc, length-append, take-append-drop, unwrap_or}
-use Rattle.std.specs.Prelude.{option_map, if◌then◌else◌}
-use Rattle.std.specs.List.{cons_option, filter_map, flat_map}
+use Rattle.layer_features.proofs.Common.{◌≡◌, ◌∙◌, Bool, true, false, List, [], ◌∷◌, ◌++◌, refl, sym, ap, append-nil, append_assoc, option_map, if◌then◌else◌, cons_option, filter_map, flat_map, filter_map-append, with_prefixes, GridPoint, with_prefixes-append, Command, Feature, after_last, cleared, clears_all, uncleared, features_at, taken_away, taken_kind, wide_features_of}
 use Rattle.std.proofs.lemmas.Grind.{flat_map-append}
-use Rattle.std.proofs.lemmas.List.Elements.{filter_map-append}
-use Rattle.grid_units.specs.Lists.{with_prefixes}
-use Rattle.grid_units.specs.Points.{GridPoint}
-use Rattle.grid_units.proofs.LookbackLemmas.{with_prefixes-append}
-use Rattle.gerber_commands.specs.declared.command.Command.{Command}
-use Rattle.layer_features.specs.declared.feature.Feature.{Feature}
 use Rattle.layer_features.specs.declared.feature.FeatureKind.{FeatureKind}
 use Rattle.layer_features.specs.declared.feature.FeatureKind.TheVariants as kind
-use Rattle.layer_features.specs.AfterLast.{after_last}
-use Rattle.layer_features.specs.Clearing.{cleared, clears_all, uncleared}
-use Rattle.layer_features.specs.Features.{features_at, taken_away, taken_kind, wide_features_of}
 use Rattle.layer_features.proofs.ClearingLemmas.{after_last-more, all_positions, cleared-more}
 
 -- what is left of some flashes and contours

@@ -1,18 +1,10 @@
 -- No convex polygon goes round a run of points that turns both ways, nor round a run that starts with it.
-use Rattle.std.proofs.Common.{◌≡◌, ◌∙◌, ℕ, ℤ, pos, negsuc, ◌-◌, ◌+ℤ◌, ◌-ℤ◌, ◌*ℤ◌, Bool, true, false, ◌&&◌, ◌||◌, ◌⊎◌, inl, inr, List, [], ◌∷◌, ◌++◌, length, reverse, Option, None, Some, refl, sym, ap, subst, arith}
-use Rattle.std.specs.Prelude.{◌==◌, not, int_le, int_lt, nat_le, nat_lt, if◌then◌else◌}
-use Rattle.std.specs.List.{cons_option, list_all}
-use Rattle.std.specs.Ordering.{int_eq}
-use Rattle.std.proofs.lemmas.Bool.{and_from, and_parts, or_cases, or_from, or_left, or_right}
+use Rattle.layer_features.proofs.Common.{◌≡◌, ◌∙◌, ℕ, ℤ, pos, negsuc, ◌-◌, ◌+ℤ◌, ◌-ℤ◌, ◌*ℤ◌, Bool, true, false, ◌&&◌, ◌||◌, ◌⊎◌, inl, inr, List, [], ◌∷◌, ◌++◌, length, reverse, Option, None, Some, refl, sym, ap, subst, arith, int_le, int_lt, nat_le, nat_lt, if◌then◌else◌, cons_option, list_all, int_eq, and_from, and_parts, or_cases, or_from, or_left, or_right, ints, reverse-append, GridPoint, GridRounded, Edge, cross, edges_back, has_area, is_convex, is_deep_inside, is_deep_left, is_deep_left_of_all, max_corners, are_different, is_closed, is_same, moves, polygon_of, polygon_round, stops, turns_left, turns_right, turns_both_ways}
+use Rattle.std.specs.Prelude.{◌==◌, not}
 use Rattle.std.proofs.lemmas.Bool.Decides.{Decides-int_eq, nat_tests}
-use Rattle.std.proofs.lemmas.Int.{ints}
-use Rattle.std.proofs.lemmas.List.{reverse-append}
-use Rattle.grid_units.specs.Points.{GridPoint}
 use Rattle.pad_shapes.specs.Shapes.{max_half_side}
-use Rattle.pad_shapes.specs.Rounded.{GridRounded, Edge, cross, edges_back, has_area, is_convex, is_deep_inside, is_deep_left, is_deep_left_of_all, max_corners}
 use Rattle.pad_shapes.specs.Inner.Identities.{is_z, is_n, is_add, is_sub, is_mul, same}
-use Rattle.macro_shapes.specs.Primitives.{are_different, is_closed, is_same, point_at, moves, polygon_of, polygon_round, stops}
-use Rattle.layer_features.specs.Inner.Turns.{turns_left, turns_right, turns_both_ways}
+use Rattle.macro_shapes.specs.Primitives.{point_at}
 
 abbrev edge : GridPoint → GridPoint → Edge
 edge p q = record { from = p; to = q }

@@ -1,13 +1,5 @@
 -- A position counts just where all is taken away neither there nor later.
-use Rattle.std.proofs.Common.{◌≡◌, ◌∙◌, ◌⊎◌, inl, inr, ℕ, zero, suc, ◌<◌, ◌≤◌, ◌||◌, get_or, Bool, true, false, List, [], ◌∷◌, ◌++◌, length, refl, sym, ap, subst, arith, append_assoc, length-append}
-use Rattle.std.specs.List.{Contains, list_any}
-use Rattle.std.specs.Prelude.{if◌then◌else◌}
-use Rattle.grid_units.specs.Lists.{with_prefixes, with_prefixes_from}
-use Rattle.grid_units.proofs.LookbackLemmas.{with_prefixes-append}
-use Rattle.gerber_commands.specs.declared.command.Command.{Command}
-use Rattle.layer_features.specs.AfterLast.{after_last}
-use Rattle.layer_features.specs.Clearing.{clears_all, uncleared}
-use Rattle.layer_features.specs.CopperLaws.{UnclearedPositions}
+use Rattle.layer_features.proofs.Common.{◌≡◌, ◌∙◌, ◌⊎◌, inl, inr, ℕ, zero, suc, ◌<◌, ◌≤◌, ◌||◌, get_or, Bool, true, false, List, [], ◌∷◌, ◌++◌, length, refl, sym, ap, subst, arith, append_assoc, length-append, Contains, list_any, if◌then◌else◌, with_prefixes, with_prefixes_from, with_prefixes-append, Command, after_last, clears_all, uncleared, UnclearedPositions}
 use Rattle.layer_features.proofs.ClearingLemmas.{after_last-append, after_last-more}
 
 -- ---- elements of lists

@@ -5,7 +5,6 @@ use Rattle.grid_units.specs.Points.{GridPoint, square}
 use Rattle.macro_shapes.specs.Primitives.{is_same}
 use Rattle.gerber_commands.specs.declared.command.QuadrantMode.{QuadrantMode}
 use Rattle.gerber_commands.specs.declared.command.QuadrantMode.TheVariants as quadrant
-use Rattle.layer_features.specs.Drawn.{DrawState, point_of}
 
 -- how much the radii at the two ends of an arc may differ: 2 um, in pm (docs/FORMATS.md, Further copper)
 abbrev pub radius_slack : ℕ
@@ -24,9 +23,9 @@ differ_little more less = nat_le (square (more - (less + square radius_slack))) 
 abbrev pub are_radii : ℕ → ℕ → Bool
 are_radii a b = nat_lt 0 (min a b) && nat_le (max a b) (square max_radius) && differ_little (max a b) (min a b)
 
--- the centre of an arc as seen from its start: the offsets I and J, one left out is 0; none above 10 m (Gerber format, G75 and G74)
-abbrev pub centre_seen : DrawState → Option ℤ → Option ℤ → Option GridPoint
-centre_seen s i j = point_of s (unwrap_or i (pos 0)) (unwrap_or j (pos 0))
+-- the centre of an arc as seen from its start: the point of the offsets I and J, one left out is 0; none above 10 m (Gerber format, G75 and G74)
+abbrev pub centre_seen : (Option ℤ → Option ℤ → Option GridPoint) → Option ℤ → Option ℤ → Option GridPoint
+centre_seen point i j = point (Some (unwrap_or i (pos 0))) (Some (unwrap_or j (pos 0)))
 
 -- both ends lie equally far from a centre that the start sees there
 abbrev pub are_ends : GridPoint → GridPoint → GridPoint → Bool

@@ -11,9 +11,9 @@ use Rattle.gerber_commands.specs.declared.command.Action.{Action}
 use Rattle.gerber_commands.specs.declared.command.Action.TheVariants as action
 use Rattle.gerber_commands.specs.declared.command.Interpolation.{Interpolation}
 use Rattle.gerber_commands.specs.declared.command.Interpolation.TheVariants as interpolation
+use Rattle.gerber_commands.specs.declared.command.QuadrantMode.{QuadrantMode}
 use Rattle.gerber_commands.specs.declared.command.Command.{Command}
 use Rattle.gerber_commands.specs.declared.command.Command.TheVariants as command
-use Rattle.layer_features.specs.Drawn.{DrawState, draw_state_after, current_point, operation_point}
 use Rattle.layer_features.specs.AfterLast.{after_last}
 use Rattle.layer_features.specs.Arcs.{centre_seen, is_arc}
 use Rattle.layer_features.specs.declared.part.Way.{Way}
@@ -23,34 +23,41 @@ use Rattle.layer_features.specs.declared.part.Part.TheVariants as part
 
 -- ---- the parts of a region
 
+-- what a plot in a region meets; `point` is that of two coordinates, where one left out is the last one
+pub record PlotState : Type 0 where
+  pub in_region : Bool
+  pub mode : Interpolation
+  pub quadrant : Option QuadrantMode
+  pub point : Option ℤ → Option ℤ → Option GridPoint
+
 -- a straight side is written without the offsets of a centre (Gerber format, Operations D01, D02, D03)
 abbrev pub straight_side : GridPoint → GridPoint → Option ℤ → Option ℤ → Part
 straight_side from to None None = part.Side from to way.Straight
 straight_side from to _ _ = part.Other
 
 -- a side is an arc where both of its ends lie equally far from its centre (Gerber format, G75 and G74)
-abbrev pub arc_side : DrawState → GridPoint → GridPoint → Option ℤ → Option ℤ → Way → Part
-arc_side s from to i j bent = if is_arc s.quadrant from to (centre_seen s i j) then part.Side from to bent else part.Other
+abbrev pub arc_side : PlotState → GridPoint → GridPoint → Option ℤ → Option ℤ → Way → Part
+arc_side s from to i j bent = if is_arc s.quadrant from to (centre_seen s.point i j) then part.Side from to bent else part.Other
 
 -- the side from one point to another in a state, with these offsets of a centre (Gerber format, Plot state G01, G02, G03)
-abbrev pub side_by : DrawState → Interpolation → GridPoint → GridPoint → Option ℤ → Option ℤ → Part
+abbrev pub side_by : PlotState → Interpolation → GridPoint → GridPoint → Option ℤ → Option ℤ → Part
 side_by s interpolation.Linear from to i j = straight_side from to i j
 side_by s interpolation.Clockwise from to i j = arc_side s from to i j way.Clockwise
 side_by s interpolation.Counterclockwise from to i j = arc_side s from to i j way.Counterclockwise
 
 -- the side between two points, where both are at most 10 m from zero along each axis
-abbrev pub side_between : DrawState → Option GridPoint → Option GridPoint → Option ℤ → Option ℤ → Part
+abbrev pub side_between : PlotState → Option GridPoint → Option GridPoint → Option ℤ → Option ℤ → Part
 side_between s (Some from) (Some to) i j = side_by s s.mode from to i j
 side_between s _ _ i j = part.Other
 
 -- what an operation adds to a region: a move ends a contour, and a plot is a side of one (Gerber format, Region statement G36/G37)
-abbrev pub part_of : DrawState → Action → Option ℤ → Option ℤ → Option ℤ → Option ℤ → Part
+abbrev pub part_of : PlotState → Action → Option ℤ → Option ℤ → Option ℤ → Option ℤ → Part
 part_of s action.Move x y i j = part.Move
-part_of s action.Plot x y i j = side_between s (current_point s) (operation_point s x y) i j
+part_of s action.Plot x y i j = side_between s (s.point None None) (s.point x y) i j
 part_of s action.Flash x y i j = part.Other
 
 -- what a command adds to the region that is open
-abbrev pub part_by : DrawState → Command → Option Part
+abbrev pub part_by : PlotState → Command → Option Part
 part_by s (command.Operate action x y i j) = if s.in_region then Some (part_of s action x y i j) else None
 part_by s _ = None
 
@@ -63,9 +70,9 @@ starts_region _ = false
 abbrev pub in_last_region : List (List Command × Command) → List (List Command × Command)
 in_last_region positions = after_last (λ p. starts_region p.1) positions
 
--- the parts of the last region that was started
-abbrev pub region_parts : List Command → List Part
-region_parts before = filter_map (λ p. part_by (draw_state_after p.0) p.1) (in_last_region (with_prefixes before))
+-- the parts of the last region that was started, by what a plot after some commands meets
+abbrev pub region_parts : (List Command → PlotState) → List Command → List Part
+region_parts meets before = filter_map (λ p. part_by (meets p.0) p.1) (in_last_region (with_prefixes before))
 
 -- ---- the one contour of a region
 

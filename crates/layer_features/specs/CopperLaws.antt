@@ -1,17 +1,21 @@
 -- Laws of further copper.
 use Rattle.std.specs.Prelude.{◌≡◌, ◌↔◌, ℕ, true, false, List, ◌∷◌, ◌++◌, Some}
 use Rattle.std.specs.List.{Contains, list_any}
-use Rattle.grid_units.specs.Lists.{with_prefixes_from}
+use Rattle.grid_units.specs.Lists.{IsLegal, with_prefixes_from}
 use Rattle.gerber_commands.specs.declared.command.Command.{Command}
 use Rattle.grid_units.specs.Points.{GridPoint}
+use Rattle.pad_shapes.specs.declared.wide_pad.WidePad.{WidePad}
 use Rattle.pad_shapes.specs.Rounded.{GridRounded, IsInRounded, is_deep_left_of_all}
 use Rattle.macro_shapes.specs.Primitives.{IsInPrimitive}
 use Rattle.macro_shapes.specs.Shapes.{shape_of}
 use Rattle.macro_shapes.specs.declared.primitive.Primitive.{Primitive}
 use Rattle.layer_state.specs.declared.mirroring.Mirroring.{Mirroring}
+use Rattle.layer_state.specs.Rules.{broken_rule}
 use Rattle.layer_features.specs.declared.part.Part.{Part}
 use Rattle.layer_features.specs.Clearing.{clears_all, uncleared}
 use Rattle.layer_features.specs.Contours.{contour_of}
+use Rattle.layer_features.specs.Features.{pads_of, wide_features_of}
+use Rattle.layer_features.specs.WidePads.{AreWidePads}
 use Rattle.pad_shapes.specs.Placed.{moved_point, shape_at}
 use Rattle.layer_state.specs.Placing.{oriented_point, oriented_shape}
 
@@ -35,3 +39,11 @@ ContoursAreInsideEdges =
 abbrev pub UnclearedPositions : Type 0
 UnclearedPositions = (before : List Command) (c : Command) (after : List Command)
     → Contains (uncleared (before ++ c ∷ after)) (before, c) ↔ (list_any clears_all (with_prefixes_from before (c ∷ after)) ≡ false)
+
+-- the pads among the flashes and contours of a legal list are the pads that its commands make in the wide profile
+abbrev pub LegalWidePads : Type 0
+LegalWidePads = (commands : List Command) → IsLegal broken_rule commands → AreWidePads commands (pads_of (wide_features_of commands))
+
+-- commands make at most one list of pads in the wide profile
+abbrev pub WidePadsAreUnique : Type 0
+WidePadsAreUnique = (commands : List Command) (a b : List WidePad) → AreWidePads commands a → AreWidePads commands b → a ≡ b

@@ -13,6 +13,7 @@ use Rattle.pad_shapes.specs.Rounded.{GridRounded, corners}
 use Rattle.macro_shapes.specs.Primitives.{primitives_of}
 use Rattle.macro_shapes.specs.Shapes.{shape_of}
 use Rattle.macro_shapes.specs.Macros.{fields_of}
+use Rattle.macro_shapes.specs.declared.fields.Fields.{Fields}
 use Rattle.gerber_commands.specs.declared.command.Action.{Action}
 use Rattle.gerber_commands.specs.declared.command.Action.TheVariants as action
 use Rattle.gerber_commands.specs.declared.command.Interpolation.{Interpolation}
@@ -78,9 +79,13 @@ abbrev pub within_limits : ℕ → Option (List (List ℕ)) → Option (List (Li
 within_limits number None = None
 within_limits number (Some pieces) = if nat_le number max_shape_number && nat_le (macro_len pieces) max_macro_len then Some pieces else None
 
+-- the shape of the primitives that fields spell in this unit, where they spell some that have one (Gerber format, Aperture macro AM)
+abbrev pub primitives_shape : Units → Option (List Fields) → Option GridRounded
+primitives_shape unit fields = option_and_then shape_of (option_and_then (primitives_of unit) fields)
+
 -- the shape of a macro with the parameters of an aperture, about the point of a flash, where it has one (Gerber format, Aperture macro AM)
 abbrev pub macro_shape : Units → List (List ℕ) → Option (List ℕ) → Option GridRounded
-macro_shape unit pieces parameters = option_and_then shape_of (option_and_then (primitives_of unit) (fields_of pieces parameters))
+macro_shape unit pieces parameters = primitives_shape unit (fields_of pieces parameters)
 
 -- an aperture of this shape, where it has one
 abbrev pub shaped : Option GridRounded → DrawnAperture

@@ -13,7 +13,6 @@ use Rattle.gerber_commands.specs.declared.command.Command.{Command}
 use Rattle.layer_state.specs.declared.flash.Flash.{Flash}
 use Rattle.layer_state.specs.declared.flash.What.{What}
 use Rattle.layer_state.specs.declared.flash.What.TheVariants as what
-use Rattle.pad_shapes.specs.declared.row.Why.{Why}
 use Rattle.pad_shapes.specs.declared.row.Why.TheVariants as why
 use Rattle.layer_state.specs.Lookback.{state_after}
 use Rattle.layer_state.specs.Flashes.{added_flashes, flashes_of}

@@ -1,6 +1,6 @@
 -- The further copper that counts as pads: the flashes of macros that have a shape, and the contours of regions that are convex polygons,
 -- each by the state that its command meets (docs/FORMATS.md, Further copper).
-use Rattle.std.specs.Prelude.{ℕ, ◌+◌, Bool, not, ◌&&◌, ◌||◌, nat_le, List, [], Option, None, Some, is_none, unwrap_or, option_and_then, if◌then◌else◌}
+use Rattle.std.specs.Prelude.{ℕ, ◌+◌, ℤ, Bool, not, ◌&&◌, ◌||◌, nat_le, List, [], Option, None, Some, is_none, unwrap_or, option_and_then, if◌then◌else◌}
 use Rattle.std.specs.Ordering.{int_eq}
 use Rattle.std.specs.Option.{option_map_or}
 use Rattle.std.specs.List.{list_any, sum_by}
@@ -14,7 +14,7 @@ use Rattle.gerber_commands.specs.declared.command.Command.TheVariants as command
 use Rattle.gerber_items.specs.Pieces.{unit_scale}
 use Rattle.pad_shapes.specs.declared.row.Why.{Why}
 use Rattle.pad_shapes.specs.declared.row.Why.TheVariants as why
-use Rattle.layer_features.specs.Drawn.{DrawState, draw_state_after, draw_unit, selected_aperture, shape_in}
+use Rattle.layer_features.specs.Drawn.{DrawState, draw_state_after, draw_unit, operation_point, selected_aperture, shape_in}
 use Rattle.pad_shapes.specs.Placed.{shape_at}
 use Rattle.layer_features.specs.declared.clearing.Clearing.{Clearing}
 use Rattle.layer_state.specs.declared.mirroring.Mirroring.{Mirroring}
@@ -22,7 +22,7 @@ use Rattle.layer_features.specs.declared.part.Part.{Part}
 use Rattle.layer_features.specs.Blocks.{block_after, copy_count, in_open_block, is_repeated}
 use Rattle.layer_features.specs.Clearing.{draws, is_clear_after, is_clearing}
 use Rattle.layer_state.specs.Placing.{no_mirroring, oriented_shape, shapes_at}
-use Rattle.layer_features.specs.Contours.{contour_of, region_parts}
+use Rattle.layer_features.specs.Contours.{PlotState, contour_of, region_parts}
 
 -- ---- the state that a command meets
 
@@ -52,6 +52,10 @@ clearing_after before = record { clear = is_clear_after before; in_block = list_
 abbrev pub ended_regions : List Command → ℕ
 ended_regions before = sum_by (λ p. ended_copies (block_after p.0) p.1) (with_prefixes before)
 
+-- what of this state a plot in a region meets
+abbrev pub plot_state : DrawState → PlotState
+plot_state s = record { in_region = s.in_region; mode = s.mode; quadrant = s.quadrant; point = operation_point s }
+
 -- the state that a command meets: what draws need, the axes that are mirrored, the block, the parts of the last region, how many
 -- regions ended, and polarity
 pub record CopperState : Type 0 where
@@ -68,7 +72,7 @@ copper_state_after before = record {
   draw = draw_state_after before;
   mirroring = mirroring_after before;
   block = block_after before;
-  parts = region_parts before;
+  parts = region_parts (λ p. plot_state (draw_state_after p)) before;
   regions = ended_regions before;
   clearing = clearing_after before;
 }
@@ -79,12 +83,15 @@ copper_state_after before = record {
 abbrev pub macro_shape : CopperState → Option GridRounded
 macro_shape s = option_and_then shape_in (selected_aperture s.draw)
 
--- the shape that the selected aperture flashes, about the point of the flash: that of a macro, while flashes keep their size and are
--- turned by quarters (Gerber format, Aperture transformations LP, LM, LR, LS)
+-- The shape of an aperture as it is flashed, about the point of the flash: mirrored first, and then turned by quarters. It is none where it is
+-- scaled, or turned by other than quarters (Gerber format, Aperture transformations LP, LM, LR, LS).
+abbrev pub shape_by : ℤ → ℤ → Mirroring → Option GridRounded → Option GridRounded
+shape_by scale turn mirroring shape =
+    if int_eq scale unit_scale then option_and_then (λ turns. option_and_then (oriented_shape mirroring turns) shape) (quarter_turns turn) else None
+
+-- the shape that the selected aperture flashes
 abbrev pub flash_shape : CopperState → Option GridRounded
-flash_shape s =
-    if int_eq s.draw.scale unit_scale
-    then option_and_then (λ turns. option_and_then (oriented_shape s.mirroring turns) (macro_shape s)) (quarter_turns s.draw.turn) else None
+flash_shape s = shape_by s.draw.scale s.draw.turn s.mirroring (macro_shape s)
 
 -- why the flash of a macro whose shape is known is no pad: first it is scaled, then it is turned by no multiple of 90 degrees
 abbrev pub why_of_shape : CopperState → Why
@@ -98,9 +105,13 @@ macro_why s = if is_none (macro_shape s) then why.Macro else why_of_shape s
 abbrev pub flashed_pad : CopperState → GridPoint → Option GridRounded
 flashed_pad s at = option_and_then (λ shape. shape_at shape at) (flash_shape s)
 
--- the regions that ended and the copies of one more are no more than the most
+-- so many regions that ended, and the copies of one more in this block, are no more than the most
+abbrev pub is_room : ℕ → StepRepeat → Bool
+is_room regions block = nat_le (regions + copy_count block) max_regions
+
+-- there is room for the region that ends here
 abbrev pub has_room : CopperState → Bool
-has_room s = nat_le (s.regions + copy_count s.block) max_regions
+has_room s = is_room s.regions s.block
 
 -- the contour of the region that ends here, where it counts as a pad; in clear polarity it does not
 abbrev pub region_contour : CopperState → Option GridRounded

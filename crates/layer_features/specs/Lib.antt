@@ -7,6 +7,7 @@ pub mod Contours
 pub mod DrawnCopper
 pub mod FurtherPads
 pub mod Features
+pub mod WidePads
 pub mod Kept
 pub mod CopperHolding
 pub mod CopperLaws

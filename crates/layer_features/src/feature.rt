@@ -1,7 +1,7 @@
 //! The flashes and contours of a layer.
 
 ghost use Rattle.std.specs.Prelude.{◌≡◌, IfOk};
-ghost use Rattle.layer_features.specs.Features.{feature_row, is_contour, is_flashed_pad, is_other, pad_in, pads_of, row_kind, strict_feature_of, strict_kind_of, strict_view, taken_away, taken_kind};
+ghost use Rattle.layer_features.specs.Features.{feature_row, is_contour, is_flashed_pad, pad_in, pads_of, row_kind, strict_feature_of, strict_kind_of, strict_view, taken_away, taken_kind};
 
 use grid_units::Point;
 use pad_shapes::{FeatureRow, PlacedRounded, RowKind, Why, WidePad};
@@ -57,13 +57,6 @@ impl FeatureKind {
         ensures { result ≡ is_contour self.now }
     {
         matches!(self, FeatureKind::Contour(_))
-    }
-
-    /// Whether it is a flash that is no pad.
-    pub fn is_other(&self) -> bool
-        ensures { result ≡ is_other self.now }
-    {
-        !self.is_flashed_pad() && !self.is_contour()
     }
 
     /// The pad that it is, if it is one.

@@ -1,6 +1,6 @@
 //! Laws of further copper. Calling a law does nothing but give its clause.
 
-ghost use Rattle.layer_features.specs.CopperLaws.{ContoursAreInsideEdges, FlashedShapesAreInPrimitives, UnclearedPositions};
+ghost use Rattle.layer_features.specs.CopperLaws.{ContoursAreInsideEdges, FlashedShapesAreInPrimitives, LegalWidePads, UnclearedPositions, WidePadsAreUnique};
 
 use macro_shapes::laws::shape_is_in_primitives;
 use pad_shapes::laws::polygon_is_left_of_edges;
@@ -22,4 +22,10 @@ pub fn contours_are_inside_edges()
 /// A position counts just where all is taken away neither there nor later.
 pub fn uncleared_positions()
     ensures { UnclearedPositions }
+{}
+
+/// The pads among the flashes and contours of a legal list are the pads that its commands make in the wide profile. Commands make at most one such list.
+pub fn wide_pads()
+    ensures legal { LegalWidePads }
+    ensures unique { WidePadsAreUnique }
 {}

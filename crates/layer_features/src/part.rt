@@ -1,9 +1,9 @@
 //! The parts of a region.
 
-ghost use Rattle.std.specs.Prelude.{◌≡◌, ◌++◌, [], OnOk};
+ghost use Rattle.std.specs.Prelude.{◌≡◌, ◌++◌, [], None, OnOk};
 ghost use Rattle.std.specs.List.{cons_option};
 ghost use Rattle.gerber_commands.specs.declared.command.Command.TheVariants as command;
-ghost use Rattle.layer_features.specs.Drawn.{current_point};
+ghost use Rattle.layer_features.specs.FurtherPads.{plot_state};
 ghost use Rattle.layer_features.specs.Arcs.{centre_seen};
 ghost use Rattle.layer_features.specs.Contours.{arc_side, end_of, is_clockwise, is_counterclockwise, is_move, part_by, part_of, side_between, side_by, start_of, starts_region, straight_side};
 ghost use Rattle.layer_features.specs.Inner.Pencils.{draw_state};
@@ -106,7 +106,7 @@ fn straight_side(from: Point, to: Point, i: Option<i64>, j: Option<i64>) -> Part
 
 /// The centre of an arc as its start sees it, where the offsets are near.
 fn centre_seen(pencil: &Pencil, i: Option<i64>, j: Option<i64>) -> Option<Point>
-    ensures { result ≡ centre_seen (draw_state pencil.now) i j }
+    ensures { result ≡ centre_seen (plot_state (draw_state pencil.now)).point i j }
 {
     pencil.operation_point(Some(i.unwrap_or(0)), Some(j.unwrap_or(0)))
 }
@@ -120,7 +120,7 @@ fn arc_side(
     j: Option<i64>,
     way: Way,
 ) -> Part
-    ensures { result ≡ arc_side (draw_state pencil.now) from to i j way }
+    ensures { result ≡ arc_side (plot_state (draw_state pencil.now)) from to i j way }
 {
     if is_arc(pencil.quadrant(), from, to, centre_seen(pencil, i, j)) {
         Part::Side { from, to, way }
@@ -131,7 +131,7 @@ fn arc_side(
 
 /// The side from one point to another.
 fn side_by(pencil: &Pencil, from: Point, to: Point, i: Option<i64>, j: Option<i64>) -> Part
-    ensures { result ≡ side_by (draw_state pencil.now) (draw_state pencil.now).mode from to i j }
+    ensures { result ≡ side_by (plot_state (draw_state pencil.now)) (draw_state pencil.now).mode from to i j }
 {
     match pencil.mode() {
         Interpolation::Linear => straight_side(from, to, i, j),
@@ -144,7 +144,7 @@ fn side_by(pencil: &Pencil, from: Point, to: Point, i: Option<i64>, j: Option<i6
 
 /// The side from the current point to another, where both are near.
 fn side_to(pencil: &Pencil, to: Option<Point>, i: Option<i64>, j: Option<i64>) -> Part
-    ensures { result ≡ side_between (draw_state pencil.now) (current_point (draw_state pencil.now)) to i j }
+    ensures { result ≡ side_between (plot_state (draw_state pencil.now)) ((plot_state (draw_state pencil.now)).point None None) to i j }
 {
     match (pencil.current_point(), to) {
         (Some(from), Some(to)) => side_by(pencil, from, to, i, j),
@@ -161,7 +161,7 @@ fn part_of(
     i: Option<i64>,
     j: Option<i64>,
 ) -> Part
-    ensures { result ≡ part_of (draw_state pencil.now) action x y i j }
+    ensures { result ≡ part_of (plot_state (draw_state pencil.now)) action x y i j }
 {
     match action {
         Action::Move => Part::Move,
@@ -179,7 +179,7 @@ fn part_in(
     i: Option<i64>,
     j: Option<i64>,
 ) -> Option<Part>
-    ensures { result ≡ part_by (draw_state pencil.now) (command.Operate action x y i j) }
+    ensures { result ≡ part_by (plot_state (draw_state pencil.now)) (command.Operate action x y i j) }
 {
     if pencil.in_region() {
         Some(part_of(pencil, action, x, y, i, j))
@@ -190,7 +190,7 @@ fn part_in(
 
 /// What a command adds to the region that is open.
 fn part_by(pencil: &Pencil, command: &Command) -> Option<Part>
-    ensures { result ≡ part_by (draw_state pencil.now) command.now }
+    ensures { result ≡ part_by (plot_state (draw_state pencil.now)) command.now }
 {
     match command {
         Command::Operate { action, x, y, i, j } => {
@@ -231,7 +231,7 @@ pub(crate) fn add_operation(
     pencil: &Pencil,
     operation: &LeadingOperation,
 ) -> Result<(), AllocError>
-    ensures { OnOk result (MakeSameContour parts.new.items (parts.old.items ++ cons_option (part_by (draw_state pencil.now) (command_of operation.now)) [])) }
+    ensures { OnOk result (MakeSameContour parts.new.items (parts.old.items ++ cons_option (part_by (plot_state (draw_state pencil.now)) (command_of operation.now)) [])) }
 {
     if !pencil.in_region() {
         return Ok(());

@@ -1,16 +1,6 @@
 -- What the commands so far make of a layer, with more of them.
-use Rattle.std.proofs.Common.{◌≡◌, ◌∙◌, ◌++◌, List, [], Bool, Option, None, Some, Result, Ok, Err, OnOk, map, refl, sym, ap, append-nil}
-use Rattle.std.proofs.lemmas.List.{map-append}
-use Rattle.grid_units.specs.declared.profile.Profile.{Profile}
-use Rattle.gerber_text.specs.Reading.{Entries}
-use Rattle.pad_shapes.specs.declared.pad.Pad.{Pad}
-use Rattle.pad_shapes.specs.declared.wide_pad.WidePad.{WidePad}
-use Rattle.layer_state.specs.Holding.{HasScannedLegal, scanned_pads}
-use Rattle.layer_state.specs.KeptFlashes.{KeptParts, taking_pads, without_pads}
-use Rattle.layer_features.specs.declared.keep.Keep.{Keep}
+use Rattle.layer_image.proofs.Common.{◌≡◌, ◌∙◌, ◌++◌, List, [], Bool, Option, None, Some, Result, Ok, Err, OnOk, map, refl, sym, ap, append-nil, map-append, Profile, Entries, Pad, WidePad, HasScannedLegal, scanned_pads, KeptParts, taking_pads, without_pads, Keep, HasScannedFor, plain}
 use Rattle.layer_state.specs.declared.scan.Scan.{Scan}
-use Rattle.layer_image.specs.Holding.{HasScannedFor}
-use Rattle.layer_image.specs.Kept.{plain}
 
 -- a scan that goes on with more commands
 pub flashes_on : {E : Type 0} (profile : Profile) (of : Keep) (taken : List WidePad) (old new : Scan) (before after : Entries) (r : Result (Unit {0}) E) → HasScannedFor profile of taken old before

@@ -1,19 +1,5 @@
 -- The reason of a fault is that of a rule, or of the text.
-use Rattle.std.proofs.Common.{◌≡◌, inl, inr, ℕ, suc, Bool, true, false, cond, List, [], ◌∷◌, ◌++◌, length, Option, Some, None, unwrap_or, slice_get, refl, sym, ap, subst, ◌∙◌, arith}
-use Rattle.std.specs.List.{filter_map, cons_option, find, Contains}
-use Rattle.std.specs.Option.{option_map}
-use Rattle.grid_units.specs.Lists.{violation_at, with_prefixes_from}
-use Rattle.grid_units.specs.Results.{fault}
-use Rattle.grid_units.specs.declared.fault.Fault.{Fault}
-use Rattle.grid_units.specs.declared.fault.Reason.{Reason}
-use Rattle.gerber_commands.specs.declared.command.Command.{Command}
-use Rattle.gerber_text.specs.Reading.{Entries}
-use Rattle.layer_state.specs.Faults.{fault_of}
-use Rattle.layer_state.specs.Flashes.{flashes_of}
-use Rattle.layer_image.specs.Layers.{LayerReasonsIn}
-use Rattle.layer_state.specs.Lookback.{state_after}
-use Rattle.layer_state.specs.Rules.{all_rules, breaks_rule, broken_rule, first_broken}
-use Rattle.gerber_text.specs.Writing.{without_places}
+use Rattle.layer_image.proofs.Common.{◌≡◌, inl, inr, ℕ, suc, Bool, true, false, cond, List, [], ◌∷◌, ◌++◌, length, Option, Some, None, unwrap_or, slice_get, refl, sym, ap, subst, ◌∙◌, arith, filter_map, cons_option, find, Contains, option_map, violation_at, with_prefixes_from, fault, Fault, Reason, Command, Entries, fault_of, flashes_of, LayerReasonsIn, state_after, all_rules, breaks_rule, broken_rule, first_broken, without_places}
 
 -- what a search finds is in the list
 found : {A : Type 0} (p : A → Bool) (xs : List A) (x : A) → find p xs ≡ Some x → Contains xs x

@@ -1,18 +1,8 @@
 -- The list of the pads of some commands has just the pads that one of them makes.
-use Rattle.std.proofs.Common.{◌≡◌, ◌⊎◌, inl, inr, ℕ, zero, suc, ◌<◌, ℤ, List, [], ◌∷◌, ◌++◌, map, length, get_or, Option, None, Some, refl, sym, ap, subst, ◌∙◌, arith, append_assoc, append-nil, ◌≤◌}
-use Rattle.std.specs.List.{Contains, filter_map, flat_map, cons_option}
+use Rattle.layer_image.proofs.Common.{◌≡◌, ◌⊎◌, inl, inr, ℕ, zero, suc, ◌<◌, ℤ, List, [], ◌∷◌, ◌++◌, map, length, get_or, Option, None, Some, refl, sym, ap, subst, ◌∙◌, arith, append_assoc, append-nil, ◌≤◌, Contains, filter_map, flat_map, cons_option, flat_map-cons, Contains-append_left, Contains-append_right, Contains-append_cases, GridPoint, Pad, Command, numbers_below, GraphicsState, state_after, PadsAreFlashed, AreFlashPads, ArePadsFrom, ArePadsOf, IsFlashPad, IsPadOf, copies_in, copy_in, flashed_at}
 use Rattle.std.proofs.lemmas.Bool.{cases_lt}
-use Rattle.std.proofs.lemmas.List.Concat.{flat_map-cons}
-use Rattle.std.proofs.lemmas.List.Elements.{Contains-append_left, Contains-append_right, Contains-append_cases}
-use Rattle.grid_units.specs.Points.{GridPoint}
-use Rattle.pad_shapes.specs.declared.pad.Pad.{Pad}
 use Rattle.gerber_commands.specs.declared.command.Action.TheVariants as action
-use Rattle.gerber_commands.specs.declared.command.Command.{Command}
 use Rattle.gerber_commands.specs.declared.command.Command.TheVariants as command
-use Rattle.layer_state.specs.Flashes.{numbers_below}
-use Rattle.layer_state.specs.Lookback.{GraphicsState, state_after}
-use Rattle.layer_image.specs.PadLaws.{PadsAreFlashed}
-use Rattle.layer_state.specs.Pads.{AreFlashPads, ArePadsFrom, ArePadsOf, IsFlashPad, IsPadOf, copies_in, copy_in, flashed_at}
 use Rattle.layer_image.proofs.UniquePads.{flash_once}
 use Rattle.grid_units.proofs.ListLemmas.{flat_map_at, map_contains}
 

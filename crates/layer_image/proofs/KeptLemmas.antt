@@ -1,37 +1,19 @@
 -- What a reader keeps of a layer, by what is kept of its flashes and of its flashes and contours.
-use Rattle.std.proofs.Common.{◌≡◌, ◌∙◌, ◌+◌, ◌++◌, ℕ, Bool, true, false, cond, List, [], ◌∷◌, Option, Some, None, length, map, refl, sym, ap, subst, arith, append-nil}
-use Rattle.std.specs.Prelude.{count_by, if◌then◌else◌}
-use Rattle.std.specs.List.{cons_option}
-use Rattle.std.proofs.lemmas.List.{map-append}
+use Rattle.layer_image.proofs.Common.{◌≡◌, ◌∙◌, ◌+◌, ◌++◌, ℕ, Bool, true, false, cond, List, [], ◌∷◌, Option, Some, None, length, map, refl, sym, ap, subst, arith, append-nil, count_by, if◌then◌else◌, cons_option, map-append, Profile, Strict, Wide, Command, Entries, without_places, Pad, WidePad, IsCopperOf, contour_count, counts_of, features_of, flashed_count, is_contour, is_flashed_pad, is_other, other_count, pad_in, strict_feature, strict_kind, wide_features_of, flashes_of, IsScanned, keeps_commands, keeps_drawn, keeps_pads_alone, keeps_rows, KeptParts, keeps_flashes, keeps_pads, without_flashes, without_pads, Flash, Keep, IsKeptOf, KeptLayer, counting, flashes_kept, plain}
 use Rattle.std.proofs.lemmas.List.Sums.{sum_by-cons}
-use Rattle.grid_units.specs.declared.profile.Profile.{Profile}
-use Rattle.grid_units.specs.declared.profile.Profile.TheVariants.{Strict, Wide}
-use Rattle.gerber_commands.specs.declared.command.Command.{Command}
-use Rattle.gerber_text.specs.Reading.{Entries}
-use Rattle.gerber_text.specs.Writing.{without_places}
-use Rattle.pad_shapes.specs.declared.pad.Pad.{Pad}
-use Rattle.pad_shapes.specs.declared.wide_pad.WidePad.{WidePad}
-use Rattle.layer_features.specs.CopperHolding.{IsCopperOf}
 use Rattle.layer_features.specs.DrawnCopper.{uncleared_drawn}
-use Rattle.layer_features.specs.Features.{contour_count, counts_of, features_of, flashed_count, is_contour, is_flashed_pad, is_other, other_count, pad_in, pads_of, strict_feature, strict_kind, wide_features_of}
+use Rattle.layer_features.specs.Features.{pads_of}
 use Rattle.layer_state.specs.FileFunction.{file_function_of}
-use Rattle.layer_state.specs.Flashes.{flashes_of}
 use Rattle.layer_state.specs.Flashes as flash_lists
-use Rattle.layer_state.specs.Holding.{IsScanned}
-use Rattle.layer_features.specs.Kept.{keeps_commands, keeps_drawn, keeps_pads_alone, keeps_rows}
-use Rattle.layer_state.specs.KeptFlashes.{KeptParts, keeps_flashes, keeps_pads, without_flashes, without_pads}
 use Rattle.layer_features.specs.declared.copper.CopperParts.{CopperParts}
 use Rattle.layer_features.specs.declared.counts.FeatureCounts.{FeatureCounts}
-use Rattle.layer_state.specs.declared.flash.Flash.{Flash}
 use Rattle.layer_state.specs.declared.flash.What.{What}
 use Rattle.layer_state.specs.declared.flash.What.TheVariants as what
 use Rattle.layer_state.specs.declared.flash.FlashKeep.{FlashKeep}
 use Rattle.layer_state.specs.declared.flash.FlashKeep.TheVariants as flash_keep
-use Rattle.layer_features.specs.declared.keep.Keep.{Keep}
 use Rattle.layer_features.specs.declared.keep.Keep.TheVariants as keep
 use Rattle.layer_state.specs.declared.scan.Scanned.{Scanned}
 use Rattle.layer_features.proofs.KeptFeaturesLemmas.{of_one}
-use Rattle.layer_image.specs.Kept.{IsKeptOf, KeptLayer, counting, flashes_kept, plain}
 
 -- ---- flashes of the strict profile among flashes and contours
 

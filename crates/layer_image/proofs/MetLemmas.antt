@@ -1,23 +1,12 @@
 -- The flashes of one command more, and the commands of an operation that was passed.
-use Rattle.std.proofs.Common.{◌≡◌, ◌∙◌, ℕ, List, [], ◌∷◌, ◌++◌, drop, length, Option, None, Some, sym, ap, subst, append-nil, append_assoc}
-use Rattle.std.proofs.lemmas.List.{map-append}
-use Rattle.gerber_commands.specs.declared.command.Command.{Command}
+use Rattle.layer_image.proofs.Common.{◌≡◌, ◌∙◌, ℕ, List, [], ◌∷◌, ◌++◌, drop, length, Option, None, Some, sym, ap, subst, append-nil, append_assoc, map-append, Command, text_command, Placed, Entries, placed, without_places, Flash, added_flashes, flashes_of, HasScannedLegal, scanned_flashes, without_flashes, state_after}
 use Rattle.gerber_commands.specs.declared.command.Command.TheVariants.{Mode}
 use Rattle.gerber_commands.specs.declared.command.Interpolation.{Interpolation}
 use Rattle.gerber_commands.specs.Rows.{modes_of}
-use Rattle.gerber_text.specs.FastPath.{text_command}
-use Rattle.gerber_text.specs.declared.placed.Placed.{Placed}
 use Rattle.gerber_text.specs.declared.text_items.TextKind.{TextKind}
 use Rattle.gerber_text.specs.declared.text_items.TextKind.TheVariants as kinds
-use Rattle.gerber_text.specs.Reading.{Entries, placed}
-use Rattle.gerber_text.specs.Writing.{without_places}
 use Rattle.gerber_text.proofs.SpelledIsWritten.{bare}
-use Rattle.layer_state.specs.declared.flash.Flash.{Flash}
 use Rattle.layer_state.specs.declared.scan.Scan.{Scan}
-use Rattle.layer_state.specs.Flashes.{added_flashes, flashes_of}
-use Rattle.layer_state.specs.Holding.{HasScannedLegal, scanned_flashes}
-use Rattle.layer_state.specs.KeptFlashes.{without_flashes}
-use Rattle.layer_state.specs.Lookback.{state_after}
 use Rattle.layer_state.proofs.OwnFlashes.{drop_first, flashes_of-more}
 
 -- an interpolation makes no flash

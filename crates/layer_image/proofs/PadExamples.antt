@@ -1,17 +1,14 @@
 -- Pads of some commands.
-use Rattle.std.proofs.Common.{ℕ, pos, true, false, List, [], ◌∷◌, ◌++◌, Some, None, refl, true≢false}
+use Rattle.layer_image.proofs.Common.{ℕ, pos, true, false, List, [], ◌∷◌, ◌++◌, Some, None, refl, true≢false, Pad, Command, ArePads, ArePadsFrom, ArePadsOf, IsPadOf}
 use Rattle.grid_units.specs.declared.lengths.Unit.TheVariants.{Millimetre}
-use Rattle.pad_shapes.specs.declared.pad.Pad.{Pad}
 use Rattle.pad_shapes.specs.declared.pad.Pad.TheVariants as pads
 use Rattle.gerber_commands.specs.declared.command.Action.TheVariants as action
-use Rattle.gerber_commands.specs.declared.command.Command.{Command}
 use Rattle.gerber_commands.specs.declared.command.Command.TheVariants as command
 use Rattle.gerber_commands.specs.declared.command.Format.{Format}
 use Rattle.gerber_commands.specs.declared.command.Standard.TheVariants as standard
 use Rattle.gerber_commands.specs.declared.command.StepRepeat.{StepRepeat}
 use Rattle.gerber_commands.specs.declared.command.Template.TheVariants as template
 use Rattle.layer_state.specs.declared.aperture.Aperture.TheVariants as aperture
-use Rattle.layer_state.specs.Pads.{ArePads, ArePadsFrom, ArePadsOf, IsPadOf}
 
 -- four whole digits and six decimals, which are steps of 1 nm in mm
 abbrev nanometres : Format

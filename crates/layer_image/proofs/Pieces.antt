@@ -1,39 +1,14 @@
 -- What a reader of a layer in pieces shows of the text so far.
-use Rattle.std.proofs.Common.{◌≡◌, inl, inr, ℕ, List, [], ◌++◌, length, take, drop, append-nil, append_assoc, Bool, true, false, cond, Result, Ok, Err, OnOk, IfOk, IfErr, refl, sym, ap, subst, ◌∙◌, nat_lt, arith}
-use Rattle.std.proofs.Math.Seq.{take-length}
-use Rattle.std.specs.Prelude.{if◌then◌else◌}
-use Rattle.std.proofs.lemmas.List.{take-append-drop}
-use Rattle.grid_units.specs.Results.{AnswersAlways, Answers, IfFault}
-use Rattle.grid_units.specs.declared.fault.Fault.{Fault}
+use Rattle.layer_image.proofs.Common.{◌≡◌, inl, inr, ℕ, List, [], ◌++◌, length, take, drop, append-nil, append_assoc, Bool, true, false, cond, Result, Ok, Err, OnOk, IfOk, IfErr, refl, sym, ap, subst, ◌∙◌, nat_lt, arith, take-length, if◌then◌else◌, take-append-drop, AnswersAlways, Answers, IfFault, Fault, bind_ok, Profile, WordReader, OffsetByte, Entries, commands_by, shown_by, ShowsIn, ReadsIn, SpellsPrefixIn, SpellsBeforeFaultIn, entries_after, StandsIn, FailedIn, FailsWithIn, held, shown_spelled, WidePad, Keep, IsFirstFault, LayerImage, ReadsLayer, ReadsLayerIn, IsKeptOf, KeptLayer, ReadsKeptIn, image_in, LayerContent, counts_of, features_of, flashes_of, pads_of, Strict, IsLegal, HasContent, ShowsLayerFaultIn, text_limit, without_places, broken_rule}
 use Rattle.grid_units.specs.declared.fault.Fail.{Fail}
 use Rattle.grid_units.specs.declared.fault.Fail.TheVariants as fails
-use Rattle.grid_units.proofs.ResultLemmas.{bind_ok}
-use Rattle.grid_units.specs.declared.profile.Profile.{Profile}
-use Rattle.gerber_text.specs.declared.reader.WordReader.{WordReader}
-use Rattle.gerber_text.specs.Cut.{OffsetByte}
-use Rattle.gerber_text.specs.Reading.{Entries, commands_by, shown_by, ShowsIn, ReadsIn, SpellsPrefixIn, SpellsBeforeFaultIn, entries_after}
-use Rattle.gerber_text.specs.Holding.{StandsIn, FailedIn, FailsWithIn, held}
-use Rattle.gerber_text.proofs.ShowsLemmas.{shown_spelled}
 use Rattle.gerber_text.proofs.FinishLemmas.{holds_shows, shows_reads}
 use Rattle.gerber_text.proofs.FaultsStay.{fails_longer}
-use Rattle.pad_shapes.specs.declared.wide_pad.WidePad.{WidePad}
-use Rattle.layer_features.specs.declared.keep.Keep.{Keep}
 use Rattle.layer_features.specs.declared.keep.Keep.TheVariants as keep
-use Rattle.layer_state.specs.Faults.{IsFirstFault}
-use Rattle.layer_image.specs.Layers.{LayerImage, ReadsLayer, ReadsLayerIn}
-use Rattle.layer_image.specs.Kept.{IsKeptOf, KeptLayer, ReadsKeptIn, image_in}
-use Rattle.layer_image.specs.declared.content.LayerContent.{LayerContent}
 use Rattle.layer_image.specs.declared.content.LayerContent.TheVariants as content
 use Rattle.layer_image.proofs.KeptLemmas.{counts_of_flashes}
 use Rattle.layer_features.specs.declared.counts.FeatureCounts.{FeatureCounts}
-use Rattle.layer_features.specs.Features.{counts_of, features_of}
-use Rattle.layer_state.specs.Flashes.{flashes_of, other_count, pads_of}
-use Rattle.grid_units.specs.declared.profile.Profile.TheVariants.{Strict}
-use Rattle.grid_units.specs.Lists.{IsLegal}
-use Rattle.layer_image.specs.Holding.{HasContent, ShowsLayerFaultIn}
-use Rattle.grid_units.specs.Limits.{text_limit}
-use Rattle.gerber_text.specs.Writing.{without_places}
-use Rattle.layer_state.specs.Rules.{broken_rule}
+use Rattle.layer_state.specs.Flashes.{other_count}
 
 short_ok : (t : Bool) (x cs : Entries) (e : Fault) → cond t (Err e) (Ok x) ≡ Ok cs → x ≡ cs
 short_ok true x cs e h = absurd cc

@@ -1,18 +1,5 @@
 -- A text of legal commands reads as their layer.
-use Rattle.std.proofs.Common.{◌≡◌, ℕ, List, length, Bool, true, false, cond, Ok, Err, [], refl, sym, ap, subst, ◌∙◌, nat_lt, arith}
-use Rattle.std.proofs.Math.Seq.{take-length}
-use Rattle.grid_units.specs.declared.fault.Fault.{Fault}
-use Rattle.grid_units.proofs.ResultLemmas.{bind_ok}
-use Rattle.grid_units.specs.declared.profile.Profile.{Profile}
-use Rattle.gerber_text.specs.Cut.{OffsetByte, has_end}
-use Rattle.gerber_text.specs.Reading.{Entries, commands_by, shown_by, ReadsIn, SpellsPrefixIn}
-use Rattle.gerber_text.proofs.ShowsLemmas.{shown_spelled}
-use Rattle.gerber_text.proofs.SpellsTextLemmas.{reads_spells}
-use Rattle.layer_image.specs.Layers.{LayerImage, ReadsLayerIn, image_of}
-use Rattle.grid_units.specs.Lists.{IsLegal}
-use Rattle.grid_units.specs.Limits.{text_limit}
-use Rattle.gerber_text.specs.Writing.{without_places}
-use Rattle.layer_state.specs.Rules.{broken_rule}
+use Rattle.layer_image.proofs.Common.{◌≡◌, ℕ, List, length, Bool, true, false, cond, Ok, Err, [], refl, sym, ap, subst, ◌∙◌, nat_lt, arith, take-length, Fault, bind_ok, Profile, OffsetByte, has_end, Entries, commands_by, shown_by, ReadsIn, SpellsPrefixIn, shown_spelled, reads_spells, LayerImage, ReadsLayerIn, image_of, IsLegal, text_limit, without_places, broken_rule}
 
 ended_ok : (t u : Bool) (x cs : Entries) (e d : Fault) → cond t (Err e) (cond u (Ok x) (Err d)) ≡ Ok cs → x ≡ cs
 ended_ok true u x cs e d h = absurd cc

@@ -1,28 +1,9 @@
 -- Each text has an answer.
-use Rattle.std.proofs.Common.{◌≡◌, ◌⊎◌, inl, inr, ℕ, suc, ◌+◌, ◌≤◌, List, [], ◌∷◌, ◌++◌, length, take, Option, Some, None, slice_get, cond, Result, Ok, Err, refl, sym, ap, ◌∙◌, nat_lt, arith}
-use Rattle.std.specs.List.{filter_map, cons_option, list_all}
-use Rattle.std.specs.Option.{option_map}
-use Rattle.std.proofs.Math.Seq.{take-length}
-use Rattle.std.proofs.lemmas.List.{map-append}
-use Rattle.grid_units.specs.Lists.{violations, violation_at, with_prefixes_from, IsLegal}
-use Rattle.grid_units.specs.Results.{◌>>=◌, fault}
-use Rattle.grid_units.specs.declared.fault.Fault.{Fault}
-use Rattle.grid_units.specs.declared.fault.Reason.{Reason}
-use Rattle.grid_units.proofs.ResultLemmas.{bind_ok, bind_err}
-use Rattle.grid_units.specs.declared.profile.Profile.{Profile}
-use Rattle.gerber_commands.specs.declared.command.Command.{Command}
-use Rattle.gerber_text.specs.declared.placed.Placed.{Placed}
-use Rattle.gerber_text.specs.Cut.{OffsetByte, bytes_of, first_offset, has_end}
-use Rattle.gerber_text.specs.Reading.{Entries, SpellsPrefixIn, ReadsIn, commands_by, is_blank, read_by, shown_by, spelled_in}
+use Rattle.layer_image.proofs.Common.{◌≡◌, ◌⊎◌, inl, inr, ℕ, suc, ◌+◌, ◌≤◌, List, [], ◌∷◌, ◌++◌, length, take, Option, Some, None, slice_get, cond, Result, Ok, Err, refl, sym, ap, ◌∙◌, nat_lt, arith, filter_map, cons_option, list_all, option_map, take-length, map-append, violations, violation_at, with_prefixes_from, IsLegal, ◌>>=◌, fault, Fault, Reason, bind_ok, bind_err, Profile, Command, Placed, OffsetByte, bytes_of, first_offset, has_end, Entries, SpellsPrefixIn, ReadsIn, commands_by, is_blank, read_by, shown_by, spelled_in, fault_of, IsFirstFault, EachTextAnswersIn, LayerImage, ReadsLayerIn, image_of, broken_rule, text_limit, item_limit, without_places}
 use Rattle.gerber_text.proofs.Some.{some_reading}
-use Rattle.layer_state.specs.Faults.{fault_of, IsFirstFault}
-use Rattle.layer_image.specs.Layers.{EachTextAnswersIn, LayerImage, ReadsLayerIn, image_of}
-use Rattle.layer_state.specs.Rules.{broken_rule}
 use Rattle.layer_image.proofs.Reading.{legal_layer, kept_all}
 use Rattle.layer_image.proofs.UniqueReading.{rest_place, ended_place}
 use Rattle.gerber_text.proofs.ReaderStepLemmas.{spelled_place}
-use Rattle.grid_units.specs.Limits.{text_limit, item_limit}
-use Rattle.gerber_text.specs.Writing.{without_places}
 
 -- ---- a list is legal, or has a first fault
 

@@ -1,13 +1,7 @@
 -- Commands make at most one list of pads.
-use Rattle.std.proofs.Common.{◌≡◌, ℤ, List, [], ◌∷◌, ◌++◌, Option, Some, sym, ◌∙◌}
-use Rattle.std.specs.List.{filter_map}
-use Rattle.pad_shapes.specs.declared.pad.Pad.{Pad}
+use Rattle.layer_image.proofs.Common.{◌≡◌, ℤ, List, [], ◌∷◌, ◌++◌, Option, Some, sym, ◌∙◌, filter_map, Pad, Command, GraphicsState, state_after, PadsAreUnique, AreFlashPads, ArePadsFrom, ArePadsOf, copies_in, flashed_at}
 use Rattle.gerber_commands.specs.declared.command.Action.TheVariants as action
-use Rattle.gerber_commands.specs.declared.command.Command.{Command}
 use Rattle.gerber_commands.specs.declared.command.Command.TheVariants as command
-use Rattle.layer_state.specs.Lookback.{GraphicsState, state_after}
-use Rattle.layer_image.specs.PadLaws.{PadsAreUnique}
-use Rattle.layer_state.specs.Pads.{AreFlashPads, ArePadsFrom, ArePadsOf, copies_in, flashed_at}
 
 same_value : {A : Type 0} (o : Option A) (a b : A) → o ≡ Some a → o ≡ Some b → a ≡ b
 same_value o a b p q = cc

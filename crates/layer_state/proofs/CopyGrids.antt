@@ -1,19 +1,9 @@
 -- Sums of lengths, and the copies of a point.
-use Rattle.std.proofs.Common.{◌≡◌, ℕ, ◌+◌, ◌*◌, ◌^◌, ◌<◌, ◌≤◌, zero, suc, ℤ, pos, negsuc, ◌+ℤ◌, ◌*ℤ◌, unsigned_abs, FitsSigned, Bool, true, false, List, [], ◌∷◌, ◌++◌, map, length, ◌||◌, nat_lt, refl, sym, ap, ◌∙◌, arith, to_z, of_z, mul-le-mul_right, mul-le-mul, true≢false, zero-mul, length-append, append-nil, append_assoc, add-one}
-use Rattle.std.proofs.lemmas.Int.{ints, unsigned_abs-mul, to_z-of_z}
+use Rattle.layer_state.proofs.Common.{◌≡◌, ℕ, ◌+◌, ◌*◌, ◌^◌, ◌<◌, ◌≤◌, zero, suc, ℤ, pos, negsuc, ◌+ℤ◌, ◌*ℤ◌, unsigned_abs, FitsSigned, Bool, true, false, List, [], ◌∷◌, ◌++◌, map, length, ◌||◌, nat_lt, refl, sym, ap, ◌∙◌, arith, to_z, of_z, mul-le-mul_right, mul-le-mul, true≢false, zero-mul, length-append, append-nil, append_assoc, add-one, ints, unsigned_abs-mul, to_z-of_z, list_any, flat_map, length-map, map-append, ltb-true, ltb-false, is_too_far, numbers_below, copies, copy_at, is_far_point, GridPoint, max_coordinate, w128, w64, back_128}
 use Rattle.std.proofs.lemmas.List.Folds.{list_any-append}
 use Rattle.std.proofs.lemmas.Grind.{common_steps, flat_map-append}
-use Rattle.std.specs.List.{list_any, flat_map}
-use Rattle.std.proofs.lemmas.List.{length-map, map-append}
 use Rattle.std.proofs.lemmas.Nat.{mul-add-lt}
-use Rattle.std.proofs.lemmas.Bool.{ltb-true, ltb-false}
-use Rattle.grid_units.specs.Numbers.{is_too_far}
-use Rattle.layer_state.specs.Flashes.{numbers_below, copies, copy_at}
-use Rattle.layer_state.specs.Rules.{is_far_point}
 use Rattle.layer_state.specs.declared.grid.CopyGrid.{CopyGrid}
-use Rattle.grid_units.specs.Points.{GridPoint, max_coordinate}
-use mir.Syntax.{w128, w64}
-use Rattle.grid_units.proofs.LengthLemmas.{back_128}
 
 pub fits_sum : (a b : ℤ) → unsigned_abs a ≤ 2 ^ 98 → unsigned_abs b ≤ 2 ^ 103 → FitsSigned w128 (a +ℤ b)
 fits_sum a b x y = omega (arith, ints)

@@ -1,8 +1,7 @@
 -- Numbers with many digits, and decimal places below a picometre.
-use Rattle.std.proofs.Common.{◌≡◌, ℕ, ◌+◌, ◌-◌, ◌*◌, ◌/◌, ◌^◌, ◌≤◌, ◌<◌, true, false, nat_le, arith, ◌∙◌, ap, sym, subst, inl, inr, lit<}
+use Rattle.layer_state.proofs.Common.{◌≡◌, ℕ, ◌+◌, ◌-◌, ◌*◌, ◌/◌, ◌^◌, ◌≤◌, ◌<◌, true, false, nat_le, arith, ◌∙◌, ap, sym, subst, inl, inr, lit<, cases_lt}
 use Rattle.std.proofs.Math.Nat.{pow-le-pow_right, le-div_iff_mul-le}
 use Rattle.std.proofs.lemmas.Nat.{pow-add, div_below}
-use Rattle.std.proofs.lemmas.Bool.{cases_lt}
 use Rattle.std.proofs.lemmas.Bool.Decides.{nat_tests}
 
 pub test_yes : (a b : ℕ) → a ≤ b → nat_le a b ≡ true

@@ -1,16 +1,9 @@
 -- Most operations break no rule, and a flash among them makes one flash.
-use Rattle.std.proofs.Common.{◌≡◌, ℕ, ◌+◌, ◌*◌, ◌/◌, ◌^◌, ◌<◌, ◌≤◌, ℤ, pos, ◌*ℤ◌, unsigned_abs, true, false, cond, not, ◌||◌, ◌&&◌, nat_le, nat_lt, List, [], ◌∷◌, map, length, Option, None, Some, Ok, unwrap_or, is_none, refl, sym, ap, subst, ◌∙◌, arith, mul-le-mul_right}
-use Rattle.std.proofs.lemmas.Int.{unsigned_abs-mul}
+use Rattle.layer_state.proofs.Common.{◌≡◌, ℕ, ◌+◌, ◌*◌, ◌/◌, ◌^◌, ◌<◌, ◌≤◌, ℤ, pos, ◌*ℤ◌, unsigned_abs, true, false, cond, not, ◌||◌, ◌&&◌, nat_le, nat_lt, List, [], ◌∷◌, map, length, Option, None, Some, Ok, unwrap_or, is_none, refl, sym, ap, subst, ◌∙◌, arith, mul-le-mul_right, unsigned_abs-mul, option_map_or, option_and_then, flat_map, list_any, GridPoint, max_coordinate, is_too_far, picometres, unit_length, Action, Command, Flash, Flashes, State, GraphicsState, current_aperture, numbers_below, copies, copies_at, copy_at, grid_at, is_flash, aperture_flashes, flash_at, added_flashes, current_unit, current_decimals, what_at, moved, origin, first_broken, needs_aperture, has_too_many_digits, reaches_too_far, makes_too_many_flashes, flashes_too_far, is_long_coordinate, is_far_coordinate, is_far_pad, is_far_point, KeptParts, Adds, flash_count, IsStateAfter, Applies, AppliesOrRefuses, after, state_of, AreLengths, IsSingleFlash, AreCachedValues, IsFlashOf, changes_cached, is_far_flash, is_within, point_of, and_false}
 use Rattle.std.proofs.lemmas.Bool.Decides.{nat_tests}
-use Rattle.std.specs.Option.{option_map_or, option_and_then}
-use Rattle.std.specs.List.{flat_map, list_any}
-use Rattle.grid_units.specs.Points.{GridPoint, max_coordinate}
-use Rattle.grid_units.specs.Numbers.{is_too_far, picometres, unit_length}
 use Rattle.grid_units.specs.declared.fault.Reason.TheVariants as reason
 use Rattle.grid_units.specs.declared.lengths.Unit.{Unit as Units}
 use Rattle.grid_units.specs.declared.lengths.Unit.TheVariants.{Millimetre}
-use Rattle.gerber_commands.specs.declared.command.Action.{Action}
-use Rattle.gerber_commands.specs.declared.command.Command.{Command}
 use Rattle.gerber_commands.specs.declared.command.Command.TheVariants as command
 use Rattle.gerber_commands.specs.declared.command.Format.{Format}
 use Rattle.gerber_commands.specs.declared.command.StepRepeat.{StepRepeat}
@@ -18,24 +11,13 @@ use Rattle.layer_state.specs.declared.aperture.Aperture.{Aperture}
 use Rattle.layer_state.specs.declared.aperture.Aperture.TheVariants as aperture
 use Rattle.layer_state.specs.declared.cached_values.CachedValues.{CachedValues}
 use Rattle.layer_state.specs.declared.cached_values.Lengths.{Lengths}
-use Rattle.layer_state.specs.declared.flash.Flash.{Flash}
-use Rattle.layer_state.specs.declared.flashes.Flashes.{Flashes}
-use Rattle.layer_state.specs.declared.state.State.{State}
 use Rattle.layer_state.specs.declared.flash.What.{What}
 use Rattle.layer_state.specs.declared.grid.CopyGrid.{CopyGrid}
-use Rattle.layer_state.specs.Lookback.{GraphicsState, current_aperture}
-use Rattle.layer_state.specs.Flashes.{numbers_below, copies, copies_at, copy_at, grid_at, is_flash, aperture_flashes, flash_at, added_flashes, current_unit, current_decimals, what_at}
-use Rattle.layer_state.specs.Inner.MovedPads.{moved, origin}
-use Rattle.layer_state.specs.Rules.{first_broken, needs_aperture, has_too_many_digits, reaches_too_far, makes_too_many_flashes, flashes_too_far, is_long_coordinate, is_far_coordinate, is_far_pad, is_far_point}
-use Rattle.layer_state.specs.KeptFlashes.{KeptParts, Adds, flash_count}
-use Rattle.layer_state.specs.Inner.IsStateAfter.{IsStateAfter, Applies, AppliesOrRefuses, after, state_of}
-use Rattle.layer_state.specs.Inner.FastOperations.{AreLengths, IsSingleFlash, AreCachedValues, IsFlashOf, changes_cached, is_far_flash, is_within, point_of}
 use Rattle.layer_state.proofs.KeptFlashesLemmas.{adds_none}
 use Rattle.layer_state.proofs.CopyGrids.{no_multiple, not_far}
 use Rattle.layer_state.proofs.StateLemmas.{state_after_one_more, same_rule}
 use Rattle.layer_state.proofs.MovedFlashes.{what_moved}
 use Rattle.layer_state.proofs.DigitLemmas.{test_no}
-use Rattle.grid_units.proofs.BoolLemmas.{and_false}
 
 -- an operation breaks no rule where these rules do not apply
 pub no_rule_broken : (s : GraphicsState) (count : ℕ) (action : Action) (x y i j : Option ℤ)

@@ -1,21 +1,6 @@
 -- The first command at which the judge stops gives the first fault.
-use Rattle.std.proofs.Common.{List, ◌≡◌, [], ◌∷◌, ◌++◌, length, Err, ap}
-use Rattle.std.specs.Option.{option_map}
-use Rattle.grid_units.specs.Lists.{violations}
-use Rattle.grid_units.specs.Results.{fault, IfFault}
-use Rattle.grid_units.proofs.LookbackLemmas.{violations-first}
-use Rattle.gerber_commands.specs.declared.command.Command.{Command}
-use Rattle.gerber_text.specs.declared.placed.Placed.{Placed}
-use Rattle.gerber_text.specs.Reading.{Entries}
-use Rattle.layer_state.specs.declared.state.State.{State}
-use Rattle.grid_units.specs.declared.item_fail.ItemFail.{ItemFail}
-use Rattle.layer_state.specs.Inner.IsStateAfter.{AppliesOrRefuses}
+use Rattle.layer_state.proofs.Common.{List, ◌≡◌, [], ◌∷◌, ◌++◌, length, Err, ap, option_map, violations, fault, IfFault, violations-first, Command, Placed, Entries, State, ItemFail, AppliesOrRefuses, Scan, IsScanResult, fault_of, fail_at, IsFirstFault, KeptParts, without_places}
 use Rattle.grid_units.specs.declared.item_fail.ItemFail.TheVariants as stop
-use Rattle.layer_state.specs.declared.scan.Scan.{Scan}
-use Rattle.layer_state.specs.Holding.{IsScanResult}
-use Rattle.layer_state.specs.Faults.{fault_of, fail_at, IsFirstFault}
-use Rattle.layer_state.specs.KeptFlashes.{KeptParts}
-use Rattle.gerber_text.specs.Writing.{without_places}
 
 pub stop_is_first_fault : (parts : KeptParts) (cs ds : Entries) (e : Placed Command) (new : Scan) (s : ItemFail) → violations fault_of cs ≡ [] → IsScanResult parts (without_places cs) e.what new (Err s) → IfFault (IsFirstFault (cs ++ e ∷ ds)) (fail_at e.place e.byte s)
 stop_is_first_fault parts cs ds e new stop.Memory none answer = tt

@@ -1,15 +1,10 @@
 -- Flashes that are added to others.
-use Rattle.std.proofs.Common.{◌≡◌, ◌+◌, cond, Bool, true, false, ℕ, suc, List, [], ◌∷◌, ◌++◌, length, length-append, refl, sym, ap, ◌∙◌, append-nil, append_assoc, arith}
-use Rattle.std.specs.List.{cons_option}
+use Rattle.layer_state.proofs.Common.{◌≡◌, ◌+◌, cond, Bool, true, false, ℕ, suc, List, [], ◌∷◌, ◌++◌, length, length-append, refl, sym, ap, ◌∙◌, append-nil, append_assoc, arith, cons_option, Flash, Flashes, pads_of, pad_in, is_other, other_count, Adds, keeps_flashes, keeps_pads}
 use Rattle.std.proofs.lemmas.List.Elements.{filter_map-append}
 use Rattle.std.proofs.lemmas.List.Sums.{sum_by-append}
 use Rattle.pad_shapes.specs.declared.pad.Pad.{Pad}
 use Rattle.layer_state.specs.declared.flash.What.{What}
 use Rattle.layer_state.specs.declared.flash.What.TheVariants as what
-use Rattle.layer_state.specs.declared.flash.Flash.{Flash}
-use Rattle.layer_state.specs.declared.flashes.Flashes.{Flashes}
-use Rattle.layer_state.specs.Flashes.{pads_of, pad_in, is_other, other_count}
-use Rattle.layer_state.specs.KeptFlashes.{Adds, keeps_flashes, keeps_pads}
 
 -- nothing is kept of nothing
 pub kept_none : {A : Type 0} (b : Bool) (xs : List A) → xs ≡ xs ++ cond b [] []

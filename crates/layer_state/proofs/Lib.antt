@@ -1,3 +1,4 @@
+pub mod Common
 pub mod CopyGrids
 pub mod SumLemmas
 pub mod KeptFlashesLemmas

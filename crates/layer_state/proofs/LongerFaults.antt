@@ -1,12 +1,7 @@
 -- The fault of some commands and the next one is that of all commands.
-use Rattle.std.proofs.Common.{◌≡◌, ◌+◌, ◌<◌, ℕ, List, [], ◌∷◌, ◌++◌, length, take, drop, get_or, ap, subst, ◌∙◌, append_assoc}
-use Rattle.grid_units.specs.Results.{IfFault}
+use Rattle.layer_state.proofs.Common.{◌≡◌, ◌+◌, ◌<◌, ℕ, List, [], ◌∷◌, ◌++◌, length, take, drop, get_or, ap, subst, ◌∙◌, append_assoc, IfFault, Command, Placed, Entries, IsFirstFault}
 use Rattle.grid_units.specs.declared.fault.Fail.{Fail}
 use Rattle.grid_units.specs.declared.fault.Fail.TheVariants as fails
-use Rattle.gerber_commands.specs.declared.command.Command.{Command}
-use Rattle.gerber_text.specs.declared.placed.Placed.{Placed}
-use Rattle.gerber_text.specs.Reading.{Entries}
-use Rattle.layer_state.specs.Faults.{IsFirstFault}
 use Rattle.layer_state.proofs.SplitAtCommand.{cut_at}
 use Rattle.layer_state.proofs.LegalLists.{first_fault_of_longer}
 

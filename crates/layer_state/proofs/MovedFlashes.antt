@@ -1,17 +1,11 @@
 -- What is flashed at a point is what is flashed at the origin, moved there.
-use Rattle.std.proofs.Common.{◌≡◌, ℤ, Bool, true, false, if◌then◌else◌, List, map, Option, None, Some, refl}
-use Rattle.std.specs.Option.{option_map_or}
-use Rattle.std.specs.List.{find}
-use Rattle.grid_units.specs.Points.{GridPoint}
+use Rattle.layer_state.proofs.Common.{◌≡◌, ℤ, Bool, true, false, if◌then◌else◌, List, map, Option, None, Some, refl, option_map_or, find, GridPoint, GraphicsState, what_at, shape_at, rect_at, obround_at, swaps_sides, rules_out_pad, why_order, current_unit, flash_at, moved, origin, flash_moved}
 use Rattle.grid_units.specs.declared.lengths.Unit.{Unit as Units}
 use Rattle.pad_shapes.specs.declared.pad.Pad.TheVariants as pads
 use Rattle.layer_state.specs.declared.aperture.Aperture.{Aperture}
 use Rattle.layer_state.specs.declared.aperture.Aperture.TheVariants as aperture
 use Rattle.pad_shapes.specs.declared.row.Why.{Why}
 use Rattle.layer_state.specs.declared.flash.What.TheVariants as what
-use Rattle.layer_state.specs.Lookback.{GraphicsState}
-use Rattle.layer_state.specs.Flashes.{what_at, shape_at, rect_at, obround_at, swaps_sides, rules_out_pad, why_order, current_unit, flash_at}
-use Rattle.layer_state.specs.Inner.MovedPads.{moved, origin, flash_moved}
 
 shape_moved : (p : GridPoint) (unit : Units) (turn : ℤ) (shape : Aperture) → moved p (shape_at origin unit turn shape) ≡ shape_at p unit turn shape
 shape_moved p unit turn (aperture.Circle diameter holed) = refl

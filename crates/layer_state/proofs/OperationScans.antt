@@ -1,26 +1,8 @@
 -- A scan that meets an interpolation or an operation.
-use Rattle.std.proofs.Common.{◌≡◌, ℕ, ℤ, [], ◌∷◌, ◌++◌, List, Option, None, Some, Result, Ok, Err, refl, sym, ap, subst, ◌∙◌, append-nil, append_assoc}
-use Rattle.std.proofs.lemmas.List.{map-append}
-use Rattle.grid_units.specs.Lists.{violations}
-use Rattle.grid_units.proofs.LookbackLemmas.{last_set-more, violations-more}
-use Rattle.grid_units.specs.declared.item_fail.ItemFail.{ItemFail}
+use Rattle.layer_state.proofs.Common.{◌≡◌, ℕ, ℤ, [], ◌∷◌, ◌++◌, List, Option, None, Some, Result, Ok, Err, refl, sym, ap, subst, ◌∙◌, append-nil, append_assoc, map-append, violations, last_set-more, violations-more, ItemFail, Action, Command, Mode, Operate, Placed, Entries, placed, without_places, State, Scan, function_set, HasScanned, HasScannedLegal, IsScanResult, Applies, AppliesOrRefuses, state_of, KeptParts, flash_count, GraphicsState, broken_rule, first_broken}
 use Rattle.grid_units.specs.declared.item_fail.ItemFail.TheVariants.{Memory, Refused}
-use Rattle.gerber_commands.specs.declared.command.Action.{Action}
 use Rattle.gerber_commands.specs.declared.command.Interpolation.{Interpolation}
-use Rattle.gerber_commands.specs.declared.command.Command.{Command}
-use Rattle.gerber_commands.specs.declared.command.Command.TheVariants.{Mode, Operate}
 use Rattle.gerber_commands.specs.Rows.{modes_of}
-use Rattle.gerber_text.specs.declared.placed.Placed.{Placed}
-use Rattle.gerber_text.specs.Reading.{Entries, placed}
-use Rattle.gerber_text.specs.Writing.{without_places}
-use Rattle.layer_state.specs.declared.state.State.{State}
-use Rattle.layer_state.specs.declared.scan.Scan.{Scan}
-use Rattle.layer_state.specs.FileFunction.{function_set}
-use Rattle.layer_state.specs.Holding.{HasScanned, HasScannedLegal, IsScanResult}
-use Rattle.layer_state.specs.Inner.IsStateAfter.{Applies, AppliesOrRefuses, state_of}
-use Rattle.layer_state.specs.KeptFlashes.{KeptParts, flash_count}
-use Rattle.layer_state.specs.Lookback.{GraphicsState}
-use Rattle.layer_state.specs.Rules.{broken_rule, first_broken}
 use Rattle.layer_state.proofs.KeptFlashesLemmas.{adds_none}
 use Rattle.layer_state.proofs.StateLemmas.{state_after_one_more, same_rule}
 

@@ -1,15 +1,9 @@
 -- The polygon that a call makes of corners.
-use Rattle.std.proofs.Common.{◌≡◌, ◌∙◌, ℤ, ◌<◌, Bool, true, false, ◌&&◌, List, [], ◌∷◌, length, map, reverse, Option, None, Some, unsigned_abs, refl, ap, sym}
+use Rattle.layer_state.proofs.Common.{◌≡◌, ◌∙◌, ℤ, ◌<◌, Bool, true, false, ◌&&◌, List, [], ◌∷◌, length, map, reverse, Option, None, Some, unsigned_abs, refl, ap, sym, false≢true, length-reverse, both_true, GridPoint, GridRounded, IsRounded, is_outline, max_corners, in_order, is_turned_over, no_mirroring, oriented_shape, rounded_by}
 use Rattle.std.specs.Prelude.{◌↔◌, IsSome, IfSome, if◌then◌else◌}
-use Rattle.std.proofs.lemmas.Bool.{false≢true}
-use Rattle.std.proofs.lemmas.List.{length-reverse}
 use mathlib.Core.Bool.{beq}
-use Rattle.grid_units.proofs.BoolLemmas.{both_true}
-use Rattle.grid_units.specs.Points.{GridPoint}
 use Rattle.pad_shapes.specs.Shapes.{IsPadRadius}
-use Rattle.pad_shapes.specs.Rounded.{GridRounded, IsRounded, is_outline, max_corners}
 use Rattle.layer_state.specs.declared.mirroring.Mirroring.{Mirroring}
-use Rattle.layer_state.specs.Placing.{in_order, is_turned_over, no_mirroring, oriented_shape, rounded_by}
 
 pub rounded_is : (o : Option GridRounded) (first : GridPoint) (others : List GridPoint) (radius : ℤ) → length others < max_corners → IsPadRadius radius → IsSome o ↔ IsRounded first others radius
     → IfSome o (λ r. r ≡ record { first = first; others = others; radius = unsigned_abs radius }) → o ≡ rounded_by first others (unsigned_abs radius)

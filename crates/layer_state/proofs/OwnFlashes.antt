@@ -1,13 +1,6 @@
 -- The flashes and contours of all commands, cut where the last ones were taken away; and the flashes of one command more.
-use Rattle.std.proofs.Common.{◌≡◌, ◌∙◌, List, [], ◌∷◌, ◌++◌, drop, length, refl, ap, append-nil}
-use Rattle.std.specs.List.{flat_map}
+use Rattle.layer_state.proofs.Common.{◌≡◌, ◌∙◌, List, [], ◌∷◌, ◌++◌, drop, length, refl, ap, append-nil, flat_map, with_prefixes, with_prefixes-append, Command, Flash, added_flashes, flashes_of, state_after}
 use Rattle.std.proofs.lemmas.Grind.{flat_map-append}
-use Rattle.grid_units.specs.Lists.{with_prefixes}
-use Rattle.grid_units.proofs.LookbackLemmas.{with_prefixes-append}
-use Rattle.gerber_commands.specs.declared.command.Command.{Command}
-use Rattle.layer_state.specs.declared.flash.Flash.{Flash}
-use Rattle.layer_state.specs.Flashes.{added_flashes, flashes_of}
-use Rattle.layer_state.specs.Lookback.{state_after}
 
 pub drop_first : {A : Type 0} (xs ys : List A) → drop (length xs) (xs ++ ys) ≡ ys
 drop_first [] ys = refl

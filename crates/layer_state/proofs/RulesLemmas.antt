@@ -1,14 +1,7 @@
 -- What follows for a command that breaks no rule.
-use Rattle.std.proofs.Common.{◌≡◌, ℕ, ◌+◌, length, nat_lt, ℤ, List, [], ◌∷◌, ◌++◌, Option, None, Some, Bool, true, false, cond, ◌||◌, ◌&&◌, refl, sym, ap, ◌∙◌}
-use Rattle.std.specs.List.{find}
-use Rattle.gerber_commands.specs.declared.command.Command.{Command}
+use Rattle.layer_state.proofs.Common.{◌≡◌, ℕ, ◌+◌, length, nat_lt, ℤ, List, [], ◌∷◌, ◌++◌, Option, None, Some, Bool, true, false, cond, ◌||◌, ◌&&◌, refl, sym, ap, ◌∙◌, find, Command, Action, GraphicsState, is_flash, copies_at, first_broken, breaks_rule, reaches_too_far, flashes_too_far, sets_bad_size, is_far_coordinate, makes_too_many_flashes, or_is_false}
 use Rattle.gerber_commands.specs.declared.command.Command.TheVariants as command
-use Rattle.gerber_commands.specs.declared.command.Action.{Action}
 use Rattle.grid_units.specs.declared.fault.Reason.TheVariants as reason
-use Rattle.layer_state.specs.Lookback.{GraphicsState}
-use Rattle.layer_state.specs.Flashes.{is_flash, copies_at}
-use Rattle.layer_state.specs.Rules.{first_broken, breaks_rule, reaches_too_far, flashes_too_far, sets_bad_size, is_far_coordinate, makes_too_many_flashes}
-use Rattle.grid_units.proofs.BoolLemmas.{or_is_false}
 
 -- where a search finds nothing, no element passes
 none_found : {A : Type 0} (p : A → Bool) (xs ys : List A) (x : A) → find p (xs ++ x ∷ ys) ≡ None → p x ≡ false

@@ -1,9 +1,5 @@
 -- A list of commands, cut at one of them.
-use Rattle.std.proofs.Common.{◌≡◌, ◌+◌, ◌<◌, ℕ, [], ◌∷◌, ◌++◌, length, take, drop, get_or, ap, sym, ◌∙◌, drop-cons, add-one}
-use Rattle.std.proofs.lemmas.List.{take_more, take-append-drop}
-use Rattle.gerber_commands.specs.declared.command.Command.{Command}
-use Rattle.gerber_text.specs.declared.placed.Placed.{Placed}
-use Rattle.gerber_text.specs.Reading.{Entries}
+use Rattle.layer_state.proofs.Common.{◌≡◌, ◌+◌, ◌<◌, ℕ, [], ◌∷◌, ◌++◌, length, take, drop, get_or, ap, sym, ◌∙◌, drop-cons, add-one, take_more, take-append-drop, Command, Placed, Entries}
 
 -- the commands up to and with the one at i
 pub take_next : (cs : Entries) (i : ℕ) (e : Placed Command) → i < length cs → e ≡ get_or cs i e → take (i + 1) cs ≡ take i cs ++ e ∷ []

@@ -1,16 +1,6 @@
 -- A judge that has taken in one more command knows it.
-use Rattle.std.proofs.Common.{◌≡◌, ◌+◌, cond, List, [], ◌∷◌, ◌++◌, length, length-append, pos, false, sym, ap, subst, ◌∙◌, append_assoc}
-use Rattle.layer_state.specs.declared.flash.Flash.{Flash}
-use Rattle.layer_state.specs.declared.flashes.Flashes.{Flashes}
-use Rattle.layer_state.specs.KeptFlashes.{KeptParts, flash_count, keeps_flashes, keeps_pads, KeepsFlashes, Adds}
-use Rattle.gerber_commands.specs.declared.command.Command.{Command}
-use Rattle.layer_state.specs.declared.state.State.{State}
-use Rattle.layer_state.specs.Lookback.{state_after, no_repeat, unit_set, format_set, region_set, definition_set, defines_macro, aperture_selected, x_set, y_set, turn_set, scale_set, block_set}
-use Rattle.layer_state.specs.Rules.{broken_rule, first_broken}
-use Rattle.layer_state.specs.Flashes.{added_flashes, flashes_of, pads_of, other_count}
-use Rattle.layer_state.specs.Inner.IsStateAfter.{IsStateAfter, Applies, after, state_of}
+use Rattle.layer_state.proofs.Common.{◌≡◌, ◌+◌, cond, List, [], ◌∷◌, ◌++◌, length, length-append, pos, false, sym, ap, subst, ◌∙◌, append_assoc, Flash, Flashes, KeptParts, flash_count, keeps_flashes, keeps_pads, KeepsFlashes, Adds, Command, State, state_after, no_repeat, unit_set, format_set, region_set, definition_set, defines_macro, aperture_selected, x_set, y_set, turn_set, scale_set, block_set, broken_rule, first_broken, added_flashes, flashes_of, pads_of, other_count, IsStateAfter, Applies, after, state_of, last_set-more, last_or-more, list_any-more, flat_positions-more}
 use Rattle.layer_state.proofs.KeptFlashesLemmas.{kept_append, kept_pads, others_append}
-use Rattle.grid_units.proofs.LookbackLemmas.{last_set-more, last_or-more, list_any-more, flat_positions-more}
 use Rattle.gerber_items.specs.Pieces.{unit_scale}
 
 -- the state after one more command

@@ -1,8 +1,5 @@
 -- Sums and steps of coordinates, within 128 bits.
-use Rattle.std.proofs.Common.{◌≡◌, ℕ, ◌*◌, ◌^◌, ◌≤◌, ◌<◌, ℤ, pos, ◌+ℤ◌, ◌*ℤ◌, unsigned_abs, FitsSigned, ap, ◌∙◌, arith, to_z, of_z, mul-le-mul, lit<}
-use Rattle.std.proofs.lemmas.Int.{ints, fits_signed_mul, unsigned_abs-mul, to_z-of_z}
-use Rattle.grid_units.proofs.LengthLemmas.{back_128}
-use mir.Syntax.{w128, w64}
+use Rattle.layer_state.proofs.Common.{◌≡◌, ℕ, ◌*◌, ◌^◌, ◌≤◌, ◌<◌, ℤ, pos, ◌+ℤ◌, ◌*ℤ◌, unsigned_abs, FitsSigned, ap, ◌∙◌, arith, to_z, of_z, mul-le-mul, lit<, ints, fits_signed_mul, unsigned_abs-mul, to_z-of_z, back_128, w128, w64}
 
 -- so many steps, as the code forms them
 pub steps : (a step : ℤ) (count : ℕ) → a ≡ pos count → count < 2 ^ 32 → unsigned_abs step ≤ 2 ^ 71 → to_z w128 (of_z w128 a) *ℤ to_z w128 (of_z w128 step) ≡ pos count *ℤ step

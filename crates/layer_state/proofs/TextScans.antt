@@ -1,22 +1,9 @@
 -- A scan that meets a comment or an attribute outside of regions.
-use Rattle.std.proofs.Common.{◌≡◌, ℕ, false, [], ◌∷◌, ◌++◌, List, None, Ok, refl, sym, ap, subst, ◌∙◌}
-use Rattle.std.specs.Option.{option_or}
-use Rattle.grid_units.proofs.LookbackLemmas.{last_set-more}
-use Rattle.gerber_commands.specs.declared.command.Command.{Command}
+use Rattle.layer_state.proofs.Common.{◌≡◌, ℕ, false, [], ◌∷◌, ◌++◌, List, None, Ok, refl, sym, ap, subst, ◌∙◌, option_or, last_set-more, Command, Entries, placed, without_places, Scan, State, function_set, HasScanned, HasScannedLegal, IsScanResult, Applies, IsStateAfter, state_of, KeptParts, flash_count, GraphicsState, first_broken}
 use Rattle.gerber_text.specs.declared.text_items.TextKind.{TextKind}
 use Rattle.gerber_text.specs.declared.text_items.TextKind.TheVariants as kinds
 use Rattle.gerber_text.specs.FastPath.{text_command}
-use Rattle.gerber_text.specs.Reading.{Entries, placed}
-use Rattle.gerber_text.specs.Writing.{without_places}
 use Rattle.layer_state.specs.declared.cached.CachedState.{CachedState}
-use Rattle.layer_state.specs.declared.scan.Scan.{Scan}
-use Rattle.layer_state.specs.declared.state.State.{State}
-use Rattle.layer_state.specs.FileFunction.{function_set}
-use Rattle.layer_state.specs.Holding.{HasScanned, HasScannedLegal, IsScanResult}
-use Rattle.layer_state.specs.Inner.IsStateAfter.{Applies, IsStateAfter, state_of}
-use Rattle.layer_state.specs.KeptFlashes.{KeptParts, flash_count}
-use Rattle.layer_state.specs.Lookback.{GraphicsState}
-use Rattle.layer_state.specs.Rules.{first_broken}
 use Rattle.layer_state.proofs.KeptFlashesLemmas.{adds_none}
 use Rattle.layer_state.proofs.OperationScans.{scanned_more}
 use Rattle.layer_state.proofs.StateLemmas.{state_after_one_more, same_rule}

@@ -1,9 +1,6 @@
 -- Values in range.
-use Rattle.std.proofs.Common.{◌≡◌, ◌↔◌, ◌≤◌, ℤ, unsigned_abs, Bool, true, false, cond, leb, Option, None, Some, refl, ap, arith}
-use Rattle.std.specs.Prelude.{IsSome, IfSome}
-use Rattle.std.proofs.lemmas.Bool.{leb-true, leb-false, false≢true}
+use Rattle.macro_shapes.proofs.Common.{◌≡◌, ◌↔◌, ◌≤◌, ℤ, unsigned_abs, Bool, true, false, cond, leb, Option, None, Some, refl, ap, arith, IsSome, IfSome, leb-true, leb-false, false≢true, in_range}
 use Rattle.grid_units.specs.Numbers.{max_units}
-use Rattle.macro_shapes.specs.Values.{in_range}
 
 pub in_range_is : (r : Option ℤ) (z : ℤ) → IsSome r ↔ (unsigned_abs z ≤ max_units) → IfSome r (λ d. d ≡ z) → r ≡ in_range z
 in_range_is r z valid value = by (leb (unsigned_abs z) max_units) refl r valid value

@@ -1,24 +1,6 @@
 -- The border of a polygon: no circle at a corner and no vector line along an edge is smaller.
-use Rattle.std.proofs.Common.{◌≡◌, ℕ, suc, ℤ, pos, ◌*◌, ◌/◌, ◌≤◌, ◌<◌, ◌≤ℤ◌, ◌+ℤ◌, ◌-ℤ◌, ◌*ℤ◌, unsigned_abs, max, min, true, List, [], ◌∷◌, Option, None, Some, refl, sym, ap, subst, ◌∙◌, ◌⊎◌, inl, inr, arith, le_trans}
-use Rattle.std.specs.Prelude.{◌&&◌, ◌||◌, nat_le, int_lt}
-use Rattle.std.specs.List.{All, Contains, fold}
-use Rattle.std.specs.Ordering.{int_eq}
-use Rattle.std.proofs.lemmas.Bool.{and_parts, or_cases, leb-true}
-use Rattle.std.proofs.lemmas.Bool.Decides.{Decides-int_eq}
-use Rattle.std.proofs.lemmas.Int.{ints}
-use Rattle.std.proofs.lemmas.List.Elements.{All-nil, All-cons}
-use Rattle.std.proofs.lemmas.Nat.{mul-le}
-use Rattle.std.proofs.lemmas.Option.{same_Some, cond_some}
-use Rattle.grid_units.specs.Points.{GridPoint, square, square_distance}
-use Rattle.grid_units.proofs.TriangleInequalities.{square-le, square_distance_comm}
-use Rattle.pad_shapes.specs.Rounded.{GridRounded, Edge, edges, corners, cross, along, square_edge, is_beside}
-use Rattle.pad_shapes.specs.Inner.Identities.{is_z, is_n, is_add, is_sub, is_mul, same, length_is}
-use Rattle.pad_shapes.specs.Inner.Fan.{edge}
-use Rattle.macro_shapes.specs.Primitives.{IsInPrimitive, IsInLine, is_same}
-use Rattle.macro_shapes.specs.Shapes.{diameter_at, width_along, disc_at, line_along}
-use Rattle.macro_shapes.specs.Inner.Borders.{greatest, least, discs_in_turn}
+use Rattle.macro_shapes.proofs.Common.{◌≡◌, ℕ, suc, ℤ, pos, ◌*◌, ◌/◌, ◌≤◌, ◌<◌, ◌≤ℤ◌, ◌+ℤ◌, ◌-ℤ◌, ◌*ℤ◌, unsigned_abs, max, min, true, List, [], ◌∷◌, Option, None, Some, refl, sym, ap, subst, ◌∙◌, ◌⊎◌, inl, inr, arith, le_trans, ◌&&◌, ◌||◌, nat_le, int_lt, All, Contains, fold, int_eq, and_parts, or_cases, leb-true, Decides-int_eq, ints, All-nil, All-cons, mul-le, same_Some, cond_some, GridPoint, square, square_distance, square-le, square_distance_comm, GridRounded, Edge, edges, corners, cross, along, square_edge, is_beside, is_z, is_n, is_add, is_sub, is_mul, same, length_is, edge, IsInPrimitive, IsInLine, is_same, diameter_at, width_along, disc_at, line_along, greatest, least, discs_in_turn, Primitive}
 use Rattle.macro_shapes.proofs.BordersInTurn.{disc_is, line_is}
-use Rattle.macro_shapes.specs.declared.primitive.Primitive.{Primitive}
 use Rattle.macro_shapes.specs.declared.primitive.Primitive.TheVariants as primitive
 
 -- ---- sizes

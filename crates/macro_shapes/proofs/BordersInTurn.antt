@@ -1,13 +1,7 @@
 -- The border that is found size by size is the least of the whole list.
-use Rattle.std.proofs.Common.{◌≡◌, ℕ, max, min, Bool, true, false, cond, eqb, List, [], ◌∷◌, ◌++◌, length, map, Option, None, Some, refl, sym, ap, ◌∙◌}
-use Rattle.std.specs.List.{cons_option, filter_map, fold, reduce}
+use Rattle.macro_shapes.proofs.Common.{◌≡◌, ℕ, max, min, Bool, true, false, cond, eqb, List, [], ◌∷◌, ◌++◌, length, map, Option, None, Some, refl, sym, ap, ◌∙◌, cons_option, filter_map, fold, reduce, GridPoint, GridRounded, Edge, corners, edges, diameter_at, width_along, disc_at, line_along, least_of, border, cross_border, other_end, rounded_or_along, line_shape, greatest, least, disc_in_turn, line_in_turn, discs_in_turn, border_in_turn, cross_border_in_turn, Primitive}
 use Rattle.std.proofs.lemmas.List.Sums.{fold-append}
 use Rattle.std.proofs.lemmas.List.Folds.{fold-map}
-use Rattle.grid_units.specs.Points.{GridPoint}
-use Rattle.pad_shapes.specs.Rounded.{GridRounded, Edge, corners, edges}
-use Rattle.macro_shapes.specs.Shapes.{diameter_at, width_along, disc_at, line_along, least_of, border, cross_border, other_end, rounded_or_along, line_shape}
-use Rattle.macro_shapes.specs.Inner.Borders.{greatest, least, disc_in_turn, line_in_turn, discs_in_turn, border_in_turn, cross_border_in_turn}
-use Rattle.macro_shapes.specs.declared.primitive.Primitive.{Primitive}
 
 -- ---- the greatest
 

@@ -1,24 +1,8 @@
 -- A cross: each point of the common part of two rectangles with its border is a point of one of them, or of a circle at a corner.
-use Rattle.std.proofs.Common.{◌≡◌, ℕ, ℤ, pos, ◌+◌, ◌-◌, ◌*◌, ◌/◌, ◌≤◌, ◌<◌, ◌≤ℤ◌, ◌<ℤ◌, ◌+ℤ◌, ◌-ℤ◌, ◌*ℤ◌, unsigned_abs, min, true, List, [], ◌∷◌, Option, None, Some, refl, sym, ap, subst, ◌∙◌, ◌⊎◌, inl, inr, arith}
-use Rattle.std.specs.Prelude.{◌&&◌, nat_le, nat_lt}
-use Rattle.std.specs.List.{All, Contains}
-use Rattle.std.proofs.lemmas.Bool.{and_parts, or_cases, leb-true}
-use Rattle.std.proofs.lemmas.Int.{ints, unsigned_abs-mul}
-use Rattle.std.proofs.lemmas.List.Elements.{All-nil, All-cons, All-contains}
-use Rattle.std.proofs.lemmas.Option.{option_and_then_some, same_Some}
-use Rattle.grid_units.specs.Points.{GridPoint, square}
-use Rattle.grid_units.proofs.TriangleInequalities.{le_of_squares}
-use Rattle.pad_shapes.specs.Rounded.{GridRounded, Edge, corners, edges, cross, along, square_edge, has_area, is_deep_left_of_all, is_beside, IsInRounded}
-use Rattle.pad_shapes.specs.Inner.Identities.{is_z, is_add, is_sub, is_mul, same, of_natural, cancel, untimes-le}
-use Rattle.pad_shapes.specs.Inner.Fan.{edge}
-use Rattle.pad_shapes.proofs.PartsLemmas.{parts_of, at_least_0}
-use Rattle.macro_shapes.specs.Primitives.{IsInLine, IsInRectangle, rounded_of}
-use Rattle.macro_shapes.specs.Inner.Borders.{least, discs_in_turn}
-use Rattle.macro_shapes.specs.Shapes.{disc_at, or_0, do_cross, difference, cross_border, with_arms, cross_shape, rectangle_about}
+use Rattle.macro_shapes.proofs.Common.{◌≡◌, ℕ, ℤ, pos, ◌+◌, ◌-◌, ◌*◌, ◌/◌, ◌≤◌, ◌<◌, ◌≤ℤ◌, ◌<ℤ◌, ◌+ℤ◌, ◌-ℤ◌, ◌*ℤ◌, unsigned_abs, min, true, List, [], ◌∷◌, Option, None, Some, refl, sym, ap, subst, ◌∙◌, ◌⊎◌, inl, inr, arith, ◌&&◌, nat_le, nat_lt, All, Contains, and_parts, or_cases, leb-true, ints, unsigned_abs-mul, All-nil, All-cons, All-contains, option_and_then_some, same_Some, GridPoint, square, le_of_squares, GridRounded, Edge, corners, edges, cross, along, square_edge, has_area, is_deep_left_of_all, is_beside, IsInRounded, is_z, is_add, is_sub, is_mul, same, of_natural, cancel, untimes-le, edge, parts_of, at_least_0, IsInLine, IsInRectangle, rounded_of, least, discs_in_turn, disc_at, or_0, do_cross, difference, cross_border, with_arms, cross_shape, rectangle_about, Primitive}
 use Rattle.macro_shapes.proofs.BordersInTurn.{cross_border_is}
 use Rattle.macro_shapes.proofs.BorderLemmas.{IsAtLeast, IsInSome, least_parts, weaker, in_line, line_back, near_corner, corners_given}
 use Rattle.macro_shapes.proofs.SidesLemmas.{cond_is, with_radius, rounded_parts, at, sided, bottom_edge, right_edge, are_apart, in_sides, rectangle_is, about_sides, half_side, both_sides}
-use Rattle.macro_shapes.specs.declared.primitive.Primitive.{Primitive}
 
 -- ---- beside an edge along an axis
 

@@ -1,13 +1,6 @@
 -- Products and quotients are exact.
-use Rattle.std.proofs.Common.{◌≡◌, ℕ, zero, suc, ◌*◌, ◌/◌, ◌%◌, ◌^◌, ℤ, pos, negsuc, ◌*ℤ◌, unsigned_abs, Bool, true, false, cond, not, eqb, leb, None, Some, refl, sym, ap, subst, ◌∙◌, arith}
-use Rattle.std.specs.Prelude.{int_lt}
-use Rattle.std.proofs.lemmas.Bool.{eqb-true, le-ltb}
-use Rattle.std.proofs.lemmas.Int.{ints}
-use Rattle.std.proofs.lemmas.Nat.{div-add-mod'}
-use Rattle.std.proofs.lemmas.Option.{same_Some}
+use Rattle.macro_shapes.proofs.Common.{◌≡◌, ℕ, zero, suc, ◌*◌, ◌/◌, ◌%◌, ◌^◌, ℤ, pos, negsuc, ◌*ℤ◌, unsigned_abs, Bool, true, false, cond, not, eqb, leb, None, Some, refl, sym, ap, subst, ◌∙◌, arith, int_lt, eqb-true, le-ltb, ints, div-add-mod', same_Some, Is, is_n, is_mul, same, negated_if, exact_quotient, have_other_signs}
 use Rattle.grid_units.specs.Numbers.{max_units}
-use Rattle.pad_shapes.specs.Inner.Identities.{Is, is_n, is_mul, same}
-use Rattle.macro_shapes.specs.Values.{negated_if, exact_quotient, have_other_signs}
 use Rattle.macro_shapes.specs.Laws.{ProductsAreExact, QuotientsAreExact}
 
 -- a quotient times the divisor is the dividend

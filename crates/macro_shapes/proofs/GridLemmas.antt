@@ -1,9 +1,5 @@
 -- Points and rounded polygons that are made where they are in range.
-use Rattle.std.proofs.Common.{◌≡◌, ◌↔◌, ℤ, unsigned_abs, Bool, true, false, cond, Option, None, Some, refl, sym, ap, ◌∙◌}
-use Rattle.std.specs.Prelude.{IsSome, IfSome, ◌&&◌, nat_le}
-use Rattle.std.proofs.lemmas.Bool.{leb-true, le-leb, and_parts, and_from, false≢true}
-use Rattle.grid_units.specs.Points.{GridPoint, IsCoordinate, max_coordinate}
-use Rattle.macro_shapes.specs.Primitives.{grid_point}
+use Rattle.macro_shapes.proofs.Common.{◌≡◌, ◌↔◌, ℤ, unsigned_abs, Bool, true, false, cond, Option, None, Some, refl, sym, ap, ◌∙◌, IsSome, IfSome, ◌&&◌, nat_le, leb-true, le-leb, and_parts, and_from, false≢true, GridPoint, IsCoordinate, max_coordinate, grid_point}
 
 pub grid_point_is : (r : Option GridPoint) (x y : ℤ) → IsSome r ↔ (IsCoordinate x × IsCoordinate y) → IfSome r (λ p. p ≡ record { x = x; y = y }) → r ≡ grid_point x y
 grid_point_is r x y valid value = by (nat_le (unsigned_abs x) max_coordinate && nat_le (unsigned_abs y) max_coordinate) refl r valid value

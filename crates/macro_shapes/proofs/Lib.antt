@@ -1,3 +1,6 @@
+pub mod Common
+pub mod ReadingLemmas
+pub mod PiecesLemmas
 pub mod ArithmeticLemmas
 pub mod ExactLemmas
 pub mod FramesLemmas

@@ -1,12 +1,22 @@
 -- There is one answer on each macro.
-use Rattle.std.proofs.Common.{◌≡◌, ◌↔◌, ℕ, List, Option, Some, None, refl, sym}
-use Rattle.macro_shapes.specs.Pieces.{IsMacro}
+use Rattle.macro_shapes.proofs.Common.{◌≡◌, ◌↔◌, ℕ, ℤ, List, Option, Some, None, refl, sym, option_and_then, lookup, fields_from, IsMacro, Fields, macro_exactly, no_macro}
+use Rattle.macro_shapes.specs.Pieces.{MacroAnswer}
 use Rattle.macro_shapes.specs.Macros.{fields_of}
-use Rattle.macro_shapes.specs.Inner.MacroAnswers.{answer_on}
-use Rattle.macro_shapes.specs.declared.fields.Fields.{Fields}
+use Rattle.macro_shapes.specs.Inner.Pieces.{parameters_of}
 
 none_some : {A : Type 0} (x : A) → None ≡ Some x → ⊥
 none_some x e = cc
+
+pub read_exactly : (pieces : List (List ℕ)) (parameters : Option (List ℕ)) (found : List Fields) → (fields_of pieces parameters ≡ Some found) ↔ IsMacro pieces parameters found
+read_exactly pieces parameters found = by (parameters_of parameters) refl
+  where
+    by : (o : Option (List (Option ℤ))) → parameters_of parameters ≡ o → (option_and_then (λ values. fields_from (lookup values) pieces) o ≡ Some found) ↔ IsMacro pieces parameters found
+    by None e = (λ h. absurd (none_some found h), λ h. absurd (no_macro pieces parameters found e h))
+    by (Some values) e = macro_exactly pieces parameters values found e
+
+-- the answer on a macro
+pub answer_on : (pieces : List (List ℕ)) (parameters : Option (List ℕ)) → MacroAnswer pieces parameters
+answer_on pieces parameters = record { primitives = fields_of pieces parameters; exact = read_exactly pieces parameters }
 
 none_is : {A : Type 0} (o : Option A) → ((x : A) → o ≡ Some x → ⊥) → o ≡ None
 none_is None h = refl
@@ -19,5 +29,5 @@ same_answers None b f g = sym (none_is b (λ x e. none_some x (g x e)))
 pub fields_are : (pieces : List (List ℕ)) (parameters : Option (List ℕ)) (answer : Option (List Fields))
     → ((found : List Fields) → (answer ≡ Some found) ↔ IsMacro pieces parameters found) → answer ≡ fields_of pieces parameters
 fields_are pieces parameters answer h =
-    let exact = (answer_on pieces parameters).exact in
+    let exact = read_exactly pieces parameters in
     same_answers answer (fields_of pieces parameters) (λ found p. (exact found).1 ((h found).0 p)) (λ found p. (h found).1 ((exact found).0 p))

@@ -1,10 +1,6 @@
 -- The values of an outline, one by one.
-use Rattle.std.proofs.Common.{◌≡◌, ℕ, ℤ, pos, ◌+◌, ◌-◌, ◌<◌, Bool, false, cond, eqb, List, [], ◌∷◌, length, take, drop, get_or, Option, None, sym, ap, ◌∙◌, arith}
-use Rattle.std.proofs.lemmas.Bool.Decides.{nat_tests}
-use Rattle.std.proofs.lemmas.List.{take_all, get_or_default}
+use Rattle.macro_shapes.proofs.Common.{◌≡◌, ℕ, ℤ, pos, ◌+◌, ◌-◌, ◌<◌, Bool, false, cond, eqb, List, [], ◌∷◌, length, take, drop, get_or, Option, None, sym, ap, ◌∙◌, arith, nat_tests, take_all, get_or_default, outline_at, outline, Primitive}
 use Rattle.grid_units.specs.declared.lengths.Unit.{Unit as Units}
-use Rattle.macro_shapes.specs.Primitives.{outline_at, outline}
-use Rattle.macro_shapes.specs.declared.primitive.Primitive.{Primitive}
 
 some_left : (n k : ℕ) → k + 1 ≡ n → eqb n 0 ≡ false
 some_left n k e = grind (arith, nat_tests)

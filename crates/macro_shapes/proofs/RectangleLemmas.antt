@@ -1,16 +1,6 @@
 -- Rectangles that are made of four corners, where each of them is in range.
-use Rattle.std.proofs.Common.{◌≡◌, ℕ, ℤ, pos, ◌/◌, ◌≤◌, ◌+ℤ◌, ◌-ℤ◌, Bool, true, false, cond, List, [], ◌∷◌, Option, None, Some, refl, sym, ap, ◌∙◌, unsigned_abs, w64, arith}
-use Rattle.std.specs.Prelude.{◌&&◌, nat_le, not, option_and_then}
-use Rattle.std.specs.Int.{int_min, int_max}
-use Rattle.std.specs.Ordering.{int_eq}
-use Rattle.std.proofs.lemmas.Bool.{le-leb, and_from}
-use Rattle.std.proofs.lemmas.Bool.Decides.{Decides-int_eq}
-use Rattle.std.proofs.lemmas.Int.{ints, clamps}
-use mir.Val.{to_z, of_z}
-use Rattle.grid_units.specs.Points.{GridPoint, max_coordinate}
-use Rattle.pad_shapes.specs.Rounded.{GridRounded}
-use Rattle.macro_shapes.specs.Primitives.{grid_point, rounded_of}
-use Rattle.macro_shapes.specs.Shapes.{rectangle_of, rectangle_about, rectangle_along}
+use Rattle.macro_shapes.proofs.Common.{◌≡◌, ℕ, ℤ, pos, ◌/◌, ◌≤◌, ◌+ℤ◌, ◌-ℤ◌, Bool, true, false, cond, List, [], ◌∷◌, Option, None, Some, refl, sym, ap, ◌∙◌, unsigned_abs, w64, arith, ◌&&◌, nat_le, option_and_then, int_min, int_max, int_eq, le-leb, and_from, Decides-int_eq, ints, clamps, to_z, of_z, GridPoint, max_coordinate, GridRounded, grid_point, rounded_of, rectangle_of, rectangle_about, rectangle_along}
+use Rattle.std.specs.Prelude.{not}
 
 -- a corner whose coordinates were passed on
 pub corner_made : (x y u v : ℤ) (p : GridPoint) (found : Option GridPoint) → u ≡ x → v ≡ y → found ≡ grid_point u v → found ≡ Some p → grid_point x y ≡ Some p

@@ -1,14 +1,6 @@
 -- The points of a run at which it moves on.
-use Rattle.std.proofs.Common.{◌≡◌, ◌∙◌, ◌≤◌, ◌<◌, ◌+◌, ℕ, ℤ, Bool, true, false, ◌&&◌, cond, List, [], ◌∷◌, ◌++◌, get_or, length, reverse, append_assoc, Option, None, Some, refl, sym, ap, arith}
-use Rattle.std.specs.Prelude.{◌==◌, zip, nat_le, nat_lt, if◌then◌else◌}
-use Rattle.std.specs.List.{cons_option, filter_map}
-use Rattle.std.specs.Ordering.{int_eq}
-use Rattle.std.proofs.lemmas.Bool.{and_from}
-use Rattle.std.proofs.lemmas.Bool.Decides.{Decides-int_eq, nat_tests, same_from_decides}
-use Rattle.std.proofs.lemmas.List.{reverse-append}
-use Rattle.grid_units.specs.Points.{GridPoint}
-use Rattle.pad_shapes.specs.Rounded.{GridRounded}
-use Rattle.macro_shapes.specs.Primitives.{are_different, is_closed, is_same, point_at, moved, moves, polygon_of, polygon_round, stops}
+use Rattle.macro_shapes.proofs.Common.{◌≡◌, ◌∙◌, ◌≤◌, ◌<◌, ◌+◌, ℕ, ℤ, Bool, true, false, cond, List, [], ◌∷◌, ◌++◌, get_or, length, reverse, append_assoc, Option, None, Some, refl, sym, ap, arith, ◌==◌, zip, nat_le, nat_lt, if◌then◌else◌, cons_option, filter_map, int_eq, and_from, Decides-int_eq, nat_tests, same_from_decides, reverse-append, GridPoint, GridRounded, are_different, is_closed, is_same, point_at, moved, moves, polygon_of, polygon_round, stops}
+use Rattle.std.proofs.Common.{◌&&◌}
 
 same_as_itself : (p : GridPoint) → is_same p p ≡ true
 same_as_itself p = and_from (int_eq p.x p.x) (int_eq p.y p.y) ((Decides-int_eq p.x p.x).1 refl) ((Decides-int_eq p.y p.y).1 refl)

@@ -1,11 +1,7 @@
 -- One byte more of an expression that is read.
-use Rattle.std.proofs.Common.{◌≡◌, ℕ, ◌+◌, ◌-◌, ◌<◌, ◌≤◌, List, [], ◌∷◌, ◌++◌, length, take, drop, get_or, Option, Some, None, sym, ap, ◌∙◌, arith}
-use Rattle.std.specs.Prelude.{option_and_then}
-use Rattle.std.proofs.lemmas.List.{drop_more, take_more, drop-take, take_rest, take_all, drop-append-le, drop_all, length-take, length-take-le}
+use Rattle.macro_shapes.proofs.Common.{◌≡◌, ℕ, ◌+◌, ◌-◌, ◌<◌, ◌≤◌, List, [], ◌∷◌, ◌++◌, length, take, drop, get_or, Option, Some, None, sym, ap, ◌∙◌, arith, option_and_then, drop_more, take_more, drop-take, take_rest, take_all, drop-append-le, drop_all, length-take, length-take-le, Environment, State, step, on_byte, run, finished}
 use Rattle.macro_shapes.specs.declared.sign.Sign.{Sign}
 use Rattle.macro_shapes.specs.Signs.{sign_of}
-use Rattle.macro_shapes.specs.Values.{Environment}
-use Rattle.macro_shapes.specs.Inner.Reading.{State, step, on_byte, run, finished}
 
 module _ (variables : Environment) where
   -- what a byte makes of a state and of what is held

@@ -1,31 +1,10 @@
 -- Each point of a macro's shape is a point of one of its primitives.
-use Rattle.std.proofs.Common.{◌≡◌, ℕ, suc, ℤ, pos, ◌+◌, ◌*◌, ◌/◌, ◌≤◌, ◌<◌, ◌≤ℤ◌, ◌<ℤ◌, ◌+ℤ◌, ◌-ℤ◌, ◌*ℤ◌, unsigned_abs, Bool, true, false, cond, not, eqb, List, [], ◌∷◌, length, Option, None, Some, refl, sym, ap, subst, ◌∙◌, ◌⊎◌, inl, inr, arith}
-use Rattle.std.specs.Prelude.{◌&&◌, ◌||◌, nat_le, nat_lt, int_lt, option_and_then}
-use Rattle.std.specs.Int.{int_min, int_max}
-use Rattle.std.specs.List.{Contains, fold}
-use Rattle.std.specs.Ordering.{int_eq}
-use Rattle.std.proofs.lemmas.Bool.{and_parts, and_from, false≢true}
-use Rattle.std.proofs.lemmas.Bool.Decides.{Decides-int_eq, nat_tests}
-use Rattle.std.proofs.lemmas.Int.{ints, clamps, by_lt_z, unsigned_abs-mul}
-use Rattle.std.proofs.lemmas.List.Elements.{All-contains}
-use Rattle.std.proofs.lemmas.Nat.{mul-le}
-use Rattle.std.specs.Option.{option_or}
-use Rattle.std.proofs.lemmas.Option.{cond_some, option_and_then_some, same_Some}
-use Rattle.grid_units.specs.Points.{GridPoint, max_coordinate, square, square_distance}
-use Rattle.grid_units.proofs.TriangleInequalities.{square-le}
-use Rattle.pad_shapes.specs.Rounded.{GridRounded, edges, corners, cross, along, square_edge, is_deep_left_of_all, is_deep_inside, has_area, is_convex, is_outline, IsNear, IsInRounded}
-use Rattle.pad_shapes.specs.Inner.Identities.{is_n, is_sub, is_mul, same, of_natural}
-use Rattle.pad_shapes.specs.Inner.Fan.{edge, no_area}
+use Rattle.macro_shapes.proofs.Common.{◌≡◌, ℕ, suc, ℤ, pos, ◌+◌, ◌*◌, ◌/◌, ◌≤◌, ◌<◌, ◌≤ℤ◌, ◌<ℤ◌, ◌+ℤ◌, ◌-ℤ◌, ◌*ℤ◌, unsigned_abs, Bool, true, false, cond, not, eqb, List, [], ◌∷◌, length, Option, None, Some, refl, sym, ap, subst, ◌∙◌, ◌⊎◌, inl, inr, arith, ◌&&◌, ◌||◌, nat_le, nat_lt, int_lt, option_and_then, int_min, int_max, Contains, fold, int_eq, and_parts, and_from, false≢true, Decides-int_eq, nat_tests, ints, clamps, by_lt_z, unsigned_abs-mul, All-contains, mul-le, option_or, cond_some, option_and_then_some, same_Some, GridPoint, max_coordinate, square, square_distance, square-le, GridRounded, edges, corners, cross, along, square_edge, is_deep_left_of_all, is_deep_inside, has_area, is_convex, is_outline, IsNear, IsInRounded, is_n, is_sub, is_mul, same, of_natural, edge, no_area, parts_of, area_of, no_times, no_cross, IsInLine, IsInRectangle, is_same, rounded_of, least, discs_in_turn, disc_at, line_along, border, rectangle_of, rectangle_about, rectangle_along, other_end, rounded_or_along, or_0, with_border, do_cross, second_crossing, cross_shape, centre_shape, ShapeIsInPrimitives, Primitive}
 use Rattle.pad_shapes.specs.Inner.RoundedSets.{one_corner_is_disc, polygon_is_left_of_edges}
-use Rattle.pad_shapes.proofs.PartsLemmas.{parts_of, area_of, no_times, no_cross}
-use Rattle.macro_shapes.specs.Primitives.{IsInLine, IsInRectangle, is_same, rounded_of}
-use Rattle.macro_shapes.specs.Inner.Borders.{least, discs_in_turn}
-use Rattle.macro_shapes.specs.Shapes.{disc_at, line_along, border, rectangle_of, rectangle_about, rectangle_along, other_end, rounded_or_along, or_0, with_border, do_cross, second_crossing, cross_shape, centre_shape, ShapeIsInPrimitives}
 use Rattle.macro_shapes.proofs.BordersInTurn.{border_is}
 use Rattle.macro_shapes.proofs.BorderLemmas.{IsAtLeast, IsInSome, same_point, in_circle, near_corner, near_edge, corners_given, edges_given}
 use Rattle.macro_shapes.proofs.SidesLemmas.{cond_is, with_radius, rounded_parts, rectangle_inside, about_sides, half_side, both_sides}
 use Rattle.macro_shapes.proofs.CrossLemmas.{cross_inside}
-use Rattle.macro_shapes.specs.declared.primitive.Primitive.{Primitive}
 use Rattle.macro_shapes.specs.declared.primitive.Primitive.TheVariants as primitive
 
 -- ---- borders

@@ -1,19 +1,8 @@
 -- Rectangles by their four sides: a point of one lies between them.
-use Rattle.std.proofs.Common.{◌≡◌, ℕ, ℤ, pos, ◌+◌, ◌*◌, ◌/◌, ◌≤◌, ◌<◌, ◌≤ℤ◌, ◌<ℤ◌, ◌+ℤ◌, ◌-ℤ◌, ◌*ℤ◌, unsigned_abs, Bool, true, false, cond, not, List, [], ◌∷◌, length, Option, None, Some, refl, sym, ap, subst, ◌∙◌, inl, inr, arith}
-use Rattle.std.specs.Prelude.{◌&&◌, nat_le, nat_lt, int_le, int_lt}
-use Rattle.std.proofs.lemmas.Bool.{and_parts, or_cases, false≢true}
-use Rattle.std.proofs.lemmas.Int.{ints, by_lt_z}
-use Rattle.std.proofs.lemmas.Option.{cond_some, option_and_then_some}
-use Rattle.grid_units.specs.Points.{GridPoint, max_coordinate, square}
+use Rattle.macro_shapes.proofs.Common.{◌≡◌, ℕ, ℤ, pos, ◌+◌, ◌*◌, ◌/◌, ◌≤◌, ◌<◌, ◌≤ℤ◌, ◌<ℤ◌, ◌+ℤ◌, ◌-ℤ◌, ◌*ℤ◌, unsigned_abs, Bool, true, false, cond, not, List, [], ◌∷◌, length, Option, None, Some, refl, sym, ap, subst, ◌∙◌, inl, inr, arith, ◌&&◌, nat_le, nat_lt, int_le, int_lt, and_parts, or_cases, false≢true, ints, by_lt_z, cond_some, option_and_then_some, GridPoint, max_coordinate, square, GridRounded, Edge, corners, cross, square_edge, is_deep_left, is_deep_left_of_all, has_area, is_convex, is_outline, max_corners, IsInRounded, is_z, is_sub, is_mul, same, of_natural, edge, no_area, area_of, at_least_0, times_no, no_times, no_cross, grid_point, rounded_of, rectangle_of, rectangle_about}
 use Rattle.pad_shapes.specs.Shapes.{max_half_side}
-use Rattle.pad_shapes.specs.Rounded.{GridRounded, Edge, corners, cross, square_edge, is_deep_left, is_deep_left_of_all, has_area, is_convex, is_outline, max_corners, IsInRounded}
-use Rattle.pad_shapes.specs.Inner.Identities.{is_z, is_sub, is_mul, same, of_natural}
-use Rattle.pad_shapes.specs.Inner.Fan.{edge, no_area}
 use Rattle.pad_shapes.specs.Inner.RoundedLaws.{left_of}
 use Rattle.pad_shapes.specs.Inner.RoundedSets.{polygon_is_left_of_edges}
-use Rattle.pad_shapes.proofs.PartsLemmas.{area_of, at_least_0, times_no, no_times, no_cross}
-use Rattle.macro_shapes.specs.Primitives.{grid_point, rounded_of}
-use Rattle.macro_shapes.specs.Shapes.{rectangle_of, rectangle_about}
 
 -- ---- rounded polygons
 

@@ -1,9 +1,6 @@
 -- The parts of a text.
-use Rattle.std.proofs.Common.{◌≡◌, ℕ, suc, ◌+◌, ◌≤◌, Bool, true, false, cond, not, eqb, ltb, List, [], ◌∷◌, length, take, drop, None, Some, refl, ap, ◌∙◌, arith}
-use Rattle.std.specs.List.{onto_first, position, position_or_len}
+use Rattle.macro_shapes.proofs.Common.{◌≡◌, ℕ, suc, ◌+◌, ◌≤◌, Bool, true, false, cond, not, eqb, ltb, List, [], ◌∷◌, length, take, drop, None, Some, refl, ap, ◌∙◌, arith, onto_first, position, position_or_len, ltb-true, ltb-false, split_by}
 use Rattle.std.proofs.lemmas.List.Splits.{slice_split_first}
-use Rattle.std.proofs.lemmas.Bool.{ltb-true, ltb-false}
-use Rattle.macro_shapes.specs.Pieces.{split_by}
 
 pub split_some : (at : ℕ) (text : List ℕ) (i : ℕ) → position (λ b. eqb b at) text ≡ Some i → split_by at text ≡ take i text ∷ split_by at (drop (i + 1) text)
 split_some at text i e = by (ltb (position_or_len (λ b. eqb b at) text) (length text)) refl e

@@ -1,11 +1,6 @@
 -- The pieces of a macro, one after the other: what the primitives so far and the pieces left give together stays the same.
-use Rattle.std.proofs.Common.{◌≡◌, ℕ, ◌∷◌, [], ◌++◌, true, false, List, sym, ap, ◌∙◌}
-use Rattle.std.specs.Prelude.{Option, None, Some, option_map, is_some, MatchOption}
-use Rattle.std.proofs.lemmas.Bool.{false≢true}
-use Rattle.std.proofs.lemmas.List.{append-nil}
-use Rattle.macro_shapes.specs.Values.{Environment}
-use Rattle.macro_shapes.specs.Inner.Pieces.{on_piece, fields_from}
-use Rattle.macro_shapes.specs.declared.fields.Fields.{Fields}
+use Rattle.macro_shapes.proofs.Common.{◌≡◌, ℕ, ◌∷◌, [], ◌++◌, true, false, List, sym, ap, ◌∙◌, option_map, is_some, MatchOption, false≢true, append-nil, Environment, on_piece, fields_from, Fields}
+use Rattle.std.specs.Prelude.{Option, None, Some}
 
 -- what an answer of a call says, where it is known to be one
 pub of_some : {A : Type 0} (answer : Option A) (P Q : Type 0) → is_some answer ≡ true → MatchOption answer P (λ _. Q) → Q

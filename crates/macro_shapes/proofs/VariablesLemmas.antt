@@ -1,8 +1,5 @@
 -- Lists of the values of variables.
-use Rattle.std.proofs.Common.{◌≡◌, ℕ, ℤ, ◌-◌, ◌<◌, ◌≤◌, min, Bool, true, false, cond, eqb, List, length, get_or, Option, None, refl, sym, ap, ◌∙◌, inl, inr, arith}
-use Rattle.std.proofs.lemmas.Bool.{cases_lt}
-use Rattle.std.proofs.lemmas.List.{get_or_past}
-use Rattle.macro_shapes.specs.Values.{lookup}
+use Rattle.macro_shapes.proofs.Common.{◌≡◌, ℕ, ℤ, ◌-◌, ◌<◌, ◌≤◌, min, Bool, true, false, cond, eqb, List, length, get_or, Option, None, refl, sym, ap, ◌∙◌, inl, inr, arith, cases_lt, get_or_past, lookup}
 
 -- the value at a number, read at its place
 pub lookup_past : (xs : List (Option ℤ)) (n : ℕ) → length xs < n → lookup xs n ≡ None

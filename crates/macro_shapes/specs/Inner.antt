@@ -3,6 +3,3 @@ pub mod State
 pub mod Parts
 pub mod Pieces
 pub mod Borders
-pub mod ReadingLemmas
-pub mod PiecesLemmas
-pub mod MacroAnswers

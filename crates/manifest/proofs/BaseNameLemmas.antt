@@ -1,9 +1,6 @@
 -- A name after its last slash.
-use Rattle.std.proofs.Common.{◌≡◌, ◌∙◌, ◌<◌, ◌+◌, ◌-◌, ℕ, Bool, true, false, not, List, length, drop, get_or, Some, None, arith, refl, sym, ap}
-use Rattle.std.specs.List.{suffix_len}
-use Rattle.std.proofs.lemmas.List.Sums.{suffix_len_is}
+use Rattle.manifest.proofs.Common.{◌≡◌, ◌∙◌, ◌<◌, ◌+◌, ◌-◌, ℕ, Bool, true, false, not, List, length, drop, get_or, Some, None, arith, refl, sym, ap, suffix_len, suffix_len_is, base_name}
 use Rattle.memchr.specs.Find.{IsLastByte, is_byte}
-use Rattle.manifest.specs.Names.{base_name}
 
 not_from : (b : Bool) → (b ≡ true → Unit {0} → ⊥) → not b ≡ true
 not_from true h = absurd (h refl tt)

@@ -1,24 +1,9 @@
 -- What is proposed of a file by itself, case by case.
-use Rattle.std.proofs.Common.{◌≡◌, ◌≤◌, ℕ, Bool, true, false, List, length, take, drop, codes, Option, Some, None, unwrap_or, arith, refl}
-use Rattle.std.specs.Prelude.{nat_le, if◌then◌else◌}
-use Rattle.std.specs.List.{list_any}
-use Rattle.std.specs.Option.{option_or, option_map}
-use Rattle.std.specs.Str.{bytes_eq}
-use Rattle.std.proofs.lemmas.Bool.{leb-true, le-leb}
-use Rattle.grid_units.specs.Numbers.{is_digits, value}
-use Rattle.grid_units.proofs.BoolLemmas.{both_true}
-use Rattle.grid_units.proofs.DigitLemmas.{nine_digits}
-use Rattle.manifest.specs.Contents.{field, function_of, says_plated_holes, says_unplated_holes}
-use Rattle.manifest.specs.Names.{digits_of, extension_of, ends_in_copper, has_dot, has_end, inner_extensions, inner_words, is_one_of, is_number_within, last_other_word, letters_of, names_copper, says_plated, says_unplated, number_within, number_suffix, stem_of, words_of}
+use Rattle.manifest.proofs.Common.{◌≡◌, ◌≤◌, ℕ, Bool, true, false, List, length, take, drop, codes, Option, Some, None, unwrap_or, arith, refl, nat_le, if◌then◌else◌, list_any, option_or, option_map, bytes_eq, leb-true, le-leb, is_digits, value, both_true, nine_digits, function_of, says_plated_holes, says_unplated_holes, digits_of, extension_of, ends_in_copper, has_dot, has_end, inner_extensions, inner_words, is_one_of, is_number_within, last_other_word, letters_of, names_copper, says_plated, says_unplated, number_within, number_suffix, stem_of, words_of, StackPosition, Numbered, Top, Inner, Bottom, Unknown, LayerRange, ProposedRole, Copper, Plated, Unplated, Undecided, LeftOut, Decision, by_kind, copper_by_name, drill_by_function, drill_by_name, drill_by_text, drill_by_words, gerber_by_function, gerber_by_words, inner_copper_by_name, lacks_layers, left_out_by_name, other_by_name, by_file_function, layers_of_function, stack_position}
+use Rattle.manifest.specs.Contents.{field}
 use Rattle.manifest.specs.declared.contents.FileKind.{FileKind}
 use Rattle.manifest.specs.declared.contents.FileKind.TheVariants.{Gerber, Drill, Empty, Archive, Neither}
-use Rattle.manifest.specs.declared.model.StackPosition.{StackPosition}
-use Rattle.manifest.specs.declared.model.StackPosition.TheVariants.{Numbered, Top, Inner, Bottom, Unknown}
-use Rattle.manifest.specs.declared.model.LayerRange.{LayerRange}
-use Rattle.manifest.specs.declared.model.ProposedRole.{ProposedRole}
-use Rattle.manifest.specs.declared.model.ProposedRole.TheVariants.{Copper, Plated, Unplated, Undecided, LeftOut}
 use Rattle.manifest.specs.declared.model.ProposalReason.TheVariants as because
-use Rattle.manifest.specs.Decisions.{Decision, by_kind, copper_by_name, drill_by_function, drill_by_name, drill_by_text, drill_by_words, gerber_by_function, gerber_by_words, inner_copper_by_name, lacks_layers, left_out_by_name, other_by_name, by_file_function, layers_of_function, stack_position}
 
 -- ---- numbers of nine digits at most
 

@@ -1,20 +1,8 @@
 -- Files by name, each once.
-use Rattle.std.proofs.Common.{◌≡◌, ◌∙◌, ◌++◌, ◌||◌, ◌<◌, ◌+◌, ℕ, List, [], ◌∷◌, Bool, true, false, cond, not, map, take, get_or, Some, None, length, ap, sym, refl}
-use Rattle.std.specs.Prelude.{if◌then◌else◌}
-use Rattle.std.specs.List.{list_any, filter_map, cons_option}
-use Rattle.std.specs.Str.{bytes_eq}
-use Rattle.std.specs.Ordering.{is_eq, nat_cmp}
-use Rattle.std.specs.Cmp.Lexicographic.{slice_cmp}
-use Rattle.std.proofs.lemmas.List.{append-nil, map-append, take_more}
+use Rattle.manifest.proofs.Common.{◌≡◌, ◌∙◌, ◌++◌, ◌||◌, ◌<◌, ◌+◌, ℕ, List, [], ◌∷◌, Bool, true, false, cond, not, map, take, get_or, Some, None, length, ap, sym, refl, if◌then◌else◌, list_any, filter_map, cons_option, bytes_eq, is_eq, nat_cmp, slice_cmp, append-nil, map-append, take_more, is_eq-slice_cmp, with_prefixes, Profile, InputFile, separate_proposals, is_named, name_of, distinct, proposal, unless_seen, not_not}
 use Rattle.std.proofs.lemmas.List.Elements.{filter_map-append}
-use Rattle.std.proofs.lemmas.Map.Text.{is_eq-slice_cmp}
-use Rattle.grid_units.specs.Lists.{with_prefixes}
-use Rattle.grid_units.specs.declared.profile.Profile.{Profile}
 use Rattle.grid_units.proofs.LookbackLemmas.{with_prefixes-append}
-use Rattle.manifest.specs.declared.model.InputFile.{InputFile}
 use Rattle.manifest.specs.declared.model.FileContent.TheVariants as content
-use Rattle.manifest.specs.ProposalList.{separate_proposals, is_named, name_of, distinct, proposal, unless_seen}
-use Rattle.grid_units.proofs.BoolLemmas.{not_not}
 
 -- a file that stands for none
 abbrev pub nothing : InputFile

@@ -1,22 +1,5 @@
 -- Each name is proposed once.
-use Rattle.std.proofs.Common.{◌≡◌, ◌∙◌, ◌≤◌, ◌++◌, ◌||◌, ◌&&◌, ℕ, Bool, true, false, cond, List, [], ◌∷◌, map, Some, None, arith, refl, sym, ap}
-use Rattle.std.specs.Prelude.{nat_lt, if◌then◌else◌}
-use Rattle.std.specs.List.{list_any, count_by, filter, filter_map, cons_option}
-use Rattle.std.specs.List.Sorted.{IsPermutation}
-use Rattle.std.specs.Str.{bytes_eq}
-use Rattle.std.proofs.lemmas.Bool.{false≢true}
-use Rattle.std.proofs.lemmas.List.Folds.{list_any-append}
-use Rattle.std.proofs.lemmas.List.Sorted.{sum_by-IsPermutation}
-use Rattle.std.proofs.lemmas.Slice.Eq.{bytes_eq-Decides}
-use Rattle.grid_units.specs.Lists.{with_prefixes_from}
-use Rattle.grid_units.specs.declared.profile.Profile.{Profile}
-use Rattle.manifest.specs.declared.model.InputFile.{InputFile}
-use Rattle.manifest.specs.declared.model.Proposal.{Proposal}
-use Rattle.manifest.specs.Manifests.{is_copper, is_listed, layers_of_role, rank}
-use Rattle.manifest.specs.Places.{count_ranked, has_known_place, place_checked}
-use Rattle.manifest.specs.ProposalList.{placed_proposals, separate_proposals, is_named, name_of, distinct, proposal, proposals, unless_seen}
-use Rattle.manifest.specs.Stack.{are_clear, is_stack, layers_checked}
-use Rattle.manifest.specs.declared.model.ProposedRole.TheVariants.{Undecided}
+use Rattle.manifest.proofs.Common.{◌≡◌, ◌∙◌, ◌≤◌, ◌++◌, ◌||◌, ◌&&◌, ℕ, Bool, true, false, cond, List, [], ◌∷◌, map, Some, None, arith, refl, sym, ap, nat_lt, if◌then◌else◌, list_any, count_by, filter, filter_map, cons_option, IsPermutation, bytes_eq, false≢true, list_any-append, sum_by-IsPermutation, bytes_eq-Decides, with_prefixes_from, Profile, InputFile, Proposal, is_copper, is_listed, layers_of_role, rank, count_ranked, has_known_place, place_checked, placed_proposals, separate_proposals, is_named, name_of, distinct, proposal, proposals, unless_seen, are_clear, is_stack, layers_checked, Undecided}
 use Rattle.manifest.specs.declared.model.ProposalReason.TheVariants as because
 use Rattle.manifest.proofs.CountLemmas.{count_filter, count_hit, count_miss, count_of_map}
 use Rattle.manifest.proofs.LabelLemmas.{IsOnce, has_name}

@@ -1,12 +1,5 @@
 -- A record of at most five fields.
-use Rattle.std.proofs.Common.{◌≡◌, ◌∙◌, ◌&&◌, ◌≤◌, ◌<◌, ◌==◌, ◌⊎◌, ℕ, zero, suc, List, [], ◌∷◌, Bool, true, false, Some, None, length, arith, refl, ap, sym, inl, inr}
-use Rattle.std.specs.List.{list_all}
-use Rattle.std.specs.Str.{bytes_eq, is_utf8}
-use Rattle.std.proofs.lemmas.Str.{is_utf8-from_IsUtf8}
-use Rattle.std.proofs.lemmas.Bool.{false≢true}
-use Rattle.std.proofs.lemmas.List.Folds.{list_all_at}
-use Rattle.csv.specs.Records.{field_at}
-use Rattle.manifest.specs.Manifest.{CsvRecord, field, is_plain_text, is_well_formed}
+use Rattle.manifest.proofs.Common.{◌≡◌, ◌∙◌, ◌&&◌, ◌≤◌, ◌<◌, ◌==◌, ◌⊎◌, ℕ, zero, suc, List, [], ◌∷◌, Bool, true, false, Some, None, length, arith, refl, ap, sym, inl, inr, list_all, bytes_eq, is_utf8, is_utf8-from_IsUtf8, false≢true, list_all_at, field_at, CsvRecord, field, is_plain_text, is_well_formed}
 
 -- the empty text is plain
 pub empty_plain : is_plain_text [] ≡ true

@@ -1,19 +1,9 @@
 -- One record after another.
-use Rattle.std.proofs.Common.{◌≡◌, ◌∙◌, ◌<◌, ◌≤◌, ◌+◌, ◌++◌, ℕ, zero, suc, Bool, List, [], ◌∷◌, Option, Some, None, Ok, Err, length, map, take, drop, get_or, slice_get, arith, refl, ap, sym}
-use Rattle.std.proofs.lemmas.List.{map-append}
-use Rattle.std.specs.Prelude.{Vec}
+use Rattle.manifest.proofs.Common.{◌≡◌, ◌∙◌, ◌<◌, ◌≤◌, ◌+◌, ◌++◌, ℕ, zero, suc, Bool, List, [], ◌∷◌, Option, Some, None, Ok, Err, length, map, take, drop, get_or, slice_get, arith, refl, ap, sym, map-append, Vec, option_or, violations, Answers, with_place, fault, Reason, Fault, Profile, Entry, CsvRecord, broken_after, first_broken_rule, entries_of, entry_of, field, is_repeated, entries_or_fault, joint_fault}
 use Rattle.std.specs.declared.alloc.Global.{Global}
-use Rattle.std.specs.Option.{option_or}
 use Rattle.grid_units.proofs.LookbackLemmas.{violations-first, violations-more}
-use Rattle.grid_units.specs.Lists.{violations}
-use Rattle.grid_units.specs.Results.{Answers, with_place, fault}
-use Rattle.grid_units.specs.declared.fault.Reason.{Reason}
-use Rattle.grid_units.specs.declared.fault.Fault.{Fault}
-use Rattle.grid_units.specs.declared.profile.Profile.{Profile}
 use Rattle.grid_units.specs.declared.fault.Fail.{Fail}
 use Rattle.grid_units.specs.declared.fault.Fail.TheVariants as fails
-use Rattle.manifest.specs.declared.Entry.{Entry}
-use Rattle.manifest.specs.Manifest.{CsvRecord, broken_after, first_broken_rule, entries_of, entry_of, field, is_repeated, entries_or_fault, joint_fault}
 use Rattle.manifest.specs.Inner.RecordEntry.{checked_entry, entry_or_reason}
 
 broken : (o : Option Reason) (given : Entry) (place : ℕ) (f : Fault) → Err f ≡ with_place place 0 (entry_or_reason o given) → (why : Reason) × (o ≡ Some why) × (f ≡ fault place 0 why)

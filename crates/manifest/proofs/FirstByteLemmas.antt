@@ -1,8 +1,5 @@
 -- The first byte that passes a test.
-use Rattle.std.proofs.Common.{◌≡◌, ◌∙◌, ◌<◌, ◌≤◌, ◌+◌, ◌-◌, ℕ, Bool, true, false, List, [], length, drop, take, get_or, arith, sym, ap}
-use Rattle.std.specs.List.{before_first, after_first, position_or_len}
-use Rattle.std.proofs.lemmas.List.{take_all, drop_all, length-drop}
-use Rattle.std.proofs.lemmas.List.Sums.{position_or_len_is}
+use Rattle.manifest.proofs.Common.{◌≡◌, ◌∙◌, ◌<◌, ◌≤◌, ◌+◌, ◌-◌, ℕ, Bool, true, false, List, [], length, drop, take, get_or, arith, sym, ap, before_first, after_first, position_or_len, take_all, drop_all, length-drop, position_or_len_is}
 
 module _ (p : ℕ → Bool) (xs : List ℕ) where
   pub first_at : (i : ℕ) → i < length xs → ((k : ℕ) → k < i → p (get_or xs k 0) ≡ false) → p (get_or xs i 0) ≡ true → position_or_len p xs ≡ i

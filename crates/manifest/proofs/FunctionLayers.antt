@@ -1,27 +1,10 @@
 -- What is proposed names layers by nine digits at most, those of its file function.
-use Rattle.std.proofs.Common.{◌≡◌, ◌∙◌, ◌&&◌, ℕ, Bool, true, false, List, [], ◌∷◌, map, cond, Option, Some, None, arith, refl, ap}
-use Rattle.std.specs.Prelude.{nat_le, nat_lt, if◌then◌else◌}
-use Rattle.std.specs.List.{list_all, filter, count_by}
-use Rattle.std.specs.List.Sorted.{IsPermutation}
-use Rattle.manifest.specs.Contents.{field, function_of, kind_of}
-use Rattle.manifest.specs.Names.{number_within}
-use Rattle.grid_units.proofs.BoolLemmas.{and_true, both_true}
+use Rattle.manifest.proofs.Common.{◌≡◌, ◌∙◌, ◌&&◌, ℕ, Bool, true, false, List, [], ◌∷◌, map, cond, Option, Some, None, arith, refl, ap, nat_le, nat_lt, if◌then◌else◌, list_all, filter, count_by, IsPermutation, function_of, kind_of, number_within, and_true, both_true, LayerRange, InputFile, Proposal, ProposedRole, Copper, Plated, Unplated, Mixed, Undecided, LeftOut, Profile, decision_in, hole_kind, layers_of_fields, by_file_function, layers_of_function, is_copper, is_listed, layers_of_role, rank, count_ranked, has_known_place, place_checked, placed_proposals, separate_proposals, decision_for, name_of, distinct, proposal, proposals, are_clear, is_stack, layers_checked, layers_checked_in}
+use Rattle.manifest.specs.Contents.{field}
 use Rattle.manifest.specs.declared.model.HoleKind.{HoleKind}
-use Rattle.manifest.specs.declared.model.LayerRange.{LayerRange}
-use Rattle.manifest.specs.declared.model.InputFile.{InputFile}
 use Rattle.manifest.specs.declared.model.FileContent.{FileContent}
 use Rattle.manifest.specs.declared.model.FileContent.TheVariants as content
-use Rattle.manifest.specs.declared.model.Proposal.{Proposal}
-use Rattle.manifest.specs.declared.model.ProposedRole.{ProposedRole}
-use Rattle.manifest.specs.declared.model.ProposedRole.TheVariants.{Copper, Plated, Unplated, Mixed, Undecided, LeftOut}
 use Rattle.manifest.specs.declared.model.ProposalReason.TheVariants as because
-use Rattle.grid_units.specs.declared.profile.Profile.{Profile}
-use Rattle.manifest.specs.MixedFiles.{decision_in}
-use Rattle.manifest.specs.Decisions.{hole_kind, layers_of_fields, by_file_function, layers_of_function}
-use Rattle.manifest.specs.Manifests.{is_copper, is_listed, layers_of_role, rank}
-use Rattle.manifest.specs.Places.{count_ranked, has_known_place, place_checked}
-use Rattle.manifest.specs.ProposalList.{placed_proposals, separate_proposals, decision_for, name_of, distinct, proposal, proposals}
-use Rattle.manifest.specs.Stack.{are_clear, is_stack, layers_checked, layers_checked_in}
 use Rattle.manifest.proofs.DecisionCases.{is_low_if, is_low_place, number_low, of_kind}
 use Rattle.manifest.proofs.MixedFileLemmas.{in_profile}
 use Rattle.manifest.proofs.OneToN.{all_moves}

@@ -1,18 +1,7 @@
 -- The names of a manifest differ where those of the files do, and may stand in it where those may.
-use Rattle.std.proofs.Common.{◌≡◌, ◌∙◌, ◌<◌, ◌≤◌, ◌||◌, ◌==◌, ℕ, Bool, true, false, not, List, ◌∷◌, ◌++◌, length, arith, refl, sym, ap, subst}
-use Rattle.std.specs.Prelude.{nat_lt, if◌then◌else◌}
-use Rattle.std.specs.List.{list_any, count_by}
-use Rattle.std.specs.Str.{bytes_eq, is_utf8}
-use Rattle.std.proofs.lemmas.Bool.{false≢true, lt-ltb}
-use Rattle.std.proofs.lemmas.Slice.Eq.{bytes_eq-Decides}
-use Rattle.manifest.specs.Names.{base_name}
+use Rattle.manifest.proofs.Common.{◌≡◌, ◌∙◌, ◌<◌, ◌≤◌, ◌||◌, ◌==◌, ℕ, Bool, true, false, not, List, ◌∷◌, ◌++◌, length, arith, refl, sym, ap, subst, nat_lt, if◌then◌else◌, list_any, count_by, bytes_eq, is_utf8, false≢true, lt-ltb, bytes_eq-Decides, base_name, is_control, is_plain_text, Proposal, is_ambiguous, label, count_named, is_valid_name, and_true, both_true}
 use Rattle.manifest.proofs.PlainNameLemmas.{base_name_is_text, base_name_keeps, base_name_of_base_name}
-use Rattle.manifest.specs.Manifest.{is_control, is_plain_text}
-use Rattle.manifest.specs.declared.model.Proposal.{Proposal}
-use Rattle.manifest.specs.Manifests.{is_ambiguous, label, count_named}
-use Rattle.manifest.specs.ReadBack.{is_valid_name}
 use Rattle.manifest.proofs.CountLemmas.{count_two, found}
-use Rattle.grid_units.proofs.BoolLemmas.{and_true, both_true}
 
 -- the file has this name
 abbrev pub has_name : List ℕ → Proposal → Bool

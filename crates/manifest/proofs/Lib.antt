@@ -1,3 +1,4 @@
+pub mod Common
 pub mod EntryFields
 pub mod NameSet
 pub mod EntryLoop

@@ -1,16 +1,6 @@
 -- A manifest is refused for one of its own reasons.
-use Rattle.std.proofs.Common.{◌≡◌, ◌∙◌, ◌+◌, ◌++◌, ◌||◌, ◌&&◌, ◌==◌, ℕ, Bool, true, false, List, [], ◌∷◌, Option, Some, None, Result, Err, length, map, slice_get, not, refl, ap, sym}
-use Rattle.std.specs.Prelude.{if◌then◌else◌, is_some}
-use Rattle.std.specs.List.{cons_option, filter_map, list_any}
-use Rattle.std.specs.Option.{option_map, option_or}
-use Rattle.grid_units.specs.Lists.{violation_at, violations, with_prefixes_from}
-use Rattle.grid_units.specs.Results.{fault}
-use Rattle.grid_units.specs.declared.fault.Fault.{Fault}
-use Rattle.grid_units.specs.declared.profile.Profile.{Profile}
-use Rattle.grid_units.specs.declared.fault.Reason.{Reason}
-use Rattle.grid_units.specs.declared.fault.Reason.TheVariants.{BadManifest, BadRole, BadSpan, EmptyName, NoCopper, NoDrill, RepeatedName}
-use Rattle.manifest.specs.declared.Entry.{Entry}
-use Rattle.manifest.specs.Manifest.{CsvRecord, broken_after, first_broken_rule, entry_of, field, parse_entries, first_exceeding, first_fault, is_bad_span, is_copper, is_manifest_reason, is_repeated, is_role_in, is_well_formed, manifest_in, parse_manifest_records, missing_role, role_of_word, csv_records, entries_or_fault, field_count, joint_fault}
+use Rattle.manifest.proofs.Common.{◌≡◌, ◌∙◌, ◌+◌, ◌++◌, ◌||◌, ◌&&◌, ◌==◌, ℕ, Bool, true, false, List, [], ◌∷◌, Option, Some, None, Result, Err, length, map, slice_get, not, refl, ap, sym, if◌then◌else◌, is_some, cons_option, filter_map, list_any, option_map, option_or, violation_at, violations, with_prefixes_from, fault, Fault, Profile, Reason, BadManifest, BadRole, BadSpan, EmptyName, NoCopper, NoDrill, RepeatedName, Entry, CsvRecord, broken_after, first_broken_rule, entry_of, field, parse_entries, first_exceeding, first_fault, is_bad_span, is_manifest_reason, is_repeated, is_role_in, is_well_formed, manifest_in, parse_manifest_records, missing_role, role_of_word, csv_records, entries_or_fault, field_count, joint_fault}
+use Rattle.manifest.specs.Manifest.{is_copper}
 
 module _ (fair : Reason → Bool) where
   -- no reason, or one that passes

@@ -1,16 +1,9 @@
 -- Drill files with both plated and unplated holes: what is proposed for them, and that it is what a check reads.
-use Rattle.std.proofs.Common.{◌≡◌, ◌≢◌, ◌∙◌, ◌==◌, ℕ, Bool, true, false, List, [], ◌∷◌, length, take, Option, Some, None, Result, Ok, Err, arith, refl, sym, ap, append-nil}
-use Rattle.std.specs.Prelude.{if◌then◌else◌}
-use Rattle.std.specs.Result.{is_ok}
-use Rattle.std.proofs.lemmas.Bool.{false≢true}
-use Rattle.std.proofs.lemmas.Bool.Decides.{nat_tests}
+use Rattle.manifest.proofs.Common.{◌≡◌, ◌≢◌, ◌∙◌, ◌==◌, ℕ, Bool, true, false, List, [], ◌∷◌, length, take, Option, Some, None, Result, Ok, Err, arith, refl, sym, ap, if◌then◌else◌, is_ok, false≢true, nat_tests, Answers, IfFault, Fault, Profile, Strict, Wide, function_of, kind_of, Decision, decision, lacks_layers, layers_of_function, decision_in, is_mixed_reason, is_mixed_role, is_mixed_text, lines_and_rest, mixed_by_function, mixed_decision, with_byte, ProposedRole, Mixed, Undecided}
+use Rattle.std.proofs.Common.{append-nil}
 use Rattle.grid_units.specs.Limits.{text_limit}
-use Rattle.grid_units.specs.Results.{Answers, IfFault}
 use Rattle.grid_units.specs.declared.fault.Fail.{Fail}
 use Rattle.grid_units.specs.declared.fault.Fail.TheVariants.{Memory, Refused}
-use Rattle.grid_units.specs.declared.fault.Fault.{Fault}
-use Rattle.grid_units.specs.declared.profile.Profile.{Profile}
-use Rattle.grid_units.specs.declared.profile.Profile.TheVariants.{Strict, Wide}
 use Rattle.drill_lines.specs.declared.command.DrillCommand.{DrillCommand}
 use Rattle.drill_text.specs.Lines.{Splits}
 use Rattle.drill_text.specs.Outcome.{DrillFile, file_of}
@@ -19,11 +12,6 @@ use Rattle.drill_text.specs.declared.kept.Keep.TheVariants.{Holes}
 use Rattle.drill_text.specs.declared.platings.PlatingKind.TheVariants as plating
 use Rattle.drill_text.proofs.FaultsStay.{shown_is_read_in}
 use Rattle.drill_text.proofs.UniqueReading.{one_read_in}
-use Rattle.manifest.specs.Contents.{function_of, kind_of}
-use Rattle.manifest.specs.Decisions.{Decision, decision, lacks_layers, layers_of_function}
-use Rattle.manifest.specs.MixedFiles.{decision_in, is_mixed_reason, is_mixed_role, is_mixed_text, lines_and_rest, mixed_by_function, mixed_decision, with_byte}
-use Rattle.manifest.specs.declared.model.ProposedRole.{ProposedRole}
-use Rattle.manifest.specs.declared.model.ProposedRole.TheVariants.{Mixed, Undecided}
 use Rattle.manifest.specs.declared.model.ProposalReason.TheVariants as because
 use Rattle.manifest.proofs.DecisionCases.{of_kind}
 

@@ -1,14 +1,5 @@
 -- The names of the files before a record, kept in a set.
-use Rattle.std.proofs.Common.{◌≡◌, ◌∙◌, ◌++◌, ◌||◌, ℕ, List, [], ◌∷◌, Bool, true, false, cond, not, map, ap, sym, refl}
-use Rattle.std.specs.List.{list_any}
-use Rattle.std.specs.Str.{bytes_eq}
-use Rattle.std.specs.Ordering.{is_eq, nat_cmp}
-use Rattle.std.specs.Cmp.Lexicographic.{slice_cmp}
-use Rattle.std.proofs.lemmas.List.{map-append}
-use Rattle.std.proofs.lemmas.Map.Text.{is_eq-slice_cmp}
-use Rattle.manifest.specs.declared.Entry.{Entry}
-use Rattle.manifest.specs.Manifest.{CsvRecord, entry_of, field, is_repeated}
-use Rattle.grid_units.proofs.BoolLemmas.{not_not}
+use Rattle.manifest.proofs.Common.{◌≡◌, ◌∙◌, ◌++◌, ◌||◌, ℕ, List, [], ◌∷◌, Bool, true, false, cond, not, map, ap, sym, refl, list_any, bytes_eq, is_eq, nat_cmp, slice_cmp, map-append, is_eq-slice_cmp, Entry, CsvRecord, entry_of, field, is_repeated, not_not}
 
 any_more : (p : Entry → Bool) (xs : List Entry) (x : Entry) → list_any p (xs ++ x ∷ []) ≡ cond (p x) true (list_any p xs)
 any_more p [] x = by (p x)

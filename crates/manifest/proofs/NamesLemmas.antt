@@ -1,15 +1,6 @@
 -- Words and numbers of a name.
-use Rattle.std.proofs.Common.{◌≡◌, ◌∙◌, ◌<◌, ◌≤◌, ◌||◌, ◌-◌, ◌+◌, ℕ, min, codes, List, [], ◌∷◌, Bool, true, false, Option, Some, length, map, take, drop, get_or, reverse, Bor, unwrap_or, arith, refl, ap, sym}
+use Rattle.manifest.proofs.Common.{◌≡◌, ◌∙◌, ◌<◌, ◌≤◌, ◌||◌, ◌-◌, ◌+◌, ℕ, min, codes, List, [], ◌∷◌, Bool, true, false, Option, Some, length, map, take, drop, get_or, reverse, Bor, unwrap_or, arith, refl, ap, sym, if◌then◌else◌, list_any, find, option_map, false≢true, le-leb, drop_more, length-map, take-map, take_all, is_digits, value, nine_digits, bytes_eq, has_non_plated, has_plated, is_number_within, is_plated_word, number_within, stem_of}
 use mathlib.Core.List.{reverse_aux}
-use Rattle.std.specs.Prelude.{if◌then◌else◌}
-use Rattle.std.specs.List.{list_any, find}
-use Rattle.std.specs.Option.{option_map}
-use Rattle.std.proofs.lemmas.Bool.{false≢true, le-leb}
-use Rattle.std.proofs.lemmas.List.{drop_more, length-map, take-map, take_all}
-use Rattle.grid_units.specs.Numbers.{is_digits, value}
-use Rattle.grid_units.proofs.DigitLemmas.{nine_digits}
-use Rattle.std.specs.Str.{bytes_eq}
-use Rattle.manifest.specs.Names.{has_non_plated, has_plated, is_number_within, is_plated_word, number_within, stem_of}
 
 pub any_map : {X Y : Type 0} (p : Y → Bool) (f : X → Y) (xs : List X) → list_any (λ x. p (f x)) xs ≡ list_any p (map f xs)
 any_map p f [] = refl

@@ -1,27 +1,12 @@
 -- What is not left out.
-use Rattle.std.proofs.Common.{◌≡◌, ◌∙◌, ◌||◌, ◌&&◌, ℕ, Bool, true, false, not, List, Option, Some, None, unwrap_or, refl, ap}
-use Rattle.std.specs.Prelude.{nat_lt, if◌then◌else◌}
-use Rattle.std.specs.List.{count_by, list_any}
-use Rattle.std.specs.Option.{option_or, option_map}
+use Rattle.manifest.proofs.Common.{◌≡◌, ◌∙◌, ◌||◌, ◌&&◌, ℕ, Bool, true, false, not, List, Option, Some, None, unwrap_or, refl, ap, nat_lt, if◌then◌else◌, count_by, list_any, option_or, option_map, StackPosition, Top, Unknown, Bottom, LayerRange, Copper, Plated, Unplated, Undecided, LeftOut, function_of, kind_of, says_plated_holes, says_unplated_holes, extension_of, has_dot, has_end, stem_of, words_of, number_suffix, inner_extensions, inner_words, last_other_word, ends_in_copper, names_copper, says_plated, says_unplated, Decision, by_kind, copper_by_name, decision, drill_by_function, drill_by_name, drill_by_text, drill_by_words, gerber_by_function, gerber_by_words, inner_copper_by_name, lacks_layers, left_out_by_name, other_by_name, by_file_function, layers_of_function, stack_position, Profile, decision_in, is_copper, layers_of_role, is_listed_role, rank, count_ranked, has_known_place, place_checked, are_clear, is_stack, layers_checked, Proposal}
 use Rattle.manifest.specs.declared.contents.FileKind.{FileKind}
 use Rattle.manifest.specs.declared.contents.FileKind.TheVariants.{Gerber, Drill}
-use Rattle.manifest.specs.declared.model.StackPosition.{StackPosition}
-use Rattle.manifest.specs.declared.model.StackPosition.TheVariants.{Top, Unknown, Bottom}
-use Rattle.manifest.specs.declared.model.LayerRange.{LayerRange}
-use Rattle.manifest.specs.declared.model.ProposedRole.TheVariants.{Copper, Plated, Unplated, Undecided, LeftOut}
 use Rattle.manifest.specs.declared.model.ProposalReason.TheVariants as because
-use Rattle.manifest.specs.Contents.{field, function_of, kind_of, says_plated_holes, says_unplated_holes}
-use Rattle.manifest.specs.Names.{extension_of, has_dot, has_end, stem_of, words_of, number_suffix, inner_extensions, inner_words, last_other_word, ends_in_copper, names_copper, says_plated, says_unplated}
-use Rattle.manifest.specs.Decisions.{Decision, by_kind, copper_by_name, decision, drill_by_function, drill_by_name, drill_by_text, drill_by_words, gerber_by_function, gerber_by_words, inner_copper_by_name, lacks_layers, left_out_by_name, other_by_name, by_file_function, layers_of_function, stack_position}
-use Rattle.grid_units.specs.declared.profile.Profile.{Profile}
-use Rattle.manifest.specs.MixedFiles.{decision_in}
+use Rattle.manifest.specs.Contents.{field}
 use Rattle.manifest.specs.Omission.{are_other_words, is_other_function, names_no_copper}
-use Rattle.manifest.specs.Manifests.{is_copper, layers_of_role, is_listed_role, rank}
-use Rattle.manifest.specs.Places.{count_ranked, has_known_place, place_checked}
-use Rattle.manifest.specs.Stack.{are_clear, is_stack, layers_checked}
 use Rattle.manifest.proofs.DecisionCases.{unless_lacking}
 use Rattle.manifest.proofs.MixedFileLemmas.{in_profile}
-use Rattle.manifest.specs.declared.model.Proposal.{Proposal}
 
 -- ---- drill files
 

@@ -1,13 +1,5 @@
 -- Numbers from 1 to how many there are, each once: in order they count up from 1.
-use Rattle.std.proofs.Common.{◌≡◌, ◌∙◌, ◌<◌, ◌≤◌, ◌+◌, ◌&&◌, ◌||◌, ◌==◌, ℕ, zero, suc, Bool, true, false, not, List, [], ◌∷◌, length, get_or, arith, refl, sym, ap}
-use Rattle.std.specs.Prelude.{nat_le}
-use Rattle.std.specs.List.{list_all, list_any, count_by}
-use Rattle.std.specs.List.Sorted.{IsPermutation, IsNonDecreasing, IsNonDecreasingBy}
-use Rattle.std.proofs.lemmas.Bool.{false≢true, leb-true, le-leb, eqb-true, eq-eqb}
-use Rattle.std.proofs.lemmas.Bool.Decides.{nat_tests}
-use Rattle.std.proofs.lemmas.List.Sorted.{list_any-IsPermutation, length_permutation, sum_by-IsPermutation}
-use Rattle.grid_units.proofs.BoolLemmas.{and_true, both_true}
-use Rattle.manifest.specs.Stack.{are_one_to_n, occurs_once_in_range, numbers_from}
+use Rattle.manifest.proofs.Common.{◌≡◌, ◌∙◌, ◌<◌, ◌≤◌, ◌+◌, ◌&&◌, ◌||◌, ◌==◌, ℕ, zero, suc, Bool, true, false, not, List, [], ◌∷◌, length, get_or, arith, refl, sym, ap, nat_le, list_all, list_any, count_by, IsPermutation, IsNonDecreasing, IsNonDecreasingBy, false≢true, leb-true, le-leb, eqb-true, eq-eqb, nat_tests, list_any-IsPermutation, length_permutation, sum_by-IsPermutation, and_true, both_true, are_one_to_n, occurs_once_in_range, numbers_from}
 use Rattle.manifest.proofs.CountLemmas.{count_cons, count_hit, count_miss, one}
 
 -- ---- lists in order

@@ -1,13 +1,5 @@
 -- What follows the last slash of a name has no slash, and is text where the name is.
-use Rattle.std.proofs.Common.{◌≡◌, ◌∙◌, ◌<◌, ◌≤◌, ◌+◌, ◌-◌, ◌==◌, ◌||◌, ℕ, zero, suc, Bool, true, false, not, List, [], ◌∷◌, length, drop, take, get_or, arith, refl, sym, ap}
-use Rattle.std.specs.List.{list_any, suffix_len}
-use Rattle.std.specs.Str.{is_utf8, IsUtf8}
-use Rattle.std.proofs.lemmas.Bool.{eqb-true, false≢true}
-use Rattle.std.proofs.lemmas.List.{take-append-drop, length-drop, get_or-drop}
-use Rattle.std.proofs.lemmas.List.Folds.{list_any-append}
-use Rattle.std.proofs.lemmas.List.Sums.{suffix_len_is}
-use Rattle.std.proofs.lemmas.Str.{IsUtf8-from_is_utf8, is_utf8-from_IsUtf8, IsUtf8-drop, IsCharBoundary-after_ascii}
-use Rattle.manifest.specs.Names.{base_name}
+use Rattle.manifest.proofs.Common.{◌≡◌, ◌∙◌, ◌<◌, ◌≤◌, ◌+◌, ◌-◌, ◌==◌, ◌||◌, ℕ, zero, suc, Bool, true, false, not, List, [], ◌∷◌, length, drop, take, get_or, arith, refl, sym, ap, list_any, suffix_len, is_utf8, IsUtf8, eqb-true, false≢true, take-append-drop, length-drop, get_or-drop, list_any-append, suffix_len_is, IsUtf8-from_is_utf8, is_utf8-from_IsUtf8, IsUtf8-drop, IsCharBoundary-after_ascii, base_name}
 
 -- a byte that is no slash
 abbrev no_slash : ℕ → Bool

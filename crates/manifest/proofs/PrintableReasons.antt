@@ -1,13 +1,8 @@
 -- A reason is printable ASCII.
-use Rattle.std.proofs.Common.{◌≡◌, ◌∙◌, ◌<◌, ◌&&◌, ℕ, ◌+◌, ◌-◌, ◌/◌, ◌%◌, Bool, true, false, not, List, [], ◌∷◌, arith, refl}
-use Rattle.std.specs.Prelude.{nat_le, nat_lt, ◌==◌, if◌then◌else◌}
-use Rattle.std.specs.List.{list_all, flat_map}
-use Rattle.std.proofs.lemmas.Bool.{ltb-true, le-leb}
-use Rattle.std.proofs.lemmas.List.Folds.{list_all-append}
-use Rattle.grid_units.proofs.BoolLemmas.{and_true, both_true}
+use Rattle.manifest.proofs.Common.{◌≡◌, ◌∙◌, ◌<◌, ◌&&◌, ℕ, ◌+◌, ◌-◌, ◌/◌, ◌%◌, Bool, true, false, not, List, [], ◌∷◌, arith, refl, nat_le, nat_lt, if◌then◌else◌, list_all, flat_map, ltb-true, le-leb, list_all-append, and_true, both_true, because_text, backslash, byte_text, hex_digit, is_printed, named_function, reason_words}
+use Rattle.std.specs.Prelude.{◌==◌}
 use Rattle.manifest.specs.declared.model.ProposalReason.{ProposalReason}
 use Rattle.manifest.specs.declared.model.ProposalReason.TheVariants as because
-use Rattle.manifest.specs.Manifests.{because_text, backslash, byte_text, hex_digit, is_printed, named_function, reason_words}
 
 abbrev is_visible : ℕ → Bool
 is_visible b = nat_le 32 b && nat_le b 126

@@ -1,36 +1,14 @@
 -- The manifest of proposals that are all decided reads back as their files.
-use Rattle.std.proofs.Common.{◌≡◌, ◌∙◌, ◌≤◌, ◌++◌, ◌&&◌, ℕ, Bool, true, false, not, List, [], ◌∷◌, length, map, codes, Option, Some, None, Ok, option_map, arith, refl, sym, ap, append_assoc}
-use Rattle.std.specs.Prelude.{nat_lt, nat_le, if◌then◌else◌}
-use Rattle.std.specs.List.{list_all, list_any, count_by, filter_map, position}
-use Rattle.std.specs.Option.{option_or}
-use Rattle.std.specs.Str.{bytes_eq}
-use Rattle.std.proofs.lemmas.Bool.{leb-true}
-use Rattle.std.proofs.lemmas.Bool.Decides.{nat_tests}
-use Rattle.std.proofs.lemmas.List.{map-append}
-use Rattle.csv.specs.Reading.{default_config, records, strip_bom}
-use Rattle.csv.specs.Writing.{default_writer, read_back, row_text}
-use Rattle.grid_units.specs.Lists.{violation_at, violations, with_prefixes_from}
-use Rattle.grid_units.specs.declared.fault.Reason.{Reason}
-use Rattle.grid_units.specs.declared.fault.Reason.TheVariants.{BadSpan}
-use Rattle.grid_units.specs.declared.profile.Profile.{Profile}
-use Rattle.manifest.specs.declared.Entry.{Entry}
+use Rattle.manifest.proofs.Common.{◌≡◌, ◌∙◌, ◌≤◌, ◌++◌, ◌&&◌, ℕ, Bool, true, false, not, List, [], ◌∷◌, length, map, codes, Option, Some, None, Ok, arith, refl, sym, ap, append_assoc, nat_lt, nat_le, if◌then◌else◌, list_all, list_any, count_by, filter_map, position, option_or, bytes_eq, leb-true, nat_tests, map-append, default_config, records, strip_bom, default_writer, read_back, row_text, violation_at, violations, with_prefixes_from, Reason, BadSpan, Profile, Entry, CsvRecord, broken_after, first_broken_rule, exceeds_layers, entries_of, entry_of, field, is_repeated, manifest_in, parse_manifest_records, missing_role, joint_fault, LayerRange, ProposedRole, Copper, Plated, Unplated, Mixed, Undecided, LeftOut, Proposal, has_spans, is_copper, is_copper_role, label, manifest_text, layers_of_role, AreDecided, as_span, entry_in, is_decided, is_valid_name, role_of, are_within_count, both_true}
+use Rattle.std.proofs.Common.{option_map}
 use Rattle.manifest.specs.Manifest as manifests
-use Rattle.manifest.specs.Manifest.{CsvRecord, broken_after, first_broken_rule, exceeds_layers, entries_of, entry_of, field, is_repeated, manifest_in, parse_manifest_records, missing_role, joint_fault}
 use Rattle.manifest.proofs.EntryLoop.{at_end}
-use Rattle.manifest.specs.declared.model.LayerRange.{LayerRange}
-use Rattle.manifest.specs.declared.model.ProposedRole.{ProposedRole}
-use Rattle.manifest.specs.declared.model.ProposedRole.TheVariants.{Copper, Plated, Unplated, Mixed, Undecided, LeftOut}
-use Rattle.manifest.specs.declared.model.Proposal.{Proposal}
-use Rattle.manifest.specs.Manifests.{has_spans, is_copper, is_copper_role, label, manifest_text, layers_of_role}
-use Rattle.manifest.specs.ReadBack.{AreDecided, as_span, entry_in, is_decided, is_valid_name, role_of}
-use Rattle.manifest.specs.Stack.{are_within_count}
 use Rattle.manifest.proofs.CountLemmas.{all_at, any_of_map, count_of_map, nowhere}
 use Rattle.manifest.proofs.LabelLemmas.{IsOnce, label_stands, not_repeated}
 use Rattle.manifest.proofs.ValidEntries.{CanBeNamed, entry_is, fields_of, no_rule_broken, width}
 use Rattle.manifest.proofs.WrittenRecords.{read_all, texts}
 use Rattle.manifest.proofs.RowLemmas.{rows_of}
 use Rattle.manifest.proofs.FunctionLayers.{is_short, names_short, span_short}
-use Rattle.grid_units.proofs.BoolLemmas.{both_true}
 
 -- ---- lists
 

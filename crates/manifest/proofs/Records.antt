@@ -1,9 +1,6 @@
 -- The records that were read, one after another, are the records of the text.
-use Rattle.std.proofs.Common.{◌≡◌, ◌∙◌, ◌<◌, ◌≤◌, ◌++◌, ◌+◌, ◌==◌, ◌&&◌, ℕ, zero, suc, List, [], ◌∷◌, Bool, true, false, Some, None, length, arith, refl, sym, ap}
-use Rattle.std.specs.Prelude.{if◌then◌else◌}
-use Rattle.std.proofs.lemmas.Bool.{false≢true}
+use Rattle.manifest.proofs.Common.{◌≡◌, ◌∙◌, ◌<◌, ◌≤◌, ◌++◌, ◌+◌, ◌==◌, ◌&&◌, ℕ, zero, suc, List, [], ◌∷◌, Bool, true, false, Some, None, length, arith, refl, sym, ap, if◌then◌else◌, false≢true, AreRecords, Reached, records, records_from, CsvRecord}
 use Rattle.csv.specs.Machine.{Read, after_end, ends_at_end, is_end, next_record, step, fields_after, field_after, in_field, ends_with, is_byte, start_field, start_record}
-use Rattle.csv.specs.Reading.{AreRecords, Reached, records, records_from}
 use Rattle.csv.specs.declared.parser.Config.{Config}
 use Rattle.csv.specs.declared.parser.Terminator.{Terminator}
 use Rattle.csv.specs.declared.parser.Terminator.TheVariants as term
@@ -11,7 +8,6 @@ use Rattle.csv.specs.declared.parser.State.{State}
 use Rattle.csv.specs.declared.parser.State.TheVariants as st
 use Rattle.csv.specs.declared.parser.Action.{Action}
 use Rattle.csv.specs.declared.parser.Action.TheVariants as act
-use Rattle.manifest.specs.Manifest.{CsvRecord}
 
 -- as many records as the text has, with steps to spare
 from_reached : (cfg : Config) (s s2 : State) (xs ys : List ℕ) (rows : List CsvRecord) (n : ℕ) → length rows < n → Reached cfg s xs rows s2 ys

@@ -1,18 +1,6 @@
 -- Names that two files share, as two sets have them: those that were met, and those that were met again.
-use Rattle.std.proofs.Common.{◌≡◌, ◌∙◌, ◌<◌, ◌+◌, ℕ, Bool, true, false, cond, not, List, [], ◌∷◌, ◌++◌, length, map, take, get_or, Bor, arith, refl, sym, ap}
-use Rattle.std.specs.Prelude.{nat_lt}
-use Rattle.std.specs.Ordering.{is_eq, nat_cmp}
-use Rattle.std.specs.Str.{bytes_eq}
-use Rattle.std.specs.Cmp.Lexicographic.{slice_cmp}
-use Rattle.std.proofs.lemmas.Bool.Decides.{nat_tests}
-use Rattle.std.proofs.lemmas.List.{map-append, take_more}
-use Rattle.std.proofs.lemmas.Map.Text.{is_eq-slice_cmp}
-use Rattle.std.proofs.lemmas.Slice.Eq.{bytes_eq-Decides}
-use Rattle.manifest.specs.Names.{base_name}
-use Rattle.manifest.specs.declared.model.Proposal.{Proposal}
-use Rattle.manifest.specs.Manifests.{count_named}
+use Rattle.manifest.proofs.Common.{◌≡◌, ◌∙◌, ◌<◌, ◌+◌, ℕ, Bool, true, false, cond, not, List, [], ◌∷◌, ◌++◌, length, map, take, get_or, Bor, arith, refl, sym, ap, nat_lt, is_eq, nat_cmp, bytes_eq, slice_cmp, nat_tests, map-append, take_more, is_eq-slice_cmp, bytes_eq-Decides, base_name, Proposal, count_named, not_not}
 use Rattle.manifest.proofs.CountLemmas.{count_append, count_cons, one}
-use Rattle.grid_units.proofs.BoolLemmas.{not_not}
 
 -- ---- one more name
 

@@ -1,13 +1,5 @@
 -- Files that are sorted as references are sorted as files.
-use Rattle.std.proofs.Common.{◌≡◌, ◌∙◌, ℕ, Bool, true, false, List, [], ◌∷◌, length, map, Bor, ap, sym, refl, subst, arith}
-use Rattle.std.specs.Prelude.{if◌then◌else◌}
-use Rattle.std.specs.List.{filter}
-use Rattle.std.specs.List.Sorted.{IsPermutation, IsNonDecreasingBy, IsStableByKey, ties}
-use Rattle.std.specs.Ordering.{nat_cmp, is_lt}
-use Rattle.std.proofs.lemmas.List.{get_or-map, length-map}
-use Rattle.std.proofs.lemmas.List.Sorted.{IsPermutation-map}
-use Rattle.manifest.specs.declared.model.Proposal.{Proposal}
-use Rattle.manifest.specs.Manifests.{IsManifestOrder, rank}
+use Rattle.manifest.proofs.Common.{◌≡◌, ◌∙◌, ℕ, Bool, true, false, List, [], ◌∷◌, length, map, Bor, ap, sym, refl, subst, arith, if◌then◌else◌, filter, IsPermutation, IsNonDecreasingBy, IsStableByKey, ties, nat_cmp, is_lt, get_or-map, length-map, IsPermutation-map, Proposal, IsManifestOrder, rank}
 
 pub filter_map_to : {X Y : Type 0} (p : Y → Bool) (f : X → Y) (xs : List X) → filter p (map f xs) ≡ map f (filter (λ x. p (f x)) xs)
 filter_map_to p f [] = refl

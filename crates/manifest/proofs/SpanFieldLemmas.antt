@@ -1,13 +1,6 @@
 -- The numbers of a span.
-use Rattle.std.proofs.Common.{◌≡◌, ◌∙◌, ◌≤◌, ℕ, min, List, Bool, true, false, Some, Ok, Err, length, arith, refl, ap, sym}
-use Rattle.std.specs.Prelude.{if◌then◌else◌}
-use Rattle.std.proofs.lemmas.Bool.{le-leb}
-use Rattle.grid_units.specs.Numbers.{is_digits, value}
-use Rattle.grid_units.specs.declared.fault.Reason.{Reason}
-use Rattle.grid_units.specs.declared.fault.Reason.TheVariants.{BadSpan}
-use Rattle.grid_units.proofs.DigitLemmas.{nine_digits}
+use Rattle.manifest.proofs.Common.{◌≡◌, ◌∙◌, ◌≤◌, ℕ, min, List, Bool, true, false, Some, Ok, Err, length, arith, refl, ap, sym, if◌then◌else◌, le-leb, is_digits, value, Reason, BadSpan, nine_digits, is_bad_span, is_layer_number, span_of_fields}
 use Rattle.manifest.specs.declared.Role.{Role}
-use Rattle.manifest.specs.Manifest.{is_bad_span, is_layer_number, span_of_fields}
 use Rattle.manifest.specs.Inner.RecordEntry.{layer_number, span_or_reason}
 
 -- the number that at most nine digits spell

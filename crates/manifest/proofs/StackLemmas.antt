@@ -1,26 +1,7 @@
 -- Where a manifest names layers, its copper files are the layers 1, 2 and so on, in order.
-use Rattle.std.proofs.Common.{◌≡◌, ◌∙◌, ◌≤◌, ◌+◌, ◌&&◌, ◌||◌, ℕ, Bool, true, false, not, List, [], ◌∷◌, length, map, cond, Option, Some, None, is_some, arith, refl, sym, ap}
-use Rattle.std.specs.Prelude.{nat_le, if◌then◌else◌}
-use Rattle.std.specs.List.{list_all, list_any, filter, count_by}
-use Rattle.std.specs.List.Sorted.{IsPermutation, IsNonDecreasingBy}
-use Rattle.std.proofs.lemmas.Bool.{false≢true, leb-true, le-leb}
-use Rattle.std.proofs.lemmas.List.{length-map}
-use Rattle.std.proofs.lemmas.List.Folds.{list_all-map}
-use Rattle.std.proofs.lemmas.List.Sorted.{list_any-IsPermutation, sum_by-IsPermutation}
-use Rattle.std.proofs.lemmas.List.Sums.{length-filter}
-use Rattle.grid_units.proofs.BoolLemmas.{and_true, both_true}
-use Rattle.grid_units.specs.declared.profile.Profile.{Profile}
-use Rattle.manifest.specs.declared.model.StackPosition.{StackPosition}
-use Rattle.manifest.specs.declared.model.StackPosition.TheVariants.{Numbered, Top, Inner, Unknown, Bottom}
-use Rattle.manifest.specs.declared.model.LayerRange.{LayerRange}
-use Rattle.manifest.specs.declared.model.InputFile.{InputFile}
-use Rattle.manifest.specs.declared.model.Proposal.{Proposal}
-use Rattle.manifest.specs.declared.model.ProposedRole.{ProposedRole}
-use Rattle.manifest.specs.declared.model.ProposedRole.TheVariants.{Copper, Plated, Unplated, Mixed, Undecided, LeftOut}
+use Rattle.manifest.proofs.Common.{◌≡◌, ◌∙◌, ◌≤◌, ◌+◌, ◌&&◌, ◌||◌, ℕ, Bool, true, false, not, List, [], ◌∷◌, length, map, cond, Option, Some, None, arith, refl, sym, ap, nat_le, if◌then◌else◌, list_all, list_any, filter, count_by, IsPermutation, IsNonDecreasingBy, false≢true, leb-true, le-leb, length-map, list_all-map, list_any-IsPermutation, sum_by-IsPermutation, length-filter, and_true, both_true, Profile, StackPosition, Numbered, Top, Inner, Unknown, Bottom, LayerRange, InputFile, Proposal, ProposedRole, Copper, Plated, Unplated, Mixed, Undecided, LeftOut, IsManifestOrder, is_copper, is_listed, is_copper_role, place_rank, rank, layers_of_role, is_listed_role, placed_proposals, proposals, AreLayersInOrder, is_copper_complete, are_within_count, are_clear, copper_layers, fit_kind, is_stack, layer_at_position, layer_of_role, names_layers, numbers_from, layers_checked_in}
+use Rattle.std.proofs.Common.{is_some}
 use Rattle.manifest.specs.declared.model.ProposalReason.TheVariants as because
-use Rattle.manifest.specs.Manifests.{IsManifestOrder, is_copper, is_listed, is_copper_role, place_rank, rank, layers_of_role, is_listed_role}
-use Rattle.manifest.specs.ProposalList.{placed_proposals, proposals}
-use Rattle.manifest.specs.Stack.{AreLayersInOrder, is_copper_complete, are_within_count, are_clear, copper_layers, fit_kind, is_stack, layer_at_position, layer_of_role, names_layers, numbers_from, layers_checked_in}
 use Rattle.manifest.proofs.DecisionCases.{is_low_place}
 use Rattle.manifest.proofs.OneToN.{AreOnce, Ascends, all_follow, all_moves, ascends, both_follow, counts_up, each_once, in_range, is_number, is_within}
 use Rattle.manifest.proofs.CountLemmas.{any_of_map, count_cons, count_hit, count_miss, count_of_map, one}

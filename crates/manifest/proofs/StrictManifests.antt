@@ -1,14 +1,5 @@
 -- A manifest of the strict profile names the same files in the wide one.
-use Rattle.std.proofs.Common.{◌≡◌, ◌∙◌, ◌++◌, ◌||◌, ◌&&◌, ◌==◌, ℕ, Bool, true, false, List, [], ◌∷◌, Option, Some, None, Result, Ok, length, map, slice_get, not, refl, ap, sym}
-use Rattle.std.specs.Prelude.{if◌then◌else◌, is_some}
-use Rattle.std.specs.List.{cons_option, filter_map}
-use Rattle.std.specs.Option.{option_map, option_or}
-use Rattle.grid_units.specs.Lists.{violation_at, violations, with_prefixes_from}
-use Rattle.grid_units.specs.declared.profile.Profile.TheVariants.{Strict, Wide}
-use Rattle.grid_units.specs.declared.fault.Reason.{Reason}
-use Rattle.grid_units.specs.declared.fault.Reason.TheVariants.{BadManifest, BadRole, BadSpan, EmptyName, RepeatedName}
-use Rattle.manifest.specs.declared.Entry.{Entry}
-use Rattle.manifest.specs.Manifest.{CsvRecord, broken_after, csv_records, entries_or_fault, entry_of, field, field_count, first_broken_rule, first_fault, is_bad_span, is_repeated, is_wide_alone, is_well_formed, joint_fault, manifest, manifest_in, parse_entries, parse_manifest_records, role_of_word}
+use Rattle.manifest.proofs.Common.{◌≡◌, ◌∙◌, ◌++◌, ◌||◌, ◌&&◌, ◌==◌, ℕ, Bool, true, false, List, [], ◌∷◌, Option, Some, None, Result, Ok, length, map, slice_get, not, refl, ap, sym, if◌then◌else◌, is_some, cons_option, filter_map, option_map, option_or, violation_at, violations, with_prefixes_from, Strict, Wide, Reason, BadManifest, BadRole, BadSpan, EmptyName, RepeatedName, Entry, CsvRecord, broken_after, csv_records, entries_or_fault, entry_of, field, field_count, first_broken_rule, first_fault, is_bad_span, is_repeated, is_wide_alone, is_well_formed, joint_fault, manifest, manifest_in, parse_entries, parse_manifest_records, role_of_word}
 
 -- a record that breaks no rule of the strict profile breaks none of the wide one
 no_rule : (width : ℕ) (repeated : Bool) (row : CsvRecord) → first_broken_rule Strict width repeated row ≡ None → first_broken_rule Wide width repeated row ≡ None

@@ -1,31 +1,14 @@
 -- The record of a proposal that is decided breaks no rule of a manifest, and names its file.
-use Rattle.std.proofs.Common.{◌≡◌, ◌∙◌, ◌<◌, ◌≤◌, ◌^◌, ◌&&◌, ◌||◌, ◌==◌, ℕ, zero, suc, Bool, true, false, not, List, [], ◌∷◌, length, codes, Option, Some, None, unwrap_or, is_some, arith, refl, sym, ap}
-use Rattle.std.specs.Prelude.{nat_lt, nat_le, decimal, if◌then◌else◌}
-use Rattle.std.specs.List.{list_all, list_any}
-use Rattle.std.specs.Str.{is_utf8, IsAscii}
-use Rattle.std.proofs.lemmas.Bool.{false≢true, ne_eqb, leb-true, ltb-true, le-leb}
-use Rattle.std.proofs.lemmas.Bool.Decides.{nat_tests}
+use Rattle.manifest.proofs.Common.{◌≡◌, ◌∙◌, ◌<◌, ◌≤◌, ◌^◌, ◌&&◌, ◌||◌, ◌==◌, ℕ, zero, suc, Bool, true, false, not, List, [], ◌∷◌, length, codes, Option, Some, None, unwrap_or, arith, refl, sym, ap, nat_lt, nat_le, decimal, if◌then◌else◌, list_all, list_any, is_utf8, IsAscii, false≢true, ne_eqb, leb-true, ltb-true, le-leb, nat_tests, IsUtf8-from_ascii, is_utf8-from_IsUtf8, is_digit, is_digits, value, Reason, BadManifest, BadRole, BadSpan, EmptyName, RepeatedName, CsvRecord, are_empty, are_span_numbers, first_broken_rule, entry_of, field, is_bad_span, is_control, is_layer_number, is_role_in, is_wide_alone, is_plain_text, is_well_formed, role_of_word, span_of_fields, Profile, Strict, Wide, Entry, LayerRange, ProposedRole, Copper, Plated, Unplated, Mixed, Undecided, LeftOut, role_word, span_fields, layers_of_role, as_span, is_decided, is_valid_name, role_of, and_true, both_true}
+use Rattle.std.proofs.Common.{is_some}
 use Rattle.std.proofs.lemmas.Fmt.{length-decimal-le}
-use Rattle.std.proofs.lemmas.Str.{IsUtf8-from_ascii, is_utf8-from_IsUtf8}
 use Rattle.std.proofs.lemmas.Str.Ascii.{IsAscii-nil}
-use Rattle.grid_units.specs.Numbers.{is_digit, is_digits, value}
 use Rattle.grid_units.specs.Spans.{LayerSpan}
-use Rattle.grid_units.specs.declared.fault.Reason.{Reason}
-use Rattle.grid_units.specs.declared.fault.Reason.TheVariants.{BadManifest, BadRole, BadSpan, EmptyName, RepeatedName}
 use Rattle.grid_units.proofs.SpellingsLemmas.{spells_decimal}
 use Rattle.manifest.proofs.EntryFields.{empty_plain, well_formed}
-use Rattle.manifest.specs.Manifest.{CsvRecord, are_empty, are_span_numbers, first_broken_rule, entry_of, field, is_bad_span, is_control, is_copper_role, is_layer_number, is_role_in, is_wide_alone, is_plain_text, is_well_formed, role_of_word, span_of_fields}
-use Rattle.grid_units.specs.declared.profile.Profile.{Profile}
-use Rattle.grid_units.specs.declared.profile.Profile.TheVariants.{Strict, Wide}
-use Rattle.manifest.specs.declared.Entry.{Entry}
+use Rattle.manifest.specs.Manifest.{is_copper_role}
 use Rattle.manifest.specs.declared.Role.{Role}
 use Rattle.manifest.specs.declared.Role.TheVariants as roles
-use Rattle.manifest.specs.declared.model.LayerRange.{LayerRange}
-use Rattle.manifest.specs.declared.model.ProposedRole.{ProposedRole}
-use Rattle.manifest.specs.declared.model.ProposedRole.TheVariants.{Copper, Plated, Unplated, Mixed, Undecided, LeftOut}
-use Rattle.manifest.specs.Manifests.{role_word, span_fields, layers_of_role}
-use Rattle.manifest.specs.ReadBack.{as_span, is_decided, is_valid_name, role_of}
-use Rattle.grid_units.proofs.BoolLemmas.{and_true, both_true}
 
 -- ---- plain texts
 

@@ -1,19 +1,6 @@
 -- Which holes are bare, by their best pads or where no pad is near.
-use Rattle.std.proofs.Common.{◌≡◌, ◌↔◌, ℕ, ◌<◌, ◌+◌, inl, inr, Bool, true, false, Option, Some, None, List, [], ◌∷◌, length, map, get_or, replicate, refl, sym, subst, ap, ◌∙◌, arith}
-use Rattle.std.proofs.lemmas.Bool.{cases_lt}
-use Rattle.std.proofs.lemmas.List.{get_or-map, length-map, get_or-replicate, length-replicate}
-use Rattle.grid_units.specs.Points.{GridPoint}
-use Rattle.grid_units.specs.Holes.{GridHole}
-use Rattle.grid_units.proofs.BoolLemmas.{both_true}
-use Rattle.pad_shapes.specs.Shapes.{covers_both_ends}
-use Rattle.pad_shapes.specs.Zones.{IsInZone, CoversNone}
-use Rattle.pad_shapes.specs.declared.zone.Zone.{Zone}
-use Rattle.ring_rules.specs.Places.{hole_at, entry_at}
-use Rattle.ring_rules.specs.declared.finding.Drilled.{Drilled}
-use Rattle.margins.specs.BestPads.{IsBare, IsBestPad, AreBestPads, AreBare}
+use Rattle.margins.proofs.Common.{◌≡◌, ◌↔◌, ℕ, ◌<◌, ◌+◌, inl, inr, Bool, true, false, Option, Some, None, List, [], ◌∷◌, length, map, get_or, replicate, refl, sym, subst, ap, ◌∙◌, arith, cases_lt, get_or-map, length-map, get_or-replicate, length-replicate, GridPoint, GridHole, both_true, covers_both_ends, IsInZone, CoversNone, Zone, hole_at, entry_at, Drilled, IsBare, IsBestPad, AreBestPads, AreBare, has_no_best_pad, BestPad}
 use Rattle.margins.specs.Inner.Zones.{CoversNothing}
-use Rattle.margins.specs.Rows.{has_no_best_pad}
-use Rattle.margins.specs.declared.best.BestPad.{BestPad}
 
 refused : (b : Bool) → (b ≡ true → b ≡ false) → b ≡ false
 refused true f = f refl

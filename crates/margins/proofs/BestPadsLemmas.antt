@@ -1,23 +1,5 @@
 -- The best pads of holes, where pads are tried in any order.
-use Rattle.std.proofs.Common.{◌≡◌, ◌↔◌, ℕ, ℤ, pos, negsuc, ◌+◌, ◌<◌, ◌≤◌, ◌≤ℤ◌, ◌<ℤ◌, ◌⊎◌, inl, inr, Bool, true, false, Option, Some, None, List, [], ◌∷◌, ◌++◌, length, get_or, set, refl, sym, subst, ap, ◌∙◌, w64, to_z, of_z, arith}
-use Rattle.std.specs.Prelude.{unsigned_abs}
-use Rattle.std.specs.List.{Contains}
-use Rattle.std.proofs.lemmas.Int.{ints}
-use Rattle.std.proofs.lemmas.Bool.{cases_lt, cases_eq}
-use Rattle.std.proofs.lemmas.Bool.Decides.{nat_tests}
-use Rattle.std.proofs.lemmas.List.{get_or-set_same, get_or-set_other, length-set, length-append, get_or_append_left, get_or_push, get_or_default}
-use Rattle.grid_units.specs.Points.{GridPoint}
-use Rattle.grid_units.specs.Holes.{GridHole}
-use Rattle.grid_units.proofs.BoolLemmas.{both_true, either}
-use Rattle.pad_shapes.specs.Shapes.{covers_both_ends}
-use Rattle.pad_shapes.specs.Zones.{IsInZone, CoversNone}
-use Rattle.pad_shapes.specs.declared.zone.Zone.{Zone}
-use Rattle.ring_rules.specs.Places.{hole_at, entry_at}
-use Rattle.ring_rules.specs.declared.finding.Drilled.{Drilled}
-use Rattle.margins.specs.Depths.{CoversLess}
-use Rattle.margins.specs.BestPads.{IsBestPad, AreBestPads}
-use Rattle.margins.specs.Inner.BestPads.{one_unless_before, required, IsNoBetter, IsDepthInPad, Improves, IsTriedAt, AllImprove, IsNoBetterAt, IsNoBetterForAll, AreTriedOrLarge, AreAllCovered}
-use Rattle.margins.specs.declared.best.BestPad.{BestPad}
+use Rattle.margins.proofs.Common.{◌≡◌, ◌↔◌, ℕ, ℤ, pos, negsuc, ◌+◌, ◌<◌, ◌≤◌, ◌≤ℤ◌, ◌<ℤ◌, ◌⊎◌, inl, inr, Bool, true, false, Option, Some, None, List, [], ◌∷◌, ◌++◌, length, get_or, set, refl, sym, subst, ap, ◌∙◌, w64, to_z, of_z, arith, unsigned_abs, Contains, ints, cases_lt, cases_eq, nat_tests, get_or-set_same, get_or-set_other, length-set, length-append, get_or_append_left, get_or_push, get_or_default, GridPoint, GridHole, both_true, either, covers_both_ends, IsInZone, CoversNone, Zone, hole_at, entry_at, Drilled, CoversLess, IsBestPad, AreBestPads, one_unless_before, required, IsNoBetter, IsDepthInPad, Improves, IsTriedAt, AllImprove, IsNoBetterAt, IsNoBetterForAll, AreTriedOrLarge, AreAllCovered, BestPad}
 use Rattle.margins.proofs.PassedIntegers.{natural}
 
 not_both : {P : Type 0} (b : Bool) → b ≡ true → b ≡ false → P

@@ -1,16 +1,7 @@
 -- Depths from roots that are rounded up.
-use Rattle.std.proofs.Common.{◌≡◌, ◌↔◌, ℕ, ℤ, pos, negsuc, ◌+◌, ◌-◌, ◌≤◌, ◌<◌, ◌-ℤ◌, ◌≤ℤ◌, Bool, true, false, refl, sym, subst, ◌∙◌, w64, to_z, arith}
-use Rattle.std.specs.Prelude.{◌&&◌, nat_le}
-use Rattle.std.specs.Int.{int_min}
-use Rattle.std.proofs.lemmas.Int.{ints, clamps}
-use Rattle.std.proofs.lemmas.Bool.{false≢true}
-use Rattle.grid_units.specs.Points.{GridPoint, abs_diff, square, square_distance}
-use Rattle.grid_units.specs.Holes.{GridHole}
-use Rattle.pad_shapes.specs.Shapes.{GridDisc, GridObround, end_radius, square_axis_distance, disc_covers, obround_covers}
+use Rattle.margins.proofs.Common.{◌≡◌, ◌↔◌, ℕ, ℤ, pos, negsuc, ◌+◌, ◌-◌, ◌≤◌, ◌<◌, ◌-ℤ◌, ◌≤ℤ◌, Bool, true, false, refl, sym, subst, ◌∙◌, w64, to_z, arith, ◌&&◌, nat_le, int_min, ints, clamps, false≢true, GridPoint, abs_diff, square, square_distance, GridHole, GridDisc, GridObround, end_radius, square_axis_distance, disc_covers, obround_covers, IsDepth, IsDepthOfHole, both_true}
 use Rattle.pad_shapes.specs.Rounded.{GridRounded, IsGreatestReach, rounded_covers}
-use Rattle.margins.specs.Depths.{IsDepth, IsDepthOfHole}
 use Rattle.margins.specs.Inner.DepthLaws.{both_le, le_both, rounded_covers_less}
-use Rattle.grid_units.proofs.BoolLemmas.{both_true}
 
 -- within a circle: a point is covered up to the radius less its distance, rounded up
 pub round_depth : (radius far root n : ℕ) → ((t : ℕ) → (far ≤ square t) ↔ (root ≤ t)) → ((nat_le n radius && nat_le far (square (radius - n))) ≡ true) ↔ (pos n ≤ℤ (pos radius -ℤ pos root))

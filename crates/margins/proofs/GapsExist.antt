@@ -1,16 +1,5 @@
 -- Any two holes have a gap, so the nearest two give the greatest gap that a board meets.
-use Rattle.std.proofs.Common.{◌↔◌, ℕ, ℤ, pos, zero, suc, ◌+◌, ◌*◌, ◌<◌, ◌≤◌, ◌-ℤ◌, inl, inr, List, arith}
-use Rattle.std.proofs.lemmas.Bool.{cases_lt}
-use Rattle.grid_units.specs.Points.{square}
-use Rattle.grid_units.specs.Holes.{GridHole}
-use Rattle.grid_units.proofs.TriangleInequalities.{square-le, le_of_squares}
-use Rattle.ring_rules.specs.Cores.{square_of_cores}
-use Rattle.ring_rules.specs.Places.{hole_at}
-use Rattle.ring_rules.specs.declared.finding.Drilled.{Drilled}
-use Rattle.margins.specs.Gaps.{IsGap}
-use Rattle.margins.specs.NearestHoles.{IsPair, IsNearest}
-use Rattle.margins.specs.Meets.{HasLeast, HasGap}
-use Rattle.margins.specs.declared.nearest.Nearest.{Nearest}
+use Rattle.margins.proofs.Common.{◌↔◌, ℕ, ℤ, pos, zero, suc, ◌+◌, ◌*◌, ◌<◌, ◌≤◌, ◌-ℤ◌, inl, inr, List, arith, cases_lt, square, GridHole, square-le, le_of_squares, square_of_cores, hole_at, Drilled, IsGap, IsPair, IsNearest, HasLeast, HasGap, Nearest}
 use Rattle.margins.proofs.GapsLemmas.{gap_exact}
 
 -- each number has a root that is rounded down

@@ -1,12 +1,5 @@
 -- Gaps from roots that are rounded down.
-use Rattle.std.proofs.Common.{◌≡◌, ◌↔◌, ℕ, ℤ, pos, ◌+◌, ◌≤◌, ◌+ℤ◌, ◌-ℤ◌, ◌≤ℤ◌, true, subst, arith}
-use Rattle.std.specs.Prelude.{nat_le}
-use Rattle.std.proofs.lemmas.Int.{ints}
-use Rattle.std.proofs.lemmas.Bool.Decides.{nat_tests}
-use Rattle.grid_units.specs.Points.{square}
-use Rattle.grid_units.specs.Holes.{GridHole}
-use Rattle.ring_rules.specs.Cores.{square_of_cores}
-use Rattle.margins.specs.Gaps.{IsGap}
+use Rattle.margins.proofs.Common.{◌≡◌, ◌↔◌, ℕ, ℤ, pos, ◌+◌, ◌≤◌, ◌+ℤ◌, ◌-ℤ◌, ◌≤ℤ◌, true, subst, arith, nat_le, ints, nat_tests, square, GridHole, square_of_cores, IsGap}
 
 -- the lengths that are no longer than the distance of the cores are those up to the gap and both radii
 pub gap_exact : (radii far root t : ℕ) → (square t ≤ far) ↔ (t ≤ root) → (square t ≤ far) ↔ (pos t ≤ℤ ((pos root -ℤ pos radii) +ℤ pos radii))

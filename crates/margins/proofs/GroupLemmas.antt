@@ -1,16 +1,5 @@
 -- Groups of pads, and the pads of an order that a hole passes over.
-use Rattle.std.proofs.Common.{◌≡◌, ℕ, ◌+◌, ◌<◌, ◌≤◌, inl, inr, Bool, true, false, not, Option, Some, None, List, length, get_or, set, IfSome, IsSomeAnd, sym, subst, ap, ◌∙◌, arith}
-use Rattle.std.specs.List.{Contains}
-use Rattle.std.proofs.lemmas.Bool.{cases_lt}
-use Rattle.std.proofs.lemmas.List.{get_or_default, get_or-set_same, get_or-set_other}
-use Rattle.grid_units.specs.Points.{GridPoint}
-use Rattle.grid_units.specs.Holes.{GridHole}
-use Rattle.grid_units.proofs.BoolLemmas.{both_true, not_true}
-use Rattle.ring_rules.specs.Places.{hole_at}
-use Rattle.ring_rules.specs.declared.finding.Drilled.{Drilled}
-use Rattle.margins.specs.Hulls.{IsDeepIn, IsHullOf, IsWiderThan}
-use Rattle.margins.specs.Inner.BestPads.{required, IsNoBetter, IsNoBetterForAll, Improves, IsInGroup, IsGroup, HoldsNone, AreNoBetter}
-use Rattle.margins.specs.declared.best.BestPad.{BestPad}
+use Rattle.margins.proofs.Common.{◌≡◌, ℕ, ◌+◌, ◌<◌, ◌≤◌, inl, inr, Bool, true, false, not, Option, Some, None, List, length, get_or, set, IfSome, IsSomeAnd, sym, subst, ap, ◌∙◌, arith, Contains, cases_lt, get_or_default, get_or-set_same, get_or-set_other, GridPoint, GridHole, both_true, not_true, hole_at, Drilled, IsDeepIn, IsHullOf, IsWiderThan, required, IsNoBetter, IsNoBetterForAll, Improves, IsInGroup, IsGroup, HoldsNone, AreNoBetter, BestPad}
 use Rattle.margins.specs.declared.hull.Hull.{Hull}
 use Rattle.margins.specs.declared.large.Group.{Group}
 use Rattle.margins.proofs.HullLemmas.{less_deep}

@@ -1,12 +1,5 @@
 -- Hulls of shapes, and hulls about other hulls.
-use Rattle.std.proofs.Common.{◌≡◌, ℕ, ◌+◌, ◌-◌, ◌*◌, ◌≤◌, min, Bool, true, subst, ap, ◌∙◌, arith}
-use Rattle.std.specs.Prelude.{nat_le}
-use Rattle.std.proofs.lemmas.Bool.Decides.{nat_tests}
-use Rattle.grid_units.proofs.BoolLemmas.{both_true}
-use Rattle.grid_units.specs.Points.{GridPoint, abs_diff, square, square_distance}
-use Rattle.grid_units.proofs.TriangleInequalities.{abs_diff_triangle, abs_diff_comm, square-le, le_of_squares, two_steps-le}
-use Rattle.pad_shapes.specs.Shapes.{GridDisc, GridRect, GridObround, end_radius, square_axis_distance, disc_covers, rect_covers, obround_covers}
-use Rattle.margins.specs.Hulls.{IsDeepIn, IsHullOf, IsWiderThan}
+use Rattle.margins.proofs.Common.{◌≡◌, ℕ, ◌+◌, ◌-◌, ◌*◌, ◌≤◌, min, Bool, true, subst, ap, ◌∙◌, arith, nat_le, nat_tests, both_true, GridPoint, abs_diff, square, square_distance, abs_diff_triangle, abs_diff_comm, square-le, le_of_squares, two_steps-le, GridDisc, GridRect, GridObround, end_radius, square_axis_distance, disc_covers, rect_covers, obround_covers, IsDeepIn, IsHullOf, IsWiderThan}
 use Rattle.margins.specs.Inner.DepthLaws.{both_le}
 use Rattle.margins.specs.declared.hull.Hull.{Hull}
 

@@ -1,18 +1,6 @@
 -- A hole lacks its ring just where it falls short of it by its best pad.
-use Rattle.std.proofs.Common.{◌≡◌, ℕ, ◌<◌, Bool, Option, None, List, length, get_or, sym, subst, ap, ◌∙◌, arith}
-use Rattle.std.specs.Prelude.{◌&&◌}
-use Rattle.std.proofs.lemmas.List.{get_or_default}
-use Rattle.grid_units.specs.Points.{GridPoint}
-use Rattle.grid_units.specs.declared.profile.Profile.{Profile}
-use Rattle.ring_rules.specs.Findings.{is_ring_finding}
-use Rattle.ring_rules.specs.Places.{hole_at, default_hole}
-use Rattle.ring_rules.specs.declared.finding.Drilled.{Drilled}
-use Rattle.margins.specs.BestPads.{AreBestPads, IsBestPad}
-use Rattle.margins.specs.Depths.{CoversLess}
-use Rattle.margins.specs.Meets.{needs_ring}
-use Rattle.margins.specs.Rows.{ring_from_best}
+use Rattle.margins.proofs.Common.{◌≡◌, ℕ, ◌<◌, Bool, Option, None, List, length, get_or, sym, subst, ap, ◌∙◌, arith, ◌&&◌, get_or_default, GridPoint, Profile, is_ring_finding, hole_at, default_hole, Drilled, AreBestPads, IsBestPad, CoversLess, needs_ring, ring_from_best, BestPad}
 use Rattle.margins.specs.Inner.Lacking.{falls_short}
-use Rattle.margins.specs.declared.best.BestPad.{BestPad}
 use Rattle.margins.proofs.MeetsLemmas.{ring_of_best}
 use Rattle.margins.proofs.WithoutFindings.{short_lacks}
 

@@ -1,3 +1,4 @@
+pub mod Common
 pub mod DepthsLemmas
 pub mod GapsLemmas
 pub mod PassedIntegers

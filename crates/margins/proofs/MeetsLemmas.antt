@@ -1,22 +1,5 @@
 -- What is met, pair by pair.
-use Rattle.std.proofs.Common.{◌≡◌, ℕ, ℤ, pos, ◌+◌, ◌<◌, ◌-ℤ◌, ◌≤ℤ◌, ◌⊎◌, inl, inr, Bool, true, false, Option, Some, None, List, [], length, get_or, refl, sym, subst, ap, ◌∙◌, arith}
-use Rattle.std.specs.Prelude.{if◌then◌else◌}
-use Rattle.std.specs.Int.{int_min}
-use Rattle.std.proofs.lemmas.Int.{ints, clamps}
-use Rattle.std.proofs.lemmas.Bool.{cases_lt}
-use Rattle.std.proofs.lemmas.List.{get_or_default}
-use Rattle.grid_units.specs.Points.{GridPoint}
-use Rattle.grid_units.specs.Holes.{GridHole}
-use Rattle.grid_units.specs.declared.profile.Profile.{Profile}
-use Rattle.grid_units.proofs.BoolLemmas.{either}
-use Rattle.ring_rules.specs.Findings.{is_refused_slot}
-use Rattle.ring_rules.specs.Places.{default_hole, hole_at}
-use Rattle.ring_rules.specs.declared.finding.Drilled.{Drilled}
-use Rattle.margins.specs.Meets.{HasLeast, IsLeast, LacksAll, HasLeastInPads, IsLeastInPads, AreLeast, NeedsRing, HasRing, IsRingOf, needs_ring}
-use Rattle.margins.specs.Rows.{ring_from_best}
-use Rattle.margins.specs.Inner.Meets.{with_length_in_pads, NeedsRingOn, NeedsRingBefore, with_length}
-use Rattle.margins.specs.BestPads.{IsBestPad, AreBestPads}
-use Rattle.margins.specs.declared.best.BestPad.{BestPad}
+use Rattle.margins.proofs.Common.{◌≡◌, ℕ, ℤ, pos, ◌+◌, ◌<◌, ◌-ℤ◌, ◌≤ℤ◌, ◌⊎◌, inl, inr, Bool, true, false, Option, Some, None, List, [], length, get_or, refl, sym, subst, ap, ◌∙◌, arith, if◌then◌else◌, int_min, ints, clamps, cases_lt, get_or_default, GridPoint, GridHole, Profile, either, is_refused_slot, default_hole, hole_at, Drilled, HasLeast, IsLeast, LacksAll, HasLeastInPads, IsLeastInPads, AreLeast, NeedsRing, HasRing, IsRingOf, needs_ring, ring_from_best, with_length_in_pads, NeedsRingOn, NeedsRingBefore, with_length, IsBestPad, AreBestPads, BestPad}
 use Rattle.margins.specs.declared.met.Met.{Met}
 use Rattle.margins.specs.declared.met.RingsMet.{RingsMet}
 use Rattle.margins.specs.declared.met.Met.TheVariants as mets

@@ -1,14 +1,5 @@
 -- The nearest of some pairs of holes, pair by pair.
-use Rattle.std.proofs.Common.{◌≡◌, ℕ, ℤ, pos, ◌+◌, ◌<◌, ◌+ℤ◌, ◌≤ℤ◌, List, length, get_or, sym, subst, arith}
-use Rattle.std.specs.Prelude.{unsigned_abs}
-use Rattle.std.proofs.lemmas.Int.{ints}
-use Rattle.std.proofs.lemmas.List.{get_or_default}
-use Rattle.grid_units.specs.Holes.{GridHole}
-use Rattle.ring_rules.specs.Places.{default_hole, hole_at}
-use Rattle.ring_rules.specs.declared.finding.Drilled.{Drilled}
-use Rattle.margins.specs.Gaps.{IsGap}
-use Rattle.margins.specs.NearestHoles.{IsNoFurther}
-use Rattle.margins.specs.declared.nearest.Nearest.{Nearest}
+use Rattle.margins.proofs.Common.{◌≡◌, ℕ, ℤ, pos, ◌+◌, ◌<◌, ◌+ℤ◌, ◌≤ℤ◌, List, length, get_or, sym, subst, arith, unsigned_abs, ints, get_or_default, GridHole, default_hole, hole_at, Drilled, IsGap, IsNoFurther, Nearest}
 
 -- two holes have one gap
 least_gap : (a b : GridHole) (g h : ℤ) → IsGap a b g → IsGap a b h → g ≤ℤ h

@@ -1,25 +1,8 @@
 -- Holes that ask for nearer pairs.
-use Rattle.std.proofs.Common.{◌≡◌, ℕ, ℤ, pos, ◌+◌, ◌<◌, ◌≤◌, ◌+ℤ◌, ◌-ℤ◌, ◌<ℤ◌, ◌≤ℤ◌, ◌⊎◌, inl, inr, min, max, Bool, true, false, List, length, get_or, take, refl, sym, subst, ◌∙◌, arith}
-use Rattle.std.specs.Prelude.{unsigned_abs, int_lt}
-use Rattle.std.specs.List.{Contains}
-use Rattle.std.specs.Int.{int_min, int_max}
-use Rattle.std.proofs.lemmas.Int.{ints}
-use Rattle.std.proofs.lemmas.Bool.{cases_lt}
-use Rattle.std.proofs.lemmas.List.{get_or_default, get_or-take, length-take-le}
-use Rattle.grid_units.specs.Points.{square}
-use Rattle.grid_units.specs.Holes.{GridHole}
-use Rattle.pad_shapes.specs.Zones.{IsInZone}
-use Rattle.pad_shapes.specs.declared.zone.Zone.{Zone}
-use Rattle.ring_rules.specs.Cores.{positive_part, range_distance, square_of_cores}
+use Rattle.margins.proofs.Common.{◌≡◌, ℕ, ℤ, pos, ◌+◌, ◌<◌, ◌≤◌, ◌+ℤ◌, ◌-ℤ◌, ◌<ℤ◌, ◌≤ℤ◌, ◌⊎◌, inl, inr, min, max, Bool, true, false, List, length, get_or, take, refl, sym, subst, ◌∙◌, arith, unsigned_abs, int_lt, Contains, int_min, int_max, ints, cases_lt, get_or_default, get_or-take, length-take-le, square, GridHole, IsInZone, Zone, positive_part, range_distance, square_of_cores, default_hole, hole_at, entry_at, Drilled, IsGap, IsPair, IsNoFurther, IsNearest, IsPairInRange, IsNearerPair, IsGapOf, IsNearestAmong, IsNearestForHole, IsNearestForAll, IsNearestForLater, Nearest}
 use Rattle.ring_rules.specs.Near.{size_of, IsWithinLimits, AreLimits, AreNearer}
-use Rattle.ring_rules.specs.Places.{default_hole, hole_at, entry_at}
-use Rattle.ring_rules.specs.declared.finding.Drilled.{Drilled}
 use Rattle.ring_rules.specs.declared.limits.Limits.{Limits}
 use Rattle.ring_rules.proofs.NearLemmas.{below_square}
-use Rattle.margins.specs.Gaps.{IsGap}
-use Rattle.margins.specs.NearestHoles.{IsPair, IsNoFurther, IsNearest}
-use Rattle.margins.specs.Inner.NearestHoles.{IsPairInRange, IsNearerPair, IsGapOf, IsNearestAmong, IsNearestForHole, IsNearestForAll, IsNearestForLater}
-use Rattle.margins.specs.declared.nearest.Nearest.{Nearest}
 use Rattle.margins.proofs.NearLemmas.{no_further_trans, no_further_self}
 
 order_at : (a b : ℤ) (t : Bool) → int_lt a b ≡ t → (a <ℤ b) ⊎ (b ≤ℤ a)

@@ -1,9 +1,7 @@
 -- Signed numbers, as calls pass them on.
-use Rattle.std.proofs.Common.{◌≡◌, ℤ, ◌<◌, w64, to_z, of_z, subst, sym, ap, ◌∙◌, arith}
-use Rattle.std.specs.Prelude.{ℕ, pos, unsigned_abs}
-use Rattle.std.specs.Int.{int_min}
+use Rattle.margins.proofs.Common.{◌≡◌, ℤ, ◌<◌, w64, to_z, of_z, subst, sym, ap, ◌∙◌, arith, unsigned_abs, int_min, ints}
+use Rattle.std.specs.Prelude.{ℕ, pos}
 use Rattle.std.specs.Int.Signed.{mag}
-use Rattle.std.proofs.lemmas.Int.{ints}
 
 -- a signed number is itself after it is passed on
 pub same : (z : ℤ) → mag z < 9223372036854775808 → to_z w64 (of_z w64 z) ≡ z

@@ -1,14 +1,7 @@
 -- The least ring of some holes, hole by hole.
-use Rattle.std.proofs.Common.{◌≡◌, ℕ, ℤ, ◌+◌, ◌<◌, ◌≤ℤ◌, ◌<ℤ◌, inl, inr, true, false, Option, Some, None, List, length, take, get_or, refl, sym, subst, ap, ◌∙◌, arith}
-use Rattle.std.specs.List.{count_by}
-use Rattle.std.proofs.lemmas.Int.{ints}
+use Rattle.margins.proofs.Common.{◌≡◌, ℕ, ℤ, ◌+◌, ◌<◌, ◌≤ℤ◌, ◌<ℤ◌, inl, inr, true, false, Option, Some, None, List, length, take, get_or, refl, sym, subst, ap, ◌∙◌, arith, count_by, ints, cases_lt, Profile, Drilled, ring_at, has_no_ring, IsLeastRing, IsLeastRingOf, BestPad}
 use Rattle.std.proofs.lemmas.List.Sums.{count_by_more_yes, count_by_more_no}
-use Rattle.std.proofs.lemmas.Bool.{cases_lt}
-use Rattle.grid_units.specs.declared.profile.Profile.{Profile}
-use Rattle.ring_rules.specs.declared.finding.Drilled.{Drilled}
-use Rattle.margins.specs.Rows.{ring_at, has_no_ring, IsLeastRing, IsLeastRingOf}
 use Rattle.margins.specs.Inner.Rows.{IsLesser}
-use Rattle.margins.specs.declared.best.BestPad.{BestPad}
 use Rattle.margins.specs.declared.row.RowLeast.{RowLeast}
 
 -- how many holes are bare, with one hole more

@@ -1,11 +1,5 @@
 -- Pairs of holes that are tried one by one.
-use Rattle.std.proofs.Common.{◌≡◌, ℕ, ℤ, ◌<◌, List, length, sym, subst, arith}
-use Rattle.ring_rules.specs.Places.{hole_at}
-use Rattle.ring_rules.specs.declared.finding.Drilled.{Drilled}
-use Rattle.margins.specs.Gaps.{IsGap}
-use Rattle.margins.specs.NearestHoles.{IsNoFurther}
-use Rattle.margins.specs.Inner.NearestHoles.{IsPairAt, IsPairInRange, IsNearerPair}
-use Rattle.margins.specs.declared.nearest.Nearest.{Nearest}
+use Rattle.margins.proofs.Common.{◌≡◌, ℕ, ℤ, ◌<◌, List, length, sym, subst, arith, hole_at, Drilled, IsGap, IsNoFurther, IsPairAt, IsPairInRange, IsNearerPair, Nearest}
 use Rattle.margins.proofs.NearLemmas.{no_further_self, no_further_same, one_gap}
 
 -- the pair so far stays

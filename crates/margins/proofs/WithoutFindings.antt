@@ -1,28 +1,13 @@
 -- What a board meets decides under which rules nothing is found.
-use Rattle.std.proofs.Common.{◌≡◌, ℕ, ℤ, pos, suc, ◌+◌, ◌<◌, ◌≤◌, ◌+ℤ◌, ◌-ℤ◌, ◌≤ℤ◌, inl, inr, Bool, true, false, cond, Option, Some, None, List, [], ◌∷◌, ◌++◌, map, length, get_or, refl, sym, ap, ◌∙◌, arith}
-use Rattle.std.specs.Prelude.{not, ◌&&◌, ◌||◌, nat_lt, int_lt}
-use Rattle.std.specs.List.{filter, flat_map, enumerate_from, list_any, Contains}
-use Rattle.std.proofs.lemmas.Int.{ints}
-use Rattle.std.proofs.lemmas.Bool.Decides.{nat_tests}
-use Rattle.std.proofs.lemmas.List.{get_or_default}
+use Rattle.margins.proofs.Common.{◌≡◌, ℕ, ℤ, pos, suc, ◌+◌, ◌<◌, ◌≤◌, ◌+ℤ◌, ◌-ℤ◌, ◌≤ℤ◌, inl, inr, Bool, true, false, cond, Option, Some, None, List, [], ◌∷◌, ◌++◌, map, length, get_or, refl, sym, ap, ◌∙◌, arith, ◌&&◌, ◌||◌, nat_lt, int_lt, filter, flat_map, enumerate_from, list_any, Contains, ints, nat_tests, get_or_default, GridPoint, square, GridHole, Profile, square_of_cores, are_clear, default_hole, hole_at, is_refused_slot, lacks_ring, is_ring_finding, finding_of, layer_findings, ring_findings, hole_findings, gap_findings, Drilled, CoversLess, IsGap, needs_ring, IsRing, IsRingOf, RingsPassExactly, GapsPassExactly, both_true, or_is_false, not_false, and_false_right}
+use Rattle.std.specs.Prelude.{not}
 use Rattle.std.proofs.lemmas.List.Concat.{flat_map-cons}
 use Rattle.std.proofs.lemmas.List.FromFn.{get_or-enumerate_from, length-enumerate_from}
 use Rattle.std.proofs.lemmas.List.Folds.{list_any_at}
-use Rattle.grid_units.specs.Points.{GridPoint, square}
-use Rattle.grid_units.specs.Holes.{GridHole}
-use Rattle.grid_units.specs.declared.profile.Profile.{Profile}
 use Rattle.pad_shapes.specs.Holding.{covers_hole}
-use Rattle.ring_rules.specs.Cores.{square_of_cores, are_clear}
-use Rattle.ring_rules.specs.Places.{default_hole, hole_at}
-use Rattle.ring_rules.specs.Findings.{is_refused_slot, lacks_ring, is_ring_finding, finding_of, layer_findings, ring_findings, hole_findings, gap_findings}
-use Rattle.ring_rules.specs.declared.finding.Drilled.{Drilled}
 use Rattle.ring_rules.specs.declared.finding.Finding.TheVariants.{Gap}
-use Rattle.margins.specs.Depths.{CoversLess}
-use Rattle.margins.specs.Gaps.{IsGap}
-use Rattle.margins.specs.Meets.{needs_ring, IsRing, IsRingOf, RingsPassExactly, GapsPassExactly}
 use Rattle.margins.specs.Inner.Lacking.{is_short}
 use Rattle.margins.specs.declared.met.Met.TheVariants as mets
-use Rattle.grid_units.proofs.BoolLemmas.{both_true, or_is_false, not_false, and_false_right}
 use Rattle.grid_units.proofs.ListLemmas.{map_is_nil, list_any_element}
 use Rattle.ring_rules.proofs.SoundnessLemmas.{fails_placed, none_placed}
 

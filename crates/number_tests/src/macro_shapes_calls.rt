@@ -29,6 +29,12 @@ const OVAL: &[&str] = &["20,1,$1,$2,$3,$4,$5,0", "1,1,$1,$2,$3", "1,1,$1,$4,$5"]
 /// The parameters of an oblique line.
 const OBLIQUE: Option<&str> = Some("1.0X-0.5X-0.5X0.5X0.5X0");
 
+/// The parameters of a line without a length.
+const POINT: Option<&str> = Some("1.7X0.0X0.0X0.0X0.0X0");
+
+/// A line along the x axis.
+const BAR: &[&str] = &["20,1,1.0,-1,0,1,0,0"];
+
 /// A diamond whose sides are 1.2 mm from its centre.
 const DIAMOND: &[&str] = &["4,1,4,1.5,0,0,2,-1.5,0,0,-2,1.5,0,0"];
 
@@ -78,6 +84,12 @@ const HOUSE: &[&str] = &[
 
 /// A rectangle that is turned by a parameter.
 const TURNED: &[&str] = &["21,1,$1,$2,0,0,$3"];
+
+/// The parameters of a rectangle that stands upright.
+const UPRIGHT: Option<&str> = Some("2.0X0.65X90.0");
+
+/// The parameters of that rectangle as it lies.
+const LEVEL: Option<&str> = Some("2.0X0.65X0.0");
 
 /// Two rectangles that cross, and circles of 0.4 mm at the corners of their common part.
 const CROSS: &[&str] = &[
@@ -180,22 +192,8 @@ const HOLES: [(&[&str], Option<&str>, i64, i64, i64, Option<bool>); 74] = [
     (OVAL, OBLIQUE, 605_000, 640_001, 325_000_000, Some(false)),
     (OVAL, OBLIQUE, 123_740, -123_740, 325_000_000, Some(true)),
     (OVAL, OBLIQUE, 123_750, -123_750, 325_000_000, Some(false)),
-    (
-        OVAL,
-        Some("1.7X0.0X0.0X0.0X0.0X0"),
-        0,
-        0,
-        850_000_000,
-        Some(true),
-    ),
-    (
-        OVAL,
-        Some("1.7X0.0X0.0X0.0X0.0X0"),
-        0,
-        0,
-        850_001_000,
-        Some(false),
-    ),
+    (OVAL, POINT, 0, 0, 850_000_000, Some(true)),
+    (OVAL, POINT, 0, 0, 850_001_000, Some(false)),
     (BORDERED, None, 0, 0, 700_000_000, Some(true)),
     (BORDERED, None, 0, 0, 700_001_000, Some(false)),
     (NO_CIRCLE, None, 0, 0, 500_000_000, Some(true)),
@@ -292,40 +290,12 @@ const HOLES: [(&[&str], Option<&str>, i64, i64, i64, Option<bool>); 74] = [
         325_000_000,
         None,
     ),
-    (
-        &["20,1,1.0,-1,0,1,0,0"],
-        None,
-        500_000,
-        0,
-        500_000_000,
-        Some(true),
-    ),
-    (
-        &["20,1,1.0,-1,0,1,0,0"],
-        None,
-        500_001,
-        0,
-        500_000_000,
-        Some(false),
-    ),
+    (BAR, None, 500_000, 0, 500_000_000, Some(true)),
+    (BAR, None, 500_001, 0, 500_000_000, Some(false)),
     (&["20,1,1.0,-1,-1,1,1,0"], None, 0, 0, 325_000_000, None),
     (&["20,1,1.0,0,0,0,0,0"], None, 0, 0, 325_000_000, None),
-    (
-        TURNED,
-        Some("2.0X0.65X90.0"),
-        0,
-        600_000,
-        325_000_000,
-        Some(true),
-    ),
-    (
-        TURNED,
-        Some("2.0X0.65X0.0"),
-        0,
-        600_000,
-        325_000_000,
-        Some(false),
-    ),
+    (TURNED, UPRIGHT, 0, 600_000, 325_000_000, Some(true)),
+    (TURNED, LEVEL, 0, 600_000, 325_000_000, Some(false)),
     (TURNED, Some("2.0X0.65X335.0"), 0, 0, 325_000_000, None),
     (TURNED, Some("0X0.65X0.0"), 0, 0, 325_000_000, None),
     (&["1,1,99999.0,0,0"], None, 0, 0, 325_000_000, None),

@@ -1,14 +1,6 @@
 -- What follows from an answer to a package.
-use Rattle.std.proofs.Common.{◌≡◌, ℕ, List, [], Result, Ok, Err, IfOk}
-use Rattle.grid_units.specs.Holes.{GridRules}
-use Rattle.grid_units.specs.declared.fault.Fault.{Fault}
-use Rattle.package_check.specs.declared.PackageFault.{PackageFault}
+use Rattle.package_check.proofs.Common.{◌≡◌, ℕ, List, [], Result, Ok, Err, IfOk, GridRules, Fault, PackageFault, AnswerIsUnique, FileView, ReturnsExactly, ReturnsReport, FindingsNameTheirPlaces, IsAnswer, NamesItsPlaces, ReportView, IsSound, PassingIsSound, AreLegal}
 use Rattle.package_check.specs.declared.PackageFault.TheVariants as stop
-use Rattle.package_check.specs.AlikePackages.{AnswerIsUnique}
-use Rattle.package_check.specs.Package.{FileView, ReturnsExactly, ReturnsReport, FindingsNameTheirPlaces, IsAnswer, NamesItsPlaces}
-use Rattle.package_check.specs.Reports.{ReportView}
-use Rattle.package_check.specs.Soundness.{IsSound, PassingIsSound}
-use Rattle.package_check.specs.SoundnessAsRead.{AreLegal}
 
 module _ (sources : List FileView) (rules : GridRules) where
   pub just : AnswerIsUnique → (r : Result ReportView PackageFault) → ReturnsReport sources rules r → (answer : Result ReportView (ℕ × Fault)) → IsAnswer sources rules answer → ReturnsExactly answer r

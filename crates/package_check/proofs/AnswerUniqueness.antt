@@ -1,10 +1,5 @@
 -- A package has one answer.
-use Rattle.std.proofs.Common.{◌≡◌, ◌<◌, ℕ, zero, suc, List, [], ◌∷◌, Result, Ok, Err, length, take, get_or, arith, refl, ap, sym, subst, ◌∙◌, inl, inr}
-use Rattle.std.proofs.lemmas.Bool.{cases_lt}
-use Rattle.grid_units.specs.declared.fault.Fault.{Fault}
-use Rattle.package_check.specs.declared.contents.Content.{Content}
-use Rattle.package_check.specs.Package.{FileView, Reads, HaveContents, IsFirstRefused, report_on}
-use Rattle.package_check.specs.AlikePackages.{ReadingIsUnique, AnswerIsUnique}
+use Rattle.package_check.proofs.Common.{◌≡◌, ◌<◌, ℕ, zero, suc, List, [], ◌∷◌, Result, Ok, Err, length, take, get_or, arith, refl, ap, sym, subst, ◌∙◌, inl, inr, cases_lt, Fault, Content, FileView, Reads, HaveContents, IsFirstRefused, report_on, ReadingIsUnique, AnswerIsUnique}
 use Rattle.package_check.proofs.ContentIsReading.{reading_of}
 
 abbrev content_of : Content → Result Content Fault → Content

@@ -1,26 +1,9 @@
 -- The board of a package, and its holes with their places.
-use Rattle.std.proofs.Common.{◌≡◌, ◌+◌, ◌++◌, ℕ, List, [], ◌∷◌, length, map, take, drop, arith, refl, sym, ap, ap₂, ◌∙◌, Bool, true, false, cond, not, append_assoc}
-use Rattle.std.specs.List.{flat_map, enumerate_from, count_by, sum_by}
-use Rattle.std.proofs.lemmas.List.{append-nil, length-append, length-map}
-use Rattle.std.proofs.lemmas.List.Concat.{flat_map-append, flat_map-cons}
-use Rattle.std.proofs.lemmas.List.Sums.{sum_by-cons}
+use Rattle.package_check.proofs.Common.{◌≡◌, ◌+◌, ◌++◌, ℕ, List, [], ◌∷◌, length, map, take, drop, arith, refl, sym, ap, ap₂, ◌∙◌, Bool, true, false, cond, not, append_assoc, flat_map, enumerate_from, count_by, sum_by, append-nil, length-append, length-map, flat_map-append, flat_map-cons, sum_by-cons, GridHole, GridRules, is_round, LayerSpan, Drawn, Drilled, Numbered, Content, wide_pad_covers, WidePad, gap_findings, ring_findings, FileCountsAddUp, BoardView, IsBoard, board_findings, board_of, hole_count, numbered_from, numbered_in, reported, FileView, IsReport, drilled, findings, holes_of, layer_indexes, layers, report_on, sum_of, ReportView, drilled_in}
 use Rattle.std.proofs.Math.Seq.{take-append_seam, drop-append_seam}
 use Rattle.std.specs.Prelude.{Option}
-use Rattle.grid_units.specs.Holes.{GridHole, GridRules, is_round}
-use Rattle.grid_units.specs.Spans.{LayerSpan}
-use Rattle.pad_shapes.specs.declared.drawn.Drawn.{Drawn}
 use Rattle.pad_shapes.specs.declared.row.FeatureRow.{FeatureRow}
-use Rattle.ring_rules.specs.declared.finding.Drilled.{Drilled}
-use Rattle.package_check.specs.declared.Numbered.{Numbered}
-use Rattle.package_check.specs.declared.contents.Content.{Content}
 use Rattle.package_check.specs.declared.contents.Content.TheVariants as content
-use Rattle.pad_shapes.specs.WidePads.{wide_pad_covers}
-use Rattle.pad_shapes.specs.declared.wide_pad.WidePad.{WidePad}
-use Rattle.ring_rules.specs.Findings.{gap_findings, ring_findings}
-use Rattle.package_check.specs.Boards.{FileCountsAddUp, BoardView, IsBoard, board_findings, board_of, hole_count, numbered_from, numbered_in, reported}
-use Rattle.package_check.specs.Package.{FileView, IsReport, drilled, findings, holes_of, layer_indexes, layers, report_on, sum_of}
-use Rattle.package_check.specs.Reports.{ReportView}
-use Rattle.package_check.specs.SoundnessAsRead.{drilled_in}
 use Rattle.package_check.proofs.Passing.{all_drilled}
 
 -- what is listed so far, and what one more element gives

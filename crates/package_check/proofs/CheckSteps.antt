@@ -1,32 +1,11 @@
 -- A check of a package takes copper files.
-use Rattle.std.proofs.Common.{◌≡◌, ◌<◌, ◌≤◌, ◌+◌, ◌||◌, ◌&&◌, eqb, ltb, ℕ, suc, List, [], ◌∷◌, Ok, Err, Result, Option, Some, None, OnOk, Bool, true, false, length, map, get_or, slice_get, inl, inr, arith, refl, sym, ap, ap₂, subst, ◌∙◌}
-use Rattle.std.specs.Prelude.{alloc_error, option_map}
-use Rattle.std.specs.List.{sum_by}
-use Rattle.std.specs.declared.alloc.AllocError.{AllocError}
-use Rattle.std.proofs.lemmas.Bool.{both_ways, cases_eq, false≢true}
-use Rattle.std.proofs.lemmas.List.{get_or-map, length-map}
-use Rattle.std.proofs.lemmas.List.Sums.{count_by_more_no, count_by_more_yes, sum_by-cons}
-use Rattle.std.proofs.lemmas.Option.{none-some, slice_get-map, slice_get_read}
-use Rattle.grid_units.specs.Holes.{GridRules}
-use Rattle.grid_units.specs.Results.{Answers}
-use Rattle.grid_units.specs.Spans.{LayerSpan}
-use Rattle.grid_units.specs.declared.fault.Fail.{Fail}
+use Rattle.package_check.proofs.Common.{◌≡◌, ◌<◌, ◌≤◌, ◌+◌, ◌||◌, ◌&&◌, eqb, ltb, ℕ, suc, List, [], ◌∷◌, Ok, Err, Result, Option, Some, None, OnOk, Bool, true, false, length, map, get_or, slice_get, inl, inr, arith, refl, sym, ap, ap₂, subst, ◌∙◌, alloc_error, option_map, sum_by, AllocError, both_ways, cases_eq, false≢true, get_or-map, length-map, count_by_more_no, count_by_more_yes, sum_by-cons, none-some, slice_get-map, slice_get_read, GridRules, Answers, LayerSpan, Fail, Drilled, hole_count, CheckView, holes_in_slot, is_drill_in, is_drill_sum, AreHolesOf, HasJudged, HasJudgedAll, IsJudgedOf, JudgesThose, TakesCopper, drill_files, layer_number, HoldsThose, IsPutAt, ReadsInto, is_kind_at, is_kind_of, is_wanted, kept_at, next_stop, IsLeftOf, Judges, JudgesCopper, Setting, FileView, HasContent, HaveContents, bad_span, is_copper, sum_of, unnamed_file, FileSum, PackageFault, Content, Judged}
 use Rattle.grid_units.specs.declared.fault.Fail.TheVariants as fails
-use Rattle.ring_rules.specs.declared.finding.Drilled.{Drilled}
 use Rattle.manifest.specs.declared.Role.TheVariants as role
-use Rattle.package_check.specs.Boards.{hole_count}
-use Rattle.package_check.specs.CheckViews.{CheckView, holes_in_slot, is_drill_in, is_drill_sum, setting_of}
-use Rattle.package_check.specs.Checking.{AreHolesOf, HasJudged, HasJudgedAll, IsJudgedOf, JudgesThose, TakesCopper, drill_files, layer_number}
-use Rattle.package_check.specs.Holding.{HoldsThose, IsPutAt, ReadsInto, is_kind_at, is_kind_of, is_wanted, kept_at, next_stop}
-use Rattle.package_check.specs.Judging.{IsLeftOf, Judges, JudgesCopper}
-use Rattle.package_check.specs.Package.{Setting, FileView, HasContent, HaveContents, bad_span, is_copper, sum_of, unnamed_file}
-use Rattle.package_check.specs.declared.FileSum.{FileSum}
+use Rattle.package_check.specs.CheckViews.{setting_of}
 use Rattle.package_check.specs.declared.FileSum.TheVariants as sum
-use Rattle.package_check.specs.declared.PackageFault.{PackageFault}
 use Rattle.package_check.specs.declared.PackageFault.TheVariants as stop
-use Rattle.package_check.specs.declared.contents.Content.{Content}
 use Rattle.package_check.specs.declared.contents.Content.TheVariants as content
-use Rattle.package_check.specs.declared.checking.Judged.{Judged}
 use Rattle.package_check.proofs.ContentIsReading.{content_read}
 use Rattle.package_check.proofs.FileKinds.{drill_is_no_copper, mixed_is_no_copper, either}
 use Rattle.package_check.proofs.GrowingLists.{any_name}

@@ -1,12 +1,7 @@
 -- The content of a file is just what reading it gives where it has no fault.
-use Rattle.std.proofs.Common.{◌≡◌, ℕ, Bool, true, false, List, Result, Ok, Err, refl}
+use Rattle.package_check.proofs.Common.{◌≡◌, ℕ, Bool, true, false, List, Result, Ok, Err, refl, Fault, LayerSpan, Role, Content, FileView, Setting, HasContent, BytesHaveContent, Reads, ReadsBytes, ReadsUnlessBadSpan, bad_span, is_bad_span}
 use Rattle.std.specs.Prelude.{Option}
-use Rattle.grid_units.specs.declared.fault.Fault.{Fault}
-use Rattle.grid_units.specs.Spans.{LayerSpan}
-use Rattle.manifest.specs.declared.Role.{Role}
 use Rattle.manifest.specs.declared.Role.TheVariants as role
-use Rattle.package_check.specs.declared.contents.Content.{Content}
-use Rattle.package_check.specs.Package.{FileView, Setting, HasContent, BytesHaveContent, Reads, ReadsBytes, ReadsUnlessBadSpan, bad_span, is_bad_span}
 
 bytes_content : (q : Role) (name : List ℕ) (span : Option LayerSpan) (bytes : List ℕ) (n : Setting) (c : Content) → ReadsBytes (record { role = q; name = name; span = span; bytes = bytes; setting = n }) (Ok c)
     → BytesHaveContent (record { role = q; name = name; span = span; bytes = bytes; setting = n }) c

@@ -1,26 +1,10 @@
 -- A check that reads a copper file piece by piece.
-use Rattle.std.proofs.Common.{◌≡◌, ℕ, Bool, true, false, List, [], Ok, Err, Option, None, Some, Result, OnOk, ap, subst, sym, ◌∙◌}
-use Rattle.std.specs.declared.alloc.AllocError.{AllocError}
-use Rattle.grid_units.specs.Holes.{GridRules}
-use Rattle.grid_units.specs.Results.{Answers}
-use Rattle.grid_units.specs.Spans.{LayerSpan}
-use Rattle.grid_units.specs.declared.fault.Fail.{Fail}
+use Rattle.package_check.proofs.Common.{◌≡◌, ℕ, Bool, true, false, List, [], Ok, Err, Option, None, Some, Result, OnOk, ap, subst, sym, ◌∙◌, AllocError, GridRules, Answers, LayerSpan, Fail, Drilled, CheckView, AreHolesOf, HasJudged, IsJudgedOf, TakesCopper, HoldsThose, is_wanted, HasTriedPadsOf, Judges, HasFailed, HasOpenedCopper, HasReadCopper, Setting, FileView, is_bad_span, unnamed_file, PackageFault, Judged, Profile, LayerStands, HolesView}
 use Rattle.grid_units.specs.declared.fault.Fail.TheVariants as fails
 use Rattle.manifest.specs.declared.Role.TheVariants as role
-use Rattle.ring_rules.specs.declared.finding.Drilled.{Drilled}
-use Rattle.package_check.specs.CheckViews.{CheckView, holes_of, setting_of}
-use Rattle.package_check.specs.Checking.{AreHolesOf, HasJudged, IsJudgedOf, TakesCopper}
-use Rattle.package_check.specs.Holding.{HoldsThose, is_wanted}
-use Rattle.package_check.specs.Judging.{HasTriedPadsOf, Judges}
-use Rattle.package_check.specs.OpenFiles.{HasFailed, HasOpenedCopper, HasReadCopper}
-use Rattle.package_check.specs.Package.{Setting, FileView, is_bad_span, unnamed_file}
-use Rattle.package_check.specs.declared.PackageFault.{PackageFault}
-use Rattle.package_check.specs.declared.checking.Judged.{Judged}
-use Rattle.grid_units.specs.declared.profile.Profile.{Profile}
+use Rattle.package_check.specs.CheckViews.{holes_of, setting_of}
 use Rattle.layer_features.specs.declared.keep.Keep.TheVariants as keep
-use Rattle.layer_image.specs.Holding.{LayerStands}
 use Rattle.layer_image.specs.declared.reader.LayerReader.{LayerReader}
-use Rattle.package_check.specs.HoleViews.{HolesView}
 use Rattle.package_check.proofs.JudgedCopper.{none_tried}
 use Rattle.package_check.specs.declared.open_copper.OpenCopper.{OpenCopper}
 use Rattle.package_check.proofs.OpenFiles.{failed_read}

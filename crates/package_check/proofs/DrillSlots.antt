@@ -1,28 +1,6 @@
 -- A check goes on from a reader that has taken the drill files of a package.
-use Rattle.std.proofs.Common.{◌≡◌, ◌+◌, ◌≤◌, ◌++◌, ℕ, zero, suc, List, [], ◌∷◌, Bool, true, false, not, Option, Some, None, Ok, length, map, slice_get, arith, refl, sym, ap, ap₂, subst, ◌∙◌, zero-add}
-use Rattle.std.specs.List.{flat_map, sum_by}
-use Rattle.std.proofs.lemmas.Bool.{both_ways}
-use Rattle.std.proofs.lemmas.List.{length-append, length-map}
-use Rattle.std.proofs.lemmas.List.Concat.{flat_map-cons}
-use Rattle.std.proofs.lemmas.List.Sums.{sum_by-cons}
-use Rattle.std.proofs.lemmas.Option.{none-some, same_Some}
-use Rattle.grid_units.specs.Holes.{GridRules}
-use Rattle.layer_features.specs.declared.keep.Keep.{Keep}
-use Rattle.ring_rules.specs.declared.finding.Drilled.{Drilled}
-use Rattle.package_check.specs.Boards.{hole_count}
-use Rattle.package_check.specs.CheckViews.{CheckView, holes_in_slot}
-use Rattle.package_check.specs.Checking.{HasJudged, IsJudgedOf, drill_files, layer_number}
-use Rattle.package_check.specs.Holding.{HasTaken, HoldsThose, IsKeptOf, contents_in, is_kind_at, is_kind_of, is_wanted, kept_at}
-use Rattle.package_check.specs.Inner.Leftovers.{LeftView, count_in, holes_in, left_in}
-use Rattle.package_check.specs.Judging.{Judges, rings_of}
-use Rattle.package_check.specs.Package.{FileView, HasContent, HaveContents, is_copper, sum_of}
-use Rattle.package_check.specs.SoundnessAsRead.{drilled_in}
-use Rattle.package_check.specs.declared.PackageFault.{PackageFault}
-use Rattle.package_check.specs.declared.contents.Content.{Content}
+use Rattle.package_check.proofs.Common.{◌≡◌, ◌+◌, ◌≤◌, ◌++◌, ℕ, zero, suc, List, [], ◌∷◌, Bool, true, false, not, Option, Some, None, Ok, length, map, slice_get, arith, refl, sym, ap, ap₂, subst, ◌∙◌, zero-add, flat_map, sum_by, both_ways, length-append, length-map, flat_map-cons, sum_by-cons, none-some, same_Some, GridRules, Keep, Drilled, hole_count, CheckView, holes_in_slot, HasJudged, IsJudgedOf, drill_files, layer_number, HasTaken, HoldsThose, IsKeptOf, contents_in, is_kind_at, is_kind_of, is_wanted, kept_at, LeftView, count_in, holes_in, left_in, Judges, rings_of, FileView, HasContent, HaveContents, is_copper, sum_of, drilled_in, PackageFault, Content, Judged, PackageReader, Kept}
 use Rattle.package_check.specs.declared.contents.Content.TheVariants as content
-use Rattle.package_check.specs.declared.checking.Judged.{Judged}
-use Rattle.package_check.specs.declared.package_reader.PackageReader.{PackageReader}
-use Rattle.package_check.specs.declared.slots.Kept.{Kept}
 use Rattle.package_check.proofs.BoardsLemmas.{all_listed}
 use Rattle.package_check.proofs.ContentIsReading.{content_read}
 use Rattle.package_check.proofs.FileKinds.{drill_files_more, layer_is_copper, not_true}

@@ -1,25 +1,10 @@
 -- Each file has a content or a fault, and so each package has an answer.
-use Rattle.std.proofs.Common.{◌≡◌, ◌↔◌, ℕ, Bool, true, false, suc, List, [], ◌∷◌, Option, Result, Ok, Err, refl, arith, ◌⊎◌, inl, inr}
-use Rattle.grid_units.specs.Spans.{LayerSpan}
-use Rattle.grid_units.specs.Holes.{GridRules}
-use Rattle.grid_units.specs.declared.fault.Fault.{Fault}
+use Rattle.package_check.proofs.Common.{◌≡◌, ◌↔◌, ℕ, Bool, true, false, suc, List, [], ◌∷◌, Option, Result, Ok, Err, refl, arith, ◌⊎◌, inl, inr, LayerSpan, GridRules, Fault, Kind, ReadsBy, mixed_in, DrillCommand, without_places, Profile, Strict, Wide, Role, Content, ReadingExists, AnswerExists, LayerView, FileView, Setting, Reads, ReadsBytes, ReadsUnlessBadSpan, ReadsCopper, ReadsHoles, ReadsMixedHoles, HasContent, HaveContents, IsFirstRefused, IsAnswer, is_bad_span, bad_span, not_copper, report_on, ReadsLayer, drill_kind, drill_view, layer_view, mixed_holes, ReportView}
 use Rattle.drill_text.specs.Faults.{HasAnswer, IsFirstFault}
 use Rattle.drill_text.specs.Profiles as drills
-use Rattle.drill_text.specs.Profiles.{Kind, ReadsBy, mixed_in}
-use Rattle.drill_lines.specs.declared.command.DrillCommand.{DrillCommand}
-use Rattle.gerber_text.specs.Writing.{without_places}
-use Rattle.grid_units.specs.declared.profile.Profile.{Profile}
-use Rattle.grid_units.specs.declared.profile.Profile.TheVariants.{Strict, Wide}
 use Rattle.layer_image.specs.Layers as layers
-use Rattle.manifest.specs.declared.Role.{Role}
 use Rattle.manifest.specs.declared.Role.TheVariants as role
-use Rattle.package_check.specs.declared.contents.Content.{Content}
 use Rattle.package_check.specs.declared.contents.Content.TheVariants as content
-use Rattle.package_check.specs.AlikePackages.{ReadingExists, AnswerExists}
-use Rattle.package_check.specs.ContentViews.{LayerView}
-use Rattle.package_check.specs.Package.{FileView, Setting, Reads, ReadsBytes, ReadsUnlessBadSpan, ReadsCopper, ReadsHoles, ReadsMixedHoles, HasContent, HaveContents, IsFirstRefused, IsAnswer, is_bad_span, bad_span, not_copper, report_on}
-use Rattle.package_check.specs.FileTexts.{ReadsLayer, drill_kind, drill_view, layer_view, mixed_holes}
-use Rattle.package_check.specs.Reports.{ReportView}
 use Rattle.package_check.proofs.ContentIsReading.{content_read}
 
 module _ (each_layer : layers.EachTextAnswersIn) (each_drill : (text : List ℕ) → HasAnswer text)

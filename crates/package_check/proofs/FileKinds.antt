@@ -1,17 +1,7 @@
 -- Copper files and drill files, and their contents.
-use Rattle.std.proofs.Common.{◌≡◌, ℕ, Bool, true, false, not, cond, List, [], ◌∷◌, ◌++◌, ap, sym, refl, subst, ◌∙◌}
+use Rattle.package_check.proofs.Common.{◌≡◌, ℕ, Bool, true, false, not, cond, List, [], ◌∷◌, ◌++◌, ap, sym, refl, subst, ◌∙◌, flat_map, flat_map-cons, LayerSpan, Drilled, Role, DrillView, LayerView, drill_files, Setting, BytesHaveContent, FileView, HasContent, HaveContents, is_copper, drilled_in, Content}
 use Rattle.std.specs.Prelude.{Option}
-use Rattle.std.specs.List.{flat_map}
-use Rattle.std.proofs.lemmas.List.Concat.{flat_map-cons}
-use Rattle.grid_units.specs.Spans.{LayerSpan}
-use Rattle.ring_rules.specs.declared.finding.Drilled.{Drilled}
-use Rattle.manifest.specs.declared.Role.{Role}
 use Rattle.manifest.specs.declared.Role.TheVariants as role
-use Rattle.package_check.specs.ContentViews.{DrillView, LayerView}
-use Rattle.package_check.specs.Checking.{drill_files}
-use Rattle.package_check.specs.Package.{Setting, BytesHaveContent, FileView, HasContent, HaveContents, is_copper}
-use Rattle.package_check.specs.SoundnessAsRead.{drilled_in}
-use Rattle.package_check.specs.declared.contents.Content.{Content}
 use Rattle.package_check.specs.declared.contents.Content.TheVariants as content
 
 layer_role : (q : Role) (name : List ℕ) (span : Option LayerSpan) (bytes : List ℕ) (n : Setting) (image : LayerView) → BytesHaveContent (record { role = q; name = name; span = span; bytes = bytes; setting = n }) (content.Layer image)

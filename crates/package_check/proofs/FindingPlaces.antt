@@ -1,15 +1,6 @@
 -- What the findings of a report name.
-use Rattle.std.proofs.Common.{◌≡◌, ◌+◌, ◌++◌, ℕ, suc, List, [], ◌∷◌, length, ap, refl, sym, ◌∙◌, subst}
-use Rattle.std.specs.List.{All, flat_map, enumerate_from}
-use Rattle.std.proofs.lemmas.List.{length-map}
-use Rattle.std.proofs.lemmas.List.Elements.{All-append}
-use Rattle.std.proofs.lemmas.List.Concat.{flat_map-cons}
-use Rattle.pad_shapes.specs.WidePads.{wide_pad_covers}
-use Rattle.ring_rules.specs.WithoutFindings.{NamesPlaces, RingsNamePlaces, GapsNamePlaces}
-use Rattle.ring_rules.specs.Findings.{ring_findings, gap_findings}
-use Rattle.package_check.specs.declared.contents.Content.{Content}
+use Rattle.package_check.proofs.Common.{◌≡◌, ◌+◌, ◌++◌, ℕ, suc, List, [], ◌∷◌, length, ap, refl, sym, ◌∙◌, subst, All, flat_map, enumerate_from, length-map, All-append, flat_map-cons, wide_pad_covers, NamesPlaces, RingsNamePlaces, GapsNamePlaces, ring_findings, gap_findings, Content, drilled, index_of, layer_indexes, layers, numbered_holes, pads_of, FindingsNameTheirPlaces}
 use Rattle.package_check.specs.declared.contents.Content.TheVariants as content
-use Rattle.package_check.specs.Package.{drilled, index_of, layer_indexes, layers, numbered_holes, pads_of, FindingsNameTheirPlaces}
 
 -- each copper file is one layer, and has one index
 indexed_from : (n : ℕ) (contents : List Content) → length (flat_map index_of (enumerate_from n contents)) ≡ length (flat_map pads_of contents)

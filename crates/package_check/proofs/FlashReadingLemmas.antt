@@ -1,5 +1,5 @@
 -- What holds of a success.
-use Rattle.std.proofs.Common.{Result, Ok, Err, OnOk}
+use Rattle.package_check.proofs.Common.{Result, Ok, Err, OnOk}
 
 -- what holds anyway holds of a success
 pub held : {T E : Type 0} (r : Result T E) (X : Type 0) → X → OnOk r X

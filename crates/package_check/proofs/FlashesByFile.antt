@@ -1,17 +1,6 @@
 -- Flashes, and what is drawn, that are kept file by file.
-use Rattle.std.proofs.Common.{◌≡◌, ◌<◌, ◌∷◌, ℕ, zero, suc, List, [], Result, Ok, length, get_or, arith, refl, true, ap, ◌∙◌}
-use Rattle.std.proofs.lemmas.Bool.{false≢true}
-use Rattle.grid_units.specs.declared.fault.Fault.{Fault}
-use Rattle.gerber_text.specs.Writing.{without_places}
-use Rattle.layer_features.specs.DrawnCopper.{drawn_in}
-use Rattle.layer_features.specs.Kept.{keeps_drawn, keeps_rows}
-use Rattle.layer_image.specs.Layers.{LayerImage, ReadingIsUniqueIn}
-use Rattle.pad_shapes.specs.declared.drawn.Drawn.{Drawn}
-use Rattle.layer_features.specs.declared.keep.Keep.{Keep}
+use Rattle.package_check.proofs.Common.{◌≡◌, ◌<◌, ◌∷◌, ℕ, zero, suc, List, [], Result, Ok, length, get_or, arith, refl, true, ap, ◌∙◌, false≢true, Fault, without_places, drawn_in, keeps_drawn, keeps_rows, LayerImage, ReadingIsUniqueIn, Drawn, Keep, Draws, FileView, AreDrawnOf, AreFileLists}
 use Rattle.layer_features.specs.declared.keep.Keep.TheVariants as keep
-use Rattle.package_check.specs.FileTexts.{Draws}
-use Rattle.package_check.specs.Package.{FileView}
-use Rattle.package_check.specs.Boards.{AreDrawnOf, AreFileLists}
 
 -- flashes are kept where commands are
 pub flashes_too : (kept : Keep) → keeps_drawn kept ≡ true → keeps_rows kept ≡ true

@@ -1,17 +1,7 @@
 -- Lists that grow by one file or one hole at a time.
-use Rattle.std.proofs.Common.{◌≡◌, ◌<◌, ◌+◌, ◌++◌, ℕ, List, [], Result, length, take, get_or, refl, sym, ap, ◌∙◌, Bool, true, false, Option}
-use Rattle.std.specs.List.{flat_map, enumerate_from}
-use Rattle.std.proofs.lemmas.List.{append-nil}
-use Rattle.grid_units.specs.declared.fault.Fault.{Fault}
-use Rattle.ring_rules.proofs.EnumeratedLists.{flat_listed_more}
+use Rattle.package_check.proofs.Common.{◌≡◌, ◌<◌, ◌+◌, ◌++◌, ℕ, List, [], Result, length, take, get_or, refl, sym, ap, ◌∙◌, Bool, true, false, Option, flat_map, enumerate_from, append-nil, Fault, flat_listed_more, LayerSpan, Role, Content, FileSum, index_in, Setting, Reads, ReadsUnlessBadSpan, is_bad_span, unnamed_file}
 use Rattle.std.specs.Prelude.{Option}
-use Rattle.grid_units.specs.Spans.{LayerSpan}
-use Rattle.manifest.specs.declared.Role.{Role}
-use Rattle.package_check.specs.declared.contents.Content.{Content}
-use Rattle.package_check.specs.declared.FileSum.{FileSum}
 use Rattle.package_check.specs.declared.FileSum.TheVariants as sum
-use Rattle.package_check.specs.Inner.Leftovers.{index_in}
-use Rattle.package_check.specs.Package.{Setting, Reads, ReadsUnlessBadSpan, is_bad_span, unnamed_file}
 
 -- what one more element gives
 pub flat_map_indexed_more : {X Y : Type 0} (f : ℕ × X → List Y) (out ys : List Y) (xs : List X) (i : ℕ) (x : X) → i < length xs → x ≡ get_or xs i x → f (i, x) ≡ ys

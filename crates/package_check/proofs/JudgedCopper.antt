@@ -1,30 +1,12 @@
 -- A copper file whose pads are tried as they are read.
-use Rattle.std.proofs.Common.{◌≡◌, ◌++◌, ℕ, Bool, List, [], None, Ok, Err, false, true, ap, inl, subst, sym, inr, refl, ◌∙◌, map}
-use Rattle.grid_units.specs.Holes.{GridRules}
-use Rattle.grid_units.specs.Results.{Answers, IfFault}
-use Rattle.grid_units.specs.declared.fault.Fault.{Fault}
-use Rattle.grid_units.specs.declared.fault.Fail.{Fail}
+use Rattle.package_check.proofs.Common.{◌≡◌, ◌++◌, ℕ, Bool, List, [], None, Ok, Err, false, true, ap, inl, subst, sym, inr, refl, ◌∙◌, map, GridRules, Answers, IfFault, Fault, Fail, without_places, LayerStands, KeptLayer, ReadsKeptIn, plain, FeatureCounts, wide_pad_covers, WidePad, layer_findings, Drilled, Finding, HasLayerView, is_copper_function, layer_view, HolesView, HasTriedIn, HasTriedPadsOf, JudgesCopper, not_copper, Judged}
 use Rattle.grid_units.specs.declared.fault.Fail.TheVariants as fails
-use Rattle.gerber_text.specs.Writing.{without_places}
-use Rattle.layer_image.specs.Holding.{LayerStands}
-use Rattle.layer_image.specs.Kept.{KeptLayer, ReadsKeptIn, plain}
 use Rattle.layer_image.specs.Layers as layers
-use Rattle.layer_features.specs.declared.counts.FeatureCounts.{FeatureCounts}
 use Rattle.layer_features.specs.declared.keep.Keep.TheVariants as keep
 use Rattle.layer_image.specs.declared.reader.LayerReader.{LayerReader}
-use Rattle.pad_shapes.specs.WidePads.{wide_pad_covers}
-use Rattle.pad_shapes.specs.declared.wide_pad.WidePad.{WidePad}
-use Rattle.ring_rules.specs.Findings.{layer_findings}
-use Rattle.ring_rules.specs.declared.finding.Drilled.{Drilled}
-use Rattle.ring_rules.specs.declared.finding.Finding.{Finding}
 use Rattle.std.specs.Global.{Vec}
-use Rattle.package_check.specs.FileTexts.{HasLayerView, is_copper_function, layer_view}
-use Rattle.package_check.specs.HoleViews.{HolesView}
-use Rattle.package_check.specs.Judging.{HasTriedIn, HasTriedPadsOf, JudgesCopper}
-use Rattle.package_check.specs.Package.{not_copper}
 use Rattle.package_check.specs.declared.contents.Content.TheVariants as content
 use Rattle.package_check.specs.declared.FileSum.TheVariants as sum
-use Rattle.package_check.specs.declared.checking.Judged.{Judged}
 
 -- what is left of a layer, of which some pads were taken
 module _ (rules : GridRules) (holes : List Drilled) (layer : ℕ) (text : List ℕ) (left : List WidePad) (rest : KeptLayer) (read : ReadsKeptIn rules.profile keep.Pads left text (Ok rest)) where

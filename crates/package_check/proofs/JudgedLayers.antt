@@ -1,31 +1,7 @@
 -- The report on what is left of the files of a package.
-use Rattle.std.proofs.Common.{◌≡◌, cond, ◌≤◌, ◌+◌, ◌++◌, ℕ, suc, List, [], ◌∷◌, Bool, true, Option, Some, None, Ok, Err, length, map, take, slice_get, arith, refl, subst, sym, ap, ap₂, ◌∙◌, zero-add}
-use Rattle.std.specs.List.{enumerate_from, flat_map, sum_by}
-use Rattle.std.proofs.lemmas.List.Concat.{flat_map-cons}
-use Rattle.std.proofs.lemmas.List.Sums.{sum_by-cons}
-use Rattle.std.proofs.lemmas.Option.{none-some}
-use Rattle.grid_units.specs.Holes.{GridRules}
-use Rattle.pad_shapes.specs.declared.wide_pad.WidePad.{WidePad}
-use Rattle.pad_shapes.specs.WidePads.{wide_pad_covers}
-use Rattle.ring_rules.specs.Findings.{gap_findings, layer_findings}
-use Rattle.ring_rules.specs.declared.finding.Drilled.{Drilled}
-use Rattle.ring_rules.specs.declared.finding.Finding.{Finding}
-use Rattle.package_check.specs.AlikePackages.{ReadingIsUnique}
-use Rattle.package_check.specs.Boards.{hole_count, numbered_from}
-use Rattle.package_check.specs.CheckViews.{CheckView, holes_in_slot}
-use Rattle.package_check.specs.Checking.{HasJudgedAll, IsJudgedOf, drill_files, layer_number}
-use Rattle.package_check.specs.Holding.{is_wanted, kept_at}
-use Rattle.package_check.specs.Inner.Leftovers.{index_in, layer_indexes_in, left_report, rings_in, sums_in}
-use Rattle.package_check.specs.Judging.{Judges, rings_of}
-use Rattle.package_check.specs.Package.{FileView, HasContent, HaveContents, IsReport, ReturnsReport, drilled, findings, index_of, is_copper, layer_indexes, layers, pads_of, report_on, sum_of}
-use Rattle.package_check.specs.Reports.{ReportView}
-use Rattle.package_check.specs.SoundnessAsRead.{drilled_in}
-use Rattle.package_check.specs.declared.FileSum.{FileSum}
-use Rattle.package_check.specs.declared.PackageFault.{PackageFault}
+use Rattle.package_check.proofs.Common.{◌≡◌, cond, ◌≤◌, ◌+◌, ◌++◌, ℕ, suc, List, [], ◌∷◌, Bool, true, Option, Some, None, Ok, Err, length, map, take, slice_get, arith, refl, subst, sym, ap, ap₂, ◌∙◌, zero-add, enumerate_from, flat_map, sum_by, flat_map-cons, sum_by-cons, none-some, GridRules, WidePad, wide_pad_covers, gap_findings, layer_findings, Drilled, Finding, ReadingIsUnique, hole_count, numbered_from, CheckView, holes_in_slot, HasJudgedAll, IsJudgedOf, drill_files, layer_number, is_wanted, kept_at, index_in, layer_indexes_in, left_report, rings_in, sums_in, Judges, rings_of, FileView, HasContent, HaveContents, IsReport, ReturnsReport, drilled, findings, index_of, is_copper, layer_indexes, layers, pads_of, report_on, sum_of, ReportView, drilled_in, FileSum, PackageFault, Content, Judged}
 use Rattle.package_check.specs.declared.PackageFault.TheVariants as stop
-use Rattle.package_check.specs.declared.contents.Content.{Content}
 use Rattle.package_check.specs.declared.contents.Content.TheVariants as content
-use Rattle.package_check.specs.declared.checking.Judged.{Judged}
 use Rattle.package_check.proofs.AnswerUniqueness.{same_contents}
 use Rattle.package_check.proofs.BoardsLemmas.{numbered_all}
 use Rattle.package_check.proofs.ContentIsReading.{content_read}

@@ -1,3 +1,4 @@
+pub mod Common
 pub mod AnswerLemmas
 pub mod AnswerUniqueness
 pub mod BoardsLemmas

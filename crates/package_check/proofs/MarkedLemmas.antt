@@ -1,11 +1,6 @@
 -- Holes that are marked as plated or not, one by one.
-use Rattle.std.proofs.Common.{◌≡◌, ◌<◌, ◌≤◌, ◌+◌, ◌⊎◌, ◌++◌, ℕ, zero, suc, Bool, false, List, [], ◌∷◌, length, take, get_or, arith, refl, ap, sym, inl, inr, ◌∙◌}
+use Rattle.package_check.proofs.Common.{◌≡◌, ◌<◌, ◌≤◌, ◌+◌, ◌⊎◌, ◌++◌, ℕ, zero, suc, Bool, false, List, [], ◌∷◌, length, take, get_or, arith, refl, ap, sym, inl, inr, ◌∙◌, Contains, GridHole, LayerSpan, Drilled, marked}
 use Rattle.std.specs.Prelude.{Option}
-use Rattle.std.specs.List.{Contains}
-use Rattle.grid_units.specs.Holes.{GridHole}
-use Rattle.grid_units.specs.Spans.{LayerSpan}
-use Rattle.ring_rules.specs.declared.finding.Drilled.{Drilled}
-use Rattle.package_check.specs.FileTexts.{marked}
 
 -- one more hole
 marked_next : (span : Option LayerSpan) (holes : List GridHole) (plated : List Bool) (i : ℕ) (hole : GridHole) (one : Bool) → i < length holes → i < length plated → hole ≡ get_or holes i hole → one ≡ get_or plated i one

@@ -1,23 +1,9 @@
 -- A package that passes has no oblique plated slot.
-use Rattle.std.proofs.Common.{◌≡◌, ◌<◌, ◌≤◌, ◌+◌, ◌-◌, ℕ, zero, suc, Bool, true, false, not, cond, ◌&&◌, leb, List, [], ◌∷◌, Option, Some, None, Result, Ok, Err, IfOk, length, map, get_or, arith, refl, sym, ap, subst, ◌∙◌}
-use Rattle.std.specs.List.{AllZip, Contains, count_by, filter, flat_map}
-use Rattle.std.proofs.lemmas.Bool.{le-leb}
-use Rattle.std.proofs.lemmas.List.Sums.{sum_by-cons}
+use Rattle.package_check.proofs.Common.{◌≡◌, ◌<◌, ◌≤◌, ◌+◌, ◌-◌, ℕ, zero, suc, Bool, true, false, not, cond, ◌&&◌, leb, List, [], ◌∷◌, Option, Some, None, Result, Ok, Err, IfOk, length, map, get_or, arith, refl, sym, ap, subst, ◌∙◌, AllZip, Contains, count_by, filter, flat_map, le-leb, sum_by-cons, GridHole, GridRules, Profile, Strict, Wide, LayerSpan, is_in_span, Drilled, DrillCommand, Role, PackageFault, FileView, Setting, ReturnsReport, is_copper, ReportView, AreDrilledBy, AreStraight, HolesAreSaidOnce, IsRun, IsSound, LiesAsAllowed, PassingIsSound, SaysHoles, SaysPads}
 use Rattle.std.proofs.lemmas.Slice.Zip.{AllZip-long}
-use Rattle.grid_units.specs.Holes.{GridHole, GridRules}
-use Rattle.grid_units.specs.declared.profile.Profile.{Profile}
-use Rattle.grid_units.specs.declared.profile.Profile.TheVariants.{Strict, Wide}
 use Rattle.pad_shapes.specs.Shapes.{IsAxisAligned}
-use Rattle.grid_units.specs.Spans.{LayerSpan, is_in_span}
 use Rattle.grid_units.proofs.ListLemmas.{flat_map_at}
-use Rattle.ring_rules.specs.declared.finding.Drilled.{Drilled}
-use Rattle.drill_lines.specs.declared.command.DrillCommand.{DrillCommand}
-use Rattle.manifest.specs.declared.Role.{Role}
 use Rattle.manifest.specs.declared.Role.TheVariants as role
-use Rattle.package_check.specs.declared.PackageFault.{PackageFault}
-use Rattle.package_check.specs.Package.{FileView, Setting, ReturnsReport, is_copper}
-use Rattle.package_check.specs.Reports.{ReportView}
-use Rattle.package_check.specs.Soundness.{AreDrilledBy, AreStraight, HolesAreSaidOnce, IsRun, IsSound, LiesAsAllowed, PassingIsSound, SaysHoles, SaysPads}
 use Rattle.package_check.proofs.MarkedLemmas.{marked_span}
 use Rattle.package_check.proofs.WrittenPackages.{hole_among}
 

@@ -1,39 +1,14 @@
 -- Files of a package that are read piece by piece.
-use Rattle.std.proofs.Common.{◌≡◌, ◌++◌, ℕ, Bool, true, false, List, [], Ok, Err, Option, Result, OnOk, IfErr, ap, inl, refl, subst, sym, ◌∙◌, append_assoc}
-use Rattle.std.proofs.lemmas.List.{append-nil}
-use Rattle.std.proofs.lemmas.Bool.{false≢true}
-use Rattle.grid_units.specs.Results.{Answers, IfFault}
-use Rattle.grid_units.specs.Spans.{LayerSpan}
-use Rattle.grid_units.specs.declared.fault.Fault.{Fault}
-use Rattle.grid_units.specs.declared.fault.Fail.{Fail}
+use Rattle.package_check.proofs.Common.{◌≡◌, ◌++◌, ℕ, Bool, true, false, List, [], Ok, Err, Option, Result, OnOk, IfErr, ap, inl, refl, subst, sym, ◌∙◌, append_assoc, append-nil, false≢true, Answers, IfFault, LayerSpan, Fault, Fail, DrillCommand, says_otherwise, Kind, ReadsAsBy, ReadsBy, ShowsBy, mixed_in, Profile, Strict, Wide, ShowsLayerFaultIn, KeptLayer, ReadsKeptIn, WidePad, Keep, Role, Drilled, DrillView, LayerView, ReadsDrill, ReadsLayer, ReadsMixed, drill_kind, drill_view, marked, plating_in, TakesFile, is_wanted, setting_of, HasFailed, HasOpened, HasReadText, drill_role, FileView, Setting, Reads, ReadsBytes, ReadsCopper, ReadsHoles, ReadsMixedHoles, ReadsUnlessBadSpan, bad_span, is_bad_span, is_copper, unnamed_file, Content, PackageReader, AllocError}
 use Rattle.grid_units.specs.declared.fault.Fail.TheVariants as fails
-use Rattle.drill_lines.specs.declared.command.DrillCommand.{DrillCommand}
 use Rattle.drill_text.specs.Outcome.{DrillFile, file_of}
-use Rattle.drill_text.specs.Plating.{says_otherwise}
-use Rattle.drill_text.specs.Profiles.{Kind, ReadsAsBy, ReadsBy, ShowsBy, mixed_in}
 use Rattle.drill_text.proofs.SpellsTextLemmas.{reads_drill_text}
-use Rattle.grid_units.specs.declared.profile.Profile.{Profile}
-use Rattle.grid_units.specs.declared.profile.Profile.TheVariants.{Strict, Wide}
 use Rattle.drill_text.specs.declared.kept.Keep.TheVariants as drill_keep
 use Rattle.drill_text.specs.declared.platings.PlatingKind.{PlatingKind}
 use Rattle.drill_text.specs.declared.platings.PlatingKind.TheVariants as plating
-use Rattle.layer_image.specs.Holding.{ShowsLayerFaultIn}
 use Rattle.layer_image.specs.Layers as layers
-use Rattle.layer_image.specs.Kept.{KeptLayer, ReadsKeptIn}
-use Rattle.pad_shapes.specs.declared.wide_pad.WidePad.{WidePad}
-use Rattle.layer_features.specs.declared.keep.Keep.{Keep}
-use Rattle.manifest.specs.declared.Role.{Role}
 use Rattle.manifest.specs.declared.Role.TheVariants as role
-use Rattle.ring_rules.specs.declared.finding.Drilled.{Drilled}
-use Rattle.package_check.specs.ContentViews.{DrillView, LayerView}
-use Rattle.package_check.specs.FileTexts.{ReadsDrill, ReadsLayer, ReadsMixed, drill_kind, drill_view, marked, plating_in}
-use Rattle.package_check.specs.Holding.{TakesFile, is_wanted, setting_of}
-use Rattle.package_check.specs.OpenFiles.{HasFailed, HasOpened, HasReadText, drill_role}
-use Rattle.package_check.specs.Package.{FileView, Setting, Reads, ReadsBytes, ReadsCopper, ReadsHoles, ReadsMixedHoles, ReadsUnlessBadSpan, bad_span, is_bad_span, is_copper, unnamed_file}
-use Rattle.package_check.specs.declared.contents.Content.{Content}
 use Rattle.package_check.specs.declared.open_file.OpenFile.{OpenFile}
-use Rattle.package_check.specs.declared.package_reader.PackageReader.{PackageReader}
-use Rattle.std.specs.declared.alloc.AllocError.{AllocError}
 
 -- a span that is not bad
 pub by_bytes : (t : Bool) (s : FileView) (r : Result Content Fail) → t ≡ false → Answers {T = Content} (λ x. x) (ReadsBytes s) r → Answers {T = Content} (λ x. x) (ReadsUnlessBadSpan t s) r

@@ -1,24 +1,7 @@
 -- A package that passes is sound by what is read of it.
-use Rattle.std.proofs.Common.{◌≡◌, ◌<◌, ◌+◌, ◌++◌, ℕ, Bool, true, List, [], ◌∷◌, length, get_or, map, ap, refl, sym, ◌∙◌, subst}
-use Rattle.std.specs.List.{Contains, flat_map, enumerate_from}
-use Rattle.std.proofs.lemmas.List.{map-append}
-use Rattle.std.proofs.lemmas.List.Concat.{flat_map-cons}
-use Rattle.grid_units.specs.Holes.{GridHole}
-use Rattle.grid_units.specs.declared.profile.Profile.{Profile}
-use Rattle.grid_units.specs.declared.profile.Profile.TheVariants.{Strict, Wide}
-use Rattle.pad_shapes.specs.WidePads.{IsInWidePad, wide_pad_covers}
-use Rattle.pad_shapes.specs.declared.wide_pad.WidePad.{WidePad}
-use Rattle.ring_rules.specs.WithoutFindings.{HolesHoldWithoutFindings, StraightWithoutFindings, ApartWithoutFindings, AreAllApart, IsHoleHeld}
-use Rattle.grid_units.specs.Spans.{LayerSpan, is_in_span}
+use Rattle.package_check.proofs.Common.{◌≡◌, ◌<◌, ◌+◌, ◌++◌, ℕ, Bool, true, List, [], ◌∷◌, length, get_or, map, ap, refl, sym, ◌∙◌, subst, Contains, flat_map, enumerate_from, map-append, flat_map-cons, GridHole, Profile, Strict, Wide, IsInWidePad, wide_pad_covers, WidePad, HolesHoldWithoutFindings, StraightWithoutFindings, ApartWithoutFindings, AreAllApart, IsHoleHeld, LayerSpan, is_in_span, ring_findings, gap_findings, Drilled, Numbered, Content, drilled, holes_of, layers, LiesAsAllowed, PassingIsSoundAsRead, IsPlatedThrough, drilled_in}
 use Rattle.std.specs.Prelude.{Option}
-use Rattle.ring_rules.specs.Findings.{ring_findings, gap_findings}
-use Rattle.ring_rules.specs.declared.finding.Drilled.{Drilled}
-use Rattle.package_check.specs.declared.Numbered.{Numbered}
-use Rattle.package_check.specs.declared.contents.Content.{Content}
 use Rattle.package_check.specs.declared.contents.Content.TheVariants as content
-use Rattle.package_check.specs.Package.{drilled, holes_of, layers}
-use Rattle.package_check.specs.Soundness.{LiesAsAllowed}
-use Rattle.package_check.specs.SoundnessAsRead.{PassingIsSoundAsRead, IsPlatedThrough, drilled_in}
 use Rattle.grid_units.proofs.ListLemmas.{append_nil_left, append_nil_right, flat_map_at}
 
 -- what an element gives is among what all give

@@ -1,14 +1,7 @@
 -- Texts that come in pieces.
-use Rattle.std.proofs.Common.{◌≡◌, ℕ, ◌+◌, ◌<◌, List, [], ◌∷◌, ◌++◌, length, map, take, drop, get_or, sym, ap, subst, ◌∙◌, Bor}
-use Rattle.std.specs.List.{concat}
-use Rattle.std.proofs.lemmas.List.{append-nil, map-append, take-append-drop, take_more}
+use Rattle.package_check.proofs.Common.{◌≡◌, ℕ, ◌+◌, ◌<◌, List, [], ◌∷◌, ◌++◌, length, map, take, drop, get_or, sym, ap, subst, ◌∙◌, Bor, concat, append-nil, map-append, take-append-drop, take_more, Fault, Fail, IfFault, Profile, ShowsLayerFaultIn}
 use Rattle.std.proofs.lemmas.List.Folds.{concat-append}
-use Rattle.grid_units.specs.declared.fault.Fault.{Fault}
-use Rattle.grid_units.specs.declared.fault.Fail.{Fail}
 use Rattle.grid_units.specs.declared.fault.Fail.TheVariants as fails
-use Rattle.grid_units.specs.Results.{IfFault}
-use Rattle.grid_units.specs.declared.profile.Profile.{Profile}
-use Rattle.layer_image.specs.Holding.{ShowsLayerFaultIn}
 
 -- ---- joining
 

@@ -1,25 +1,10 @@
 -- A file has one content or one fault.
-use Rattle.std.proofs.Common.{◌≡◌, ◌↔◌, ℕ, Bool, true, false, List, Result, Ok, Err, sym, ap, ◌∙◌, inl, inr}
-use Rattle.grid_units.specs.declared.fault.Fault.{Fault}
-use Rattle.drill_lines.specs.declared.command.DrillCommand.{DrillCommand}
+use Rattle.package_check.proofs.Common.{◌≡◌, ◌↔◌, ℕ, Bool, true, false, List, Result, Ok, Err, sym, ap, ◌∙◌, inl, inr, Fault, DrillCommand, IsDrillText, Kind, ReadsBy, mixed_in, Drilled, Profile, Strict, Wide, without_places, LayerSpan, Role, DrillView, LayerView, Content, ReadsLayer, ReadsDrill, drill_kind, drill_view, layer_view, mixed_holes, Setting, ReadsBytes, ReadsUnlessBadSpan, ReadsCopper, ReadsHoles, ReadsMixedHoles, is_bad_span, ReadingIsUnique}
 use Rattle.drill_text.specs.Profiles as drills
-use Rattle.drill_text.specs.Texts.{IsDrillText}
-use Rattle.drill_text.specs.Profiles.{Kind, ReadsBy, mixed_in}
-use Rattle.ring_rules.specs.declared.finding.Drilled.{Drilled}
-use Rattle.grid_units.specs.declared.profile.Profile.{Profile}
-use Rattle.grid_units.specs.declared.profile.Profile.TheVariants.{Strict, Wide}
 use Rattle.layer_image.specs.Layers as layers
-use Rattle.gerber_text.specs.Writing.{without_places}
 use Rattle.std.specs.Prelude.{Option}
-use Rattle.grid_units.specs.Spans.{LayerSpan}
-use Rattle.manifest.specs.declared.Role.{Role}
 use Rattle.manifest.specs.declared.Role.TheVariants as role
-use Rattle.package_check.specs.ContentViews.{DrillView, LayerView}
-use Rattle.package_check.specs.declared.contents.Content.{Content}
 use Rattle.package_check.specs.declared.contents.Content.TheVariants as content
-use Rattle.package_check.specs.FileTexts.{ReadsLayer, ReadsDrill, drill_kind, drill_view, layer_view, mixed_holes}
-use Rattle.package_check.specs.Package.{Setting, ReadsBytes, ReadsUnlessBadSpan, ReadsCopper, ReadsHoles, ReadsMixedHoles, is_bad_span}
-use Rattle.package_check.specs.AlikePackages.{ReadingIsUnique}
 
 abbrev answered : {A : Type 0} → A → Result A Fault
 answered x = Ok x

@@ -1,11 +1,6 @@
 -- The lines of a report, one after another.
-use Rattle.std.proofs.Common.{◌≡◌, ◌<◌, ◌≤◌, ◌+◌, ◌++◌, ℕ, zero, suc, List, [], ◌∷◌, Bor, length, map, drop, get_or, arith, refl, ap, sym, ◌∙◌, append_assoc}
-use Rattle.std.proofs.lemmas.List.{append-nil}
+use Rattle.package_check.proofs.Common.{◌≡◌, ◌<◌, ◌≤◌, ◌+◌, ◌++◌, ℕ, zero, suc, List, [], ◌∷◌, Bor, length, map, drop, get_or, arith, refl, ap, sym, ◌∙◌, append_assoc, append-nil, FileSum, Profile, Setting, file_view, file_line, file_lines}
 use Rattle.package_check.specs.declared.File.{File}
-use Rattle.package_check.specs.declared.FileSum.{FileSum}
-use Rattle.grid_units.specs.declared.profile.Profile.{Profile}
-use Rattle.package_check.specs.Package.{Setting, file_view}
-use Rattle.package_check.specs.Texts.{file_line, file_lines}
 
 abbrev pub texts_of : List (Bor (List ℕ)) → List (List ℕ)
 texts_of names = map (λ name. name.now) names

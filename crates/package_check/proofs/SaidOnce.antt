@@ -1,33 +1,21 @@
 -- What a file says by the grammar of its format, it says once.
-use Rattle.std.proofs.Common.{◌≡◌, ℕ, List, map, ap, sym, subst, ◌∙◌}
-use Rattle.grid_units.specs.Holes.{GridHole}
-use Rattle.ring_rules.specs.declared.finding.Drilled.{Drilled}
-use Rattle.gerber_commands.specs.declared.command.Command.{Command}
+use Rattle.package_check.proofs.Common.{◌≡◌, ℕ, List, map, ap, sym, subst, ◌∙◌, GridHole, Drilled, Command, Profile, Strict, Wide, WidePad, LayerSpan, CalledIsListed, Role, marked, plain, DrillCommand, AreDrilledBy, HolesAreSaidOnce, MakePads, PadsAreSaidOnce}
 use Rattle.gerber_text.specs.Laws.{TextsSpellOneListIn}
-use Rattle.grid_units.specs.declared.profile.Profile.{Profile}
-use Rattle.grid_units.specs.declared.profile.Profile.TheVariants.{Strict, Wide}
-use Rattle.pad_shapes.specs.declared.wide_pad.WidePad.{WidePad}
 use Rattle.std.specs.Prelude.{Option}
-use Rattle.grid_units.specs.Spans.{LayerSpan}
-use Rattle.drill_text.specs.MixedLaws.{CalledIsListed}
-use Rattle.manifest.specs.declared.Role.{Role}
 use Rattle.manifest.specs.declared.Role.TheVariants as role
-use Rattle.package_check.specs.FileTexts.{marked}
-use Rattle.layer_image.specs.Kept.{plain}
+use Rattle.layer_features.specs.CopperLaws.{WidePadsAreUnique}
 use Rattle.layer_image.specs.PadLaws.{PadsAreUnique}
-use Rattle.drill_lines.specs.declared.command.DrillCommand.{DrillCommand}
 use Rattle.drill_text.specs.Drilling.{AreHoles}
 use Rattle.drill_text.specs.Laws.{DrillsAtMostOneList, IsTextOfAtMostOne}
-use Rattle.package_check.specs.Soundness.{AreDrilledBy, HolesAreSaidOnce, MakePads, PadsAreSaidOnce}
 
-makes_once : PadsAreUnique → (profile : Profile) (commands : List Command) (a b : List WidePad) → MakePads profile commands a → MakePads profile commands b → a ≡ b
-makes_once one_list Strict commands a b h k = h.2 ∙ (ap (map plain) (one_list commands h.0 k.0 h.1 k.1) ∙ sym k.2)
-makes_once one_list Wide commands a b h k = h ∙ sym k
+makes_once : PadsAreUnique → WidePadsAreUnique → (profile : Profile) (commands : List Command) (a b : List WidePad) → MakePads profile commands a → MakePads profile commands b → a ≡ b
+makes_once one_list wide_list Strict commands a b h k = h.2 ∙ (ap (map plain) (one_list commands h.0 k.0 h.1 k.1) ∙ sym k.2)
+makes_once one_list wide_list Wide commands a b h k = wide_list commands a b h k
 
-pub pads_once : TextsSpellOneListIn → PadsAreUnique → PadsAreSaidOnce
-pads_once one_text one_list file a b s t =
+pub pads_once : TextsSpellOneListIn → PadsAreUnique → WidePadsAreUnique → PadsAreSaidOnce
+pads_once one_text one_list wide_list file a b s t =
     let same : s.commands ≡ t.commands = one_text file.setting.profile file.bytes s.commands t.commands s.written t.written in
-    makes_once one_list file.setting.profile t.commands a b (subst (λ (cs : List Command). MakePads file.setting.profile cs a) same s.made) t.made
+    makes_once one_list wide_list file.setting.profile t.commands a b (subst (λ (cs : List Command). MakePads file.setting.profile cs a) same s.made) t.made
 
 -- the platings of the holes of these commands are said once
 drilled_once : CalledIsListed → (q : Role) (span : Option LayerSpan) (commands : List DrillCommand) (holes : List GridHole) (a b : List Drilled) → AreDrilledBy q span commands holes a → AreDrilledBy q span commands holes b → a ≡ b

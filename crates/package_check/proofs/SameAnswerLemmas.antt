@@ -1,11 +1,5 @@
 -- Packages whose files say the same have the same answer.
-use Rattle.std.proofs.Common.{◌≡◌, ◌<◌, ℕ, zero, suc, List, [], ◌∷◌, Result, Ok, Err, length, take, get_or, arith, refl, ap}
-use Rattle.grid_units.specs.Holes.{GridRules}
-use Rattle.grid_units.specs.declared.fault.Fault.{Fault}
-use Rattle.package_check.specs.declared.contents.Content.{Content}
-use Rattle.package_check.specs.Reports.{ReportView}
-use Rattle.package_check.specs.Package.{FileView, Reads, HaveContents, IsAnswer}
-use Rattle.package_check.specs.AlikePackages.{AllReadAlike, SameAnswers}
+use Rattle.package_check.proofs.Common.{◌≡◌, ◌<◌, ℕ, zero, suc, List, [], ◌∷◌, Result, Ok, Err, length, take, get_or, arith, refl, ap, GridRules, Fault, Content, ReportView, FileView, Reads, HaveContents, IsAnswer, AllReadAlike, SameAnswers}
 use Rattle.package_check.proofs.ContentIsReading.{content_read, reading_of}
 
 alike_is_symmetric : (xs ys : List FileView) → AllReadAlike xs ys → AllReadAlike ys xs

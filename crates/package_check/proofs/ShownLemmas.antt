@@ -1,21 +1,8 @@
 -- What is kept of a copper file to be shown.
-use Rattle.std.proofs.Common.{◌≡◌, ◌∙◌, ℕ, Bool, true, false, List, [], Result, Ok, Err, IfOk, OnOk, refl, sym, ap}
-use Rattle.std.specs.Prelude.{if◌then◌else◌}
-use Rattle.grid_units.specs.declared.profile.Profile.{Profile}
-use Rattle.grid_units.specs.declared.profile.Profile.TheVariants.{Strict, Wide}
-use Rattle.gerber_commands.specs.declared.command.Command.{Command}
+use Rattle.package_check.proofs.Common.{◌≡◌, ◌∙◌, ℕ, Bool, true, false, List, [], Result, Ok, Err, IfOk, OnOk, refl, sym, ap, if◌then◌else◌, Profile, Strict, Wide, Command, without_places, LayerImage, ReadsLayerIn, StrictLayers, counting, drawn_in, uncleared_drawn, keeps_drawn, keeps_rows, Drawn, Feature, Keep, copper_keep}
 use Rattle.gerber_text.specs.Reading.{Entries}
-use Rattle.gerber_text.specs.Writing.{without_places}
-use Rattle.layer_image.specs.Layers.{LayerImage, ReadsLayerIn, StrictLayers}
-use Rattle.layer_image.specs.Kept.{counting}
-use Rattle.layer_features.specs.DrawnCopper.{drawn_in, uncleared_drawn}
 use Rattle.layer_features.specs.Features.{features_of, view_in, wide_features_of}
-use Rattle.layer_features.specs.Kept.{keeps_drawn, keeps_rows}
-use Rattle.pad_shapes.specs.declared.drawn.Drawn.{Drawn}
-use Rattle.layer_features.specs.declared.feature.Feature.{Feature}
-use Rattle.layer_features.specs.declared.keep.Keep.{Keep}
 use Rattle.layer_features.specs.declared.keep.Keep.TheVariants as keep
-use Rattle.package_check.specs.OpenFiles.{copper_keep}
 
 -- what the profile has of the flashes and contours of the wide one
 pub viewed : StrictLayers → (profile : Profile) (text : List ℕ) (layer : LayerImage) → ReadsLayerIn profile text (Ok layer) → view_in profile (wide_features_of (without_places layer.commands)) ≡ features_of profile (without_places layer.commands)

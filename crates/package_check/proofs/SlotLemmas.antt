@@ -1,7 +1,5 @@
 -- Slots of a reader of a package.
-use Rattle.std.proofs.Common.{◌≡◌, ◌<◌, ◌≤◌, ◌++◌, ℕ, zero, suc, List, [], ◌∷◌, Option, Some, None, length, set, arith, refl, ◌∙◌}
-use Rattle.std.proofs.lemmas.List.{get_or-set_other, get_or-set_same, length-set}
-use Rattle.package_check.specs.Holding.{IsPutAt, kept_at}
+use Rattle.package_check.proofs.Common.{◌≡◌, ◌<◌, ◌≤◌, ◌++◌, ℕ, zero, suc, List, [], ◌∷◌, Option, Some, None, length, set, arith, refl, ◌∙◌, get_or-set_other, get_or-set_same, length-set, IsPutAt, kept_at}
 
 -- an empty slot at the end changes nothing
 pub empty_more : {X : Type 0} (slots : List (Option X)) (i : ℕ) → kept_at (slots ++ None ∷ []) i ≡ kept_at slots i

@@ -1,30 +1,8 @@
 -- A reader of a package takes files.
-use Rattle.std.proofs.Common.{◌≡◌, ◌≢◌, ◌<◌, ◌≤◌, ◌+◌, ◌++◌, ◌||◌, ◌&&◌, eqb, ltb, ℕ, zero, suc, List, [], ◌∷◌, Ok, Err, Result, Option, Some, None, OnOk, Bool, true, false, not, length, map, take, get_or, slice_get, inl, inr, arith, refl, sym, ap, subst, ◌∙◌}
-use Rattle.std.specs.Prelude.{alloc_error, option_map}
-use Rattle.std.specs.List.{flat_map}
-use Rattle.std.specs.declared.alloc.AllocError.{AllocError}
-use Rattle.std.proofs.lemmas.Bool.{both_ways, cases_eq, cases_order, eq-eqb, eqb-true, false≢true, le-ltb, lt-ltb, ltb-true, ne_eqb, or_cases, or_left, or_right}
-use Rattle.std.proofs.lemmas.List.{length-map}
-use Rattle.std.proofs.lemmas.List.Concat.{flat_map-cons}
-use Rattle.std.proofs.lemmas.Option.{get_or_from_slice_get, none-some, same_Some, slice_get-map, slice_get_read, slice_get_within}
-use Rattle.grid_units.specs.Spans.{LayerSpan}
-use Rattle.grid_units.specs.declared.fault.Fault.{Fault}
-use Rattle.grid_units.specs.declared.fault.Fail.{Fail}
+use Rattle.package_check.proofs.Common.{◌≡◌, ◌≢◌, ◌<◌, ◌≤◌, ◌+◌, ◌++◌, ◌||◌, ◌&&◌, eqb, ltb, ℕ, zero, suc, List, [], ◌∷◌, Ok, Err, Result, Option, Some, None, OnOk, Bool, true, false, not, length, map, take, get_or, slice_get, inl, inr, arith, refl, sym, ap, subst, ◌∙◌, alloc_error, option_map, flat_map, AllocError, both_ways, cases_eq, cases_order, eq-eqb, eqb-true, false≢true, le-ltb, lt-ltb, ltb-true, ne_eqb, or_cases, or_left, or_right, length-map, flat_map-cons, get_or_from_slice_get, none-some, same_Some, slice_get-map, slice_get_read, slice_get_within, LayerSpan, Fault, Fail, keeps_drawn, keeps_rows, ReadingIsUniqueIn, Keep, Role, PackageFault, Content, PackageReader, Kept, FileView, Setting, HaveContents, IsFirstRefused, Reads, is_copper, unnamed_file, AreDrawnOf, AreFileLists, BoardView, IsBoard, IsDrawnBoard, IsFlashedBoard, OfCopper, Returns, board_of, HasContours, HasMacros, HasRows, HasTaken, HasTakenAll, HoldsThose, IsKeptOf, IsPutAt, IsOutOfMemory, ReadsAt, ReadsInto, StoppedAmong, TakesFile, TakesThose, contents_in, is_kind, is_kind_at, is_kind_of, is_wanted, kept_at, next_stop, shown_board, shown_in}
 use Rattle.grid_units.specs.declared.fault.Fail.TheVariants as fails
-use Rattle.layer_features.specs.Kept.{keeps_drawn, keeps_rows}
-use Rattle.layer_image.specs.Layers.{ReadingIsUniqueIn}
-use Rattle.layer_features.specs.declared.keep.Keep.{Keep}
-use Rattle.manifest.specs.declared.Role.{Role}
-use Rattle.package_check.specs.declared.PackageFault.{PackageFault}
 use Rattle.package_check.specs.declared.PackageFault.TheVariants as stop
-use Rattle.package_check.specs.declared.contents.Content.{Content}
-use Rattle.package_check.specs.declared.package_reader.PackageReader.{PackageReader}
 use Rattle.package_check.specs.declared.readers.Shown.{Shown}
-use Rattle.package_check.specs.declared.slots.Kept.{Kept}
-use Rattle.package_check.specs.Package.{FileView, Setting, HaveContents, IsFirstRefused, Reads, is_copper, unnamed_file}
-use Rattle.package_check.specs.Boards.{AreDrawnOf, AreFileLists, BoardView, IsBoard, IsDrawnBoard, IsFlashedBoard, OfCopper, Returns, board_of}
-use Rattle.package_check.specs.FileTexts.{HasContours, HasMacros, HasRows}
-use Rattle.package_check.specs.Holding.{HasTaken, HasTakenAll, HoldsThose, IsKeptOf, IsPutAt, IsOutOfMemory, ReadsAt, ReadsInto, StoppedAmong, TakesFile, TakesThose, contents_in, is_kind, is_kind_at, is_kind_of, is_wanted, kept_at, next_stop, shown_board, shown_in}
 use Rattle.package_check.proofs.ContentIsReading.{content_read}
 use Rattle.package_check.proofs.FlashesByFile.{drawn_read, flashes_too, lists_first, no_lists}
 use Rattle.package_check.proofs.GrowingLists.{any_name}

@@ -1,21 +1,7 @@
 -- A file that the wide profile reads does not contradict its role.
-use Rattle.std.proofs.Common.{◌≡◌, ◌↔◌, ℕ, false, List, Option, Result, Ok, ap, ◌∙◌}
-use Rattle.std.specs.List.{list_any}
-use Rattle.grid_units.specs.Spans.{LayerSpan}
-use Rattle.grid_units.specs.declared.fault.Fault.{Fault}
-use Rattle.grid_units.specs.declared.profile.Profile.{Profile}
-use Rattle.grid_units.specs.declared.profile.Profile.TheVariants.{Wide}
-use Rattle.drill_lines.specs.declared.command.DrillCommand.{DrillCommand}
-use Rattle.drill_text.specs.MixedLaws.{KindsReadTheSame, UncontradictedIsLegal}
-use Rattle.drill_text.specs.Plating.{calls_plated}
-use Rattle.drill_text.specs.Profiles.{ReadsIn, unplated_in}
+use Rattle.package_check.proofs.Common.{◌≡◌, ◌↔◌, ℕ, false, List, Option, Result, Ok, ap, ◌∙◌, list_any, LayerSpan, Fault, Profile, Wide, DrillCommand, KindsReadTheSame, UncontradictedIsLegal, calls_plated, ReadsIn, unplated_in, IsDrillText, Role, BytesHaveContent, ReadIsUncontradicted, Content}
 use Rattle.drill_text.specs.Profiles as drills
-use Rattle.drill_text.specs.Texts.{IsDrillText}
-use Rattle.manifest.specs.declared.Role.{Role}
 use Rattle.manifest.specs.declared.Role.TheVariants as role
-use Rattle.package_check.specs.Package.{BytesHaveContent}
-use Rattle.package_check.specs.WiderProfile.{ReadIsUncontradicted}
-use Rattle.package_check.specs.declared.contents.Content.{Content}
 use Rattle.package_check.specs.declared.contents.Content.TheVariants as content
 
 same_list : {A : Type 0} {x y : A} → (let a : Result A Fault = Ok x in let b : Result A Fault = Ok y in a ≡ b) → x ≡ y

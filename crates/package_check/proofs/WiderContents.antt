@@ -1,38 +1,14 @@
 -- What files say in the strict profile, they say in the wide one, with further pads.
-use Rattle.std.proofs.Common.{◌≡◌, ◌⊎◌, inl, inr, ◌↔◌, ◌<◌, ◌+◌, ◌++◌, ℕ, zero, suc, Bool, true, false, List, [], ◌∷◌, Option, None, Some, Ok, length, map, get_or, arith, refl, ap, ap₂, sym, subst, ◌∙◌}
-use Rattle.std.specs.Prelude.{⊤, option_map}
-use Rattle.std.specs.List.{AllByRecursion, Contains, cons_option, enumerate_from, filter, flat_map, list_any}
-use Rattle.std.proofs.lemmas.List.Concat.{flat_map-cons}
-use Rattle.std.proofs.lemmas.List.Elements.{Contains-append_cases, Contains-append_left}
-use Rattle.grid_units.specs.Spans.{LayerSpan}
-use Rattle.grid_units.specs.declared.profile.Profile.TheVariants.{Strict, Wide}
-use Rattle.drill_lines.specs.declared.command.DrillCommand.{DrillCommand}
-use Rattle.drill_text.specs.Plating.{calls_plated}
-use Rattle.drill_text.specs.Profiles.{ReadsBy, ReadsIn, mixed_in, unplated_in}
+use Rattle.package_check.proofs.Common.{◌≡◌, ◌⊎◌, inl, inr, ◌↔◌, ◌<◌, ◌+◌, ◌++◌, ℕ, zero, suc, Bool, true, false, List, [], ◌∷◌, Option, None, Some, Ok, length, map, get_or, arith, refl, ap, ap₂, sym, subst, ◌∙◌, ⊤, option_map, AllByRecursion, Contains, cons_option, enumerate_from, filter, flat_map, list_any, flat_map-cons, Contains-append_cases, Contains-append_left, LayerSpan, Strict, Wide, DrillCommand, calls_plated, ReadsBy, ReadsIn, mixed_in, unplated_in, IsDrillText, without_places, StrictLayers, Feature, wide_pad_covers, WidePad, Role, gap_findings, ring_findings, Finding, DrillView, LayerView, HasLayerView, ReadsDrill, layer_view, FileView, BytesHaveContent, HaveContents, drilled, holes_of, index_of, layers, numbered_holes, pads_of, report_on, FindsNoMore, IsUncontradicted, WideFindsNoMore, is_gap, read_in, Numbered, Content}
 use Rattle.drill_text.specs.Profiles as drills
-use Rattle.drill_text.specs.Texts.{IsDrillText}
-use Rattle.gerber_text.specs.Writing.{without_places}
 use Rattle.grid_units.specs.Points.{GridPoint}
-use Rattle.layer_image.specs.Layers.{StrictLayers}
-use Rattle.layer_features.specs.declared.feature.Feature.{Feature}
 use Rattle.layer_features.specs.declared.feature.FeatureKind.{FeatureKind}
 use Rattle.layer_features.specs.declared.feature.FeatureKind.TheVariants as kind
 use Rattle.layer_features.specs.Features.{pad_in, pads_of as feature_pads, strict_kind_of, strict_view, wide_features_of}
-use Rattle.pad_shapes.specs.WidePads.{wide_pad_covers}
-use Rattle.pad_shapes.specs.declared.wide_pad.WidePad.{WidePad}
 use Rattle.pad_shapes.specs.declared.wide_pad.WidePad.TheVariants.{Plain, Rounded}
-use Rattle.manifest.specs.declared.Role.{Role}
 use Rattle.manifest.specs.declared.Role.TheVariants as role
-use Rattle.ring_rules.specs.Findings.{gap_findings, ring_findings}
 use Rattle.ring_rules.specs.WithoutFindings.{FindsNoObliqueInWide, WideFindsNoMore as RingsFindNoMore}
-use Rattle.ring_rules.specs.declared.finding.Finding.{Finding}
 use Rattle.ring_rules.specs.declared.finding.Finding.TheVariants.{Ring, Oblique}
-use Rattle.package_check.specs.ContentViews.{DrillView, LayerView}
-use Rattle.package_check.specs.FileTexts.{HasLayerView, ReadsDrill, layer_view}
-use Rattle.package_check.specs.Package.{FileView, BytesHaveContent, HaveContents, drilled, holes_of, index_of, layers, numbered_holes, pads_of, report_on}
-use Rattle.package_check.specs.WiderProfile.{FindsNoMore, IsUncontradicted, WideFindsNoMore, is_gap, read_in}
-use Rattle.package_check.specs.declared.Numbered.{Numbered}
-use Rattle.package_check.specs.declared.contents.Content.{Content}
 use Rattle.package_check.specs.declared.contents.Content.TheVariants as content
 use Rattle.package_check.proofs.WiderFindings.{gaps_among, gaps_are, is_among, rings_are}
 

@@ -1,14 +1,7 @@
 -- Which findings are those of gaps.
-use Rattle.std.proofs.Common.{◌≡◌, ◌<◌, ◌++◌, ℕ, zero, suc, Bool, true, false, cond, List, [], ◌∷◌, length, map, get_or, arith, refl, ap, sym, subst, ◌∙◌}
-use Rattle.std.specs.List.{AllByRecursion, Contains, enumerate_from, filter, flat_map}
-use Rattle.std.proofs.lemmas.List.Concat.{flat_map-cons}
+use Rattle.package_check.proofs.Common.{◌≡◌, ◌<◌, ◌++◌, ℕ, zero, suc, Bool, true, false, cond, List, [], ◌∷◌, length, map, get_or, arith, refl, ap, sym, subst, ◌∙◌, AllByRecursion, Contains, enumerate_from, filter, flat_map, flat_map-cons, Profile, finding_of, gap_findings, hole_findings, is_refused_slot, is_ring_finding, layer_findings, ring_findings, Drilled, Finding, is_gap}
 use Rattle.grid_units.specs.Points.{GridPoint}
-use Rattle.grid_units.specs.declared.profile.Profile.{Profile}
-use Rattle.ring_rules.specs.Findings.{finding_of, gap_findings, hole_findings, is_refused_slot, is_ring_finding, layer_findings, ring_findings}
-use Rattle.ring_rules.specs.declared.finding.Drilled.{Drilled}
-use Rattle.ring_rules.specs.declared.finding.Finding.{Finding}
 use Rattle.ring_rules.specs.declared.finding.Finding.TheVariants.{Ring, Oblique, Gap}
-use Rattle.package_check.specs.WiderProfile.{is_gap}
 
 -- each of some findings is that of a gap, or none is, as `t` says
 abbrev pub Are : Bool → List Finding → Type 0

@@ -1,22 +1,11 @@
 -- What is sound by what is read of it is sound by what is written.
-use Rattle.std.proofs.Common.{◌≡◌, ◌↔◌, ◌⊎◌, inl, inr, ◌<◌, ℕ, zero, suc, Bool, true, false, not, ◌||◌, ◌&&◌, leb, List, [], ◌∷◌, ◌++◌, map, length, get_or, refl, sym, ap, subst, ◌∙◌, arith}
+use Rattle.package_check.proofs.Common.{◌≡◌, ◌↔◌, ◌⊎◌, inl, inr, ◌<◌, ℕ, zero, suc, Bool, true, false, not, ◌||◌, ◌&&◌, leb, List, [], ◌∷◌, ◌++◌, map, length, get_or, refl, sym, ap, subst, ◌∙◌, arith, AllZip, Contains, filter, flat_map, leb-true, flat_map-cons, Contains-append_cases, GridHole, LayerSpan, is_in_span, Profile, Strict, Wide, WidePad, Drilled, AreAllApart, Command, without_places, KindsReadTheSame, ListedIsCalled, plated_of, ReadsIn, mixed_in, Fault, DrillCommand, Role, DrillView, LayerView, plain, HasLayerView, ReadsDrill, drill_kind, is_copper_function, Content, FileView, Setting, HasContent, HasDrillContent, HasMixedContent, HaveContents, is_bad_span, is_copper, layers, pads_of, AreDrilledBy, IsRun, MakePads, SaysHoles, SaysPads, IsPlatedThrough, SoundAsReadIsSound, drilled_in}
 use Rattle.std.specs.Prelude.{Option, None, Some, Result, Ok}
-use Rattle.std.specs.List.{AllZip, Contains, filter, flat_map}
-use Rattle.std.proofs.lemmas.Bool.{leb-true}
-use Rattle.std.proofs.lemmas.List.Concat.{flat_map-cons}
-use Rattle.std.proofs.lemmas.List.Elements.{Contains-append_cases}
-use Rattle.grid_units.specs.Holes.{GridHole}
-use Rattle.grid_units.specs.Spans.{LayerSpan, is_in_span}
 use Rattle.grid_units.specs.Lists.{last_set}
-use Rattle.grid_units.specs.declared.profile.Profile.{Profile}
-use Rattle.grid_units.specs.declared.profile.Profile.TheVariants.{Strict, Wide}
-use Rattle.pad_shapes.specs.declared.wide_pad.WidePad.{WidePad}
-use Rattle.ring_rules.specs.declared.finding.Drilled.{Drilled}
-use Rattle.ring_rules.specs.WithoutFindings.{AreAllApart}
-use Rattle.gerber_commands.specs.declared.command.Command.{Command}
 use Rattle.gerber_text.specs.Grammar.{IsTextIn}
 use Rattle.gerber_text.specs.Laws.{SpelledTextsAreWrittenIn}
-use Rattle.gerber_text.specs.Writing.{without_places}
+use Rattle.layer_features.specs.CopperLaws.{LegalWidePads}
+use Rattle.layer_features.specs.WidePads.{AreWidePads}
 use Rattle.layer_image.specs.PadLaws.{LayerPads}
 use Rattle.layer_state.specs.FileFunction.{function_set}
 use Rattle.layer_state.specs.Flashes.{flashes_of}
@@ -25,22 +14,10 @@ use Rattle.drill_text.specs.Laws.{ListedHolesAreDrilled, ReadIsWritten, SpelledI
 use Rattle.drill_text.specs.Drilling.{AreHoles}
 use Rattle.drill_text.specs.Grammar.{IsText}
 use Rattle.drill_text.specs.Holes.{holes_of}
-use Rattle.drill_text.specs.MixedLaws.{KindsReadTheSame, ListedIsCalled}
-use Rattle.drill_text.specs.Plating.{plated_of}
-use Rattle.drill_text.specs.Profiles.{Reads, ReadsIn, mixed_in}
+use Rattle.drill_text.specs.Profiles.{Reads}
 use Rattle.drill_text.specs.Texts.{IsDrillText as IsLegalText}
-use Rattle.grid_units.specs.declared.fault.Fault.{Fault}
-use Rattle.drill_lines.specs.declared.command.DrillCommand.{DrillCommand}
-use Rattle.manifest.specs.declared.Role.{Role}
 use Rattle.manifest.specs.declared.Role.TheVariants as role
-use Rattle.package_check.specs.ContentViews.{DrillView, LayerView}
-use Rattle.layer_image.specs.Kept.{plain}
-use Rattle.package_check.specs.FileTexts.{HasLayerView, ReadsDrill, drill_kind, is_copper_function}
-use Rattle.package_check.specs.declared.contents.Content.{Content}
 use Rattle.package_check.specs.declared.contents.Content.TheVariants as content
-use Rattle.package_check.specs.Package.{FileView, Setting, HasContent, HasDrillContent, HasMixedContent, HaveContents, is_bad_span, is_copper, layers, pads_of}
-use Rattle.package_check.specs.Soundness.{AreDrilledBy, IsRun, MakePads, SaysHoles, SaysPads}
-use Rattle.package_check.specs.SoundnessAsRead.{IsPlatedThrough, SoundAsReadIsSound, drilled_in}
 
 -- ---- spans
 
@@ -118,7 +95,7 @@ is_through (c ∷ cs) layer d h plated within =
 
 -- ---- one file
 
-module _ (texts : SpelledTextsAreWrittenIn) (layer_pads : LayerPads) (lines : SpelledIsWritten) (listed : ListedHolesAreDrilled) (wide_lines : ReadIsWritten) (wide_listed : WideHolesAreDrilled)
+module _ (texts : SpelledTextsAreWrittenIn) (layer_pads : LayerPads) (wide_pads : LegalWidePads) (lines : SpelledIsWritten) (listed : ListedHolesAreDrilled) (wide_lines : ReadIsWritten) (wide_listed : WideHolesAreDrilled)
     (drill_texts : (text : List ℕ) (commands : List DrillCommand) → (Reads text (Ok commands)) ↔ (IsLegalText text commands))
     (strictly : (text : List ℕ) (answer : Result (List DrillCommand) Fault) → (ReadsIn Strict text answer) ↔ (Reads text answer)) (same : KindsReadTheSame) (called : ListedIsCalled) where
   made_by : (profile : Profile) (bytes : List ℕ) (image : LayerView) → HasLayerView profile bytes image
@@ -131,7 +108,13 @@ module _ (texts : SpelledTextsAreWrittenIn) (layer_pads : LayerPads) (lines : Sp
         (layer.pads, layer_pads bytes layer h.1, ap (λ v. v.pads) h.2 ∙ plain_of_flashes (flashes_of commands) ∙ ap (map plain) (sym (ap (λ l. l.pads) h.1.1))),
         sym (ap (λ v. v.is_copper) h.2),
       )
-  made_by Wide bytes image h = (without_places h.0.commands, texts Wide bytes h.0.commands h.1.0.spells, ap (λ v. v.pads) h.2, sym (ap (λ v. v.is_copper) h.2))
+  made_by Wide bytes image h =
+      let commands = without_places h.0.commands in (
+        commands,
+        texts Wide bytes h.0.commands h.1.0.spells,
+        subst (AreWidePads commands) (sym (ap (λ v. v.pads) h.2)) (wide_pads commands h.1.0.legal),
+        sym (ap (λ v. v.is_copper) h.2),
+      )
 
   says_pads : (s : FileView) (image : LayerView) → HasLayerView s.setting.profile s.bytes image → image.is_copper ≡ true → s.span ≡ None → SaysPads s image.pads
   says_pads s image h copper none =

@@ -10,7 +10,7 @@ use Rattle.pad_shapes.specs.declared.pad.Pad.{Pad}
 use Rattle.pad_shapes.specs.Shapes.{IsAxisAligned}
 use Rattle.pad_shapes.specs.WidePads.{IsInWidePad}
 use Rattle.pad_shapes.specs.declared.wide_pad.WidePad.{WidePad}
-use Rattle.layer_features.specs.Features.{pads_of, wide_features_of}
+use Rattle.layer_features.specs.WidePads.{AreWidePads}
 use Rattle.ring_rules.specs.declared.finding.Drilled.{Drilled}
 use Rattle.ring_rules.specs.WithoutFindings.{IsHoleHeld}
 use Rattle.gerber_commands.specs.declared.command.Command.{Command}
@@ -37,7 +37,7 @@ IsRun layers (Some span) = (1 ≤ span.first) × (span.first ≤ span.last) × (
 -- shape, and the closed convex contours of regions, in the order of the commands: those that no clear polarity takes away.
 abbrev pub MakePads : Profile → List Command → List WidePad → Type 0
 MakePads Strict commands made = (pads : List Pad) × ArePads commands pads × (made ≡ map Plain pads)
-MakePads Wide commands made = made ≡ pads_of (wide_features_of commands)
+MakePads Wide commands made = AreWidePads commands made
 
 -- a copper file says these pads: its bytes are a Gerber text of commands that make just these, and the last file function among the commands, if any, is that of copper
 pub record SaysPads (file : FileView) (pads : List WidePad) : Type 0 where

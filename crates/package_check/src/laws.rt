@@ -22,8 +22,9 @@ pub fn passing_is_sound_as_read()
 pub fn sound_as_read_is_sound()
     ensures { SoundAsReadIsSound }
 {
-    gerber_text::wide_grammar();
+    gerber_text::exact_texts();
     layer_image::flashed_pads();
+    layer_features::wide_pads();
     drill_text::text_grammar();
     drill_text::drilled_holes();
     drill_text::laws::wide_grammar();
@@ -47,8 +48,9 @@ pub fn files_say_once()
     ensures pads { PadsAreSaidOnce }
     ensures holes { HolesAreSaidOnce }
 {
-    gerber_text::wide_grammar();
+    gerber_text::exact_texts();
     layer_image::flashed_pads();
+    layer_features::wide_pads();
     drill_text::text_grammar();
     drill_text::drilled_holes();
     drill_text::laws::mixed_files();

@@ -48,8 +48,7 @@ impl PackageReader {
         PackageReader::keeping(alloc, layers, profile, Keep::Pads)
     }
 
-    /// A reader that has taken no file, of a package with so many copper files, which it reads in this profile. It keeps the flashes of these where `keep` does. Where
-    /// `keep` keeps commands too, it keeps what these draw, and drops them as soon as their file is read.
+    /// A reader that has taken no file, as of `new`. Of each copper file it keeps what `keep` says.
     pub fn keeping(alloc: Global, layers: usize, profile: Profile, keep: Keep) -> PackageReader
         ensures stands { (sources : List FileView) → HasTaken result keep sources (λ i. false) }
         ensures setting { setting_of result ≡ record { layers = layers; profile = profile } }

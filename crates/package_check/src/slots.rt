@@ -48,20 +48,17 @@ pub(crate) fn put<T: Drop>(
 /// Moves what is kept in a slot to the lists of its kinds.
 fn add_slot(
     contents: &mut Vec<Content>,
-    shown: &mut Vec<Shown>,
+    views: &mut Vec<Shown>,
     slot: Option<Kept>,
 ) -> Result<(), AllocError>
     ensures contents { OnOk result (contents.new.items ≡ contents.old.items ++ contents_in slot) }
-    ensures shown { OnOk result (shown.new.items ≡ shown.old.items ++ shown_in slot) }
+    ensures shown { OnOk result (views.new.items ≡ views.old.items ++ shown_in slot) }
 {
     match slot {
         Some(kept) => {
-            let Kept {
-                content,
-                shown: own,
-            } = kept;
+            let Kept { content, shown } = kept;
             push(contents, content)?;
-            push(shown, own)
+            push(views, shown)
         }
         None => Ok(()),
     }

@@ -1,10 +1,8 @@
 -- Names that are escaped.
-use Rattle.std.proofs.Common.{◌≡◌, ◌≢◌, ◌≤◌, ◌<◌, ◌+◌, ◌/◌, ◌==◌, ◌&&◌, ◌||◌, inl, inr, ◌++◌, ◌∷◌, ◌∙◌, [], ℕ, List, Bool, true, false, cond, ltb, length, refl, sym, subst, ap, ap₂, arith, append-nil, codes, if◌then◌else◌, IsTrue, rules}
+use Rattle.picture.proofs.Common.{◌≡◌, ◌≢◌, ◌≤◌, ◌<◌, ◌+◌, ◌/◌, ◌==◌, ◌&&◌, ◌||◌, inl, inr, ◌++◌, ◌∷◌, ◌∙◌, [], ℕ, List, Bool, true, false, cond, ltb, length, refl, sym, subst, ap, ap₂, arith, append-nil, codes, if◌then◌else◌, IsTrue, rules, append_assoc, nil_from_length, IsEscaped, begins, begins_entity, begins_forbidden, ends_forbidden, escaped, escaped_after, escaped_byte, written_byte}
 use lib.Utf8.{encode, next}
 use Rattle.std.proofs.lemmas.Bool.{cases_lt}
 use Rattle.std.proofs.lemmas.Bool.Decides.{nat_tests}
-use Rattle.std.proofs.lemmas.List.{append_assoc, nil_from_length}
-use Rattle.picture.specs.Escapes.{IsEscaped, begins, begins_entity, begins_forbidden, ends_forbidden, escaped, escaped_after, escaped_byte, written_byte}
 
 -- ---- no byte begins U+FFFE or U+FFFF
 

@@ -1,7 +1,5 @@
 -- Lists that grow by what one element gives.
-use Rattle.std.proofs.Common.{◌≡◌, ◌<◌, ◌+◌, ◌++◌, ◌∙◌, ℕ, List, length, take, get_or, refl, ap}
-use Rattle.std.specs.List.{enumerate_from, flat_map}
-use Rattle.ring_rules.proofs.EnumeratedLists.{flat_listed_more}
+use Rattle.picture.proofs.Common.{◌≡◌, ◌<◌, ◌+◌, ◌++◌, ◌∙◌, ℕ, List, length, take, get_or, refl, ap, enumerate_from, flat_map, flat_listed_more}
 
 -- what one more element and its place give
 pub placed_more : {X Y : Type 0} (f : ℕ × X → List Y) (out more : List Y) (xs : List X) (i : ℕ) (d : X) → i < length xs → out ≡ flat_map f (take i (enumerate_from 0 xs)) → more ≡ out ++ f (i, get_or xs i d)

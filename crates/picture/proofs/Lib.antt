@@ -1,3 +1,4 @@
+pub mod Common
 pub mod EscapesLemmas
 pub mod Gathered
 pub mod PadOrderLemmas

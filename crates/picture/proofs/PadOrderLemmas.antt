@@ -1,5 +1,5 @@
 -- Pads in order of kind and size.
-use Rattle.std.proofs.Common.{◌≡◌, ◌≤◌, ◌<◌, ◌+◌, ◌==◌, ◌&&◌, ◌∙◌, ℕ, List, Bool, true, false, length, get_or, refl, sym, subst, ap, ap₂, arith}
+use Rattle.picture.proofs.Common.{◌≡◌, ◌≤◌, ◌<◌, ◌+◌, ◌==◌, ◌&&◌, ◌∙◌, ℕ, List, Bool, true, false, length, get_or, refl, sym, subst, ap, ap₂, arith, are_alike, AreSortedBySize, IsOnePathPerSize, kind_of, kind_order}
 use Rattle.std.specs.Cmp.{IsTotalOrder}
 use Rattle.std.specs.Ordering.{is_lt, nat_cmp, ordering_reverse, ordering_then}
 use Rattle.std.specs.declared.cmp.Ordering.{Ordering}
@@ -9,8 +9,6 @@ use Rattle.std.proofs.lemmas.Cmp.{nat_cmp_total, on_total, ranked, then_total}
 use Rattle.std.proofs.lemmas.List.Sorted.{ranks_by, sorted_far}
 use Rattle.pad_shapes.specs.declared.pad.Pad.{Pad}
 use Rattle.pad_shapes.specs.declared.pad.Pad.TheVariants as pads
-use Rattle.picture.specs.Elements.{are_alike}
-use Rattle.picture.specs.Scenes.{AreSortedBySize, IsOnePathPerSize, kind_of, kind_order}
 
 abbrev Kind : Type 0
 Kind = ℕ × ℕ × ℕ

@@ -1,7 +1,6 @@
 -- What a panel draws of a layer of the strict profile.
-use Rattle.std.proofs.Common.{◌≡◌, ◌<◌, ◌+◌, ◌++◌, List, [], ◌∷◌, map, length, nat_lt, if◌then◌else◌, refl, ap}
-use Rattle.std.specs.List.{filter}
-use Rattle.std.proofs.lemmas.List.{append-nil, length-map}
+use Rattle.picture.proofs.Common.{◌≡◌, ◌<◌, ◌+◌, ◌++◌, List, [], ◌∷◌, map, length, nat_lt, if◌then◌else◌, refl, ap, filter, length-map, pad_paths, crosses_of, is_crowded, plain_pads, rounded_pads}
+use Rattle.std.proofs.lemmas.List.{append-nil}
 use Rattle.grid_units.specs.Points.{GridPoint}
 use Rattle.pad_shapes.specs.declared.pad.Pad.{Pad}
 use Rattle.pad_shapes.specs.declared.wide_pad.WidePad.TheVariants.{Plain}
@@ -12,9 +11,7 @@ use Rattle.layer_state.specs.declared.flash.What.TheVariants as what
 use Rattle.layer_features.specs.Features.{strict_row, strict_row_kind}
 use Rattle.pad_shapes.specs.Rows.{is_pad_row}
 use Rattle.ring_rules.specs.declared.finding.Drilled.{Drilled}
-use Rattle.picture.specs.Elements.{pad_paths}
 use Rattle.picture.specs.RoundedPads.{pads_text}
-use Rattle.picture.specs.Scenes.{crosses_of, is_crowded, plain_pads, rounded_pads}
 
 pub strict_plain : (pads : List Pad) → plain_pads (map Plain pads) ≡ pads
 strict_plain [] = refl

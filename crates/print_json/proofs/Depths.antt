@@ -1,13 +1,10 @@
 -- The depth to which values nest.
-use Rattle.std.proofs.Common.{◌≤◌, ◌+◌, ◌++◌, ℕ, suc, true, false, List, [], ◌∷◌, Option, Some, None, arith, length, map}
+use Rattle.print_json.proofs.Common.{◌≤◌, ◌+◌, ◌++◌, ℕ, suc, true, false, List, [], ◌∷◌, Option, Some, None, arith, length, map, All, enumerate_from, Json, max_depth, depth, items_depth, members_depth, GapLack, RingLack, drill_value, mixed_value, file_value, gap_value, hole_value, hole_at_place, array_of, or_null, items_of, members_of, layer_number, layer_value, least_gap_value, least_hole, least_ring, meets_value, met_value, picometres, place_value, point_value, ring_value, row_value, rules_value, scale_value, span_value, whole, acceptance_value, word, wide_layer_value, file_values, gap_values, measure_value, ring_values, input_error_value, report_value}
 use Rattle.std.specs.Borrow.{Bor}
-use Rattle.std.specs.List.{All, enumerate_from}
 use Rattle.std.specs.Prelude.{codes, ⊤}
 use Rattle.grid_units.specs.declared.profile.Profile.{Profile}
 use Rattle.grid_units.specs.declared.profile.Profile.TheVariants.{Strict, Wide}
 use Rattle.std.proofs.lemmas.List.Elements.{All-append, All-map}
-use Rattle.json.specs.Json.{Json, max_depth}
-use Rattle.json.specs.Tree.{depth, items_depth, members_depth}
 use Rattle.grid_units.specs.Spans.{LayerSpan}
 use Rattle.margins.specs.declared.met.Met.{Met}
 use Rattle.margins.specs.declared.met.Met.TheVariants as mets
@@ -20,18 +17,14 @@ use Rattle.report.specs.declared.Measure.{Measure}
 use Rattle.package_check.specs.Boards.{BoardView}
 use Rattle.package_check.specs.declared.FileSum.{FileSum}
 use Rattle.package_check.specs.declared.FileSum.TheVariants as sums
-use Rattle.report.specs.declared.GapLack.{GapLack}
 use Rattle.report.specs.declared.PlacedHole.{PlacedHole}
 use Rattle.report.specs.declared.LayerHead.{LayerHead}
-use Rattle.report.specs.declared.RingLack.{RingLack}
 use Rattle.report.specs.declared.BoardReport.{BoardReport}
 use Rattle.print_text.specs.declared.report_text.Particulars.{Particulars}
 use Rattle.grid_units.specs.HoleWords.{name_of}
 use Rattle.report.specs.Acceptances.{acceptance_at}
 use Rattle.ring_rules.specs.declared.finding.Drilled.{Drilled}
 use Rattle.report.specs.Causes.{flash_of, lack_of, ring_of}
-use Rattle.print_json.specs.Values.{drill_value, mixed_value, file_value, gap_value, hole_value, hole_at_place, array_of, or_null, items_of, members_of, layer_number, layer_value, least_gap_value, least_hole, least_ring, meets_value, met_value, picometres, place_value, point_value, ring_value, row_value, rules_value, scale_value, span_value, whole, acceptance_value, word, wide_layer_value}
-use Rattle.print_json.specs.Packages.{file_values, gap_values, measure_value, ring_values, input_error_value, report_value}
 use Rattle.print_json.specs.declared.refused.InputError.{InputError}
 use Rattle.print_json.specs.declared.refused.InputError.TheVariants as stops
 

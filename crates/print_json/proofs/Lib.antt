@@ -1,3 +1,4 @@
+pub mod Common
 pub mod Numerals
 pub mod Escapes
 pub mod Texts

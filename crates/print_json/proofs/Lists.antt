@@ -1,24 +1,15 @@
 -- Values in arrays.
-use Rattle.std.proofs.Common.{◌≡◌, Option, ◌<◌, ◌≤◌, ◌+◌, ◌-◌, ◌++◌, ◌∙◌, ℕ, suc, Bool, List, [], ◌∷◌, length, take, get_or, map, refl, ap, sym, append_assoc, append-nil, length-append, arith}
+use Rattle.print_json.proofs.Common.{◌≡◌, Option, ◌<◌, ◌≤◌, ◌+◌, ◌-◌, ◌++◌, ◌∙◌, ℕ, suc, Bool, List, [], ◌∷◌, length, take, get_or, map, refl, ap, sym, append_assoc, append-nil, length-append, arith, enumerate_from, flat_map, get_or-map, get_or-append-add, get_or_append_left, length-map, length-take-le, take_more, Json, null, HasNumbers, ItemsHaveNumbers, GapLack, RingLack, comma_before, more_items, value_text, file_values, gap_values, ring_values, array_of, file_value, gap_value, items_of, ring_value}
 use Rattle.std.specs.Borrow.{Bor}
-use Rattle.std.specs.List.{enumerate_from, flat_map}
 use Rattle.std.specs.Prelude.{if◌then◌else◌}
 use Rattle.grid_units.specs.declared.profile.Profile.{Profile}
 use Rattle.std.proofs.lemmas.Bool.{ne_eqb}
-use Rattle.std.proofs.lemmas.List.{get_or-map, get_or-append-add, get_or_append_left, length-map, length-take-le, take_more}
 use Rattle.std.proofs.lemmas.List.Concat.{flat_map-append}
 use Rattle.std.proofs.lemmas.List.FromFn.{get_or-enumerate_from, length-enumerate_from}
-use Rattle.json.specs.Json.{Json, null}
-use Rattle.json.specs.Tree.{HasNumbers, ItemsHaveNumbers}
 use Rattle.package_check.specs.declared.FileSum.{FileSum}
 use Rattle.grid_units.specs.HoleWords.{name_of}
 use Rattle.report.specs.Acceptances.{acceptance_at}
-use Rattle.report.specs.declared.GapLack.{GapLack}
 use Rattle.report.specs.declared.LayerHead.{LayerHead}
-use Rattle.report.specs.declared.RingLack.{RingLack}
-use Rattle.print_json.specs.Inner.Texts.{comma_before, more_items, value_text}
-use Rattle.print_json.specs.Packages.{file_values, gap_values, ring_values}
-use Rattle.print_json.specs.Values.{array_of, file_value, gap_value, items_of, ring_value}
 
 -- a value after a comma
 abbrev pub after_comma : Json → List ℕ

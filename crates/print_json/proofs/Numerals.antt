@@ -1,16 +1,11 @@
 -- Numbers as JSON prints them.
-use Rattle.std.proofs.Common.{◌≡◌, ℕ, ℤ, zero, suc, ◌+◌, ◌%◌, ◌^◌, ◌<◌, ◌≤◌, false, cond, ◌==◌, List, [], ◌∷◌, length, drop, get_or, Some, option_and_then, decimal, refl, ap, ◌∙◌, arith, length-append}
+use Rattle.print_json.proofs.Common.{◌≡◌, ℕ, ℤ, zero, suc, ◌+◌, ◌%◌, ◌^◌, ◌<◌, ◌≤◌, false, cond, ◌==◌, List, [], ◌∷◌, length, drop, get_or, Some, option_and_then, decimal, refl, ap, ◌∙◌, arith, length-append, drop_all, prefix_len, is_ascii_digit, signed_decimal, IsNumber}
 use Rattle.std.proofs.lemmas.Bool.{ne_eqb, le-leb, and_from}
-use Rattle.std.proofs.lemmas.List.{drop_all}
 use Rattle.std.proofs.lemmas.Fmt.{decimal_is_IsNumeral_wide, decimal_digit, decimal_by_steps_wide}
 use Rattle.std.proofs.lemmas.Str.Parse.{digit_at}
-use Rattle.std.specs.List.{prefix_len}
-use Rattle.std.specs.Char.{is_ascii_digit}
 use Rattle.json.specs.Word.{head, after_whole, after_fraction, after_exponent, after_number}
-use Rattle.std.specs.Fmt.{signed_decimal}
 use lib.ListN.{get_or-append}
 use lib.Signed.{mag}
-use Rattle.json.specs.Print.{IsNumber}
 use Rattle.json.proofs.Printed.Decimals.{IsNumber-signed_decimal}
 
 all_digits : (ds : List ℕ) → ((i : ℕ) → i < length ds → (48 ≤ get_or ds i 0) × (get_or ds i 0 ≤ 57)) → prefix_len is_ascii_digit ds ≡ length ds

@@ -1,11 +1,6 @@
 -- The text of a value is that of its tokens.
-use Rattle.std.proofs.Common.{◌≡◌, ◌++◌, ◌∙◌, ℕ, true, false, List, [], ◌∷◌, refl, ap, sym, append_assoc, append-nil}
-use Rattle.json.specs.Json.{Json, null, boolean, number, string, array, object, Items, no_items, item, Members, no_members, member}
-use Rattle.json.specs.Print.{print, print_from, quoted}
+use Rattle.print_json.proofs.Common.{◌≡◌, ◌++◌, ◌∙◌, ℕ, true, false, List, [], ◌∷◌, refl, ap, sym, append_assoc, append-nil, Json, null, boolean, number, string, array, object, Items, no_items, item, Members, no_members, member, print, print_from, quoted, json_tokens, items_tokens, members_tokens, items_text, members_text, more_items, more_members, value_text, json_text}
 use Rattle.json.specs.Token.{Token}
-use Rattle.json.specs.Tree.{json_tokens, items_tokens, members_tokens}
-use Rattle.print_json.specs.Inner.Texts.{items_text, members_text, more_items, more_members, value_text}
-use Rattle.print_json.specs.Values.{json_text}
 
 -- a comma comes before a value that follows another
 comma : (j : Json) (rest : List Token) → print_from true (json_tokens j ++ rest) ≡ 44 ∷ print_from false (json_tokens j ++ rest)

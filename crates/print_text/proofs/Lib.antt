@@ -1,3 +1,4 @@
+pub mod Common
 pub mod SmallestLemmas
 pub mod Showing
 pub mod RunLemmas

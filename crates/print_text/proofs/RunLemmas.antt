@@ -1,18 +1,9 @@
 -- The rings of a layer are at the places of its run.
-use Rattle.std.proofs.Common.{◌≡◌, ◌∙◌, ◌<◌, ◌≤◌, ◌+◌, ◌-◌, ◌*◌, ◌++◌, ℕ, suc, pos, Bool, true, false, cond, List, [], ◌∷◌, length, take, drop, get_or, min, refl, ap, ap₂, sym, ⊎_elim, arith, length-drop}
-use Rattle.std.specs.Prelude.{◌==◌, ◌&&◌, ◌||◌, slice_range}
-use Rattle.std.specs.List.{count_by, enumerate_from, filter, filter_map, list_any}
+use Rattle.print_text.proofs.Common.{◌≡◌, ◌∙◌, ◌<◌, ◌≤◌, ◌+◌, ◌-◌, ◌*◌, ◌++◌, ℕ, suc, pos, Bool, true, false, cond, List, [], ◌∷◌, length, take, drop, get_or, min, refl, ap, ap₂, sym, ⊎_elim, arith, length-drop, ◌==◌, ◌&&◌, ◌||◌, slice_range, count_by, enumerate_from, filter, filter_map, list_any, append-nil, drop-take, get_or-drop, get_or-take, length-take, take-append-drop, take-take, filter-append, length-filter, RingLack, IsRun, group_line, group_words, is_alike, smallest, ring_of}
 use Rattle.std.proofs.lemmas.Bool.{and_parts, cases_eq, eqb-true, ne_eqb}
-use Rattle.std.proofs.lemmas.List.{append-nil, drop-take, get_or-drop, get_or-take, length-take, take-append-drop, take-take}
-use Rattle.std.proofs.lemmas.List.Elements.{filter-append}
 use Rattle.std.proofs.lemmas.List.Folds.{drop_split, list_any-append, list_any_none}
 use Rattle.std.proofs.lemmas.List.FromFn.{get_or-enumerate_from, length-enumerate_from}
-use Rattle.std.proofs.lemmas.List.Sums.{length-filter}
-use Rattle.report.specs.declared.RingLack.{RingLack}
 use Rattle.print_text.specs.declared.runs.Run.{Run}
-use Rattle.print_text.specs.Inner.{IsRun}
-use Rattle.print_text.specs.Texts.{group_line, group_words, is_alike, smallest}
-use Rattle.report.specs.Causes.{ring_of}
 
 filter_none : {X : Type 0} (p : X → Bool) (xs : List X) → ((i : ℕ) (d : X) → i < length xs → p (get_or xs i d) ≡ false) → filter p xs ≡ []
 filter_none p [] off = refl

@@ -1,20 +1,9 @@
 -- One more finding of a report, with its position.
-use Rattle.std.proofs.Common.{◌≡◌, ◌<◌, ◌≤◌, ◌+◌, ◌++◌, ℕ, Bool, true, false, cond, List, [], ◌∷◌, Option, length, take, get_or, refl, ap, ◌∙◌, arith}
-use Rattle.std.specs.Prelude.{◌-◌, ◌==◌, ◌&&◌, not, if◌then◌else◌}
-use Rattle.std.specs.Borrow.{Bor}
-use Rattle.std.specs.List.{count_by, enumerate_from, filter, flat_map}
-use Rattle.std.proofs.lemmas.List.{append-nil, take_all, take_more}
+use Rattle.print_text.proofs.Common.{◌≡◌, ◌<◌, ◌≤◌, ◌+◌, ◌++◌, ℕ, Bool, true, false, cond, List, [], ◌∷◌, Option, length, take, get_or, refl, ap, ◌∙◌, arith, ◌==◌, ◌&&◌, not, if◌then◌else◌, Bor, count_by, enumerate_from, filter, flat_map, append-nil, take_all, take_more, filter-append, fold-append, GapLack, LayerHead, RingLack, gap_lines, group_lines, ring_lines, gap_line, group_line, is_first_alike, is_shown, number_of, ring_line, acceptance_at}
+use Rattle.std.specs.Prelude.{◌-◌}
 use Rattle.std.proofs.lemmas.List.Concat.{flat_map-append, flat_map-cons}
-use Rattle.std.proofs.lemmas.List.Elements.{filter-append}
 use Rattle.std.proofs.lemmas.List.FromFn.{get_or-enumerate_from, length-enumerate_from}
-use Rattle.std.proofs.lemmas.List.Sums.{fold-append}
 use Rattle.grid_units.specs.Holes.{GridRules}
-use Rattle.report.specs.declared.GapLack.{GapLack}
-use Rattle.report.specs.declared.LayerHead.{LayerHead}
-use Rattle.report.specs.declared.RingLack.{RingLack}
-use Rattle.print_text.specs.Inner.{gap_lines, group_lines, ring_lines}
-use Rattle.print_text.specs.Texts.{gap_line, group_line, is_first_alike, is_shown, number_of, ring_line}
-use Rattle.report.specs.Acceptances.{acceptance_at}
 
 -- the findings so far and one more, with their positions
 pub marks_more : {X : Type 0} (n : ℕ) (xs : List X) (i p : ℕ) (d : X) → n + i ≡ p → i < length xs → take (i + 1) (enumerate_from n xs) ≡ take i (enumerate_from n xs) ++ (p, get_or xs i d) ∷ []

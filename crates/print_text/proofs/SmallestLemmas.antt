@@ -1,13 +1,6 @@
 -- The smallest of some lengths, and of one more.
-use Rattle.std.proofs.Common.{◌≡◌, ◌∙◌, ◌<◌, ◌+◌, ◌++◌, ℕ, ℤ, Bool, true, false, cond, List, [], ◌∷◌, Option, Some, None, length, map, take, get_or, refl, ap}
+use Rattle.print_text.proofs.Common.{◌≡◌, ◌∙◌, ◌<◌, ◌+◌, ◌++◌, ℕ, ℤ, Bool, true, false, cond, List, [], ◌∷◌, Option, Some, None, length, map, take, get_or, refl, ap, if◌then◌else◌, cons_option, filter, filter_map, append-nil, map-append, take_more, filter-append, filter_map-append, fold-append, smaller, smallest}
 use Rattle.std.specs.Int.{int_min}
-use Rattle.std.specs.Prelude.{if◌then◌else◌}
-use Rattle.std.specs.List.{cons_option, filter, filter_map}
-use Rattle.std.proofs.lemmas.List.{append-nil, map-append, take_more}
-use Rattle.std.proofs.lemmas.List.Elements.{filter-append, filter_map-append}
-use Rattle.std.proofs.lemmas.List.Sums.{fold-append}
-use Rattle.print_text.specs.Inner.{smaller}
-use Rattle.print_text.specs.Texts.{smallest}
 
 smallest_push : (xs : List ℤ) (x : ℤ) → smallest (xs ++ x ∷ []) ≡ smaller (smallest xs) (Some x)
 smallest_push [] x = refl

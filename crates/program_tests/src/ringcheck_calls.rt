@@ -174,6 +174,14 @@ impl Loader for LongShelf<'_> {
     }
 }
 
+/// Two writers that hold nothing yet.
+fn streams(alloc: Global) -> Streams<Vec<u8>, Vec<u8>> {
+    Streams {
+        out: Vec::new(alloc),
+        err: Vec::new(alloc),
+    }
+}
+
 /// Whether a run over this loader ends with this status and prints just this.
 fn prints<L: Loader>(
     alloc: Global,
@@ -182,8 +190,8 @@ fn prints<L: Loader>(
     status: Status,
     text: &str,
 ) -> bool {
-    let mut out: Vec<u8> = Vec::new(alloc);
-    run(alloc, words, loader, &mut out) == status && out.as_slice() == text.as_bytes()
+    let mut to = streams(alloc);
+    run(alloc, words, loader, &mut to) == status && to.out.as_slice() == text.as_bytes()
 }
 
 const THREE: &str = "role,name,file\ncopper,top,top.gbr\ncopper,bot,bot.gbr\nplated,pth,pth.drl\n";

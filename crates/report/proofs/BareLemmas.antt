@@ -1,27 +1,11 @@
 -- A round hole is bare just where no pad covers its centre.
-use Rattle.std.proofs.Common.{◌≡◌, ◌↔◌, ℕ, ℤ, ◌+◌, ◌<◌, ◌&&◌, not, Bool, true, false, Option, Some, None, List, length, take, get_or, refl, sym, subst, ap, ◌∙◌, arith}
-use Rattle.std.specs.Ordering.{int_eq}
-use Rattle.std.specs.List.{count_by, list_any}
-use Rattle.std.proofs.lemmas.Bool.Decides.{Decides-int_eq}
-use Rattle.std.proofs.lemmas.List.{get_or_default}
+use Rattle.report.proofs.Common.{◌≡◌, ◌↔◌, ℕ, ℤ, ◌+◌, ◌<◌, ◌&&◌, not, Bool, true, false, Option, Some, None, List, length, take, get_or, refl, sym, subst, ap, ◌∙◌, arith, int_eq, count_by, list_any, Decides-int_eq, get_or_default, GridPoint, GridHole, is_round, wide_pad_covers, covers_both_ends, WidePad, is_oblique, hole_at, default_hole, Drilled, AreBestPads, AreBare, NoneCovers, IsBare, IsBestPad, wide_pad_covers_less, BestPad, BareIsUncovered, is_bare, is_uncovered}
 use Rattle.std.proofs.lemmas.List.Folds.{list_any_at, list_any_none}
 use Rattle.std.proofs.lemmas.List.Sums.{count_by_more_yes, count_by_more_no}
-use Rattle.grid_units.specs.Points.{GridPoint}
-use Rattle.grid_units.specs.Holes.{GridHole, is_round}
 use Rattle.grid_units.proofs.BoolLemmas.{and_true, both_true, not_true}
-use Rattle.pad_shapes.specs.WidePads.{wide_pad_covers}
-use Rattle.pad_shapes.specs.Shapes.{covers_both_ends}
-use Rattle.pad_shapes.specs.declared.wide_pad.WidePad.{WidePad}
 use Rattle.pad_shapes.specs.declared.pad.Pad.TheVariants.{Disc}
 use Rattle.pad_shapes.specs.declared.wide_pad.WidePad.TheVariants.{Plain}
-use Rattle.ring_rules.specs.Findings.{is_oblique}
-use Rattle.ring_rules.specs.Places.{hole_at, default_hole}
-use Rattle.ring_rules.specs.declared.finding.Drilled.{Drilled}
-use Rattle.margins.specs.BestPads.{AreBestPads, AreBare, NoneCovers, IsBare, IsBestPad}
-use Rattle.margins.specs.Inner.DepthLaws.{wide_pad_covers_less}
 use Rattle.margins.specs.Rows.{has_no_best_pad}
-use Rattle.margins.specs.declared.best.BestPad.{BestPad}
-use Rattle.report.specs.UnitMistakes.{BareIsUncovered, is_bare, is_uncovered}
 
 not_false : (a : Bool) → a ≡ false → not a ≡ true
 not_false true e = absurd cc

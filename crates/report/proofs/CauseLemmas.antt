@@ -1,21 +1,10 @@
 -- Why a hole lacks its ring: by its best pad, which is plain, by the first other row in it, or by the pads that its profile does not count.
-use Rattle.std.proofs.Common.{◌≡◌, ◌+◌, ℕ, Bool, true, false, List, Option, Some, None, length, refl, sym, subst}
-use Rattle.std.specs.Prelude.{if◌then◌else◌}
-use Rattle.std.proofs.lemmas.Bool.{false≢true}
-use Rattle.grid_units.specs.Holes.{GridHole}
+use Rattle.report.proofs.Common.{◌≡◌, ◌+◌, ℕ, Bool, true, false, List, Option, Some, None, length, refl, sym, subst, if◌then◌else◌, false≢true, GridHole, WidePad, is_refused_slot, is_pad_row, FeatureRow, HasNoFlash, HasNoPad, IsCause, IsRingInPad, UncountedPads, is_in_hole, is_small, lies_in_pad, other_in, others, cause_without_pad, other_cause, plain_cause, uncounted_cause, RingCause, Other}
 use Rattle.grid_units.specs.declared.profile.Profile.{Profile}
-use Rattle.pad_shapes.specs.declared.wide_pad.WidePad.{WidePad}
-use Rattle.ring_rules.specs.Findings.{is_refused_slot}
-use Rattle.pad_shapes.specs.Rows.{is_pad_row}
-use Rattle.pad_shapes.specs.declared.row.FeatureRow.{FeatureRow}
 use Rattle.pad_shapes.specs.declared.row.RowKind.{RowKind}
 use Rattle.pad_shapes.specs.declared.row.RowKind.TheVariants as row_kind
-use Rattle.report.specs.Causes.{HasNoFlash, HasNoPad, IsCause, IsRingInPad, UncountedPads, is_in_hole, is_small, lies_in_pad, other_in, others}
-use Rattle.report.specs.Inner.CauseParts.{cause_without_pad, other_cause, plain_cause, uncounted_cause}
-use Rattle.report.specs.declared.RingCause.{RingCause}
 use Rattle.report.specs.declared.RingCause.TheVariants as cause
 use Rattle.report.specs.declared.RingInPad.{RingInPad}
-use Rattle.report.specs.declared.other.Other.{Other}
 use Rattle.report.proofs.PlacesLemmas.{IsOtherBefore, found_has, others_before}
 
 -- the first other row in a hole stands before the end of the layer, and is no pad

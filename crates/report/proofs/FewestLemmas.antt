@@ -1,15 +1,6 @@
 -- The factor by which the fewest holes would be bare.
-use Rattle.std.proofs.Common.{◌≡◌, ◌↔◌, ℕ, ◌*◌, ◌<◌, ◌≤◌, Bool, true, false, inl, inr, List, [], ◌∷◌, ◌++◌, length, get_or, sym, ap, ◌∙◌, arith}
-use Rattle.std.proofs.lemmas.Bool.{cases_lt}
-use Rattle.std.proofs.lemmas.List.{get_or_append_left, length-append}
-use Rattle.std.proofs.Math.Seq.{get_or-append_seam}
-use Rattle.pad_shapes.specs.declared.wide_pad.WidePad.{WidePad}
-use Rattle.ring_rules.specs.declared.finding.Drilled.{Drilled}
-use Rattle.report.specs.declared.UnitFactor.{UnitFactor}
+use Rattle.report.proofs.Common.{◌≡◌, ◌↔◌, ℕ, ◌*◌, ◌<◌, ◌≤◌, Bool, true, false, inl, inr, List, [], ◌∷◌, ◌++◌, length, get_or, sym, ap, ◌∙◌, arith, cases_lt, get_or_append_left, length-append, get_or-append_seam, WidePad, Drilled, UnitFactor, Fewest, IsFirstFewest, IsUnitMistake, bare_count, bare_count_with, factors, round_count, IsFewest}
 use Rattle.report.specs.declared.UnitMistake.{UnitMistake}
-use Rattle.report.specs.declared.fewest.Fewest.{Fewest}
-use Rattle.report.specs.UnitMistakes.{IsFirstFewest, IsUnitMistake, bare_count, bare_count_with, factors, round_count}
-use Rattle.report.specs.Inner.RescaledCounts.{IsFewest}
 
 module _ (count : UnitFactor → ℕ) where
   -- one factor alone

@@ -1,34 +1,18 @@
 -- The first flash in a hole, among flashes that stand in groups.
-use Rattle.std.proofs.Common.{◌≡◌, ◌<◌, ◌≤◌, ◌+◌, ◌≤ℤ◌, ◌++◌, ◌∷◌, ℕ, ℤ, Bool, true, false, cond, List, [], Option, Some, None, length, get_or, take, drop, refl, ap, subst, sym, ◌∙◌, ◌⊎◌, inl, inr, arith}
-use Rattle.std.specs.Prelude.{◌-◌, nat_lt, if◌then◌else◌}
+use Rattle.report.proofs.Common.{◌≡◌, ◌<◌, ◌≤◌, ◌+◌, ◌≤ℤ◌, ◌++◌, ◌∷◌, ℕ, ℤ, Bool, true, false, cond, List, [], Option, Some, None, length, get_or, take, drop, refl, ap, subst, sym, ◌∙◌, ◌⊎◌, inl, inr, arith, nat_lt, if◌then◌else◌, All, AllPairs, Contains, cons_option, enumerate_from, filter_map, find, slice_range, and_from, cases_lt, false≢true, nat_tests, clamps, ints, get_or-drop, get_or-take, get_or_append_left, length-append, length-drop, length-take-le, take_more, All-append, All-cons, All-contains, All-head, All-nil, All-tail, All-weaker, Contains-append_cases, Contains-append_left, Contains-append_right, get_or-append_seam, take-add, IsBetween, GridPoint, GridRounded, is_outline, rounded_covers, IsAxisAligned, IsInBox, covers_both_ends, is_pad_row, FeatureRow, IsGroup, IsWithin, is_in_shape, other_row, others, HasPassed, IsFirstIn, Other}
+use Rattle.std.specs.Prelude.{◌-◌}
 use Rattle.std.specs.Int.{int_max, int_min}
-use Rattle.std.specs.List.{All, AllPairs, Contains, cons_option, enumerate_from, filter_map, find, slice_range}
 use Rattle.std.specs.List.Sorted.{IsPermutation}
 use Rattle.std.specs.Option.{option_map_or, IfSome}
-use Rattle.std.proofs.lemmas.Bool.{and_from, cases_lt, false≢true}
-use Rattle.std.proofs.lemmas.Bool.Decides.{nat_tests}
-use Rattle.std.proofs.lemmas.Int.{clamps, ints}
-use Rattle.std.proofs.lemmas.List.{get_or-drop, get_or-take, get_or_append_left, length-append, length-drop, length-take-le, take_more}
-use Rattle.std.proofs.lemmas.List.Elements.{All-append, All-cons, All-contains, All-head, All-nil, All-tail, All-weaker, Contains-append_cases, Contains-append_left, Contains-append_right}
-use Rattle.std.proofs.Math.Seq.{get_or-append_seam, take-add}
 use Rattle.std.proofs.lemmas.List.Kept.{AllPairs-cons}
 use Rattle.std.proofs.lemmas.List.Sorted.{All-permutation, Contains-permutation, IsPermutation-sym}
-use Rattle.grid_units.specs.Holes.{IsBetween}
-use Rattle.grid_units.specs.Points.{GridPoint}
-use Rattle.pad_shapes.specs.Rounded.{GridRounded, is_outline, rounded_covers}
-use Rattle.pad_shapes.specs.Shapes.{IsAxisAligned, IsInBox, covers_both_ends}
 use Rattle.pad_shapes.specs.Inner.RoundedLaws.{no_distance, rounded_contains_slots}
 use Rattle.pad_shapes.proofs.PartsLemmas.{points_are_covered}
-use Rattle.pad_shapes.specs.Rows.{is_pad_row}
-use Rattle.pad_shapes.specs.declared.row.FeatureRow.{FeatureRow}
 use Rattle.ring_rules.proofs.SortedPairs.{contains_cases, contains_first, pairs_head, pairs_tail}
 use Rattle.report.proofs.PlacesLemmas.{at_head, if_other}
-use Rattle.report.specs.Causes.{IsGroup, IsWithin, is_in_shape, other_row, others}
-use Rattle.report.specs.Inner.CauseParts.{HasPassed, IsFirstIn}
 use Rattle.report.specs.declared.bounds.Bounds.{Bounds}
 use Rattle.report.specs.declared.groups.Group.{Group}
 use Rattle.report.specs.declared.groups.Search.{Search}
-use Rattle.report.specs.declared.other.Other.{Other}
 
 -- ---- boxes in a hole, and beside it
 

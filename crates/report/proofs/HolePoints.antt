@@ -1,17 +1,8 @@
 -- The points that lie in a hole.
-use Rattle.std.proofs.Common.{◌≡◌, ◌∷◌, ℕ, Bool, true, false, cond, List, [], ap, subst, ◌∙◌, inl, inr, refl, arith}
+use Rattle.report.proofs.Common.{◌≡◌, ◌∷◌, ℕ, Bool, true, false, cond, List, [], ap, subst, ◌∙◌, inl, inr, refl, arith, Contains, int_eq, and_parts, Decides-int_eq, All-weaker, GridHole, is_round, GridPoint, IsInSlot, IsNear, is_outline, rounded_covers, HolesHaveTheirPoints, hole_shape}
 use Rattle.std.specs.Prelude.{◌↔◌, not}
-use Rattle.std.specs.List.{Contains}
-use Rattle.std.specs.Ordering.{int_eq}
-use Rattle.std.proofs.lemmas.Bool.{and_parts}
-use Rattle.std.proofs.lemmas.Bool.Decides.{Decides-int_eq}
-use Rattle.std.proofs.lemmas.List.Elements.{All-weaker}
-use Rattle.grid_units.specs.Holes.{GridHole, is_round}
-use Rattle.grid_units.specs.Points.{GridPoint}
-use Rattle.pad_shapes.specs.Rounded.{IsInSlot, IsNear, is_outline, rounded_covers}
 use Rattle.pad_shapes.proofs.PartsLemmas.{points_are_covered}
 use Rattle.ring_rules.proofs.SortedPairs.{contains_cases, contains_first}
-use Rattle.report.specs.Causes.{HolesHaveTheirPoints, hole_shape}
 
 -- the ends of a hole are one point, or the two of a line
 pub outline_of : (h : GridHole) → is_outline (hole_shape h).first (hole_shape h).others ≡ true

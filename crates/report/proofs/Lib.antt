@@ -1,3 +1,4 @@
+pub mod Common
 pub mod PlacesLemmas
 pub mod FirstInHole
 pub mod HolePoints

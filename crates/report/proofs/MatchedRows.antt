@@ -1,13 +1,9 @@
 -- Rows and pads belong together.
-use Rattle.std.proofs.Common.{◌≡◌, ◌+◌, ◌∷◌, ℕ, suc, cond, List, [], Some, None, length, refl, ap}
-use Rattle.std.specs.List.{cons_option, enumerate_from, filter_map}
-use Rattle.pad_shapes.specs.declared.wide_pad.WidePad.{WidePad}
-use Rattle.pad_shapes.specs.Rows.{is_pad_row}
+use Rattle.report.proofs.Common.{◌≡◌, ◌+◌, ◌∷◌, ℕ, suc, cond, List, [], Some, None, length, refl, ap, cons_option, enumerate_from, filter_map, WidePad, is_pad_row, RowsAreMatched, pad_place}
 use Rattle.layer_features.specs.Features.{pad_in, pads_of, row_kind, rows_of}
 use Rattle.layer_features.specs.declared.feature.Feature.{Feature}
 use Rattle.layer_features.specs.declared.feature.FeatureKind.{FeatureKind}
 use Rattle.layer_features.specs.declared.feature.FeatureKind.TheVariants as kind
-use Rattle.report.specs.Causes.{RowsAreMatched, pad_place}
 
 one_more : (k : ℕ) (what : FeatureKind) (places : List ℕ) (pads : List WidePad) → length places ≡ length pads → length (cons_option (cond (is_pad_row (row_kind what)) (Some k) None) places) ≡ length (cons_option (pad_in what) pads)
 one_more k (kind.Pad pad) places pads e = ap suc e

@@ -1,15 +1,11 @@
 -- A pad reaches as far on each side of its middle.
-use Rattle.std.proofs.Common.{◌≡◌, ◌+◌, ◌∙◌, ℕ, ℤ, Bool, ap₂, sym, arith}
-use Rattle.std.specs.Prelude.{pos, ◌-◌, ◌+ℤ◌, ◌-ℤ◌, ◌&&◌, nat_le, unsigned_abs}
+use Rattle.report.proofs.Common.{◌≡◌, ◌+◌, ◌∙◌, ℕ, ℤ, Bool, ap₂, sym, arith, pos, ◌+ℤ◌, ◌-ℤ◌, nat_le, unsigned_abs, GridPoint, abs_diff, square, GridHole, covers_both_ends, end_radius, half_apart, lower_end_at, upper_end_at}
+use Rattle.std.specs.Prelude.{◌-◌, ◌&&◌}
 use Rattle.std.proofs.Math.Bool.{and_self}
-use Rattle.grid_units.specs.Points.{GridPoint, abs_diff, square}
-use Rattle.grid_units.specs.Holes.{GridHole}
 use Rattle.pad_shapes.specs.Pads.{pad_covers}
-use Rattle.pad_shapes.specs.Shapes.{covers_both_ends, end_radius}
 use Rattle.pad_shapes.specs.declared.pad.Pad.{Pad}
 use Rattle.pad_shapes.specs.declared.pad.Pad.TheVariants.{Disc, Rect, Obround}
 use Rattle.margins.specs.Depths.{pad_middle}
-use Rattle.report.specs.Causes.{half_apart, lower_end_at, upper_end_at}
 
 -- a pad covers both or neither of two points as far from its middle along each axis
 covers_alike : (pad : Pad) (a b : GridPoint) (reach : ℕ) → abs_diff a.x (pad_middle pad).x ≡ abs_diff b.x (pad_middle pad).x → abs_diff a.y (pad_middle pad).y ≡ abs_diff b.y (pad_middle pad).y

@@ -1,8 +1,5 @@
 -- Two lists where each element of one belongs to the element of the other at its place.
-use Rattle.std.proofs.Common.{◌≡◌, ℕ, ◌+◌, ◌<◌, ◌≤◌, ◌++◌, ◌∷◌, [], ◌⊎◌, inl, inr, List, length, take, get_or, refl, sym, subst, ap, ◌∙◌, arith}
-use Rattle.std.proofs.lemmas.Bool.{cases_lt}
-use Rattle.std.proofs.lemmas.List.{get_or-take, get_or_append_left, get_or_default, length-append, length-take-le, take_all}
-use Rattle.std.proofs.Math.Seq.{get_or-append_seam}
+use Rattle.report.proofs.Common.{◌≡◌, ℕ, ◌+◌, ◌<◌, ◌≤◌, ◌++◌, ◌∷◌, [], ◌⊎◌, inl, inr, List, length, take, get_or, refl, sym, subst, ap, ◌∙◌, arith, cases_lt, get_or-take, get_or_append_left, get_or_default, length-append, length-take-le, take_all, get_or-append_seam}
 
 module _ {X Y : Type 0} (R : X → Y → Type 0) where
   pub record PairedLists (xs : List X) (ys : List Y) : Type 0 where

@@ -1,12 +1,6 @@
 -- The places of the rows of a layer.
-use Rattle.std.proofs.Common.{◌≡◌, ◌<◌, ◌+◌, ◌∷◌, ℕ, suc, Bool, true, false, cond, List, [], Option, Some, None, length, refl, subst, arith}
-use Rattle.std.specs.List.{All, cons_option, enumerate_from, filter_map, find}
+use Rattle.report.proofs.Common.{◌≡◌, ◌<◌, ◌+◌, ◌∷◌, ℕ, suc, Bool, true, false, cond, List, [], Option, Some, None, length, refl, subst, arith, All, cons_option, enumerate_from, filter_map, find, All-cons, is_pad_row, FeatureRow, other_row, others, pad_place, pad_places, Other}
 use Rattle.std.specs.Option.{IfSome}
-use Rattle.std.proofs.lemmas.List.Elements.{All-cons}
-use Rattle.pad_shapes.specs.Rows.{is_pad_row}
-use Rattle.pad_shapes.specs.declared.row.FeatureRow.{FeatureRow}
-use Rattle.report.specs.Causes.{other_row, others, pad_place, pad_places}
-use Rattle.report.specs.declared.other.Other.{Other}
 
 -- an optional element at the head
 pub at_head : {X : Type 0} (P : X → Type 0) (x : Option X) (xs : List X) → IfSome x P → All P xs → All P (cons_option x xs)

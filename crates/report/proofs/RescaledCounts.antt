@@ -1,19 +1,6 @@
 -- Holes that are moved one by one, and the factor with the fewest of them bare.
-use Rattle.std.proofs.Common.{◌≡◌, ◌↔◌, ℕ, ℤ, ◌+◌, ◌-◌, ◌<◌, ◌≤◌, ◌&&◌, ◌||◌, not, Bool, true, false, cond, Option, Some, None, List, [], ◌∷◌, ◌++◌, length, take, get_or, refl, sym, subst, ap, ◌∙◌, arith}
-use Rattle.std.specs.Prelude.{IsSome, IfSome, unsigned_abs}
-use Rattle.std.specs.Ordering.{int_eq}
-use Rattle.std.specs.List.{count_by, sum_by}
-use Rattle.std.proofs.lemmas.Bool.Decides.{Decides-int_eq}
-use Rattle.std.proofs.lemmas.List.{length-append, take_all}
+use Rattle.report.proofs.Common.{◌≡◌, ◌↔◌, ℕ, ℤ, ◌+◌, ◌-◌, ◌<◌, ◌≤◌, ◌&&◌, ◌||◌, not, Bool, true, false, cond, Option, Some, None, List, [], ◌∷◌, ◌++◌, length, take, get_or, refl, sym, subst, ap, ◌∙◌, arith, IsSome, IfSome, unsigned_abs, int_eq, count_by, sum_by, Decides-int_eq, length-append, take_all, GridPoint, IsCoordinate, max_coordinate, both_le, le_both, GridHole, is_round, WidePad, Drilled, UnitFactor, bare_count, bare_count_with, is_bare, is_bare_with, is_on_grid, is_uncovered, round_count, scaled, scaled_point, AreRescaled, IsRescaled, IsScaledPoint}
 use Rattle.std.proofs.lemmas.List.Sums.{sum_by-append, sum_by-cons, sum_by_more}
-use Rattle.grid_units.specs.Points.{GridPoint, IsCoordinate, max_coordinate}
-use Rattle.margins.specs.Inner.DepthLaws.{both_le, le_both}
-use Rattle.grid_units.specs.Holes.{GridHole, is_round}
-use Rattle.pad_shapes.specs.declared.wide_pad.WidePad.{WidePad}
-use Rattle.ring_rules.specs.declared.finding.Drilled.{Drilled}
-use Rattle.report.specs.declared.UnitFactor.{UnitFactor}
-use Rattle.report.specs.UnitMistakes.{bare_count, bare_count_with, is_bare, is_bare_with, is_on_grid, is_uncovered, round_count, scaled, scaled_point}
-use Rattle.report.specs.Inner.RescaledCounts.{AreRescaled, IsRescaled, IsScaledPoint}
 
 -- how many of a list there are with one more at its end
 counted_push : (p : Drilled → Bool) (xs : List Drilled) (x : Drilled) → count_by p (xs ++ x ∷ []) ≡ count_by p xs + cond (p x) 1 0

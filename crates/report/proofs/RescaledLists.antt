@@ -1,17 +1,6 @@
 -- The round holes of some stretches at their new places, stretch by stretch, and how many of each would be bare.
-use Rattle.std.proofs.Common.{◌≡◌, ℕ, ◌+◌, ◌<◌, ◌≤◌, ◌++◌, ◌∷◌, [], ◌⊎◌, inl, inr, Bool, List, length, take, get_or, sym, subst, ap, ◌∙◌, arith}
-use Rattle.std.specs.List.{slice_range}
-use Rattle.std.proofs.lemmas.Bool.{cases_lt}
-use Rattle.std.proofs.lemmas.List.{get_or-take, get_or_append_left, get_or_default, length-append, length-take-le, take_all}
-use Rattle.std.proofs.Math.Seq.{get_or-append_seam}
-use Rattle.pad_shapes.specs.WidePads.{wide_pad_covers}
-use Rattle.pad_shapes.specs.declared.wide_pad.WidePad.{WidePad}
-use Rattle.margins.specs.BestPads.{AreBare}
-use Rattle.ring_rules.specs.declared.finding.Drilled.{Drilled}
-use Rattle.report.specs.declared.UnitFactor.{UnitFactor}
-use Rattle.report.specs.Inner.RescaledCounts.{AreRescaled, AreRescaledRanges, IsRescaledRange, AddsRange, holes_of}
+use Rattle.report.proofs.Common.{◌≡◌, ℕ, ◌+◌, ◌<◌, ◌≤◌, ◌++◌, ◌∷◌, [], ◌⊎◌, inl, inr, Bool, List, length, take, get_or, sym, subst, ap, ◌∙◌, arith, slice_range, cases_lt, get_or-take, get_or_append_left, get_or_default, length-append, length-take-le, take_all, get_or-append_seam, wide_pad_covers, WidePad, AreBare, Drilled, UnitFactor, AreRescaled, AreRescaledRanges, IsRescaledRange, AddsRange, holes_of, HoleRange}
 use Rattle.report.specs.declared.counts.RescaledHoles.{RescaledHoles}
-use Rattle.report.specs.declared.counts.HoleRange.{HoleRange}
 use Rattle.report.proofs.Slices.{bare_of_part, slice_back, slice_front}
 
 -- none so far

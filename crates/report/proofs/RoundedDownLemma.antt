@@ -1,10 +1,9 @@
 -- A coordinate times a factor is rounded down.
-use Rattle.std.proofs.Common.{◌↔◌, ℤ, pos, negsuc, arith}
-use Rattle.std.specs.Prelude.{◌*ℤ◌, ◌≤ℤ◌}
+use Rattle.report.proofs.Common.{◌↔◌, ℤ, negsuc, arith, ◌*ℤ◌, ints, IsRoundedDown}
+use Rattle.std.proofs.Common.{pos}
+use Rattle.std.specs.Prelude.{◌≤ℤ◌}
 use Rattle.std.specs.Int.{int_div_euclid}
-use Rattle.std.proofs.lemmas.Int.{ints}
 use Rattle.report.specs.declared.UnitFactor.TheVariants as kind
-use Rattle.report.specs.UnitMistakes.{IsRoundedDown}
 
 by_one : (a w : ℤ) → ((pos 1 *ℤ w) ≤ℤ a) ↔ (w ≤ℤ int_div_euclid a (pos 1))
 by_one (pos a) w = (λ h. omega (arith, ints, h), λ h. omega (arith, ints, h))

@@ -1,15 +1,5 @@
 -- Parts of lists, and what is known of their elements.
-use Rattle.std.proofs.Common.{◌≡◌, ℕ, ◌+◌, ◌-◌, ◌<◌, ◌≤◌, ◌++◌, ◌↔◌, Bool, true, false, Option, None, List, length, take, drop, get_or, sym, subst, ap, ◌∙◌, arith}
-use Rattle.std.specs.List.{slice_range}
-use Rattle.std.proofs.lemmas.List.{drop-append-le, get_or-drop, get_or-take, length-append, length-drop, length-take-le, take-append-le, take_all}
-use Rattle.std.proofs.Math.Seq.{drop-append_seam}
-use Rattle.grid_units.specs.Holes.{GridHole}
-use Rattle.pad_shapes.specs.WidePads.{wide_pad_covers}
-use Rattle.pad_shapes.specs.declared.wide_pad.WidePad.{WidePad}
-use Rattle.ring_rules.specs.Places.{hole_at, default_hole}
-use Rattle.ring_rules.specs.declared.finding.Drilled.{Drilled}
-use Rattle.margins.specs.BestPads.{AreBare, AreBestPads, IsBare, IsBestPad}
-use Rattle.margins.specs.declared.best.BestPad.{BestPad}
+use Rattle.report.proofs.Common.{◌≡◌, ℕ, ◌+◌, ◌-◌, ◌<◌, ◌≤◌, ◌++◌, ◌↔◌, Bool, true, false, Option, None, List, length, take, drop, get_or, sym, subst, ap, ◌∙◌, arith, slice_range, drop-append-le, get_or-drop, get_or-take, length-append, length-drop, length-take-le, take-append-le, take_all, drop-append_seam, GridHole, wide_pad_covers, WidePad, hole_at, default_hole, Drilled, AreBare, AreBestPads, IsBare, IsBestPad, BestPad}
 
 module _ {X : Type 0} (xs : List X) where
   pub slice_size : (a b : ℕ) → b ≤ length xs → length (slice_range xs a b) ≡ b - a

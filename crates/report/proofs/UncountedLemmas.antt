@@ -1,18 +1,7 @@
 -- Whether a hole lies in a pad of a list, by whether it is bare.
-use Rattle.std.proofs.Common.{◌≡◌, ◌↔◌, ◌∙◌, ℕ, ap, not, Bool, true, false, List, get_or, refl, sym, arith}
-use Rattle.std.proofs.lemmas.Bool.{false≢true}
-use Rattle.std.proofs.lemmas.List.{get_or_default}
+use Rattle.report.proofs.Common.{◌≡◌, ◌↔◌, ◌∙◌, ℕ, ap, not, Bool, true, false, List, get_or, refl, sym, arith, false≢true, get_or_default, GridHole, wide_pad_covers, covers_both_ends, WidePad, hole_at, Drilled, AreBare, IsBare, wide_pad_covers_less, TellsBare, lies_in_pad}
 use Rattle.std.proofs.lemmas.List.Folds.{list_any_at, list_any_none}
-use Rattle.grid_units.specs.Holes.{GridHole}
 use Rattle.grid_units.proofs.BoolLemmas.{and_true, both_true}
-use Rattle.pad_shapes.specs.WidePads.{wide_pad_covers}
-use Rattle.pad_shapes.specs.Shapes.{covers_both_ends}
-use Rattle.pad_shapes.specs.declared.wide_pad.WidePad.{WidePad}
-use Rattle.ring_rules.specs.Places.{hole_at}
-use Rattle.ring_rules.specs.declared.finding.Drilled.{Drilled}
-use Rattle.margins.specs.BestPads.{AreBare, IsBare}
-use Rattle.margins.specs.Inner.DepthLaws.{wide_pad_covers_less}
-use Rattle.report.specs.Causes.{TellsBare, lies_in_pad}
 use Rattle.report.proofs.BareLemmas.{refused}
 
 module _ (pads : List WidePad) (h : GridHole) where

@@ -1,19 +1,7 @@
 -- Files whose holes are tried at other places, and their lines.
-use Rattle.std.proofs.Common.{◌≡◌, ◌↔◌, ℕ, ◌*◌, ◌<◌, ◌≤◌, ◌==◌, ◌⊎◌, if◌then◌else◌, inl, inr, Bool, true, false, Some, None, Option, List, length, map, get_or, refl, sym, subst, arith}
-use Rattle.std.specs.List.{slice_range}
-use Rattle.std.proofs.lemmas.Bool.Decides.{Decides-eqb}
-use Rattle.std.proofs.lemmas.List.Elements.{All-map}
-use Rattle.pad_shapes.specs.declared.wide_pad.WidePad.{WidePad}
-use Rattle.ring_rules.specs.declared.finding.Drilled.{Drilled}
-use Rattle.report.specs.declared.UnitFactor.{UnitFactor}
+use Rattle.report.proofs.Common.{◌≡◌, ◌↔◌, ℕ, ◌*◌, ◌<◌, ◌≤◌, ◌==◌, ◌⊎◌, inl, inr, Bool, true, false, Some, None, Option, List, length, map, get_or, refl, sym, subst, arith, slice_range, Decides-eqb, All-map, WidePad, Drilled, UnitFactor, AreUnitMistakes, IsUnitMistakeOrNone, bare_count_with, factors, holes_in, AreCounted, AreSuspects, AreHoleRanges, AreTried, IsSuspect, IsFewest, IsTried, holes_of, open_part, HoleRange, Fewest, Tried, Suspect, FileRange}
+use Rattle.std.proofs.Common.{if◌then◌else◌}
 use Rattle.report.specs.declared.UnitMistake.{UnitMistake}
-use Rattle.report.specs.UnitMistakes.{AreUnitMistakes, IsUnitMistakeOrNone, bare_count_with, factors, holes_in}
-use Rattle.report.specs.Inner.RescaledCounts.{AreCounted, AreSuspects, AreHoleRanges, AreTried, IsSuspect, IsFewest, IsTried, holes_of, open_part}
-use Rattle.report.specs.declared.counts.HoleRange.{HoleRange}
-use Rattle.report.specs.declared.fewest.Fewest.{Fewest}
-use Rattle.report.specs.declared.fewest.Tried.{Tried}
-use Rattle.report.specs.declared.mistakes.Suspect.{Suspect}
-use Rattle.report.specs.declared.mistakes.FileRange.{FileRange}
 use Rattle.report.proofs.FewestLemmas.{too_many}
 use Rattle.report.proofs.PairedLists.{PairedLists}
 

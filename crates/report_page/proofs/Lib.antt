@@ -1,3 +1,4 @@
+pub mod Common
 pub mod MarkerLemmas
 pub mod NumberLemmas
 pub mod RowLemmas

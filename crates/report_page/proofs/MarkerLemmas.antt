@@ -1,10 +1,8 @@
 -- The markers of findings in the text of a picture.
-use Rattle.std.proofs.Common.{◌≡◌, ◌∙◌, ◌<◌, ◌+◌, ◌++◌, ◌==◌, ℕ, zero, suc, Bool, true, not, false, List, [], ◌∷◌, Some, length, get_or, codes, decimal, refl, sym, ap, ap₂, subst, append_assoc, arith}
+use Rattle.report_page.proofs.Common.{◌≡◌, ◌∙◌, ◌<◌, ◌+◌, ◌++◌, ◌==◌, ℕ, zero, suc, Bool, true, not, false, List, [], ◌∷◌, Some, length, get_or, codes, decimal, refl, sym, ap, ap₂, subst, append_assoc, arith, All, AllZip, Contains, enumerate_from, filter, flat_map, get_or_default, IsPage, IsPanel, declaration, svg_text, after_panels, before_panels, text_of_panel, EachRowHasItsMarker, marker_start}
 use Rattle.std.specs.Prelude.{slice_get, if◌then◌else◌}
-use Rattle.std.specs.List.{All, AllZip, Contains, enumerate_from, filter, flat_map}
 use Rattle.std.specs.Str.Iter.{HasSubslice}
 use Rattle.std.proofs.lemmas.Bool.Decides.{nat_tests}
-use Rattle.std.proofs.lemmas.List.{get_or_default}
 use Rattle.std.proofs.lemmas.List.Concat.{flat_map-cons}
 use Rattle.std.proofs.lemmas.List.Elements.{All-append}
 use Rattle.std.proofs.lemmas.List.Filters.{length-filter_both}
@@ -35,9 +33,7 @@ use Rattle.picture.specs.declared.frame.Place.{Place}
 use Rattle.picture.specs.declared.scene.DrawnFinding.{DrawnFinding}
 use Rattle.picture.specs.declared.scene.DrawnFinding.TheVariants.{Ring, Gap}
 use Rattle.picture.specs.declared.scene.Scene.{Scene}
-use Rattle.drawing.specs.Pages.{IsPage, IsPanel, declaration, svg_text, after_panels, before_panels, text_of_panel}
 use Rattle.drawing.specs.declared.draw.Drawing.{Drawing}
-use Rattle.report_page.specs.Pages.{EachRowHasItsMarker, marker_start}
 use Rattle.report_page.proofs.NumberLemmas.{numbers_each_once}
 
 -- ---- parts of texts

@@ -1,12 +1,9 @@
 -- The numbers of the rows.
-use Rattle.std.proofs.Common.{◌≡◌, ◌∙◌, ◌<◌, ◌+◌, ◌-◌, ◌++◌, ℕ, zero, suc, inl, inr, List, [], ◌∷◌, length, map, get_or, arith}
-use Rattle.std.specs.List.{enumerate_from}
+use Rattle.report_page.proofs.Common.{◌≡◌, ◌∙◌, ◌<◌, ◌+◌, ◌-◌, ◌++◌, ℕ, zero, suc, inl, inr, List, [], ◌∷◌, length, map, get_or, arith, enumerate_from, get_or_append_left, get_or-append_right, length-append, length-map, NumbersEachOnce, row_numbers}
 use Rattle.std.proofs.lemmas.Bool.{cases_lt}
-use Rattle.std.proofs.lemmas.List.{get_or_append_left, get_or-append_right, length-append, length-map}
 use Rattle.std.proofs.lemmas.List.FromFn.{length-enumerate_from}
 use Rattle.report.specs.declared.BoardReport.{BoardReport}
 use Rattle.print_text.specs.Texts.{number_of}
-use Rattle.report_page.specs.Pages.{NumbersEachOnce, row_numbers}
 
 -- the numbers of some findings, of which the first has this position
 abbrev numbers : {X : Type 0} → ℕ → List X → List ℕ

@@ -1,22 +1,13 @@
 -- One more row of the table, and one more file.
-use Rattle.std.proofs.Common.{◌≡◌, ◌<◌, ◌+◌, ◌++◌, ℕ, List, [], ◌∷◌, Option, length, take, get_or, refl, ap, ◌∙◌, arith}
+use Rattle.report_page.proofs.Common.{◌≡◌, ◌<◌, ◌+◌, ◌++◌, ℕ, List, [], ◌∷◌, Option, length, take, get_or, refl, ap, ◌∙◌, arith, Bor, enumerate_from, flat_map, append-nil, LayerHead, RingLack, marks_more, Profile, FileSum, file_items, file_words, gap_row, gap_rows, ring_row, ring_rows}
 use Rattle.std.specs.Prelude.{◌-◌}
-use Rattle.std.specs.Borrow.{Bor}
-use Rattle.std.specs.List.{enumerate_from, flat_map}
-use Rattle.std.proofs.lemmas.List.{append-nil}
 use Rattle.std.proofs.lemmas.List.Concat.{flat_map-append, flat_map-cons}
 use Rattle.grid_units.specs.Holes.{GridRules}
 use Rattle.report.specs.Acceptances.{acceptance_at}
 use Rattle.report.specs.declared.GapLack.{GapLack}
-use Rattle.report.specs.declared.LayerHead.{LayerHead}
-use Rattle.report.specs.declared.RingLack.{RingLack}
-use Rattle.print_text.proofs.Showing.{marks_more}
 use Rattle.print_text.specs.Texts.{number_of}
-use Rattle.grid_units.specs.declared.profile.Profile.{Profile}
-use Rattle.package_check.specs.declared.FileSum.{FileSum}
 use Rattle.picture.specs.Escapes.{escaped}
 use Rattle.grid_units.specs.HoleWords.{name_of}
-use Rattle.report_page.specs.Pages.{file_items, file_words, gap_row, gap_rows, ring_row, ring_rows}
 
 -- what one more element gives, by its position
 pub texts_more : {X : Type 0} (f : ℕ × X → List ℕ) (n : ℕ) (xs : List X) (i : ℕ) (d : X) → i < length xs

@@ -1,17 +1,5 @@
 -- Pairs of places that are added, and that these are the clashes of the list.
-use Rattle.std.proofs.Common.{◌≡◌, ℕ, ◌+◌, ◌<◌, ◌⊎◌, inl, inr, List, [], ◌∷◌, ◌++◌, min, max, zero, suc, length, get_or, false, refl, sym, ap, subst, ◌∙◌, arith}
-use Rattle.std.specs.List.{Contains}
-use Rattle.std.proofs.lemmas.List.{get_or_default}
-use Rattle.std.proofs.lemmas.List.Elements.{Contains-append_left}
-use Rattle.std.proofs.lemmas.Bool.{cases_lt}
-use Rattle.ring_rules.specs.Cores.{are_clear}
-use Rattle.ring_rules.specs.Places.{default_hole, hole_at}
-use Rattle.ring_rules.specs.Near.{size_of}
-use Rattle.ring_rules.specs.Spots.{spot_at, AreSpotsOf}
-use Rattle.ring_rules.specs.Inner.ClashingPairs.{in_order, IsClash, AreClashing, AddsClashes, ListsClash, ListsClashes}
-use Rattle.ring_rules.specs.declared.spots.Spot.{Spot}
-use Rattle.grid_units.specs.Holes.{GridHole}
-use Rattle.ring_rules.specs.declared.finding.Drilled.{Drilled}
+use Rattle.ring_rules.proofs.Common.{◌≡◌, ℕ, ◌+◌, ◌<◌, ◌⊎◌, inl, inr, List, [], ◌∷◌, ◌++◌, min, max, zero, suc, length, get_or, false, refl, sym, ap, subst, ◌∙◌, arith, Contains, get_or_default, Contains-append_left, cases_lt, are_clear, default_hole, hole_at, size_of, spot_at, AreSpotsOf, in_order, IsClash, AreClashing, AddsClashes, ListsClash, ListsClashes, Spot, GridHole, Drilled}
 use Rattle.ring_rules.proofs.ClashLemmas.{clash_of, clear_flips}
 use Rattle.ring_rules.proofs.SpotLemmas.{hole_of}
 

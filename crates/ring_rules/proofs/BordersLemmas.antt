@@ -1,18 +1,9 @@
 -- Places by borders rise with the coordinates, too.
-use Rattle.std.proofs.Common.{◌≡◌, ℕ, ℤ, ◌+◌, ◌<◌, ◌≤◌, ◌≤ℤ◌, ◌<ℤ◌, Bool, true, false, cond, List, [], ◌∷◌, length, get_or, refl, sym, ◌∙◌, inl, inr, arith}
-use Rattle.std.specs.Prelude.{int_le, int_lt}
-use Rattle.std.specs.List.{prefix_len}
-use Rattle.std.specs.List.Sorted.{IsPartitionedBy, IsPartitionPoint, IsSortedByKey}
-use Rattle.std.specs.Ordering.{int_cmp, is_lt}
+use Rattle.ring_rules.proofs.Common.{◌≡◌, ℕ, ℤ, ◌+◌, ◌<◌, ◌≤◌, ◌≤ℤ◌, ◌<ℤ◌, Bool, true, false, cond, List, [], ◌∷◌, length, get_or, refl, sym, ◌∙◌, inl, inr, arith, int_le, int_lt, prefix_len, IsPartitionedBy, IsPartitionPoint, IsSortedByKey, int_cmp, is_lt, ranks_by, sorted_far, ints, cases_lt, steps_to, place_of, Axis}
 use Rattle.std.specs.declared.cmp.Ordering.TheVariants.{Less, Equal, Greater}
 use Rattle.std.specs.Cmp.{int_cmp_total}
-use Rattle.std.proofs.lemmas.List.Sorted.{ranks_by, sorted_far}
-use Rattle.std.proofs.lemmas.Int.{ints}
-use Rattle.std.proofs.lemmas.Bool.{cases_lt}
 use Rattle.std.proofs.lemmas.List.Sums.{prefix_len-le-length, prefix_len_passes, prefix_len_stops}
 use Rattle.ring_rules.specs.Borders.{IsAscending, borders_up_to}
-use Rattle.ring_rules.specs.Cells.{steps_to, place_of}
-use Rattle.ring_rules.specs.declared.axis.Axis.{Axis}
 use Rattle.ring_rules.proofs.PlacesLemmas.{steps-le}
 
 at_most : (a b : ℤ) → int_le a b ≡ true → a ≤ℤ b

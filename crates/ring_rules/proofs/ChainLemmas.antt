@@ -1,9 +1,6 @@
 -- Chains of places by their cells: none, one more, and what a step along a chain passes over.
-use Rattle.std.proofs.Common.{◌≡◌, ◌≢◌, ℕ, ◌+◌, ◌<◌, ◌≤◌, ◌⊎◌, inl, inr, List, [], ◌∷◌, ◌++◌, length, get_or, set, zero, suc, refl, sym, ap, subst, ◌∙◌, arith}
+use Rattle.ring_rules.proofs.Common.{◌≡◌, ◌≢◌, ℕ, ◌+◌, ◌<◌, ◌≤◌, ◌⊎◌, inl, inr, List, [], ◌∷◌, ◌++◌, length, get_or, set, zero, suc, refl, sym, ap, subst, ◌∙◌, arith, cases_eq, cases_lt, get_or-set_same, get_or-set_other, get_or_append_left, get_or_push, length_push, get_or-replicate, get_or_past, length-replicate, IsChained}
 use lib.ListN.{replicate}
-use Rattle.std.proofs.lemmas.Bool.{cases_eq, cases_lt}
-use Rattle.std.proofs.lemmas.List.{get_or-set_same, get_or-set_other, get_or_append_left, get_or_push, length_push, get_or-replicate, get_or_past, length-replicate}
-use Rattle.ring_rules.specs.Places.{IsChained}
 
 abbrev pub zeros : ℕ → List ℕ
 zeros count = replicate count 0

@@ -1,25 +1,7 @@
 -- The pairs of holes that are not clear: those of the definition and those that the code finds have the same members.
-use Rattle.std.proofs.Common.{◌≡◌, ℕ, ◌+◌, ◌<◌, ◌≤◌, ◌-ℤ◌, inl, inr, min, max, Bool, true, false, cond, List, [], ◌∷◌, ◌++◌, map, length, get_or, refl, sym, ap, ◌∙◌, subst, arith}
-use Rattle.std.specs.Prelude.{not, ◌&&◌, nat_lt, nat_le}
-use Rattle.std.specs.Int.{int_min, int_max}
-use Rattle.std.specs.List.{All, AllPairs, Contains, filter, flat_map, enumerate_from}
-use Rattle.std.specs.List.Sorted.{IsPermutation}
-use Rattle.std.proofs.lemmas.Bool.{cases_lt}
-use Rattle.std.proofs.lemmas.Bool.Decides.{nat_tests}
-use Rattle.std.proofs.lemmas.List.{map-append, get_or_default}
+use Rattle.ring_rules.proofs.Common.{◌≡◌, ℕ, ◌+◌, ◌<◌, ◌≤◌, ◌-ℤ◌, inl, inr, min, max, Bool, true, false, cond, List, [], ◌∷◌, ◌++◌, map, length, get_or, refl, sym, ap, ◌∙◌, subst, arith, not, ◌&&◌, nat_lt, nat_le, int_min, int_max, All, AllPairs, Contains, filter, flat_map, enumerate_from, IsPermutation, cases_lt, nat_tests, map-append, get_or_default, get_or-enumerate_from, length-enumerate_from, All-nil, All-cons, All-head, All-tail, All-append, All-same, All-map, All-filter, All-weaker, All-contains, filter_passes, Contains-append_left, Contains-append_right, AllPairs-cons, AllPairs-filter, IsPermutation-refl, IsPermutation-sym, Contains-permutation, All-permutation, square, GridHole, positive_part, range_distance, square_of_cores, are_clear, hole_findings, gap_findings, in_order, IsClash, IsPairBefore, Drilled, Gap}
 use Rattle.std.proofs.lemmas.List.Concat.{flat_map-cons}
-use Rattle.std.proofs.lemmas.List.FromFn.{get_or-enumerate_from, length-enumerate_from}
-use Rattle.std.proofs.lemmas.List.Elements.{All-nil, All-cons, All-head, All-tail, All-append, All-same, All-map, All-filter, All-weaker, All-contains, filter_passes, Contains-append_left, Contains-append_right}
-use Rattle.std.proofs.lemmas.List.Kept.{AllPairs-cons, AllPairs-filter}
-use Rattle.std.proofs.lemmas.List.Sorted.{IsPermutation-refl, IsPermutation-sym, Contains-permutation, All-permutation}
 use Rattle.std.proofs.lemmas.Simd.{map-map}
-use Rattle.grid_units.specs.Points.{square}
-use Rattle.grid_units.specs.Holes.{GridHole}
-use Rattle.ring_rules.specs.Cores.{positive_part, range_distance, square_of_cores, are_clear}
-use Rattle.ring_rules.specs.Findings.{hole_findings, gap_findings}
-use Rattle.ring_rules.specs.Inner.ClashingPairs.{in_order, IsClash, IsPairBefore}
-use Rattle.ring_rules.specs.declared.finding.Drilled.{Drilled}
-use Rattle.ring_rules.specs.declared.finding.Finding.TheVariants.{Gap}
 use Rattle.ring_rules.proofs.SortedPairs.{pairs_none, pairs_append, pairs_map, pairs_weaker, contains_cases, contains_first, contains_later, same_rising}
 
 -- a place with the hole there

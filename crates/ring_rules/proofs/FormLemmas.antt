@@ -1,15 +1,6 @@
 -- Entries with their forms: what they stand for, and that more forms and more entries change nothing of it.
-use Rattle.std.proofs.Common.{◌≡◌, ℕ, ℤ, ◌<◌, ◌≤◌, inl, inr, List, [], ◌∷◌, ◌++◌, length, get_or, map, refl, sym, ap, subst, ◌∙◌, arith}
+use Rattle.ring_rules.proofs.Common.{◌≡◌, ℕ, ℤ, ◌<◌, ◌≤◌, inl, inr, List, [], ◌∷◌, ◌++◌, length, get_or, map, refl, sym, ap, subst, ◌∙◌, arith, cases_lt, ints, get_or-map, length-map, map_push, same_lists, get_or_append_left, get_or_push, length_push, GridPoint, IsCoordinate, GridHole, default_spot, spot_at, moved, form_at, spot_with, spot_of, HasForm, default_entry, HaveForms, Spot, Entry}
 use Rattle.std.specs.Prelude.{◌+ℤ◌, ◌-ℤ◌}
-use Rattle.std.proofs.lemmas.Bool.{cases_lt}
-use Rattle.std.proofs.lemmas.Int.{ints}
-use Rattle.std.proofs.lemmas.List.{get_or-map, length-map, map_push, same_lists, get_or_append_left, get_or_push, length_push}
-use Rattle.grid_units.specs.Points.{GridPoint, IsCoordinate}
-use Rattle.grid_units.specs.Holes.{GridHole}
-use Rattle.ring_rules.specs.Spots.{default_spot, spot_at}
-use Rattle.ring_rules.specs.Inner.Forms.{moved, form_at, spot_with, spot_of, HasForm, default_entry, HaveForms}
-use Rattle.ring_rules.specs.declared.spots.Spot.{Spot}
-use Rattle.ring_rules.specs.declared.spot_list.Entry.{Entry}
 
 abbrev pub hole_of : GridPoint → ℤ → ℤ → ℕ → GridHole
 hole_of from x y radius = record { from = from; to = record { x = x; y = y }; radius = radius }

@@ -1,21 +1,7 @@
 -- Indices of spots that are appended for a zone, and the places that they stand for.
-use Rattle.std.proofs.Common.{◌≡◌, ℕ, ◌+◌, ◌<◌, ◌≤◌, inl, inr, List, [], ◌∷◌, ◌++◌, length, get_or, set, sym, ap, subst, ◌∙◌, arith}
-use Rattle.std.specs.List.{All, Contains}
-use Rattle.std.proofs.lemmas.Bool.{cases_lt, cases_eq}
-use Rattle.std.proofs.lemmas.List.{get_or_default, get_or-set_same, get_or-set_other}
-use Rattle.std.proofs.lemmas.List.Elements.{Contains-append_left, All-from_get_or, All-get_or}
-use Rattle.grid_units.specs.Holes.{GridHole}
-use Rattle.pad_shapes.specs.Zones.{IsInZone}
+use Rattle.ring_rules.proofs.Common.{◌≡◌, ℕ, ◌+◌, ◌<◌, ◌≤◌, inl, inr, List, [], ◌∷◌, ◌++◌, length, get_or, set, sym, ap, subst, ◌∙◌, arith, All, Contains, cases_lt, cases_eq, get_or_default, get_or-set_same, get_or-set_other, Contains-append_left, All-from_get_or, All-get_or, GridHole, IsInZone, entry_at, spot_at, point_at, AreSpotsOf, row_of, IsInRegion, IsSpotInZone, AddsFound, ListsFound, Drilled, Spot, Axis}
 use Rattle.pad_shapes.specs.declared.zone.Zone.{Zone}
-use Rattle.ring_rules.specs.Places.{entry_at}
-use Rattle.ring_rules.specs.Spots.{spot_at, point_at, AreSpotsOf}
-use Rattle.ring_rules.specs.Cells.{row_of}
-use Rattle.ring_rules.specs.Inner.Regions.{IsInRegion}
 use Rattle.ring_rules.specs.Index.{IsEntryInZone}
-use Rattle.ring_rules.specs.Inner.FoundPlaces.{IsSpotInZone, AddsFound, ListsFound}
-use Rattle.ring_rules.specs.declared.finding.Drilled.{Drilled}
-use Rattle.ring_rules.specs.declared.spots.Spot.{Spot}
-use Rattle.ring_rules.specs.declared.axis.Axis.{Axis}
 use Rattle.ring_rules.proofs.AddedClashes.{contains_last}
 use Rattle.ring_rules.proofs.SpotLemmas.{hole_of}
 

@@ -1,13 +1,5 @@
 -- Whether a pad gives a hole its ring, by its parts.
-use Rattle.std.proofs.Common.{◌≡◌, ℕ, ◌+◌, Bool, true, false, List, [], ◌∷◌, refl, ap}
-use Rattle.std.specs.Prelude.{◌&&◌, ◌||◌, not}
-use Rattle.std.specs.List.{list_any}
-use Rattle.grid_units.specs.Points.{GridPoint}
-use Rattle.grid_units.specs.Holes.{GridHole}
-use Rattle.grid_units.specs.declared.profile.Profile.{Profile}
-use Rattle.pad_shapes.specs.Holding.{covers_hole}
-use Rattle.ring_rules.specs.Findings.{is_refused_slot, lacks_ring}
-use Rattle.ring_rules.specs.Inner.Marks.{gives_ring}
+use Rattle.ring_rules.proofs.Common.{◌≡◌, ℕ, ◌+◌, Bool, true, false, List, [], ◌∷◌, refl, ap, ◌&&◌, ◌||◌, not, list_any, GridPoint, GridHole, Profile, covers_hole, is_refused_slot, lacks_ring, gives_ring}
 
 middle_of : (a b c : Bool) → (a && (b && c)) ≡ true → b ≡ true
 middle_of true true c e = refl

@@ -1,25 +1,7 @@
 -- The marks that are left after all pads.
-use Rattle.std.proofs.Common.{◌≡◌, ℕ, ◌+◌, ◌<◌, inl, inr, Bool, true, false, List, [], ◌∷◌, ◌++◌, length, get_or, set, map, refl, sym, ap, subst, ◌∙◌, arith}
-use Rattle.std.specs.Prelude.{◌&&◌, ◌||◌, not}
+use Rattle.ring_rules.proofs.Common.{◌≡◌, ℕ, ◌+◌, ◌<◌, inl, inr, Bool, true, false, List, [], ◌∷◌, ◌++◌, length, get_or, set, map, refl, sym, ap, subst, ◌∙◌, arith, ◌&&◌, ◌||◌, not, list_any, cases_eq, cases_lt, get_or_default, get_or-map, length-map, same_lists, get_or-set_same, get_or-set_other, get_or_append_left, get_or_push, get_or-replicate, GridPoint, GridHole, Profile, is_in_span, is_ring_finding, default_hole, spot_at, AreSpotsOf, drilled_at, is_marked, gives_ring, AreClosedUnmarked, Axis, Node, Drilled, Spot}
 use lib.ListN.{replicate}
-use Rattle.std.specs.List.{list_any}
-use Rattle.std.proofs.lemmas.Bool.{cases_eq, cases_lt}
-use Rattle.std.proofs.lemmas.List.{get_or_default, get_or-map, length-map, same_lists, get_or-set_same, get_or-set_other, get_or_append_left, get_or_push, get_or-replicate}
 use Rattle.std.proofs.lemmas.List.Folds.{list_any-append}
-use Rattle.grid_units.specs.Points.{GridPoint}
-use Rattle.grid_units.specs.Holes.{GridHole}
-use Rattle.grid_units.specs.declared.profile.Profile.{Profile}
-use Rattle.grid_units.specs.Spans.{is_in_span}
-use Rattle.ring_rules.specs.Findings.{is_ring_finding}
-use Rattle.ring_rules.specs.Places.{default_hole}
-use Rattle.ring_rules.specs.Spots.{spot_at, AreSpotsOf}
-use Rattle.ring_rules.specs.Search.{drilled_at}
-use Rattle.ring_rules.specs.Inner.Marks.{is_marked, gives_ring}
-use Rattle.ring_rules.specs.Inner.Trees.{AreClosedUnmarked}
-use Rattle.ring_rules.specs.declared.axis.Axis.{Axis}
-use Rattle.ring_rules.specs.declared.tree.Node.{Node}
-use Rattle.ring_rules.specs.declared.finding.Drilled.{Drilled}
-use Rattle.ring_rules.specs.declared.spots.Spot.{Spot}
 use Rattle.ring_rules.proofs.GivesRingLemmas.{given_by_none}
 
 and_true : (b : Bool) → (b && true) ≡ b

@@ -1,10 +1,5 @@
 -- Marks that are removed spot by spot.
-use Rattle.std.proofs.Common.{◌≡◌, ◌≢◌, ℕ, ◌+◌, ◌<◌, inl, inr, Bool, true, false, List, length, set, refl, sym, ap, ◌∙◌, arith}
-use Rattle.std.specs.Prelude.{◌&&◌, ◌||◌, not}
-use Rattle.std.proofs.lemmas.Bool.{cases_eq}
-use Rattle.std.proofs.lemmas.List.{get_or-set_same, get_or-set_other, length-set}
-use Rattle.ring_rules.specs.Inner.Marks.{is_marked, RemovesMarks, NoMarkPassesFrom, HasNoMarkFrom}
-use Rattle.grid_units.proofs.BoolLemmas.{or_is_false, either}
+use Rattle.ring_rules.proofs.Common.{◌≡◌, ◌≢◌, ℕ, ◌+◌, ◌<◌, inl, inr, Bool, true, false, List, length, set, refl, sym, ap, ◌∙◌, arith, ◌&&◌, ◌||◌, not, cases_eq, get_or-set_same, get_or-set_other, length-set, is_marked, RemovesMarks, NoMarkPassesFrom, HasNoMarkFrom, or_is_false, either}
 
 -- both parts of what holds of a mark that stays
 pub stays_true : (m t : Bool) → (m && not t) ≡ true → (m ≡ true) × (t ≡ false)

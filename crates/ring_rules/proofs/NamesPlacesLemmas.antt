@@ -1,14 +1,5 @@
 -- Each finding names places of the lists.
-use Rattle.std.proofs.Common.{◌≡◌, ℕ, ◌<◌, Bool, true, false, refl, length, subst}
-use Rattle.std.specs.List.{All}
-use Rattle.std.proofs.lemmas.List.Elements.{All-map, All-weaker}
-use Rattle.grid_units.specs.Points.{GridPoint}
-use Rattle.grid_units.specs.declared.profile.Profile.{Profile}
-use Rattle.ring_rules.specs.Findings.{is_refused_slot, finding_of}
-use Rattle.ring_rules.specs.WithoutFindings.{NamesPlaces, RingsNamePlaces, GapsNamePlaces}
-use Rattle.ring_rules.specs.declared.finding.Drilled.{Drilled}
-use Rattle.ring_rules.specs.declared.finding.Finding.TheVariants.{Gap}
-use Rattle.ring_rules.specs.Inner.ClashingPairs.{IsClash}
+use Rattle.ring_rules.proofs.Common.{◌≡◌, ℕ, ◌<◌, Bool, true, false, refl, length, subst, All, All-map, All-weaker, GridPoint, Profile, is_refused_slot, finding_of, NamesPlaces, RingsNamePlaces, GapsNamePlaces, Drilled, Gap, IsClash}
 use Rattle.ring_rules.proofs.ClashLemmas.{gap_pairs, gap_pairs_listed, gap_pairs_clash}
 use Rattle.ring_rules.proofs.RingLists.{all_found}
 

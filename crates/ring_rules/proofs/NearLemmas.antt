@@ -1,15 +1,7 @@
 -- How far from a hole the entry point of one may lie that is not clear of it.
-use Rattle.std.proofs.Common.{◌∙◌, ap, subst, ◌≡◌, ℕ, ℤ, pos, ◌+◌, ◌<◌, ◌≤◌, inl, inr, ◌+ℤ◌, ◌-ℤ◌, ◌≤ℤ◌, false, arith}
-use Rattle.std.specs.Int.{int_min, int_max}
-use Rattle.std.proofs.lemmas.Int.{ints, clamps, to_z-of_z}
-use Rattle.std.proofs.lemmas.Bool.{cases_lt}
-use Rattle.std.proofs.lemmas.Bool.Decides.{nat_tests}
-use Rattle.grid_units.specs.Points.{IsCoordinate, abs_diff, square}
-use Rattle.grid_units.specs.Holes.{GridHole}
+use Rattle.ring_rules.proofs.Common.{◌∙◌, ap, subst, ◌≡◌, ℕ, ℤ, pos, ◌+◌, ◌<◌, ◌≤◌, inl, inr, ◌+ℤ◌, ◌-ℤ◌, ◌≤ℤ◌, false, arith, int_min, int_max, ints, clamps, to_z-of_z, cases_lt, nat_tests, IsCoordinate, abs_diff, square, GridHole, positive_part, range_distance, square_of_cores, are_clear, AreNearer, AreWithin}
 use mir.Syntax.{w64}
 use mir.Val.{to_z, of_z}
-use Rattle.ring_rules.specs.Cores.{positive_part, range_distance, square_of_cores, are_clear}
-use Rattle.ring_rules.specs.Near.{AreNearer, AreWithin}
 use Rattle.ring_rules.proofs.CoreLemmas.{positive_part_is}
 use Rattle.pad_shapes.proofs.ZonesLemmas.{squares-le}
 

@@ -1,23 +1,7 @@
 -- Spots that are put in the order of x: none comes or goes.
-use Rattle.std.proofs.Common.{◌≡◌, ℕ, ℤ, ◌+◌, ◌-◌, ◌<◌, ◌≤◌, ◌<ℤ◌, ◌≤ℤ◌, inl, inr, List, length, get_or, map, take, drop, sym, ap, subst, ◌∙◌, arith}
-use Rattle.std.specs.List.{All, Contains}
-use Rattle.std.specs.List.Sorted.{IsPermutation}
+use Rattle.ring_rules.proofs.Common.{◌≡◌, ℕ, ℤ, ◌+◌, ◌-◌, ◌<◌, ◌≤◌, ◌<ℤ◌, ◌≤ℤ◌, inl, inr, List, length, get_or, map, take, drop, sym, ap, subst, ◌∙◌, arith, All, Contains, IsPermutation, cases_lt, ints, get_or-map, get_or-drop, get_or-take, length-drop, length-map, drop-map, get_or_default, All-get_or, All-from_get_or, Contains-get_or, All-permutation, Contains-permutation, IsPermutation-map, IsPermutation-put_mid, length_permutation, GridPoint, GridHole, default_spot, spot_at, point_at, IsSpotOf, HasSpot, AreInOrder, AddsSpots, PutsInOrder, spot_of, HasForm, default_entry, HaveForms, Drilled, Spot, Entry}
 use borrow.Rule.Slice.PartMut.{put_mid, mid_of}
-use Rattle.std.proofs.lemmas.Bool.{cases_lt}
-use Rattle.std.proofs.lemmas.Int.{ints}
-use Rattle.std.proofs.lemmas.List.{get_or-map, get_or-drop, get_or-take, length-drop, length-map, drop-map, get_or_default}
-use Rattle.std.proofs.lemmas.List.Elements.{All-get_or, All-from_get_or, Contains-get_or}
-use Rattle.std.proofs.lemmas.List.Sorted.{All-permutation, Contains-permutation, IsPermutation-map, IsPermutation-put_mid, length_permutation}
 use Rattle.std.proofs.lemmas.Slice.{take-put_mid_below, between-put_mid, between_to_end}
-use Rattle.grid_units.specs.Points.{GridPoint}
-use Rattle.grid_units.specs.Holes.{GridHole}
-use Rattle.ring_rules.specs.Spots.{default_spot, spot_at, point_at, IsSpotOf, HasSpot}
-use Rattle.ring_rules.specs.Inner.Regions.{AreInOrder}
-use Rattle.ring_rules.specs.Inner.SpotLists.{AddsSpots, PutsInOrder}
-use Rattle.ring_rules.specs.Inner.Forms.{spot_of, HasForm, default_entry, HaveForms}
-use Rattle.ring_rules.specs.declared.finding.Drilled.{Drilled}
-use Rattle.ring_rules.specs.declared.spots.Spot.{Spot}
-use Rattle.ring_rules.specs.declared.spot_list.Entry.{Entry}
 
 -- an element by its place from the start of the rest
 at_rest : {X : Type 0} (n : ℕ) (xs : List X) (i : ℕ) (d : X) → n ≤ i → get_or (drop n xs) (i - n) d ≡ get_or xs i d

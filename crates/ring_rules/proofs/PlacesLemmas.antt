@@ -1,10 +1,7 @@
 -- Places along an axis rise with the coordinates.
-use Rattle.std.proofs.Common.{ℕ, ℤ, pos, ◌+◌, ◌*◌, ◌/◌, ◌^◌, ◌<◌, ◌≤◌, ◌+ℤ◌, ◌-ℤ◌, ◌≤ℤ◌, arith}
-use Rattle.std.proofs.lemmas.Int.{ints}
+use Rattle.ring_rules.proofs.Common.{ℕ, ℤ, pos, ◌+◌, ◌*◌, ◌/◌, ◌^◌, ◌<◌, ◌≤◌, ◌+ℤ◌, ◌-ℤ◌, ◌≤ℤ◌, arith, ints, positive_part, steps_above}
 use Rattle.std.proofs.lemmas.Nat.{le-div, pow_pos, mul-le, div-add-mod', mod_below}
 use Rattle.std.proofs.Math.Nat.{div-mul-le_self}
-use Rattle.ring_rules.specs.Cores.{positive_part}
-use Rattle.ring_rules.specs.Places.{steps_above}
 use Rattle.ring_rules.proofs.CoreLemmas.{positive_part_is}
 
 div-le-div : (m n k : ℕ) → 0 < k → m ≤ n → m / k ≤ n / k

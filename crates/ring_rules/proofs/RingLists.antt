@@ -1,22 +1,9 @@
 -- What the definition of the findings of rings lists, and what follows for slots in the strict and in the wide profile.
-use Rattle.std.proofs.Common.{◌≡◌, ℕ, ◌+◌, ◌<◌, zero, suc, inl, inr, Bool, true, false, cond, List, [], ◌∷◌, length, get_or, refl, sym, ap, subst, ◌∙◌, arith}
-use Rattle.std.specs.Prelude.{◌&&◌, ◌||◌, ◌⊎◌, ⊤, not}
-use Rattle.std.specs.List.{All, filter, enumerate_from, list_any, Contains}
-use Rattle.std.proofs.lemmas.List.Elements.{All-map, All-filter, All-weaker, All-contains, filter_passes}
+use Rattle.ring_rules.proofs.Common.{◌≡◌, ℕ, ◌+◌, ◌<◌, zero, suc, inl, inr, Bool, true, false, cond, List, [], ◌∷◌, length, get_or, refl, sym, ap, subst, ◌∙◌, arith, ◌&&◌, ◌||◌, ⊤, not, All, filter, enumerate_from, list_any, Contains, All-map, All-filter, All-weaker, All-contains, filter_passes, IsPermutation-refl, GridPoint, is_in_span, Profile, covers_hole, is_oblique, is_ring_finding, finding_of, layer_findings, ring_findings, FindsOblique, FindsNoObliqueInWide, AreAmong, WideFindsNoMore, Drilled, Finding, Ring, Oblique, Gap, both_true, either, not_true}
+use Rattle.std.specs.Prelude.{◌⊎◌}
 use Rattle.std.proofs.lemmas.List.Folds.{list_any_at}
-use Rattle.std.proofs.lemmas.List.Sorted.{IsPermutation-refl}
-use Rattle.grid_units.specs.Points.{GridPoint}
-use Rattle.grid_units.specs.Spans.{is_in_span}
-use Rattle.grid_units.specs.declared.profile.Profile.{Profile}
 use Rattle.grid_units.specs.declared.profile.Profile.TheVariants.{Strict, Wide}
-use Rattle.pad_shapes.specs.Holding.{covers_hole}
-use Rattle.ring_rules.specs.Findings.{is_oblique, is_ring_finding, finding_of, layer_findings, ring_findings}
-use Rattle.ring_rules.specs.WithoutFindings.{FindsOblique, FindsNoObliqueInWide, AreAmong, WideFindsNoMore}
-use Rattle.ring_rules.specs.declared.finding.Drilled.{Drilled}
-use Rattle.ring_rules.specs.declared.finding.Finding.{Finding}
-use Rattle.ring_rules.specs.declared.finding.Finding.TheVariants.{Ring, Oblique, Gap}
 use Rattle.ring_rules.proofs.ClashLemmas.{IsPlaced, placed_right, all_flat_map, enumerated_at}
-use Rattle.grid_units.proofs.BoolLemmas.{both_true, either, not_true}
 use Rattle.grid_units.proofs.ListLemmas.{flat_map_at, list_any_element, map_contains}
 
 -- an element of a list is also one of the list with one more at its start

@@ -1,19 +1,9 @@
 -- Pairs of places in order: a list in which each pair comes before all later ones is known by its members.
-use Rattle.std.proofs.Common.{◌≡◌, ℕ, ◌+◌, ◌<◌, ◌⊎◌, inl, inr, zero, suc, List, [], ◌∷◌, ◌++◌, map, length, get_or, refl, sym, ap, ◌∙◌, subst, arith, Bool, true, false}
-use Rattle.std.specs.Prelude.{nat_eq, ◌&&◌}
-use Rattle.std.specs.List.{All, AllPairs, Contains, IsDistinct}
-use Rattle.std.specs.List.Sorted.{IsSorted, IsPermutation, IsStrictlySortedBy}
+use Rattle.ring_rules.proofs.Common.{◌≡◌, ℕ, ◌+◌, ◌<◌, ◌⊎◌, inl, inr, zero, suc, List, [], ◌∷◌, ◌++◌, map, length, get_or, refl, sym, ap, ◌∙◌, subst, arith, Bool, true, false, nat_eq, ◌&&◌, All, AllPairs, Contains, IsDistinct, IsSorted, IsPermutation, IsStrictlySortedBy, nat_cmp, ordering_then, is_lt, eq_by_cmp, cases_lt, cases_eq, nat_tests, All-nil, All-cons, All-head, All-tail, All-append, All-map, All-weaker, All-contains, All-from_recursion, AllPairs-cons, IsPairBefore, and_false}
 use Rattle.std.specs.declared.cmp.Ordering.{Ordering}
 use Rattle.std.specs.declared.cmp.Ordering.TheVariants.{Less}
-use Rattle.std.specs.Ordering.{nat_cmp, ordering_then, is_lt, eq_by_cmp}
 use Rattle.std.specs.Cmp.{IsTotalOrder, nat_cmp_total, on_total, then_total, both_tied, unsigned_ties, IsEquivalence, nat_eq_equiv, on_equiv, and_equiv}
-use Rattle.std.proofs.lemmas.Bool.{cases_lt, cases_eq}
-use Rattle.std.proofs.lemmas.Bool.Decides.{nat_tests}
-use Rattle.std.proofs.lemmas.List.Elements.{All-nil, All-cons, All-head, All-tail, All-append, All-map, All-weaker, All-contains, All-from_recursion}
-use Rattle.std.proofs.lemmas.List.Kept.{AllPairs-cons}
-use Rattle.ring_rules.specs.Inner.ClashingPairs.{IsPairBefore}
 use Rattle.std.proofs.lemmas.Map.Keys.{IsDistinct-from_apart, IsDistinct-IsPermutation, apart_from_distinct}
-use Rattle.grid_units.proofs.BoolLemmas.{and_false}
 
 before_trans : (p q r : ℕ × ℕ) → IsPairBefore p q → IsPairBefore q r → IsPairBefore p r
 before_trans p q r h k = elim h [

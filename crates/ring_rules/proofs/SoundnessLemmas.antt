@@ -1,24 +1,9 @@
 -- Where nothing is found, each element passes.
-use Rattle.std.proofs.Common.{◌≡◌, ℕ, ℤ, pos, negsuc, ◌+◌, ◌<◌, inl, inr, Bool, true, false, List, [], length, get_or, refl, sym, ap, ◌∙◌, arith}
-use Rattle.std.specs.Prelude.{not, ◌&&◌, nat_lt}
-use Rattle.std.specs.List.{filter, flat_map, enumerate_from, list_any, Contains}
-use Rattle.std.specs.Ordering.{int_eq}
-use Rattle.std.proofs.lemmas.Bool.Decides.{nat_tests, Decides-int_eq}
-use Rattle.std.proofs.lemmas.List.FromFn.{get_or-enumerate_from, length-enumerate_from}
-use Rattle.grid_units.specs.Points.{GridPoint}
-use Rattle.grid_units.specs.Holes.{GridHole, AreClear}
-use Rattle.grid_units.specs.declared.profile.Profile.{Profile}
+use Rattle.ring_rules.proofs.Common.{◌≡◌, ℕ, ℤ, pos, negsuc, ◌+◌, ◌<◌, inl, inr, Bool, true, false, List, [], length, get_or, refl, sym, ap, ◌∙◌, arith, not, ◌&&◌, nat_lt, filter, flat_map, enumerate_from, list_any, Contains, int_eq, nat_tests, Decides-int_eq, get_or-enumerate_from, length-enumerate_from, GridPoint, GridHole, AreClear, Profile, covers_hole, HoldsCoveredHoles, are_clear, is_oblique, is_refused_slot, lacks_ring, is_ring_finding, ring_findings, layer_findings, hole_findings, is_in_span, RingsHoldWithoutFindings, SlotsHoldWithoutFindings, HolesHoldWithoutFindings, StraightWithoutFindings, ApartWithoutFindings, Drilled, not_false, or_is_false, and_false_right}
 use Rattle.grid_units.specs.declared.profile.Profile.TheVariants.{Strict}
 use Rattle.pad_shapes.specs.Shapes.{IsAxisAligned, ContainsCovered, ContainsCoveredSlots}
-use Rattle.pad_shapes.specs.Holding.{covers_hole, HoldsCoveredHoles}
-use Rattle.ring_rules.specs.Cores.{are_clear}
-use Rattle.ring_rules.specs.Findings.{is_oblique, is_refused_slot, lacks_ring, is_ring_finding, ring_findings, layer_findings, hole_findings}
-use Rattle.grid_units.specs.Spans.{is_in_span}
-use Rattle.ring_rules.specs.WithoutFindings.{RingsHoldWithoutFindings, SlotsHoldWithoutFindings, HolesHoldWithoutFindings, StraightWithoutFindings, ApartWithoutFindings}
-use Rattle.ring_rules.specs.declared.finding.Drilled.{Drilled}
 use Rattle.ring_rules.proofs.CoreLemmas.{clear_from_test, clear_holes_are_apart}
 use Rattle.grid_units.proofs.ListLemmas.{map_is_nil, none_at, filter_nil_at, list_any_element}
-use Rattle.grid_units.proofs.BoolLemmas.{not_false, or_is_false, and_false_right}
 
 -- a test of the elements with their places, at one of them
 pub fails_placed : {X : Type 0} (p : ℕ × X → Bool) (xs : List X) → filter p (enumerate_from 0 xs) ≡ [] → (k : ℕ) (d : X) → k < length xs → p (k, get_or xs k d) ≡ false

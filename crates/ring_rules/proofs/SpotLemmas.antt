@@ -1,17 +1,6 @@
 -- Spots in the order of their cells: as they are appended, and where those of a row are.
-use Rattle.std.proofs.Common.{◌≡◌, ℕ, ◌+◌, ◌*◌, ◌<◌, ◌≤◌, ◌≤ℤ◌, ◌^◌, inl, inr, List, [], ◌∷◌, ◌++◌, length, get_or, refl, sym, ap, subst, ◌∙◌, arith}
-use Rattle.std.proofs.lemmas.Bool.{cases_lt}
+use Rattle.ring_rules.proofs.Common.{◌≡◌, ℕ, ◌+◌, ◌*◌, ◌<◌, ◌≤◌, ◌≤ℤ◌, ◌^◌, inl, inr, List, [], ◌∷◌, ◌++◌, length, get_or, refl, sym, ap, subst, ◌∙◌, arith, cases_lt, get_or_append_left, get_or_push, length_push, get_or_past, GridPoint, hole_at, entry_at, column_of, row_of, cell_of, default_spot, spot_at, point_at, IsSpotOf, HasSpot, AreSpotsOf, AreInCells, IsInRegion, AreInOrder, AreCellsInOrder, AddsSpots, AreSpotted, Drilled, Spot, Axis}
 use Rattle.std.proofs.lemmas.Nat.{mul-le}
-use Rattle.std.proofs.lemmas.List.{get_or_append_left, get_or_push, length_push, get_or_past}
-use Rattle.grid_units.specs.Points.{GridPoint}
-use Rattle.ring_rules.specs.Places.{hole_at, entry_at}
-use Rattle.ring_rules.specs.Cells.{column_of, row_of, cell_of}
-use Rattle.ring_rules.specs.Spots.{default_spot, spot_at, point_at, IsSpotOf, HasSpot, AreSpotsOf, AreInCells}
-use Rattle.ring_rules.specs.Inner.Regions.{IsInRegion, AreInOrder, AreCellsInOrder}
-use Rattle.ring_rules.specs.Inner.SpotLists.{AddsSpots, AreSpotted}
-use Rattle.ring_rules.specs.declared.finding.Drilled.{Drilled}
-use Rattle.ring_rules.specs.declared.spots.Spot.{Spot}
-use Rattle.ring_rules.specs.declared.axis.Axis.{Axis}
 
 pub has_spot_still : (a b : List Spot) → length a ≤ length b → ((i : ℕ) → i < length a → spot_at b i ≡ spot_at a i) → (k : ℕ) → HasSpot a k → HasSpot b k
 has_spot_still a b longer kept k has =

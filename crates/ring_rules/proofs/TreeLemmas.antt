@@ -1,13 +1,5 @@
 -- Trees of regions, as they are built.
-use Rattle.std.proofs.Common.{◌≡◌, ℕ, ◌+◌, ◌<◌, ◌≤◌, inl, inr, List, [], ◌∷◌, ◌++◌, length, set, refl, sym, ap, subst, ◌∙◌, arith}
-use Rattle.std.proofs.lemmas.Bool.{cases_eq, cases_lt}
-use Rattle.std.proofs.lemmas.List.{get_or_push, length_push, get_or-set_same, get_or-set_other, length-set}
-use Rattle.grid_units.specs.Points.{GridPoint}
-use Rattle.ring_rules.specs.Cells.{row_of, column_of}
-use Rattle.ring_rules.specs.Inner.Trees.{IsIn, IsPartOfGrid, AreHalves, default_node, node_at, IsInLeaf, AreTrees, AreTreesOf}
-use Rattle.ring_rules.specs.declared.regions.Region.{Region}
-use Rattle.ring_rules.specs.declared.tree.Node.{Node}
-use Rattle.ring_rules.specs.declared.axis.Axis.{Axis}
+use Rattle.ring_rules.proofs.Common.{◌≡◌, ℕ, ◌+◌, ◌<◌, ◌≤◌, inl, inr, List, [], ◌∷◌, ◌++◌, length, set, refl, sym, ap, subst, ◌∙◌, arith, cases_eq, cases_lt, get_or_push, length_push, get_or-set_same, get_or-set_other, length-set, GridPoint, row_of, column_of, IsIn, IsPartOfGrid, AreHalves, default_node, node_at, IsInLeaf, AreTrees, AreTreesOf, Region, Node, Axis}
 
 abbrev pub with_end : Region → ℕ → Node
 with_end region end = record { region = region; end = end }

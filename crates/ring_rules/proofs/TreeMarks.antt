@@ -1,16 +1,5 @@
 -- Marks in the nodes of a tree.
-use Rattle.std.proofs.Common.{◌≡◌, ◌≢◌, ℕ, ◌+◌, ◌<◌, inl, inr, Bool, true, false, List, length, get_or, set, refl, sym, ap, subst, ◌∙◌, arith}
-use Rattle.std.specs.Prelude.{not}
-use Rattle.std.proofs.lemmas.Bool.{cases_eq, cases_lt}
-use Rattle.std.proofs.lemmas.List.{get_or-set_same, get_or-set_other}
-use Rattle.ring_rules.specs.Spots.{point_at}
-use Rattle.ring_rules.specs.Inner.Marks.{is_marked, RemovesMarks}
-use Rattle.ring_rules.specs.Inner.Regions.{HasNoMarkIn, NoMarkPassesIn}
-use Rattle.ring_rules.specs.Inner.Trees.{node_at, AreTrees, AreClosedUnmarked, HasNoMarkInLeaves, NoMarkPassesInLeaves}
-use Rattle.ring_rules.specs.declared.tree.Node.{Node}
-use Rattle.ring_rules.specs.declared.spots.Spot.{Spot}
-use Rattle.ring_rules.specs.declared.axis.Axis.{Axis}
-use Rattle.grid_units.proofs.BoolLemmas.{either}
+use Rattle.ring_rules.proofs.Common.{◌≡◌, ◌≢◌, ℕ, ◌+◌, ◌<◌, inl, inr, Bool, true, false, List, length, get_or, set, refl, sym, ap, subst, ◌∙◌, arith, not, cases_eq, cases_lt, get_or-set_same, get_or-set_other, point_at, is_marked, RemovesMarks, HasNoMarkIn, NoMarkPassesIn, node_at, AreTrees, AreClosedUnmarked, HasNoMarkInLeaves, NoMarkPassesInLeaves, Node, Spot, Axis, either}
 
 unmarked_still : (test : ℕ → Bool) (a b : List Bool) → RemovesMarks test a b → (k : ℕ) → is_marked a k ≡ false → is_marked b k ≡ false
 unmarked_still test a b removes k none = elim (either (is_marked b k)) [

@@ -1,23 +1,8 @@
 -- Pads by what they cover: lists of pads of any type, and pads of one type that stand for those of another.
-use Rattle.std.proofs.Common.{◌≡◌, ℕ, ◌<◌, Bool, List, [], ◌∷◌, ◌++◌, map, length, refl, sym, ap, subst, ◌∙◌}
-use Rattle.std.specs.Prelude.{◌&&◌, ◌||◌, not}
-use Rattle.std.specs.List.{list_any, filter, enumerate_from}
-use Rattle.std.proofs.lemmas.List.{map-append}
+use Rattle.ring_rules.proofs.Common.{◌≡◌, ℕ, ◌<◌, Bool, List, [], ◌∷◌, ◌++◌, map, length, refl, sym, ap, subst, ◌∙◌, ◌&&◌, ◌||◌, not, list_any, filter, enumerate_from, map-append, GridPoint, GridHole, is_in_span, Profile, covers_hole, finding_of, is_refused_slot, layer_findings, spot_at, Covering, HasTriedCoverings, HasTried, JudgesByCoverings, gives_ring, is_marked, Drilled, Spot}
 use Rattle.std.proofs.lemmas.Simd.{map-map}
-use Rattle.grid_units.specs.Points.{GridPoint}
-use Rattle.grid_units.specs.Holes.{GridHole}
-use Rattle.grid_units.specs.Spans.{is_in_span}
-use Rattle.grid_units.specs.declared.profile.Profile.{Profile}
-use Rattle.pad_shapes.specs.Holding.{covers_hole}
-use Rattle.ring_rules.specs.Findings.{finding_of, is_refused_slot, layer_findings}
-use Rattle.ring_rules.specs.Spots.{spot_at}
-use Rattle.ring_rules.specs.Search.{Covering, HasTriedCoverings, HasTried}
-use Rattle.ring_rules.specs.WithoutFindings.{JudgesByCoverings}
-use Rattle.ring_rules.specs.Inner.Marks.{gives_ring, is_marked}
-use Rattle.ring_rules.specs.declared.finding.Drilled.{Drilled}
 use Rattle.ring_rules.specs.declared.layer_search.LayerSearch.{LayerSearch}
 use Rattle.ring_rules.specs.declared.ring_index.RingIndex.{RingIndex}
-use Rattle.ring_rules.specs.declared.spots.Spot.{Spot}
 
 -- a test of the elements' images
 pub any_mapped : {X Y : Type 0} (test : Y → Bool) (f : X → Y) (xs : List X) → list_any test (map f xs) ≡ list_any (λ x. test (f x)) xs

@@ -1,30 +1,18 @@
 -- What a status says of a request, of a loader whose names are taken from a folder, and where no folder could be entered.
-use Rattle.std.proofs.Common.{Bool, true, false, ℕ, List, [], ◌∷◌, Option, Some, None, Result, Ok, Err, inl, inr, refl}
+use Rattle.ringcheck.proofs.Common.{Bool, true, false, ℕ, List, [], ◌∷◌, Option, Some, None, Result, Ok, Err, inl, inr, refl, GridRules, Reason, Profile, Status, Relation, Written, parse_check, parse_draw, parse_measure, profile_of, Checks, IsParsedCheckStatus, IsParsedLegalStatus, IsParsedDrawStatus, PrintsPicture, IsParsedMeasureStatus, PrintsMeasure, measure_style, IsParsedReportStatus, IsWaivingReportStatus, IsExitOf, IsLegalRequest, IsRequestStatus, word_bytes, ReportFormat}
 use Rattle.command_line.specs.declared.Request.{Request}
 use Rattle.command_line.specs.declared.Request.TheVariants.{Check, Measure, Report, Draw, Show, Rewrite, Manifest, Explain}
-use Rattle.grid_units.specs.Holes.{GridRules}
-use Rattle.grid_units.specs.declared.fault.Reason.{Reason}
-use Rattle.grid_units.specs.declared.profile.Profile.{Profile}
 use Rattle.package_check.specs.SoundnessAsRead.{AreLegal}
-use Rattle.ringcheck_files.specs.declared.Status.{Status}
 use Rattle.ringcheck_files.specs.declared.Status.TheVariants as status
 use Rattle.ringcheck_files.specs.declared.file_jobs.FileJob.{FileJob}
 use Rattle.ringcheck_files.specs.declared.file_jobs.FileJob.TheVariants as file_job
-use Rattle.ringcheck_files.specs.FileStatus.{IsParsedFileStatus, parse_kind}
-use Rattle.ringcheck_files.specs.ManifestStatus.{HasAllLoaded, HasLoaded, IsExplainStatus, LoadedView, bytes, folder, long, unread}
-use Rattle.ringcheck_files.specs.LoaderRelation.{Relation}
+use Rattle.ringcheck_files.specs.FileStatus.{IsKindStatus, IsParsedFileStatus, parse_kind}
+use Rattle.ringcheck_files.specs.ManifestStatus.{HasAllLoaded, HasLoaded, IsExplainStatus, IsManifestStatus, LoadedView, bytes, folder, long, unread}
 use Rattle.ringcheck_files.specs.declared.rewrite.Kind.{Kind}
-use Rattle.ringcheck.specs.ParsedWords.{parse_check, parse_draw, parse_measure, profile_of}
-use Rattle.ringcheck.specs.CheckStatus.{Checks, IsParsedCheckStatus, IsParsedLegalStatus}
-use Rattle.ringcheck.specs.DrawStatus.{IsParsedDrawStatus, PrintsPicture}
 use Rattle.ringcheck.specs.ManifestStatus.{IsParsedManifestStatus}
-use Rattle.ringcheck.specs.MeasureStatus.{IsParsedMeasureStatus, PrintsMeasure, measure_style}
-use Rattle.ringcheck.specs.ReportStatus.{IsParsedReportStatus, IsWaivingReportStatus}
-use Rattle.ringcheck.specs.RequestStatus.{IsExitOf, IsLegalRequest, IsRequestStatus, word_bytes}
-use Rattle.ringcheck.specs.Sentences.{below_measure, below_profile}
+use Rattle.ringcheck.specs.Sentences.{measure_sentence, profile_sentence}
 use Rattle.ringcheck.specs.ShowStatus.{IsParsedShowStatus}
 use Rattle.ringcheck.specs.declared.parsed_words.MeasureOrder.{MeasureOrder}
-use Rattle.ringcheck.specs.declared.parsed_words.ReportFormat.{ReportFormat}
 use Rattle.ringcheck.specs.declared.refusals.RefusalStyle.TheVariants as style
 use Rattle.ringcheck.proofs.Outcomes.{package_along, says_along}
 use Rattle.ringcheck.proofs.OutlinedReports.{outlined_along}
@@ -41,22 +29,23 @@ exit_weaker true P Q to status.Refused h = to status.Refused h
 exit_weaker true P Q to status.Usage h = to status.Usage h
 exit_weaker true P Q to status.Device h = to status.Device h
 
-module _ (later has : List ℕ → List ℕ → Type 0) (to : (n b : List ℕ) → later n b → has n b) (before after : Option (List ℕ)) where
-  check_along : (name : List ℕ) (parsed : Result GridRules Reason) (s : Status) → IsParsedCheckStatus later name parsed before after s → IsParsedCheckStatus has name parsed before after s
-  check_along name (Ok rules) s h = says_along later has to rules.profile name (Checks rules before after) style.Line before after s h
-  check_along name (Err why) s h = h
+module _ (later has : List ℕ → List ℕ → Type 0) (to : (n b : List ℕ) → later n b → has n b) (before after : Written) where
+  check_along : (name : List ℕ) (parsed : Result GridRules Reason) (sentence : List ℕ) (s : Status) → IsParsedCheckStatus later name parsed sentence before after s → IsParsedCheckStatus has name parsed sentence before after s
+  check_along name (Ok rules) sentence s h = says_along later has to rules.profile name (Checks rules before.0 after.0) style.Line before after s h
+  check_along name (Err why) sentence s h = h
 
-  measure_along : (name : List ℕ) (parsed : Result MeasureOrder Reason) (below : List ℕ) (s : Status) → IsParsedMeasureStatus later name parsed below before after s → IsParsedMeasureStatus has name parsed below before after s
-  measure_along name (Ok order) below s h = says_along later has to order.profile name (PrintsMeasure order before after) (measure_style order.format) before after s h
-  measure_along name (Err why) below s h = h
+  measure_along : (name : List ℕ) (parsed : Result MeasureOrder Reason) (sentence : List ℕ) (s : Status) → IsParsedMeasureStatus later name parsed sentence before after s → IsParsedMeasureStatus has name parsed sentence before after s
+  measure_along name (Ok order) sentence s h = says_along later has to order.profile name (PrintsMeasure order before.0 after.0) (measure_style order.format) before after s h
+  measure_along name (Err why) sentence s h = h
 
-  draw_along : (name : List ℕ) (parsed : Result (Profile × Option GridRules) Reason) (outline : Option (List ℕ)) (s : Status) → IsParsedDrawStatus later name parsed outline before after s → IsParsedDrawStatus has name parsed outline before after s
-  draw_along name (Ok (profile, rules)) None s h = says_along later has to profile name (PrintsPicture rules [] before after) style.Line before after s h
-  draw_along name (Ok (profile, rules)) (Some file) s (inl (is, (why, (text, had, refused), printed))) = inl (is, (why, (text, to file text had, refused), printed))
-  draw_along name (Ok (profile, rules)) (Some file) s (inr (inl is)) = inr (inl is)
-  draw_along name (Ok (profile, rules)) (Some file) s (inr (inr (outline, (text, (had, short), reads), h))) =
-      inr (inr (outline, (text, (to file text had, short), reads), says_along later has to profile name (PrintsPicture rules outline before after) style.Line before after s h))
-  draw_along name (Err why) outline s h = h
+  draw_along : (name : List ℕ) (parsed : Result (Profile × Option GridRules) Reason) (sentence : List ℕ) (outline : Option (List ℕ)) (s : Status) → IsParsedDrawStatus later name parsed sentence outline before after s
+      → IsParsedDrawStatus has name parsed sentence outline before after s
+  draw_along name (Ok (profile, rules)) sentence None s h = says_along later has to profile name (PrintsPicture rules [] before.0 after.0) style.Line before after s h
+  draw_along name (Ok (profile, rules)) sentence (Some file) s (inl (is, (why, (text, had, refused), printed, silent))) = inl (is, (why, (text, to file text had, refused), printed, silent))
+  draw_along name (Ok (profile, rules)) sentence (Some file) s (inr (inl is)) = inr (inl is)
+  draw_along name (Ok (profile, rules)) sentence (Some file) s (inr (inr (outline, (text, (had, short), reads), h))) =
+      inr (inr (outline, (text, (to file text had, short), reads), says_along later has to profile name (PrintsPicture rules outline before.0 after.0) style.Line before after s h))
+  draw_along name (Err why) sentence outline s h = h
 
   waiving_along : (name : List ℕ) (rules : GridRules) (limit : Option ℕ) (form : ReportFormat) (waive outline : Option (List ℕ)) (s : Status)
       → IsWaivingReportStatus later name rules limit form waive outline before after s → IsWaivingReportStatus has name rules limit form waive outline before after s
@@ -66,22 +55,25 @@ module _ (later has : List ℕ → List ℕ → Type 0) (to : (n b : List ℕ) �
   waiving_along name rules limit form (Some file) outline s (inr (inr (waivers, (text, had, short, reads), h))) =
       inr (inr (waivers, (text, to file text had, short, reads), outlined_along later has to name rules limit form (Some waivers) outline before after s h))
 
-  report_along : (name : List ℕ) (parsed : Result (GridRules × Option ℕ × ReportFormat) Reason) (below : List ℕ) (waive outline : Option (List ℕ)) (s : Status)
-      → IsParsedReportStatus later name parsed below waive outline before after s → IsParsedReportStatus has name parsed below waive outline before after s
-  report_along name (Ok (rules, limit, form)) below waive outline s h = waiving_along name rules limit form waive outline s h
-  report_along name (Err why) below waive outline s h = h
+  report_along : (name : List ℕ) (parsed : Result (GridRules × Option ℕ × ReportFormat) Reason) (below : Bool) (sentence : List ℕ) (waive outline : Option (List ℕ)) (s : Status)
+      → IsParsedReportStatus later name parsed below sentence waive outline before after s → IsParsedReportStatus has name parsed below sentence waive outline before after s
+  report_along name (Ok (rules, limit, form)) below sentence waive outline s h = waiving_along name rules limit form waive outline s h
+  report_along name (Err why) below sentence waive outline s h = h
+
+  kind_along : (what : FileJob) (kind : Option Kind) (name : List ℕ) (from to_text : Option (List ℕ)) (s : Status) → IsKindStatus what kind later name from to_text s → IsKindStatus what kind has name from to_text s
+  kind_along what (Some kind) name from to_text status.Pass h = record { bytes = h.bytes; loaded = (to name h.bytes h.loaded.0, h.loaded.1); text = h.text; answer = h.answer; written = h.written }
+  kind_along what (Some kind) name from to_text status.Findings h = h
+  kind_along what (Some kind) name from to_text status.Refused h = record { bytes = h.bytes; loaded = to name h.bytes h.loaded; why = h.why; fault = h.fault; printed = h.printed }
+  kind_along what (Some kind) name from to_text status.Usage h = h
+  kind_along what (Some kind) name from to_text status.Device h = tt
+  kind_along what None name from to_text s h = h
 
   file_along : (what : FileJob) (kind : Option Kind) (name : List ℕ) (s : Status) → IsParsedFileStatus what kind later name before after s → IsParsedFileStatus what kind has name before after s
-  file_along what (Some kind) name status.Pass h = record { bytes = h.bytes; loaded = (to name h.bytes h.loaded.0, h.loaded.1); text = h.text; answer = h.answer; written = h.written }
-  file_along what (Some kind) name status.Findings h = h
-  file_along what (Some kind) name status.Refused h = record { bytes = h.bytes; loaded = to name h.bytes h.loaded; why = h.why; fault = h.fault; printed = h.printed }
-  file_along what (Some kind) name status.Usage h = h
-  file_along what (Some kind) name status.Device h = tt
-  file_along what None name s h = h
+  file_along what kind name s (h, silent) = (kind_along what kind name before.0 after.0 s h, silent)
 
-  show_along : (profile : Option Profile) (below : List ℕ) (kind : Option Kind) (name : List ℕ) (s : Status) → IsParsedShowStatus profile below kind later name before after s → IsParsedShowStatus profile below kind has name before after s
-  show_along (Some profile) below kind name s h = file_along (file_job.Show profile) kind name s h
-  show_along None below kind name s h = h
+  show_along : (profile : Option Profile) (sentence : List ℕ) (kind : Option Kind) (name : List ℕ) (s : Status) → IsParsedShowStatus profile sentence kind later name before after s → IsParsedShowStatus profile sentence kind has name before after s
+  show_along (Some profile) sentence kind name s h = file_along (file_job.Show profile) kind name s h
+  show_along None sentence kind name s h = h
 
   one_along : (name : List ℕ) (view : LoadedView) → HasLoaded later name view → HasLoaded has name view
   one_along name (bytes text) h = (to name text h.0, h.1)
@@ -93,9 +85,9 @@ module _ (later has : List ℕ → List ℕ → Type 0) (to : (n b : List ℕ) �
   all_along [] h = tt
   all_along (p ∷ ps) h = (one_along p.0 p.1 h.0, all_along ps h.1)
 
-  manifest_along : (profile : Option Profile) (below : List ℕ) (why : Bool) (failed_before failed_after : ℕ) (names : List (List ℕ)) (s : Status)
-      → IsParsedManifestStatus profile below why later failed_before failed_after names before after s → IsParsedManifestStatus profile below why has failed_before failed_after names before after s
-  manifest_along (Some profile) below why failed_before failed_after names status.Pass (named, h) = (
+  proposal_along : (profile : Profile) (why : Bool) (failed_before failed_after : ℕ) (names : List (List ℕ)) (s : Status)
+      → IsManifestStatus profile why later failed_before failed_after names before.0 after.0 s → IsManifestStatus profile why has failed_before failed_after names before.0 after.0 s
+  proposal_along profile why failed_before failed_after names status.Pass (named, h) = (
     named,
     record {
       files = h.files;
@@ -108,24 +100,28 @@ module _ (later has : List ℕ → List ℕ → Type 0) (to : (n b : List ℕ) �
       written = h.written;
     },
   )
-  manifest_along (Some profile) below why failed_before failed_after names status.Findings h = h
-  manifest_along (Some profile) below why failed_before failed_after names status.Refused h = h
-  manifest_along (Some profile) below why failed_before failed_after names status.Usage (inl h) = inl h
-  manifest_along (Some profile) below why failed_before failed_after names status.Usage (inr h) =
+  proposal_along profile why failed_before failed_after names status.Findings h = h
+  proposal_along profile why failed_before failed_after names status.Refused h = h
+  proposal_along profile why failed_before failed_after names status.Usage (inl h) = inl h
+  proposal_along profile why failed_before failed_after names status.Usage (inr h) =
       inr (record { all = h.all; named = h.named; loaded = all_along h.all h.loaded; failed = h.failed; hold = h.hold; written = h.written })
-  manifest_along (Some profile) below why failed_before failed_after names status.Device h = tt
-  manifest_along None below why failed_before failed_after names s h = h
+  proposal_along profile why failed_before failed_after names status.Device h = tt
+
+  manifest_along : (profile : Option Profile) (sentence : List ℕ) (why : Bool) (failed_before failed_after : ℕ) (names : List (List ℕ)) (s : Status)
+      → IsParsedManifestStatus profile sentence why later failed_before failed_after names before after s → IsParsedManifestStatus profile sentence why has failed_before failed_after names before after s
+  manifest_along (Some profile) sentence why failed_before failed_after names s (h, silent) = (proposal_along profile why failed_before failed_after names s h, silent)
+  manifest_along None sentence why failed_before failed_after names s h = h
 
   pub request_along : (request : Request) (failed_before failed_after : ℕ) (s : Status) → IsRequestStatus request later failed_before failed_after before after s → IsRequestStatus request has failed_before failed_after before after s
-  request_along (Check ring gap profile manifest) failed_before failed_after s h = check_along manifest.now (parse_check (word_bytes profile) ring.now gap.now) s h
+  request_along (Check ring gap profile manifest) failed_before failed_after s h = check_along manifest.now (parse_check (word_bytes profile) ring.now gap.now) _ s h
   request_along (Measure profile format manifest) failed_before failed_after s h =
-      measure_along manifest.now (parse_measure (word_bytes profile) (word_bytes format)) (below_measure (word_bytes profile) (word_bytes format)) s h
-  request_along (Report options manifest) failed_before failed_after s h = exit_weaker options.exit_zero _ _ (report_along manifest.now _ _ _ _) s h
+      measure_along manifest.now (parse_measure (word_bytes profile) (word_bytes format)) (measure_sentence (word_bytes profile) (word_bytes format)) s h
+  request_along (Report options manifest) failed_before failed_after s h = exit_weaker options.exit_zero _ _ (report_along manifest.now _ _ _ _ _) s h
   request_along (Draw options manifest) failed_before failed_after s h =
-      draw_along manifest.now (parse_draw (word_bytes options.profile) (word_bytes options.ring) (word_bytes options.gap)) (word_bytes options.outline) s h
-  request_along (Show kind profile file) failed_before failed_after s h = show_along (profile_of (word_bytes profile)) (below_profile (word_bytes profile)) (parse_kind kind.now) file.now s h
+      draw_along manifest.now (parse_draw (word_bytes options.profile) (word_bytes options.ring) (word_bytes options.gap)) _ (word_bytes options.outline) s h
+  request_along (Show kind profile file) failed_before failed_after s h = show_along (profile_of (word_bytes profile)) (profile_sentence (word_bytes profile)) (parse_kind kind.now) file.now s h
   request_along (Rewrite kind file) failed_before failed_after s h = file_along file_job.Rewrite (parse_kind kind.now) file.now s h
-  request_along (Manifest why profile files) failed_before failed_after s h = manifest_along (profile_of (word_bytes profile)) (below_profile (word_bytes profile)) why failed_before failed_after _ s h
+  request_along (Manifest why profile files) failed_before failed_after s h = manifest_along (profile_of (word_bytes profile)) (profile_sentence (word_bytes profile)) why failed_before failed_after _ s h
   request_along (Explain word) failed_before failed_after s h = h
 
 module _ (later has : List ℕ → List ℕ → Type 0) (to : (n b : List ℕ) → later n b → has n b) where
@@ -149,55 +145,55 @@ module _ (later has : List ℕ → List ℕ → Type 0) (to : (n b : List ℕ) �
 
 -- ---- Device says nothing of any request
 
-module _ (has : Relation) (before after : Option (List ℕ)) where
-  check_device : (name : List ℕ) (parsed : Result GridRules Reason) → IsParsedCheckStatus has name parsed before after status.Device
-  check_device name (Ok rules) = tt
-  check_device name (Err why) = inr refl
+module _ (has : Relation) (before after : Written) where
+  check_device : (name : List ℕ) (parsed : Result GridRules Reason) (sentence : List ℕ) → IsParsedCheckStatus has name parsed sentence before after status.Device
+  check_device name (Ok rules) sentence = tt
+  check_device name (Err why) sentence = inr refl
 
-  measure_device : (name : List ℕ) (parsed : Result MeasureOrder Reason) (below : List ℕ) → IsParsedMeasureStatus has name parsed below before after status.Device
-  measure_device name (Ok order) below = tt
-  measure_device name (Err why) below = inr refl
+  measure_device : (name : List ℕ) (parsed : Result MeasureOrder Reason) (sentence : List ℕ) → IsParsedMeasureStatus has name parsed sentence before after status.Device
+  measure_device name (Ok order) sentence = tt
+  measure_device name (Err why) sentence = inr refl
 
-  draw_device : (name : List ℕ) (parsed : Result (Profile × Option GridRules) Reason) (outline : Option (List ℕ)) → IsParsedDrawStatus has name parsed outline before after status.Device
-  draw_device name (Ok (profile, rules)) None = tt
-  draw_device name (Ok (profile, rules)) (Some file) = inr (inl refl)
-  draw_device name (Err why) outline = inr refl
+  draw_device : (name : List ℕ) (parsed : Result (Profile × Option GridRules) Reason) (sentence : List ℕ) (outline : Option (List ℕ)) → IsParsedDrawStatus has name parsed sentence outline before after status.Device
+  draw_device name (Ok (profile, rules)) sentence None = tt
+  draw_device name (Ok (profile, rules)) sentence (Some file) = inr (inl refl)
+  draw_device name (Err why) sentence outline = inr refl
 
-  report_device : (name : List ℕ) (parsed : Result (GridRules × Option ℕ × ReportFormat) Reason) (below : List ℕ) (waive outline : Option (List ℕ)) → IsParsedReportStatus has name parsed below waive outline before after status.Device
-  report_device name (Ok (rules, limit, form)) below (Some file) outline = inr (inl refl)
-  report_device name (Ok (rules, limit, form)) below None (Some file) = inr (inl refl)
-  report_device name (Ok (rules, limit, form)) below None None = tt
-  report_device name (Err why) below waive outline = inr refl
+  report_device : (name : List ℕ) (parsed : Result (GridRules × Option ℕ × ReportFormat) Reason) (below : Bool) (sentence : List ℕ) (waive outline : Option (List ℕ)) → IsParsedReportStatus has name parsed below sentence waive outline before after status.Device
+  report_device name (Ok (rules, limit, form)) below sentence (Some file) outline = inr (inl refl)
+  report_device name (Ok (rules, limit, form)) below sentence None (Some file) = inr (inl refl)
+  report_device name (Ok (rules, limit, form)) below sentence None None = tt
+  report_device name (Err why) below sentence waive outline = inr refl
 
   exit_device : (zero : Bool) (Says : Status → Type 0) → Says status.Device → IsExitOf zero Says status.Device
   exit_device true Says h = h
   exit_device false Says h = h
 
   file_device : (what : FileJob) (kind : Option Kind) (name : List ℕ) → IsParsedFileStatus what kind has name before after status.Device
-  file_device what (Some kind) name = tt
-  file_device what None name = inr refl
+  file_device what (Some kind) name = (tt, tt)
+  file_device what None name = (inr refl, tt)
 
-  show_device : (profile : Option Profile) (below : List ℕ) (kind : Option Kind) (name : List ℕ) → IsParsedShowStatus profile below kind has name before after status.Device
-  show_device (Some profile) below kind name = file_device (file_job.Show profile) kind name
-  show_device None below kind name = inr refl
+  show_device : (profile : Option Profile) (sentence : List ℕ) (kind : Option Kind) (name : List ℕ) → IsParsedShowStatus profile sentence kind has name before after status.Device
+  show_device (Some profile) sentence kind name = file_device (file_job.Show profile) kind name
+  show_device None sentence kind name = inr refl
 
-  manifest_device : (profile : Option Profile) (below : List ℕ) (why : Bool) (failed_before failed_after : ℕ) (names : List (List ℕ)) → IsParsedManifestStatus profile below why has failed_before failed_after names before after status.Device
-  manifest_device (Some profile) below why failed_before failed_after names = tt
-  manifest_device None below why failed_before failed_after names = inr refl
+  manifest_device : (profile : Option Profile) (sentence : List ℕ) (why : Bool) (failed_before failed_after : ℕ) (names : List (List ℕ)) → IsParsedManifestStatus profile sentence why has failed_before failed_after names before after status.Device
+  manifest_device (Some profile) sentence why failed_before failed_after names = (tt, tt)
+  manifest_device None sentence why failed_before failed_after names = inr refl
 
-  explain_device : (word : Option (List ℕ)) → IsExplainStatus word before after status.Device
+  explain_device : (word : Option (List ℕ)) → IsExplainStatus word before.0 after.0 status.Device
   explain_device (Some word) = tt
   explain_device None = tt
 
   pub request_device : (request : Request) (failed_before failed_after : ℕ) → IsRequestStatus request has failed_before failed_after before after status.Device
-  request_device (Check ring gap profile manifest) failed_before failed_after = check_device manifest.now (parse_check (word_bytes profile) ring.now gap.now)
+  request_device (Check ring gap profile manifest) failed_before failed_after = check_device manifest.now (parse_check (word_bytes profile) ring.now gap.now) _
   request_device (Measure profile format manifest) failed_before failed_after = measure_device manifest.now (parse_measure (word_bytes profile) (word_bytes format)) _
-  request_device (Report options manifest) failed_before failed_after = exit_device options.exit_zero _ (report_device manifest.now _ _ _ _)
-  request_device (Draw options manifest) failed_before failed_after = draw_device manifest.now (parse_draw (word_bytes options.profile) (word_bytes options.ring) (word_bytes options.gap)) (word_bytes options.outline)
+  request_device (Report options manifest) failed_before failed_after = exit_device options.exit_zero _ (report_device manifest.now _ _ _ _ _)
+  request_device (Draw options manifest) failed_before failed_after = draw_device manifest.now (parse_draw (word_bytes options.profile) (word_bytes options.ring) (word_bytes options.gap)) _ (word_bytes options.outline)
   request_device (Show kind profile file) failed_before failed_after = show_device (profile_of (word_bytes profile)) _ (parse_kind kind.now) file.now
   request_device (Rewrite kind file) failed_before failed_after = file_device file_job.Rewrite (parse_kind kind.now) file.now
   request_device (Manifest why profile files) failed_before failed_after = manifest_device (profile_of (word_bytes profile)) _ why failed_before failed_after _
-  request_device (Explain word) failed_before failed_after = explain_device (word_bytes word)
+  request_device (Explain word) failed_before failed_after = (explain_device (word_bytes word), tt)
 
 module _ (has : Relation) where
   legal_files_device : (name : List ℕ) (profile : Option Profile) → IsParsedLegalStatus has name profile status.Device

@@ -1,3 +1,4 @@
+pub mod Common
 pub mod Folders
 pub mod LoadSteps
 pub mod LoadedFiles

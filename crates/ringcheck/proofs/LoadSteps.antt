@@ -1,9 +1,5 @@
 -- The files of a package, loaded one by one.
-use Rattle.std.proofs.Common.{◌≡◌, ℕ, suc, List, [], ◌∷◌, length, map, arith, refl, ap}
-use Rattle.manifest.specs.declared.Entry.{Entry}
-use Rattle.std.specs.List.{AllByRecursion}
-use Rattle.package_check.specs.Package.{FileView, Setting}
-use Rattle.ringcheck.specs.CheckStatus.{HasFiles, file_views_among}
+use Rattle.ringcheck.proofs.Common.{◌≡◌, ℕ, suc, List, [], ◌∷◌, length, map, arith, refl, ap, Entry, AllByRecursion, FileView, Setting, HasFiles, file_views_among}
 
 pub same_length : (has : List ℕ → List ℕ → Type 0) (entries : List Entry) (files : List (List ℕ)) → HasFiles has entries files → length entries ≡ length files
 same_length has [] [] h = refl

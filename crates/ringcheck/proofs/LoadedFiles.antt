@@ -1,31 +1,14 @@
 -- Files of a package that were loaded, whatever their order.
-use Rattle.std.proofs.Common.{◌≡◌, cond, ◌≢◌, ◌<◌, ◌≤◌, ◌↔◌, ◌+◌, ◌||◌, ◌&&◌, eqb, ltb, ℕ, zero, suc, Bool, true, false, not, List, [], ◌∷◌, length, map, take, set, get_or, slice_get, Option, Some, None, Result, Ok, Err, inl, inr, arith, refl, sym, ap, subst, ◌∙◌}
-use Rattle.std.proofs.lemmas.Bool.{and_left, and_right, both_ways, cases_lt, eqb-true, le-ltb, lt-ltb, or_cases, or_from}
-use Rattle.std.specs.Option.{option_or, unwrap_or}
-use Rattle.std.proofs.lemmas.List.{get_or-set_other, get_or-set_same, length-set, length-take-le, take_all}
-use Rattle.std.specs.List.{count_by}
+use Rattle.ringcheck.proofs.Common.{◌≡◌, cond, ◌≢◌, ◌<◌, ◌≤◌, ◌↔◌, ◌+◌, ◌||◌, ◌&&◌, eqb, ltb, ℕ, zero, suc, Bool, true, false, not, List, [], ◌∷◌, length, map, take, set, get_or, Option, Some, None, Result, Ok, Err, inl, inr, arith, refl, sym, ap, subst, ◌∙◌, and_left, and_right, both_ways, cases_lt, eqb-true, le-ltb, lt-ltb, or_cases, or_from, option_or, unwrap_or, get_or-set_other, get_or-set_same, length-set, length-take-le, take_all, count_by, none-some, same_Some, slice_get_within, Entry, GridRules, Profile, CheckView, setting_of, HasJudged, HasJudgedAll, drill_files, layer_number, FileView, Setting, is_copper, file_limit, within, HasRisen, HasFiles, RefusedFile, file_views_among, long_file, setting_in, sources, Halts, OfFiles, refusal, AreFirstOf, EndsAt, HasLoaded, LoadsCopper, LoadsCopperTo, LoadsFile, LoadsKind, OfCheckedCopper, RefusesLong, is_kind_at, is_kind_of, source, Refusal, of_archive, Halt}
+use Rattle.std.proofs.Common.{slice_get}
 use Rattle.std.proofs.lemmas.List.Sums.{sum_by-cons}
-use Rattle.std.proofs.lemmas.Option.{none-some, same_Some, slice_get_within}
 use Rattle.layer_features.specs.declared.keep.Keep.{Keep}
-use Rattle.manifest.specs.declared.Entry.{Entry}
-use Rattle.grid_units.specs.Holes.{GridRules}
-use Rattle.grid_units.specs.declared.profile.Profile.{Profile}
-use Rattle.package_check.specs.CheckViews.{CheckView, setting_of}
-use Rattle.package_check.specs.Checking.{HasJudged, HasJudgedAll, drill_files, layer_number}
 use Rattle.package_check.specs.Holding as taking
 use Rattle.package_check.specs.Holding.{HasTaken, HasTakenAll, is_kind, setting_of as reader_setting}
-use Rattle.package_check.specs.Package.{FileView, Setting, is_copper}
 use Rattle.package_check.specs.declared.package_reader.PackageReader.{PackageReader}
 use Rattle.package_check.proofs.CheckSteps.{judged_alike, judged_all}
 use Rattle.package_check.proofs.TakeSteps.{all_below, none_below, none_more, one_more, or_none, or_together, taken_alike}
-use Rattle.ringcheck_files.specs.LoaderRelation.{file_limit, within}
-use Rattle.ringcheck_files.specs.Outcomes.{HasRisen}
-use Rattle.ringcheck.specs.CheckStatus.{HasFiles, RefusedFile, file_views_among, long_file, setting_in, sources}
-use Rattle.ringcheck.specs.Inner.Halting.{Halts, OfFiles, refusal}
-use Rattle.ringcheck.specs.Inner.Loading.{AreFirstOf, EndsAt, HasLoaded, LoadsCopper, LoadsCopperTo, LoadsFile, LoadsKind, OfCheckedCopper, RefusesLong, is_kind_at, is_kind_of, source}
-use Rattle.ringcheck.specs.Refusals.{Refusal, of_archive}
 use Rattle.ringcheck.proofs.Outcomes.{risen_since}
-use Rattle.ringcheck.specs.declared.refusals.Halt.{Halt}
 use Rattle.ringcheck.specs.declared.refusals.Halt.TheVariants as halt
 
 -- ---- the files of entries

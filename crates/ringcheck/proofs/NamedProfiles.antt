@@ -1,13 +1,7 @@
 -- Rules in the profile that a word names.
-use Rattle.std.proofs.Common.{◌≡◌, List, ℕ, Option, None, Some, Result, Ok, Err, ap, refl, inl}
-use Rattle.grid_units.specs.Holes.{GridRules}
+use Rattle.ringcheck.proofs.Common.{◌≡◌, List, ℕ, Option, None, Some, Result, Ok, Err, ap, refl, inl, GridRules, Reason, Profile, Relation, IsParsedLegalStatus, in_profile, parse_rules, rules_in}
 use Rattle.grid_units.specs.Results.{◌>>=◌}
-use Rattle.grid_units.specs.declared.fault.Reason.{Reason}
-use Rattle.grid_units.specs.declared.profile.Profile.{Profile}
-use Rattle.ringcheck_files.specs.LoaderRelation.{Relation}
 use Rattle.ringcheck_files.specs.declared.Status.TheVariants as status
-use Rattle.ringcheck.specs.CheckStatus.{IsParsedLegalStatus}
-use Rattle.ringcheck.specs.ParsedWords.{in_profile, parse_rules, rules_in}
 
 -- they have this profile
 pub profile_is : (o : Option Profile) (ring gap : List ℕ) (rules : GridRules) → rules_in o ring gap ≡ Ok rules → o ≡ Some rules.profile

@@ -1,31 +1,14 @@
 -- What follows for a package from what is said of its manifest and of its files.
-use Rattle.std.proofs.Common.{◌≡◌, ◌∙◌, ◌<◌, ◌≤◌, ◌∷◌, [], inl, inr, ℕ, zero, suc, Bool, true, false, List, Option, Some, Result, Ok, Err, IfOk, length, map, take, arith, refl, subst, sym}
-use Rattle.std.specs.Prelude.{◌==◌, ◌&&◌, slice_get}
+use Rattle.ringcheck.proofs.Common.{◌≡◌, ◌∙◌, ◌<◌, ◌≤◌, ◌∷◌, [], inl, inr, ℕ, zero, suc, Bool, true, false, List, Option, Some, Result, Ok, Err, IfOk, length, map, take, arith, refl, subst, sym, ◌==◌, slice_get, AllByRecursion, eqb-true, false≢true, nil_from_length, none-some, same_Some, IfOk-weaker, GridRules, Profile, Entry, manifest_in, FileView, Status, HasRisen, file_limit, within, IsSilent, Written, Halt, AfterHalt, AfterNoTable, Halts, HaltsTable, OfFiles, OfTaken, refusal, refusal_of, refusal_of_table, Refusal, PrintsRefusal, of_archive, of_role, HasFiles, HasTable, HoldsForPackage, RefusedFile, IsPackageRefusal, RefusedAmong, SaysPackage, Checks, IsCheckStatus, IsLegalStatus, bad_file, long_file, refused_file, refused_manifest, setting_in, sources, status_of}
+use Rattle.std.specs.Prelude.{◌&&◌}
 use Rattle.std.specs.Borrow.{Bor}
-use Rattle.std.specs.List.{AllByRecursion}
-use Rattle.std.proofs.lemmas.Bool.{eqb-true, false≢true}
-use Rattle.std.proofs.lemmas.List.{nil_from_length}
-use Rattle.std.proofs.lemmas.Option.{none-some, same_Some}
-use Rattle.std.proofs.lemmas.Result.{IfOk-weaker}
-use Rattle.grid_units.specs.Holes.{GridRules}
-use Rattle.grid_units.specs.declared.profile.Profile.{Profile}
-use Rattle.manifest.specs.declared.Entry.{Entry}
-use Rattle.manifest.specs.Manifest.{manifest_in}
-use Rattle.package_check.specs.Package.{FileView}
 use Rattle.package_check.specs.SoundnessAsRead.{AreLegal}
-use Rattle.ringcheck_files.specs.declared.Status.{Status}
 use Rattle.ringcheck_files.specs.declared.Status.TheVariants as status
 use Rattle.ringcheck_files.specs.declared.outcomes.Failure.{Failure}
-use Rattle.ringcheck_files.specs.Outcomes.{HasRisen}
-use Rattle.ringcheck_files.specs.LoaderRelation.{file_limit, within}
-use Rattle.ringcheck.specs.declared.refusals.Halt.{Halt}
 use Rattle.ringcheck.specs.declared.refusals.Halt.TheVariants as halt
 use Rattle.ringcheck.specs.declared.refusals.NoTable.{NoTable}
 use Rattle.ringcheck.specs.declared.refusals.NoTable.TheVariants as none
 use Rattle.ringcheck.specs.declared.refusals.RefusalStyle.{RefusalStyle}
-use Rattle.ringcheck.specs.Inner.Halting.{AfterHalt, AfterNoTable, Halts, HaltsTable, OfFiles, OfTaken, refusal, refusal_of, refusal_of_table}
-use Rattle.ringcheck.specs.Refusals.{Refusal, PrintsRefusal, of_archive, of_role}
-use Rattle.ringcheck.specs.CheckStatus.{HasFiles, HasTable, HoldsForPackage, RefusedFile, IsPackageRefusal, RefusedAmong, SaysPackage, Checks, IsCheckStatus, IsLegalStatus, bad_file, long_file, refused_file, refused_manifest, setting_in, sources, status_of}
 use Rattle.ringcheck.proofs.LoadSteps.{has_files_along, names_among, read_in, same_length}
 
 -- ---- findings
@@ -93,7 +76,7 @@ halts_of Is Risen (halt.Archive what fault name) why same is = subst Is (sym (sa
 halts_of Is Risen (halt.Unread what) why same is = absurd (none-some why same)
 
 -- a halt was printed
-module _ (Is : Refusal → Type 0) (Risen : Type 0) (refusal_style : RefusalStyle) (path : List ℕ) (before after : Option (List ℕ)) (P : Status → Type 0) where
+module _ (Is : Refusal → Type 0) (Risen : Type 0) (refusal_style : RefusalStyle) (path : List ℕ) (before after : Written) (P : Status → Type 0) where
   pub halted : (Risen → P status.Device) → ((why : Refusal) → Is why → PrintsRefusal refusal_style why before after → P status.Refused) → (h : Halt) → Halts Is Risen h
       → (r : Result Status Failure) → IfOk r (AfterHalt refusal_style h path before after) → IfOk r P
   halted device refused (halt.Refused what why) is r printed =
@@ -108,7 +91,7 @@ table_halts_of Is Risen (none.Halted h) why same is = halts_of Is Risen h why sa
 table_halts_of Is Risen (none.Role fault row) why same is = subst Is (sym (same_Some (of_role row.role row.file fault) why same)) is
 
 -- it was printed why there is no table
-module _ (Is : Refusal → Type 0) (Risen : Type 0) (refusal_style : RefusalStyle) (path : List ℕ) (before after : Option (List ℕ)) (P : Status → Type 0) where
+module _ (Is : Refusal → Type 0) (Risen : Type 0) (refusal_style : RefusalStyle) (path : List ℕ) (before after : Written) (P : Status → Type 0) where
   pub table_halted : (Risen → P status.Device) → ((why : Refusal) → Is why → PrintsRefusal refusal_style why before after → P status.Refused) → (h : NoTable) → HaltsTable Is Risen h
       → (r : Result Status Failure) → IfOk r (AfterNoTable refusal_style h path before after) → IfOk r P
   table_halted device refused (none.Halted h) is r printed = halted Is Risen refusal_style path before after P device refused h is r printed
@@ -150,38 +133,38 @@ module _ (later has : List ℕ → List ℕ → Type 0) (to : (n b : List ℕ) �
     refused_along why (refused_manifest h) = refused_manifest (h.0, to name h.0 h.1, h.2)
     refused_along why (refused_file entries listed file) = refused_file entries (listed_along entries listed) (file_along profile entries why file)
 
-    pub says_along : (Holds : Bool → List FileView → Type 0) (refusal_style : RefusalStyle) (before after : Option (List ℕ)) (s : Status) → SaysPackage later profile name Holds refusal_style before after s
+    pub says_along : (Holds : Bool → List FileView → Type 0) (refusal_style : RefusalStyle) (before after : Written) (s : Status) → SaysPackage later profile name Holds refusal_style before after s
         → SaysPackage has profile name Holds refusal_style before after s
-    says_along Holds refusal_style before after status.Pass h = package_along (Holds true) h
-    says_along Holds refusal_style before after status.Findings h = package_along (Holds false) h
+    says_along Holds refusal_style before after status.Pass h = (package_along (Holds true) h.0, h.1)
+    says_along Holds refusal_style before after status.Findings h = (package_along (Holds false) h.0, h.1)
     says_along Holds refusal_style before after status.Refused h = record { why = h.why; refused = refused_along h.why h.refused; printed = h.printed }
     says_along Holds refusal_style before after status.Usage h = absurd h
     says_along Holds refusal_style before after status.Device h = tt
 
 -- a command passes on a package, or has findings
-pub worked : (has : List ℕ → List ℕ → Type 0) (profile : Profile) (name : List ℕ) (Holds : Bool → List FileView → Type 0) (refusal_style : RefusalStyle) (before after : Option (List ℕ)) (entries : List Entry) (files : List (List ℕ))
-    → HasTable (manifest_in profile) has name entries → HasFiles (within file_limit has) entries files → (passes : Bool) → Holds passes (sources profile entries files)
+pub worked : (has : List ℕ → List ℕ → Type 0) (profile : Profile) (name : List ℕ) (Holds : Bool → List FileView → Type 0) (refusal_style : RefusalStyle) (before after : Written) (entries : List Entry) (files : List (List ℕ))
+    → HasTable (manifest_in profile) has name entries → HasFiles (within file_limit has) entries files → (passes : Bool) → Holds passes (sources profile entries files) → IsSilent before after
     → SaysPackage has profile name Holds refusal_style before after (status_of passes)
-worked has profile name Holds refusal_style before after entries files listed loaded true h = record { entries = entries; listed = listed; files = files; loaded = loaded; holds = h }
-worked has profile name Holds refusal_style before after entries files listed loaded false h = record { entries = entries; listed = listed; files = files; loaded = loaded; holds = h }
+worked has profile name Holds refusal_style before after entries files listed loaded true h silent = (record { entries = entries; listed = listed; files = files; loaded = loaded; holds = h }, silent)
+worked has profile name Holds refusal_style before after entries files listed loaded false h silent = (record { entries = entries; listed = listed; files = files; loaded = loaded; holds = h }, silent)
 
 -- what holds of all files of which something else holds, holds of a package
 pub package_weaker : (has : List ℕ → List ℕ → Type 0) (profile : Profile) (name : List ℕ) (P Q : List FileView → Type 0) → ((all : List FileView) → P all → Q all) → HoldsForPackage has profile name P → HoldsForPackage has profile name Q
 package_weaker has profile name P Q weaker h = record { entries = h.entries; listed = h.listed; files = h.files; loaded = h.loaded; holds = weaker (sources profile h.entries h.files) h.holds }
 
 -- what is said of a package by what holds of its files, is said by what then holds of them too
-pub says_weaker : (has : List ℕ → List ℕ → Type 0) (profile : Profile) (name : List ℕ) (P Q : Bool → List FileView → Type 0) → ((passes : Bool) (all : List FileView) → P passes all → Q passes all) → (refusal_style : RefusalStyle) (before after : Option (List ℕ)) (s : Status)
+pub says_weaker : (has : List ℕ → List ℕ → Type 0) (profile : Profile) (name : List ℕ) (P Q : Bool → List FileView → Type 0) → ((passes : Bool) (all : List FileView) → P passes all → Q passes all) → (refusal_style : RefusalStyle) (before after : Written) (s : Status)
     → SaysPackage has profile name P refusal_style before after s → SaysPackage has profile name Q refusal_style before after s
-says_weaker has profile name P Q weaker refusal_style before after status.Pass h = package_weaker has profile name (P true) (Q true) (weaker true) h
-says_weaker has profile name P Q weaker refusal_style before after status.Findings h = package_weaker has profile name (P false) (Q false) (weaker false) h
+says_weaker has profile name P Q weaker refusal_style before after status.Pass h = (package_weaker has profile name (P true) (Q true) (weaker true) h.0, h.1)
+says_weaker has profile name P Q weaker refusal_style before after status.Findings h = (package_weaker has profile name (P false) (Q false) (weaker false) h.0, h.1)
 says_weaker has profile name P Q weaker refusal_style before after status.Refused h = h
 says_weaker has profile name P Q weaker refusal_style before after status.Usage h = h
 says_weaker has profile name P Q weaker refusal_style before after status.Device h = h
 
 -- of a package that was checked each file is of the profile
-pub checked_is_legal : (has : List ℕ → List ℕ → Type 0) (name : List ℕ) (rules : GridRules) (before after : Option (List ℕ)) (s : Status) → IsCheckStatus has name rules before after s → IsLegalStatus has rules.profile name s
-checked_is_legal has name rules before after status.Pass h = package_weaker has rules.profile name (Checks rules before after true) AreLegal (λ all c. (c.is.contents, c.is.read)) h
-checked_is_legal has name rules before after status.Findings h = package_weaker has rules.profile name (Checks rules before after false) AreLegal (λ all c. (c.is.contents, c.is.read)) h
+pub checked_is_legal : (has : List ℕ → List ℕ → Type 0) (name : List ℕ) (rules : GridRules) (before after : Written) (s : Status) → IsCheckStatus has name rules before after s → IsLegalStatus has rules.profile name s
+checked_is_legal has name rules before after status.Pass h = package_weaker has rules.profile name (Checks rules before.0 after.0 true) AreLegal (λ all c. (c.is.contents, c.is.read)) h.0
+checked_is_legal has name rules before after status.Findings h = package_weaker has rules.profile name (Checks rules before.0 after.0 false) AreLegal (λ all c. (c.is.contents, c.is.read)) h.0
 checked_is_legal has name rules before after status.Refused h = tt
 checked_is_legal has name rules before after status.Usage h = tt
 checked_is_legal has name rules before after status.Device h = tt

@@ -1,16 +1,9 @@
 -- What a status says of a report with an outline, of a loader that has no more and of one that has more.
-use Rattle.std.proofs.Common.{Bool, true, false, ℕ, List, Option, Some, None, [], inl, inr}
-use Rattle.grid_units.specs.Holes.{GridRules}
-use Rattle.ringcheck_files.specs.declared.Status.{Status}
-use Rattle.ringcheck.specs.declared.parsed_words.ReportFormat.{ReportFormat}
-use Rattle.grid_units.specs.declared.profile.Profile.TheVariants.{Wide}
+use Rattle.ringcheck.proofs.Common.{Bool, true, false, ℕ, List, Option, Some, None, [], inl, inr, GridRules, Written, Status, ReportFormat, Wide, FileView, Holds, given, FindsFewer, IsFewer, IsOutlinedReportStatus, IsReportStatus, Reports, asks_wide, report_style}
 use Rattle.pad_shapes.specs.declared.drawn.Drawn.{Drawn}
-use Rattle.package_check.specs.Package.{FileView}
 use Rattle.report.specs.declared.BoardReport.{BoardReport}
-use Rattle.ringcheck.specs.Inner.Jobs.{Holds, given}
 use Rattle.ringcheck.specs.declared.jobs.Job.{Job}
 use Rattle.ringcheck.specs.declared.jobs.Job.TheVariants as job
-use Rattle.ringcheck.specs.ReportStatus.{FindsFewer, IsFewer, IsOutlinedReportStatus, IsReportStatus, Reports, asks_wide, report_style}
 use Rattle.ringcheck.proofs.Outcomes.{package_along, refused_along, says_along, says_weaker}
 use Rattle.waivers.specs.declared.Waiver.{Waiver}
 
@@ -48,18 +41,18 @@ holds_along later has to name (job.Report options) before after passes all h =
 holds_along later has to name (job.Draw order) before after passes all h = h
 
 -- what a status says of a report
-pub report_along : (later has : List ℕ → List ℕ → Type 0) → ((n b : List ℕ) → later n b → has n b) → (name : List ℕ) (rules : GridRules) (limit : Option ℕ) (form : ReportFormat) (waivers : Option (List Waiver)) (outline : List Drawn) (before after : Option (List ℕ)) (s : Status)
+pub report_along : (later has : List ℕ → List ℕ → Type 0) → ((n b : List ℕ) → later n b → has n b) → (name : List ℕ) (rules : GridRules) (limit : Option ℕ) (form : ReportFormat) (waivers : Option (List Waiver)) (outline : List Drawn) (before after : Written) (s : Status)
     → IsReportStatus later name rules limit form waivers outline before after s → IsReportStatus has name rules limit form waivers outline before after s
 report_along later has to name rules limit form waivers outline before after s h =
-    says_along later has to rules.profile name (Reports has name rules limit form waivers outline before after) (report_style form) before after s
-    (says_weaker later rules.profile name (Reports later name rules limit form waivers outline before after) (Reports has name rules limit form waivers outline before after)
-    (reports_along later has to name rules limit form waivers outline before after) (report_style form) before after s h)
+    says_along later has to rules.profile name (Reports has name rules limit form waivers outline before.0 after.0) (report_style form) before after s
+    (says_weaker later rules.profile name (Reports later name rules limit form waivers outline before.0 after.0) (Reports has name rules limit form waivers outline before.0 after.0)
+    (reports_along later has to name rules limit form waivers outline before.0 after.0) (report_style form) before after s h)
 
-pub outlined_along : (later has : List ℕ → List ℕ → Type 0) → ((n b : List ℕ) → later n b → has n b) → (name : List ℕ) (rules : GridRules) (limit : Option ℕ) (form : ReportFormat) (waivers : Option (List Waiver)) (outline : Option (List ℕ)) (before after : Option (List ℕ)) (s : Status)
+pub outlined_along : (later has : List ℕ → List ℕ → Type 0) → ((n b : List ℕ) → later n b → has n b) → (name : List ℕ) (rules : GridRules) (limit : Option ℕ) (form : ReportFormat) (waivers : Option (List Waiver)) (outline : Option (List ℕ)) (before after : Written) (s : Status)
     → IsOutlinedReportStatus later name rules limit form waivers outline before after s → IsOutlinedReportStatus has name rules limit form waivers outline before after s
 outlined_along later has to name rules limit form waivers None before after s h =
     report_along later has to name rules limit form waivers [] before after s h
-outlined_along later has to name rules limit form waivers (Some file) before after s (inl (is, (why, (text, had, refused), printed))) = inl (is, (why, (text, to file text had, refused), printed))
+outlined_along later has to name rules limit form waivers (Some file) before after s (inl (is, (why, (text, had, refused), printed, silent))) = inl (is, (why, (text, to file text had, refused), printed, silent))
 outlined_along later has to name rules limit form waivers (Some file) before after s (inr (inl is)) = inr (inl is)
 outlined_along later has to name rules limit form waivers (Some file) before after s (inr (inr (outline, (text, (had, short), reads), h))) =
     inr (inr (outline, (text, (to file text had, short), reads), report_along later has to name rules limit form waivers outline before after s h))

@@ -1,11 +1,8 @@
 -- The number of findings that a word names.
-use Rattle.std.proofs.Common.{◌≡◌, ◌≤◌, ◌∙◌, ℕ, List, Result, Ok, length, min, true, ap, sym, refl, arith}
-use Rattle.std.specs.Prelude.{nat_le, ◌&&◌}
-use Rattle.std.proofs.lemmas.Bool.{le-leb}
+use Rattle.ringcheck.proofs.Common.{◌≡◌, ◌≤◌, ◌∙◌, ℕ, List, Result, Ok, length, min, true, ap, sym, refl, arith, nat_le, le-leb, Reason, parse_count}
+use Rattle.std.specs.Prelude.{◌&&◌}
 use Rattle.grid_units.specs.Numbers.{is_digits, value}
-use Rattle.grid_units.specs.declared.fault.Reason.{Reason}
 use Rattle.grid_units.proofs.DigitLemmas.{nine_digits}
-use Rattle.ringcheck.specs.ParsedWords.{parse_count}
 
 abbrev counted : ℕ → Result ℕ Reason
 counted n = Ok n

@@ -1,24 +1,11 @@
 -- What a check or a report that passes, or a measure, says of three files at hand.
-use Rattle.std.proofs.Common.{◌≡◌, ℕ, zero, suc, List, [], ◌∷◌, inl, inr, Option, None, Result, Ok, Err, length, codes, ap, sym, subst, refl, arith}
-use Rattle.std.specs.List.{Contains}
-use Rattle.grid_units.specs.Holes.{GridRules}
-use Rattle.grid_units.specs.declared.fault.Reason.{Reason}
-use Rattle.grid_units.specs.declared.profile.Profile.{Profile}
-use Rattle.manifest.specs.declared.Entry.{Entry}
-use Rattle.manifest.specs.Manifest.{manifest_in}
+use Rattle.ringcheck.proofs.Common.{◌≡◌, ℕ, zero, suc, Bool, true, false, List, [], ◌∷◌, inl, inr, Option, None, Result, Ok, Err, length, codes, ap, sym, subst, refl, arith, Contains, GridRules, Reason, Profile, Entry, manifest_in, FileView, Status, ReportFormat, IsParsedMeasureStatus, file_limit, within, Written, IsParsedReportStatus, HasFiles, HoldsForPackage, IsParsedCheckStatus, sources}
 use Rattle.board_report.specs.Measures.{PackagePasses}
 use Rattle.report.specs.declared.Measure.{Measure}
-use Rattle.package_check.specs.Package.{FileView}
 use Rattle.package_check.specs.Soundness.{IsSound}
-use Rattle.ringcheck_files.specs.declared.Status.{Status}
 use Rattle.ringcheck_files.specs.declared.Status.TheVariants as status
 use Rattle.ringcheck.specs.declared.parsed_words.MeasureOrder.{MeasureOrder}
-use Rattle.ringcheck.specs.declared.parsed_words.ReportFormat.{ReportFormat}
-use Rattle.ringcheck.specs.MeasureStatus.{IsParsedMeasureStatus}
-use Rattle.ringcheck_files.specs.LoaderRelation.{file_limit, within}
-use Rattle.ringcheck_files.specs.Words.{IsExplainedUsage, IsUsageStatus}
-use Rattle.ringcheck.specs.ReportStatus.{IsParsedReportStatus}
-use Rattle.ringcheck.specs.CheckStatus.{HasFiles, HoldsForPackage, IsParsedCheckStatus, sources}
+use Rattle.ringcheck_files.specs.Words.{IsExplainedUsage}
 use Rattle.ringcheck.proofs.LoadSteps.{has_files_along}
 
 -- a manifest, a layer and a drill file under their names
@@ -37,13 +24,9 @@ first_held m l d text (suc zero, lt, is) = absurd (other_length (codes "top.gbr"
 first_held m l d text (suc (suc zero), lt, is) = absurd (other_length (codes "pth.drl") (codes "m.csv") refl refl (ap (λ (p : List ℕ × List ℕ). p.0) is))
 first_held m l d text (suc (suc (suc k)), lt, is) = absurd (omega (arith, lt))
 
-usage_never_passes : (why : Reason) (before after : Option (List ℕ)) (s : Status) → IsUsageStatus why before after s → s ≡ status.Pass → ⊥
-usage_never_passes why before after s (inl u) p = let e = u.0 in cc
-usage_never_passes why before after s (inr d) p = cc
-
-explained_never_passes : (why : Reason) (below : List ℕ) (before after : Option (List ℕ)) (s : Status) → IsExplainedUsage why below before after s → s ≡ status.Pass → ⊥
-explained_never_passes why below before after s (inl u) p = let e = u.0 in cc
-explained_never_passes why below before after s (inr d) p = cc
+usage_never_passes : (below : Bool) (why : Reason) (sentence : List ℕ) (before after : Written) (s : Status) → IsExplainedUsage below why sentence before after s → s ≡ status.Pass → ⊥
+usage_never_passes below why sentence before after s (inl u) p = let e = u.0 in cc
+usage_never_passes below why sentence before after s (inr d) p = cc
 
 -- a package whose manifest is the first file
 held : (m l d : List ℕ) (profile : Profile) (Holds : List FileView → Type 0) → HoldsForPackage (has_three_files m l d) profile (codes "m.csv") Holds
@@ -58,32 +41,32 @@ held m l d profile Holds h =
     )
 
 -- the files that the manifest names are sound
-pub sound_of_three : (m l d : List ℕ) (r : Result GridRules Reason) (before after : Option (List ℕ)) (s : Status) → IsParsedCheckStatus (has_three_files m l d) (codes "m.csv") r before after s → s ≡ status.Pass
+pub sound_of_three : (sentence m l d : List ℕ) (r : Result GridRules Reason) (before after : Written) (s : Status) → IsParsedCheckStatus (has_three_files m l d) (codes "m.csv") r sentence before after s → s ≡ status.Pass
     → (rules : GridRules) × (r ≡ Ok rules) × (entries : List Entry) × (manifest_in rules.profile m ≡ Ok entries) × (files : List (List ℕ)) × HasFiles (has_three_files m l d) entries files × IsSound (sources rules.profile entries files) rules
-sound_of_three m l d (Err why) before after s says is = absurd (usage_never_passes why before after s says is)
-sound_of_three m l d (Ok rules) before after status.Pass says is = let (entries, listed, files, loaded, holds) = held m l d rules.profile _ says in (rules, refl, entries, listed, files, loaded, holds.sound refl)
-sound_of_three m l d (Ok rules) before after status.Findings says is = cc
-sound_of_three m l d (Ok rules) before after status.Refused says is = cc
-sound_of_three m l d (Ok rules) before after status.Usage says is = cc
-sound_of_three m l d (Ok rules) before after status.Device says is = cc
+sound_of_three sentence m l d (Err why) before after s says is = absurd (usage_never_passes false why sentence before after s says is)
+sound_of_three sentence m l d (Ok rules) before after status.Pass says is = let (entries, listed, files, loaded, holds) = held m l d rules.profile _ says.0 in (rules, refl, entries, listed, files, loaded, holds.sound refl)
+sound_of_three sentence m l d (Ok rules) before after status.Findings says is = cc
+sound_of_three sentence m l d (Ok rules) before after status.Refused says is = cc
+sound_of_three sentence m l d (Ok rules) before after status.Usage says is = cc
+sound_of_three sentence m l d (Ok rules) before after status.Device says is = cc
 
 -- the files that the manifest names pass under just the rules that are met
-pub met_of_three : (below : List ℕ) (m l d : List ℕ) (r : Result MeasureOrder Reason) (before after : Option (List ℕ)) (s : Status) → IsParsedMeasureStatus (has_three_files m l d) (codes "m.csv") r below before after s → s ≡ status.Pass
+pub met_of_three : (sentence m l d : List ℕ) (r : Result MeasureOrder Reason) (before after : Written) (s : Status) → IsParsedMeasureStatus (has_three_files m l d) (codes "m.csv") r sentence before after s → s ≡ status.Pass
     → (order : MeasureOrder) × (r ≡ Ok order) × (entries : List Entry) × (manifest_in order.profile m ≡ Ok entries) × (files : List (List ℕ)) × HasFiles (has_three_files m l d) entries files
     × (measure : Measure) × PackagePasses order.profile (sources order.profile entries files) measure.meets.ring measure.meets.gap
-met_of_three below m l d (Err why) before after s says is = absurd (explained_never_passes why below before after s says is)
-met_of_three below m l d (Ok order) before after status.Pass says is = let (entries, listed, files, loaded, holds) = held m l d order.profile _ says in (order, refl, entries, listed, files, loaded, holds.measure, holds.met)
-met_of_three below m l d (Ok order) before after status.Findings says is = cc
-met_of_three below m l d (Ok order) before after status.Refused says is = cc
-met_of_three below m l d (Ok order) before after status.Usage says is = cc
-met_of_three below m l d (Ok order) before after status.Device says is = cc
+met_of_three sentence m l d (Err why) before after s says is = absurd (usage_never_passes true why sentence before after s says is)
+met_of_three sentence m l d (Ok order) before after status.Pass says is = let (entries, listed, files, loaded, holds) = held m l d order.profile _ says.0 in (order, refl, entries, listed, files, loaded, holds.measure, holds.met)
+met_of_three sentence m l d (Ok order) before after status.Findings says is = cc
+met_of_three sentence m l d (Ok order) before after status.Refused says is = cc
+met_of_three sentence m l d (Ok order) before after status.Usage says is = cc
+met_of_three sentence m l d (Ok order) before after status.Device says is = cc
 
 -- the files that the manifest names are sound, where a report has no finding
-pub report_of_three : (below : List ℕ) (m l d : List ℕ) (r : Result (GridRules × Option ℕ × ReportFormat) Reason) (before after : Option (List ℕ)) (s : Status) → IsParsedReportStatus (has_three_files m l d) (codes "m.csv") r below None None before after s → s ≡ status.Pass
+pub report_of_three : (below : Bool) (sentence m l d : List ℕ) (r : Result (GridRules × Option ℕ × ReportFormat) Reason) (before after : Written) (s : Status) → IsParsedReportStatus (has_three_files m l d) (codes "m.csv") r below sentence None None before after s → s ≡ status.Pass
     → (unparsed : GridRules × Option ℕ × ReportFormat) × (r ≡ Ok unparsed) × (entries : List Entry) × (manifest_in unparsed.0.profile m ≡ Ok entries) × (files : List (List ℕ)) × HasFiles (has_three_files m l d) entries files × IsSound (sources unparsed.0.profile entries files) unparsed.0
-report_of_three below m l d (Err why) before after s says is = absurd (explained_never_passes why below before after s says is)
-report_of_three below m l d (Ok (rules, limit, form)) before after status.Pass says is = let (entries, listed, files, loaded, holds) = held m l d rules.profile _ says in ((rules, limit, form), refl, entries, listed, files, loaded, holds.sound (sym holds.judged.0))
-report_of_three below m l d (Ok (rules, limit, form)) before after status.Findings says is = cc
-report_of_three below m l d (Ok (rules, limit, form)) before after status.Refused says is = cc
-report_of_three below m l d (Ok (rules, limit, form)) before after status.Usage says is = cc
-report_of_three below m l d (Ok (rules, limit, form)) before after status.Device says is = cc
+report_of_three below sentence m l d (Err why) before after s says is = absurd (usage_never_passes below why sentence before after s says is)
+report_of_three below sentence m l d (Ok (rules, limit, form)) before after status.Pass says is = let (entries, listed, files, loaded, holds) = held m l d rules.profile _ says.0 in ((rules, limit, form), refl, entries, listed, files, loaded, holds.sound (sym holds.judged.0))
+report_of_three below sentence m l d (Ok (rules, limit, form)) before after status.Findings says is = cc
+report_of_three below sentence m l d (Ok (rules, limit, form)) before after status.Refused says is = cc
+report_of_three below sentence m l d (Ok (rules, limit, form)) before after status.Usage says is = cc
+report_of_three below sentence m l d (Ok (rules, limit, form)) before after status.Device says is = cc

@@ -16,7 +16,8 @@ use Rattle.ringcheck.specs.declared.refusals.RefusalStyle.TheVariants as style
 use Rattle.ringcheck.specs.Refusals.{Refusal, PrintsRefusal, of_archive, of_file, of_manifest, of_role}
 use Rattle.manifest.specs.Contents.{is_archive}
 use Rattle.ringcheck_files.specs.LoaderRelation.{Relation, file_limit, too_long, within}
-use Rattle.ringcheck_files.specs.Words.{IsUsageStatus}
+use Rattle.ringcheck_files.specs.Words.{IsExplainedUsage}
+use Rattle.ringcheck_files.specs.Writers.{IsSilent, Written}
 use Rattle.package_check.specs.Reports.{ReportView}
 use Rattle.package_check.specs.Package.{FileView, IsFirstRefused, IsReport, Setting, is_copper}
 use Rattle.package_check.specs.Soundness.{IsSound}
@@ -127,17 +128,17 @@ pub data IsPackageRefusal (has : Relation) (profile : Profile) (name : List ℕ)
   refused_manifest : RefusedTable (manifest_in profile) of_manifest has name why → IsPackageRefusal has profile name why
   refused_file : (entries : List Entry) → HasTable (manifest_in profile) has name entries → RefusedFile has profile entries why → IsPackageRefusal has profile name why
 
--- such bytes are refused, and the writer got just the text of the refusal
-pub record PrintsPackageRefusal (has : Relation) (profile : Profile) (name : List ℕ) (refusal_style : RefusalStyle) (before after : Option (List ℕ)) : Type 0 where
+-- such bytes are refused, and just the text of the refusal was written, and beside it its sentence
+pub record PrintsPackageRefusal (has : Relation) (profile : Profile) (name : List ℕ) (refusal_style : RefusalStyle) (before after : Written) : Type 0 where
   pub why : Refusal
   pub refused : IsPackageRefusal has profile name why
   pub printed : PrintsRefusal refusal_style why before after
 
 -- what a status says of a command on a package that is read in this profile: where it passes, or has findings, `Holds` says so of the
--- package's files; a refusal, which is the same under any rules, was printed in this style
-abbrev pub SaysPackage : Relation → Profile → List ℕ → (Bool → List FileView → Type 0) → RefusalStyle → Option (List ℕ) → Option (List ℕ) → Status → Type 0
-SaysPackage has profile name Holds refusal_style before after status.Pass = HoldsForPackage has profile name (Holds true)
-SaysPackage has profile name Holds refusal_style before after status.Findings = HoldsForPackage has profile name (Holds false)
+-- package's files, and nothing was said beside it; a refusal, which is the same under any rules, was printed in this style
+abbrev pub SaysPackage : Relation → Profile → List ℕ → (Bool → List FileView → Type 0) → RefusalStyle → Written → Written → Status → Type 0
+SaysPackage has profile name Holds refusal_style before after status.Pass = HoldsForPackage has profile name (Holds true) × IsSilent before after
+SaysPackage has profile name Holds refusal_style before after status.Findings = HoldsForPackage has profile name (Holds false) × IsSilent before after
 SaysPackage has profile name Holds refusal_style before after status.Refused = PrintsPackageRefusal has profile name refusal_style before after
 SaysPackage has profile name Holds refusal_style before after status.Usage = ⊥
 SaysPackage has profile name Holds refusal_style before after status.Device = ⊤
@@ -155,13 +156,13 @@ pub record Checks (rules : GridRules) (before after : Option (List ℕ)) (passes
   pub sound : passes ≡ true → IsSound all rules
 
 -- what a status says of a check of a package under these rules, in their profile
-abbrev pub IsCheckStatus : Relation → List ℕ → GridRules → Option (List ℕ) → Option (List ℕ) → Status → Type 0
-IsCheckStatus has name rules before after s = SaysPackage has rules.profile name (Checks rules before after) style.Line before after s
+abbrev pub IsCheckStatus : Relation → List ℕ → GridRules → Written → Written → Status → Type 0
+IsCheckStatus has name rules before after s = SaysPackage has rules.profile name (Checks rules before.0 after.0) style.Line before after s
 
--- what a status says of a check under the rules that words name, or where these are refused
-abbrev pub IsParsedCheckStatus : Relation → List ℕ → Result GridRules Reason → Option (List ℕ) → Option (List ℕ) → Status → Type 0
-IsParsedCheckStatus has name (Ok rules) before after s = IsCheckStatus has name rules before after s
-IsParsedCheckStatus has name (Err why) before after s = IsUsageStatus why before after s
+-- what a status says of a check under the rules that words name, or where these are refused, and beside the line this sentence says why
+abbrev pub IsParsedCheckStatus : Relation → List ℕ → Result GridRules Reason → List ℕ → Written → Written → Status → Type 0
+IsParsedCheckStatus has name (Ok rules) sentence before after s = IsCheckStatus has name rules before after s
+IsParsedCheckStatus has name (Err why) sentence before after s = IsExplainedUsage false why sentence before after s
 
 -- what a status says of the files alone: where the check passes or has findings, each file of the package is of this profile
 abbrev pub IsLegalStatus : Relation → Profile → List ℕ → Status → Type 0

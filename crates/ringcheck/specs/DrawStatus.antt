@@ -1,5 +1,5 @@
 -- What a status says of the picture of a package.
-use Rattle.std.specs.Prelude.{◌≡◌, ◌⊎◌, ℕ, Bool, true, List, [], map, Option, None, Some, Result, Ok, Err}
+use Rattle.std.specs.Prelude.{◌≡◌, ◌⊎◌, ℕ, Bool, true, false, List, [], map, Option, None, Some, Result, Ok, Err}
 use Rattle.std.specs.Io.KnownBytes.{Appends}
 use Rattle.grid_units.specs.Holes.{GridRules}
 use Rattle.grid_units.specs.declared.profile.Profile.{Profile}
@@ -15,7 +15,8 @@ use Rattle.ringcheck.specs.declared.refusals.RefusalStyle.TheVariants as style
 use Rattle.ringcheck.specs.CheckStatus.{SaysPackage}
 use Rattle.ringcheck.specs.Outlining.{HasOutline, PrintsOutlineRefusal}
 use Rattle.ringcheck_files.specs.LoaderRelation.{Relation}
-use Rattle.ringcheck_files.specs.Words.{IsUsageStatus}
+use Rattle.ringcheck_files.specs.Words.{IsExplainedUsage}
+use Rattle.ringcheck_files.specs.Writers.{Written}
 
 -- the writer got just the picture of the files' board, with what the copper files draw, an outline of these parts, and what is found under the rules, if
 -- there are any; without findings the files are sound
@@ -29,18 +30,19 @@ pub record PrintsPicture (rules : Option GridRules) (outline : List Drawn) (befo
   pub passed : passes ≡ true
 
 -- what a status says of the picture of a package, read in a profile, with an outline of these parts; it is never Findings
-abbrev pub IsDrawStatus : Relation → List ℕ → Profile → Option GridRules → List Drawn → Option (List ℕ) → Option (List ℕ) → Status → Type 0
-IsDrawStatus has name profile rules outline before after s = SaysPackage has profile name (PrintsPicture rules outline before after) style.Line before after s
+abbrev pub IsDrawStatus : Relation → List ℕ → Profile → Option GridRules → List Drawn → Written → Written → Status → Type 0
+IsDrawStatus has name profile rules outline before after s = SaysPackage has profile name (PrintsPicture rules outline before.0 after.0) style.Line before after s
 
 -- what a status says of a picture for which the file of an outline may be named: without one the picture has no outline; with one that
 -- file is refused, or the status is Device, or the file has an outline and the picture is made with it
-abbrev pub IsOutlinedDrawStatus : Relation → List ℕ → Profile → Option GridRules → Option (List ℕ) → Option (List ℕ) → Option (List ℕ) → Status → Type 0
+abbrev pub IsOutlinedDrawStatus : Relation → List ℕ → Profile → Option GridRules → Option (List ℕ) → Written → Written → Status → Type 0
 IsOutlinedDrawStatus has name profile rules None before after s = IsDrawStatus has name profile rules [] before after s
 IsOutlinedDrawStatus has name profile rules (Some file) before after s =
     ((s ≡ status.Refused) × PrintsOutlineRefusal has file before after)
     ⊎ ((s ≡ status.Device) ⊎ ((outline : List Drawn) × HasOutline has file outline × IsDrawStatus has name profile rules outline before after s))
 
--- what a status says of a picture in the profile and under the rules that words name, or where these are refused; `outline` is the file of an outline, if there is one
-abbrev pub IsParsedDrawStatus : Relation → List ℕ → Result (Profile × Option GridRules) Reason → Option (List ℕ) → Option (List ℕ) → Option (List ℕ) → Status → Type 0
-IsParsedDrawStatus has name (Ok (profile, rules)) outline before after s = IsOutlinedDrawStatus has name profile rules outline before after s
-IsParsedDrawStatus has name (Err why) outline before after s = IsUsageStatus why before after s
+-- what a status says of a picture in the profile and under the rules that words name, or where these are refused, and beside the line
+-- this sentence says why; `outline` is the file of an outline, if there is one
+abbrev pub IsParsedDrawStatus : Relation → List ℕ → Result (Profile × Option GridRules) Reason → List ℕ → Option (List ℕ) → Written → Written → Status → Type 0
+IsParsedDrawStatus has name (Ok (profile, rules)) sentence outline before after s = IsOutlinedDrawStatus has name profile rules outline before after s
+IsParsedDrawStatus has name (Err why) sentence outline before after s = IsExplainedUsage false why sentence before after s

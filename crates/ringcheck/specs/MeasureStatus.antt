@@ -21,6 +21,7 @@ use Rattle.ringcheck.specs.declared.refusals.RefusalStyle.TheVariants as style
 use Rattle.ringcheck.specs.CheckStatus.{SaysPackage}
 use Rattle.ringcheck_files.specs.LoaderRelation.{Relation}
 use Rattle.ringcheck_files.specs.Words.{IsExplainedUsage}
+use Rattle.ringcheck_files.specs.Writers.{Written}
 
 -- the lines of a measure below those of the files: `ring`, `scale`, `gap` and, last, `meets`
 abbrev pub lines_of : Measure → List ℕ
@@ -60,10 +61,10 @@ measure_style format.Text = style.Page
 measure_style format.Json = style.Json
 
 -- what a status says of the measure of a package, of which a refusal is printed as in place of a report; it is never Findings
-abbrev pub IsMeasureStatus : Relation → List ℕ → MeasureOrder → Option (List ℕ) → Option (List ℕ) → Status → Type 0
-IsMeasureStatus has name job before after s = SaysPackage has job.profile name (PrintsMeasure job before after) (measure_style job.format) before after s
+abbrev pub IsMeasureStatus : Relation → List ℕ → MeasureOrder → Written → Written → Status → Type 0
+IsMeasureStatus has name job before after s = SaysPackage has job.profile name (PrintsMeasure job before.0 after.0) (measure_style job.format) before after s
 
--- what a status says of a measure that is asked for by words, or where these are refused and `below` stands below their line
-abbrev pub IsParsedMeasureStatus : Relation → List ℕ → Result MeasureOrder Reason → List ℕ → Option (List ℕ) → Option (List ℕ) → Status → Type 0
-IsParsedMeasureStatus has name (Ok order) below before after s = IsMeasureStatus has name order before after s
-IsParsedMeasureStatus has name (Err why) below before after s = IsExplainedUsage why below before after s
+-- what a status says of a measure that is asked for by words, or where these are refused and this sentence stands below their line
+abbrev pub IsParsedMeasureStatus : Relation → List ℕ → Result MeasureOrder Reason → List ℕ → Written → Written → Status → Type 0
+IsParsedMeasureStatus has name (Ok order) sentence before after s = IsMeasureStatus has name order before after s
+IsParsedMeasureStatus has name (Err why) sentence before after s = IsExplainedUsage true why sentence before after s

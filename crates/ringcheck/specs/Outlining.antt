@@ -1,5 +1,5 @@
 -- The outline of a board that a loader has under a name, or why it is refused (docs/FORMATS.md, The program).
-use Rattle.std.specs.Prelude.{◌≡◌, ◌<◌, ◌⊎◌, ◌++◌, ◌∷◌, [], ℕ, List, Option, Result, Ok, Err, codes, decimal, length}
+use Rattle.std.specs.Prelude.{◌≡◌, ◌<◌, ◌⊎◌, ◌++◌, ◌∷◌, [], ℕ, List, Result, Ok, Err, codes, decimal, length}
 use Rattle.std.specs.Io.KnownBytes.{Appends}
 use Rattle.grid_units.specs.Ascii as ascii
 use Rattle.grid_units.specs.Reasons.{reason_name}
@@ -9,6 +9,7 @@ use Rattle.layer_image.specs.Layers.{ReadsLayer}
 use Rattle.pad_shapes.specs.declared.drawn.Drawn.{Drawn}
 use Rattle.package_check.specs.FileTexts.{Draws}
 use Rattle.ringcheck_files.specs.LoaderRelation.{Relation, file_limit, too_long, within}
+use Rattle.ringcheck_files.specs.Writers.{IsSilent, Written}
 
 -- in the strict profile a text is that of a layer, which draws these parts; or it has this fault
 abbrev pub ReadsOutline : List ℕ → Result (List Drawn) Fault → Type 0
@@ -32,6 +33,6 @@ abbrev pub outline_line : Fault → List ℕ
 outline_line why =
     codes "refused outline place=" ++ (decimal why.place ++ (codes " byte=" ++ (decimal why.byte ++ (codes " reason=" ++ (reason_name why.reason ++ ascii.line_feed ∷ [])))))
 
--- a file of an outline is refused, and the writer got just the line of the refusal
-abbrev pub PrintsOutlineRefusal : Relation → List ℕ → Option (List ℕ) → Option (List ℕ) → Type 0
-PrintsOutlineRefusal has file before after = (why : Fault) × RefusedOutline has file why × Appends before after (outline_line why)
+-- a file of an outline is refused, and just the line of the refusal was written
+abbrev pub PrintsOutlineRefusal : Relation → List ℕ → Written → Written → Type 0
+PrintsOutlineRefusal has file before after = (why : Fault) × RefusedOutline has file why × Appends before.0 after.0 (outline_line why) × IsSilent before after

@@ -1,5 +1,5 @@
 -- Why a package is refused, and what is printed of it (docs/FORMATS.md, The program).
-use Rattle.std.specs.Prelude.{◌≡◌, ◌+◌, ◌++◌, ◌∷◌, ◌||◌, [], ℕ, Bool, List, Option, codes, decimal, nat_eq, if◌then◌else◌}
+use Rattle.std.specs.Prelude.{◌≡◌, ◌+◌, ◌++◌, ◌∷◌, ◌||◌, [], ℕ, Bool, List, Option, Some, None, codes, decimal, nat_eq, if◌then◌else◌}
 use Rattle.std.specs.Io.KnownBytes.{Appends}
 use Rattle.std.specs.List.{ends_with, flat_map}
 use Rattle.std.specs.Str.{bytes_eq}
@@ -12,43 +12,36 @@ use Rattle.grid_units.specs.declared.fault.Reason.{Reason}
 use Rattle.print_json.specs.Packages.{refused_manifest_value, refused_value, refused_waivers_value}
 use Rattle.print_json.specs.Values.{json_text}
 use Rattle.ringcheck_files.specs.Containers.{archive_sentence}
-use Rattle.ringcheck_files.specs.Words.{sentence_line}
+use Rattle.ringcheck_files.specs.Words.{Says, sentence_line}
+use Rattle.ringcheck_files.specs.Writers.{Written}
 use Rattle.ringcheck.specs.declared.refusals.RefusalStyle.{RefusalStyle}
 use Rattle.ringcheck.specs.declared.refusals.RefusalStyle.TheVariants as style
 
 -- ---- refusals
 
--- what is refused, and why: the manifest, the file of waivers, or a file, by its index from 0 and its name; or a refusal of one of the
--- first two whose text is a zip archive, by the name under which it was looked for; or the manifest, for the role of the record at the place of
--- the fault, by that role and the file name of this record
+-- what is refused, and why: the manifest, the file of waivers, or a file, by its index from 0 and its name; or a refusal of which a
+-- sentence is said
 pub data Refusal : Type 0 where
   of_manifest : Fault → Refusal
   of_waivers : Fault → Refusal
   of_file : ℕ → List ℕ → Fault → Refusal
-  of_archive : List ℕ → Refusal → Refusal
-  of_role : List ℕ → List ℕ → Fault → Refusal
+  of_explained : List ℕ → Refusal → Refusal
 
 -- the reason of a refusal, such as TooLong
 abbrev pub reason_of : Refusal → Reason
 reason_of (of_manifest why) = why.reason
 reason_of (of_waivers why) = why.reason
 reason_of (of_file index name why) = why.reason
-reason_of (of_archive name why) = reason_of why
-reason_of (of_role role file why) = why.reason
-
--- the line of a manifest that is refused: `refused manifest place=4 reason=BadRole`
-abbrev pub manifest_line : Fault → List ℕ
-manifest_line why = codes "refused manifest place=" ++ (decimal why.place ++ (codes " reason=" ++ (reason_name why.reason ++ ascii.line_feed ∷ [])))
+reason_of (of_explained sentence why) = reason_of why
 
 -- the line of a refusal, with files numbered from 1: `refused file=1 place=0 byte=0 reason=TooLong name=top`
 abbrev pub refusal_line : Refusal → List ℕ
-refusal_line (of_manifest why) = manifest_line why
+refusal_line (of_manifest why) = codes "refused manifest place=" ++ (decimal why.place ++ (codes " reason=" ++ (reason_name why.reason ++ ascii.line_feed ∷ [])))
 refusal_line (of_waivers why) = codes "refused waivers place=" ++ (decimal why.place ++ (codes " reason=" ++ (reason_name why.reason ++ ascii.line_feed ∷ [])))
 refusal_line (of_file index name why) =
     codes "refused file=" ++ (decimal (index + 1) ++ (codes " place=" ++ (decimal why.place ++ (codes " byte=" ++ (decimal why.byte
     ++ (codes " reason=" ++ (reason_name why.reason ++ (codes " name=" ++ (name ++ ascii.line_feed ∷ [])))))))))
-refusal_line (of_archive name why) = refusal_line why
-refusal_line (of_role role file why) = manifest_line why
+refusal_line (of_explained sentence why) = refusal_line why
 
 -- whether a file name ends as those of drill files often do
 abbrev pub has_drill_end : List ℕ → Bool
@@ -73,21 +66,32 @@ abbrev pub role_sentence : ℕ → List ℕ → List ℕ → List ℕ
 role_sentence number role file =
     codes "record " ++ (decimal number ++ (codes ", " ++ (file ++ (codes ": its role is \"" ++ (role ++ (codes "\": " ++ role_advice role file))))))
 
--- what stands between the line of a refusal and its page: of a zip archive, that it is one; of a manifest that is refused for a role, which record has it
-abbrev pub said_between : Refusal → List ℕ
-said_between (of_manifest why) = []
-said_between (of_waivers why) = []
-said_between (of_file index name why) = []
-said_between (of_archive name why) = sentence_line (archive_sentence name)
-said_between (of_role role file why) = sentence_line (role_sentence why.place role file)
+-- a refusal of what is a zip archive, by the name under which it was looked for
+abbrev pub of_archive : List ℕ → Refusal → Refusal
+of_archive name why = of_explained (archive_sentence name) why
+
+-- the refusal of a manifest for the role of the record at the place of the fault, by that role and the file name of this record
+abbrev pub of_role : List ℕ → List ℕ → Fault → Refusal
+of_role role file why = of_explained (role_sentence why.place role file) (of_manifest why)
+
+-- what is said of a refusal, if something is
+abbrev pub sentence_of : Refusal → Option (List ℕ)
+sentence_of (of_manifest why) = None
+sentence_of (of_waivers why) = None
+sentence_of (of_file index name why) = None
+sentence_of (of_explained sentence why) = Some sentence
+
+-- the line of a sentence, if there is one
+abbrev pub line_of : Option (List ℕ) → List ℕ
+line_of None = []
+line_of (Some sentence) = sentence_line sentence
 
 -- the JSON of a refusal: one object on one line (docs/FORMATS.md, JSON)
 abbrev pub refusal_json : Refusal → List ℕ
 refusal_json (of_manifest why) = json_text (refused_manifest_value why.place why.reason)
 refusal_json (of_waivers why) = json_text (refused_waivers_value why.place why.reason)
 refusal_json (of_file index name why) = json_text (refused_value index name why)
-refusal_json (of_archive name why) = refusal_json why
-refusal_json (of_role role file why) = json_text (refused_manifest_value why.place why.reason)
+refusal_json (of_explained sentence why) = refusal_json why
 
 -- a line of a page below a refusal: two spaces, the line, and LF
 abbrev pub indented_row : List ℕ → List ℕ
@@ -104,9 +108,19 @@ HasPage why line said text = (page : List ℕ) × HasHeading (reason_name why) p
 -- the text of a refusal in a style: its line, this line with what is said of it and the page of its reason below it, or its JSON
 abbrev pub IsRefusalText : RefusalStyle → Refusal → List ℕ → Type 0
 IsRefusalText style.Line why text = text ≡ refusal_line why
-IsRefusalText style.Page why text = HasPage (reason_of why) (refusal_line why) (said_between why) text
+IsRefusalText style.Page why text = HasPage (reason_of why) (refusal_line why) (line_of (sentence_of why)) text
 IsRefusalText style.Json why text = text ≡ refusal_json why
 
 -- the writer got just the text of a refusal
-abbrev pub PrintsRefusal : RefusalStyle → Refusal → Option (List ℕ) → Option (List ℕ) → Type 0
-PrintsRefusal refusal_style why before after = (text : List ℕ) × IsRefusalText refusal_style why text × Appends before after text
+abbrev pub WritesRefusal : RefusalStyle → Refusal → Option (List ℕ) → Option (List ℕ) → Type 0
+WritesRefusal refusal_style why before after = (text : List ℕ) × IsRefusalText refusal_style why text × Appends before after text
+
+-- a sentence that is said beside a text in this style, if there is one: the style of a page has it in the text itself
+abbrev pub beside : RefusalStyle → Option (List ℕ) → Option (List ℕ)
+beside style.Line sentence = sentence
+beside style.Page sentence = None
+beside style.Json sentence = sentence
+
+-- just the text of a refusal was written, and beside it its sentence
+abbrev pub PrintsRefusal : RefusalStyle → Refusal → Written → Written → Type 0
+PrintsRefusal refusal_style why before after = WritesRefusal refusal_style why before.0 after.0 × Says (beside refusal_style (sentence_of why)) before after

@@ -31,6 +31,7 @@ use Rattle.ringcheck.specs.declared.refusals.RefusalStyle.TheVariants as style
 use Rattle.ringcheck.specs.Refusals.{Refusal, PrintsRefusal}
 use Rattle.ringcheck_files.specs.LoaderRelation.{Relation}
 use Rattle.ringcheck_files.specs.Words.{IsExplainedUsage}
+use Rattle.ringcheck_files.specs.Writers.{Written}
 use Rattle.ringcheck.specs.CheckStatus.{HoldsForPackage, IsPackageRefusal, SaysPackage}
 use Rattle.ringcheck.specs.Outlining.{HasOutline, PrintsOutlineRefusal}
 use Rattle.ringcheck.specs.Waiving.{HasWaivers, RefusedWaivers}
@@ -124,17 +125,17 @@ report_style format.Json = style.Json
 report_style format.Html = style.Line
 report_style format.Waivers = style.Line
 
--- a file of waivers is refused, and the writer got just the text of the refusal
-abbrev pub PrintsWaiversRefusal : Relation → List ℕ → RefusalStyle → Option (List ℕ) → Option (List ℕ) → Type 0
+-- a file of waivers is refused, and just the text of the refusal was written, and beside it its sentence
+abbrev pub PrintsWaiversRefusal : Relation → List ℕ → RefusalStyle → Written → Written → Type 0
 PrintsWaiversRefusal has file refusal_style before after = (why : Refusal) × RefusedWaivers has file why × PrintsRefusal refusal_style why before after
 
 -- what a status says of the report on a package, read in the profile of the rules
-abbrev pub IsReportStatus : Relation → List ℕ → GridRules → Option ℕ → ReportFormat → Option (List Waiver) → List Drawn → Option (List ℕ) → Option (List ℕ) → Status → Type 0
-IsReportStatus has name rules limit form waivers outline before after s = SaysPackage has rules.profile name (Reports has name rules limit form waivers outline before after) (report_style form) before after s
+abbrev pub IsReportStatus : Relation → List ℕ → GridRules → Option ℕ → ReportFormat → Option (List Waiver) → List Drawn → Written → Written → Status → Type 0
+IsReportStatus has name rules limit form waivers outline before after s = SaysPackage has rules.profile name (Reports has name rules limit form waivers outline before.0 after.0) (report_style form) before after s
 
 -- what a status says of a report for which the file of an outline may be named: that file is refused, or the status is Device, or the file
 -- has an outline and the report is made with it
-abbrev pub IsOutlinedReportStatus : Relation → List ℕ → GridRules → Option ℕ → ReportFormat → Option (List Waiver) → Option (List ℕ) → Option (List ℕ) → Option (List ℕ) → Status → Type 0
+abbrev pub IsOutlinedReportStatus : Relation → List ℕ → GridRules → Option ℕ → ReportFormat → Option (List Waiver) → Option (List ℕ) → Written → Written → Status → Type 0
 IsOutlinedReportStatus has name rules limit form waivers None before after s = IsReportStatus has name rules limit form waivers [] before after s
 IsOutlinedReportStatus has name rules limit form waivers (Some file) before after s =
     ((s ≡ status.Refused) × PrintsOutlineRefusal has file before after)
@@ -142,14 +143,14 @@ IsOutlinedReportStatus has name rules limit form waivers (Some file) before afte
 
 -- what a status says of a report for which a file of waivers may be named: that file is refused, or the status is Device,
 -- or the file has waivers and the report is made with them; `outline` is the file of an outline, if there is one
-abbrev pub IsWaivingReportStatus : Relation → List ℕ → GridRules → Option ℕ → ReportFormat → Option (List ℕ) → Option (List ℕ) → Option (List ℕ) → Option (List ℕ) → Status → Type 0
+abbrev pub IsWaivingReportStatus : Relation → List ℕ → GridRules → Option ℕ → ReportFormat → Option (List ℕ) → Option (List ℕ) → Written → Written → Status → Type 0
 IsWaivingReportStatus has name rules limit form None outline before after s = IsOutlinedReportStatus has name rules limit form None outline before after s
 IsWaivingReportStatus has name rules limit form (Some file) outline before after s =
     ((s ≡ status.Refused) × PrintsWaiversRefusal has file (report_style form) before after)
     ⊎ ((s ≡ status.Device) ⊎ ((waivers : List Waiver) × HasWaivers has file waivers × IsOutlinedReportStatus has name rules limit form (Some waivers) outline before after s))
 
--- what a status says of a report with the rules, the limit and the format that words name, or where these are refused and `below` stands
--- below their line; `waive` is the file of waivers, and `outline` that of an outline, if there is one
-abbrev pub IsParsedReportStatus : Relation → List ℕ → Result (GridRules × Option ℕ × ReportFormat) Reason → List ℕ → Option (List ℕ) → Option (List ℕ) → Option (List ℕ) → Option (List ℕ) → Status → Type 0
-IsParsedReportStatus has name (Ok (rules, limit, form)) below waive outline before after s = IsWaivingReportStatus has name rules limit form waive outline before after s
-IsParsedReportStatus has name (Err why) below waive outline before after s = IsExplainedUsage why below before after s
+-- what a status says of a report with the rules, the limit and the format that words name, or where these are refused and this sentence
+-- says why, below their line or, if not `below`, beside it; `waive` is the file of waivers, and `outline` that of an outline, if there is one
+abbrev pub IsParsedReportStatus : Relation → List ℕ → Result (GridRules × Option ℕ × ReportFormat) Reason → Bool → List ℕ → Option (List ℕ) → Option (List ℕ) → Written → Written → Status → Type 0
+IsParsedReportStatus has name (Ok (rules, limit, form)) below sentence waive outline before after s = IsWaivingReportStatus has name rules limit form waive outline before after s
+IsParsedReportStatus has name (Err why) below sentence waive outline before after s = IsExplainedUsage below why sentence before after s

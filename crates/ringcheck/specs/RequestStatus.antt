@@ -21,9 +21,10 @@ use Rattle.ringcheck.specs.ParsedWords.{parse_check, parse_draw, parse_measure, 
 use Rattle.ringcheck_files.specs.FileStatus.{IsParsedFileStatus, parse_kind}
 use Rattle.ringcheck.specs.ReportStatus.{IsParsedReportStatus}
 use Rattle.ringcheck.specs.CheckStatus.{IsParsedCheckStatus, IsParsedLegalStatus}
-use Rattle.ringcheck.specs.Sentences.{below_measure, below_report, below_profile}
+use Rattle.ringcheck.specs.Sentences.{check_sentence, draw_sentence, is_for_people, measure_sentence, profile_sentence, report_sentence}
 use Rattle.ringcheck.specs.ShowStatus.{IsParsedShowStatus}
 use Rattle.ringcheck_files.specs.LoaderRelation.{Relation, in_folder}
+use Rattle.ringcheck_files.specs.Writers.{IsSilent, IsSilentStatus, Written}
 
 -- the bytes of a word that may be left out
 abbrev pub word_bytes : Option (Bor (List ℕ)) → Option (List ℕ)
@@ -37,25 +38,26 @@ IsExitOf true Says status.Findings = ⊥
 IsExitOf true Says s = Says s
 
 -- what a status says of a request, command by command; `failed_before` and `failed_after` count the loader's failures
-abbrev pub IsRequestStatus : Request → Relation → ℕ → ℕ → Option (List ℕ) → Option (List ℕ) → Status → Type 0
+abbrev pub IsRequestStatus : Request → Relation → ℕ → ℕ → Written → Written → Status → Type 0
 IsRequestStatus (Check ring gap profile manifest) has failed_before failed_after before after s =
-    IsParsedCheckStatus has manifest.now (parse_check (word_bytes profile) ring.now gap.now) before after s
+    IsParsedCheckStatus has manifest.now (parse_check (word_bytes profile) ring.now gap.now) (check_sentence (word_bytes profile) ring.now gap.now) before after s
 IsRequestStatus (Measure profile format manifest) has failed_before failed_after before after s =
-    IsParsedMeasureStatus has manifest.now (parse_measure (word_bytes profile) (word_bytes format)) (below_measure (word_bytes profile) (word_bytes format)) before after s
+    IsParsedMeasureStatus has manifest.now (parse_measure (word_bytes profile) (word_bytes format)) (measure_sentence (word_bytes profile) (word_bytes format)) before after s
 IsRequestStatus (Report options manifest) has failed_before failed_after before after s =
     IsExitOf options.exit_zero
     (IsParsedReportStatus has manifest.now
     (parse_report (word_bytes options.profile) options.ring.now options.gap.now (word_bytes options.limit) (word_bytes options.waive) (word_bytes options.outline) (word_bytes options.format))
-    (below_report (word_bytes options.profile) options.ring.now options.gap.now (word_bytes options.limit) (is_some (word_bytes options.outline)) (word_bytes options.format))
+    (is_for_people (word_bytes options.format)) (report_sentence (word_bytes options.profile) options.ring.now options.gap.now (word_bytes options.limit) (is_some (word_bytes options.outline)) (word_bytes options.format))
     (word_bytes options.waive) (word_bytes options.outline) before after) s
 IsRequestStatus (Draw options manifest) has failed_before failed_after before after s =
-    IsParsedDrawStatus has manifest.now (parse_draw (word_bytes options.profile) (word_bytes options.ring) (word_bytes options.gap)) (word_bytes options.outline) before after s
+    IsParsedDrawStatus has manifest.now (parse_draw (word_bytes options.profile) (word_bytes options.ring) (word_bytes options.gap))
+    (draw_sentence (word_bytes options.profile) (word_bytes options.ring) (word_bytes options.gap)) (word_bytes options.outline) before after s
 IsRequestStatus (Show kind profile file) has failed_before failed_after before after s =
-    IsParsedShowStatus (profile_of (word_bytes profile)) (below_profile (word_bytes profile)) (parse_kind kind.now) has file.now before after s
+    IsParsedShowStatus (profile_of (word_bytes profile)) (profile_sentence (word_bytes profile)) (parse_kind kind.now) has file.now before after s
 IsRequestStatus (Rewrite kind file) has failed_before failed_after before after s = IsParsedFileStatus job.Rewrite (parse_kind kind.now) has file.now before after s
 IsRequestStatus (Manifest why profile files) has failed_before failed_after before after s =
-    IsParsedManifestStatus (profile_of (word_bytes profile)) (below_profile (word_bytes profile)) why has failed_before failed_after (map (λ file. file.now) files.items) before after s
-IsRequestStatus (Explain word) has failed_before failed_after before after s = IsExplainStatus (word_bytes word) before after s
+    IsParsedManifestStatus (profile_of (word_bytes profile)) (profile_sentence (word_bytes profile)) why has failed_before failed_after (map (λ file. file.now) files.items) before after s
+IsRequestStatus (Explain word) has failed_before failed_after before after s = IsExplainStatus (word_bytes word) before.0 after.0 s × IsSilentStatus before after s
 
 -- what a status says of the files of a request's package: of a check, that each is of the profile that it names
 abbrev pub IsLegalRequest : Request → Relation → Status → Type 0
@@ -70,15 +72,15 @@ IsNoRequestStatus (Usage text) before after s = ((s ≡ status.Usage) × Appends
 IsNoRequestStatus Memory before after s = s ≡ status.Device
 
 -- what a status says of a line: of its request, where names are taken from its folder, if it has one
-abbrev pub IsLineStatus : CommandLine → Relation → ℕ → ℕ → Option (List ℕ) → Option (List ℕ) → Status → Type 0
+abbrev pub IsLineStatus : CommandLine → Relation → ℕ → ℕ → Written → Written → Status → Type 0
 IsLineStatus line has failed_before failed_after before after s = IsRequestStatus line.request (in_folder (word_bytes line.folder) has) failed_before failed_after before after s
 
 -- what a status says of the answer to words: of a line, or of words that are none
-abbrev pub IsParsedStatus : Result CommandLine Refusal → Relation → ℕ → ℕ → Option (List ℕ) → Option (List ℕ) → Status → Type 0
+abbrev pub IsParsedStatus : Result CommandLine Refusal → Relation → ℕ → ℕ → Written → Written → Status → Type 0
 IsParsedStatus (Ok line) has failed_before failed_after before after s = IsLineStatus line has failed_before failed_after before after s
-IsParsedStatus (Err refusal) has failed_before failed_after before after s = IsNoRequestStatus refusal before after s
+IsParsedStatus (Err refusal) has failed_before failed_after before after s = IsNoRequestStatus refusal before.0 after.0 s × IsSilent before after
 
 -- what a status says of any words: what it says of an answer that `clap` by its definition gives to them
-abbrev pub IsProgramStatus : List (List ℕ) → Relation → ℕ → ℕ → Option (List ℕ) → Option (List ℕ) → Status → Type 0
+abbrev pub IsProgramStatus : List (List ℕ) → Relation → ℕ → ℕ → Written → Written → Status → Type 0
 IsProgramStatus words has failed_before failed_after before after s =
     (answer : Result CommandLine Refusal) × ParsesLine words answer × IsParsedStatus answer has failed_before failed_after before after s

@@ -7,6 +7,7 @@ use Rattle.grid_units.specs.declared.fault.Reason.TheVariants as reasons
 use Rattle.print_json.specs.Packages.{device_value, manifest_device_value, waivers_device_value}
 use Rattle.print_json.specs.Values.{json_text}
 use Rattle.ringcheck_files.specs.Containers.{folder_sentence}
+use Rattle.ringcheck_files.specs.Sentences.{place_of_names}
 use Rattle.ringcheck_files.specs.Words.{sentence_line}
 use Rattle.ringcheck.specs.declared.refusals.RefusalStyle.{RefusalStyle}
 use Rattle.ringcheck.specs.declared.refusals.RefusalStyle.TheVariants as style
@@ -46,10 +47,15 @@ abbrev pub count_sentence : Option (List ℕ) → List ℕ
 count_sentence None = codes "--max takes a number of one to nine digits, e.g. 20"
 count_sentence (Some word) = codes "--max " ++ (word ++ codes ": give a number of one to nine digits, e.g. 20")
 
--- what is said of a word that is no format of a report: `--format must be text, html, json or waivers, not sarif`
+-- what is said of a file of waivers that is given to a report which prints one
+abbrev pub waive_sentence : List ℕ
+waive_sentence = codes "--waive does not work with --format waivers, which prints a file of waivers"
+
+-- what is said of a word that is no format of a report: `--format must be text, html, json or waivers, not sarif`; or of `waivers`, which is one
 abbrev pub report_format_sentence : Option (List ℕ) → List ℕ
 report_format_sentence None = codes "--format must be text, html, json or waivers"
-report_format_sentence (Some word) = codes "--format must be text, html, json or waivers, not " ++ word
+report_format_sentence (Some word) =
+    if bytes_eq word (codes "waivers") then waive_sentence else codes "--format must be text, html, json or waivers, not " ++ word
 
 -- what is said of a word that is no format of a measure
 abbrev pub measure_format_sentence : Option (List ℕ) → List ℕ
@@ -78,21 +84,22 @@ abbrev pub is_for_people : Option (List ℕ) → Bool
 is_for_people None = true
 is_for_people (Some word) = not (bytes_eq word (codes "html")) && (not (bytes_eq word (codes "json")) && not (bytes_eq word (codes "waivers")))
 
--- what stands below the line of a report whose words are refused
-abbrev pub below_report : Option (List ℕ) → List ℕ → List ℕ → Option (List ℕ) → Bool → Option (List ℕ) → List ℕ
-below_report profile ring gap limit outlined form = if is_for_people form then sentence_line (report_sentence profile ring gap limit outlined form) else []
-
--- what stands below the line of a table or a manifest whose profile is refused
-abbrev pub below_profile : Option (List ℕ) → List ℕ
-below_profile profile = sentence_line (profile_sentence profile)
-
 -- what is said of the words of a measure that are refused, by the first of them that is
 abbrev pub measure_sentence : Option (List ℕ) → Option (List ℕ) → List ℕ
 measure_sentence profile form = if is_some (profile_of profile) then measure_format_sentence form else profile_sentence profile
 
--- what stands below the line of a measure whose words are refused
-abbrev pub below_measure : Option (List ℕ) → Option (List ℕ) → List ℕ
-below_measure profile form = sentence_line (measure_sentence profile form)
+-- what is said of the rules of a picture that are refused: of a ring or a gap alone, that it needs the other
+abbrev pub drawn_sentence : Option (List ℕ) → Option (List ℕ) → List ℕ
+drawn_sentence (Some ring) (Some gap) = rules_sentence ring gap
+drawn_sentence ring gap = codes "--ring and --gap are given together"
+
+-- what is said of the words of a picture that are refused, by the first of them that is
+abbrev pub draw_sentence : Option (List ℕ) → Option (List ℕ) → Option (List ℕ) → List ℕ
+draw_sentence profile ring gap = if is_some (profile_of profile) then drawn_sentence ring gap else profile_sentence profile
+
+-- and of those of a check
+abbrev pub check_sentence : Option (List ℕ) → List ℕ → List ℕ → List ℕ
+check_sentence profile ring gap = draw_sentence profile (Some ring) (Some gap)
 
 -- ---- what cannot be read
 
@@ -107,11 +114,6 @@ abbrev pub found_folder_sentence : Subject → List ℕ → List ℕ
 found_folder_sentence subject.Manifest path = folder_sentence path
 found_folder_sentence subject.Waivers path = path ++ codes " is a folder: name a file of waivers"
 found_folder_sentence (subject.File index name) path = path ++ (codes ", the file of " ++ (name.now ++ codes ", is a folder: a manifest must name files"))
-
--- where file names are taken from: the folder that was entered, if there is one
-abbrev pub place_of_names : Option (List ℕ) → List ℕ
-place_of_names None = codes "the working directory"
-place_of_names (Some folder) = folder
 
 -- what is said of something else that cannot be read: `cannot read the manifest x.csv: file names are taken from the working directory`
 abbrev pub unread_sentence : Subject → List ℕ → Option (List ℕ) → List ℕ

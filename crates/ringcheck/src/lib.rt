@@ -24,6 +24,6 @@ pub use package_check::{
 pub use parsed_words::{MeasureFormat, MeasureOrder, ReportFormat};
 pub use program::run;
 pub use ringcheck_files::{
-    Kind, LoadFault, Loader, MAX_LIMIT, ReadFail, Sink, Status, path_in, read_all, read_into,
-    rewrite_bytes, show_drill, show_drill_in, show_layer, show_layer_in,
+    Kind, LoadFault, Loader, MAX_LIMIT, ReadFail, Sink, Status, Streams, path_in, read_all,
+    read_into, rewrite_bytes, show_drill, show_drill_in, show_layer, show_layer_in,
 };

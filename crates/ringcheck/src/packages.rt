@@ -1,10 +1,9 @@
 //! The commands on the package of a manifest: each does a job on it, or prints why it cannot be done.
 
-ghost use Rattle.std.specs.Prelude.{◌≡◌, ◌++◌, [], ℕ, List, IfErr, IfOk, OnOk, Some, is_some, map, option_map, slice_get};
-ghost use Rattle.std.specs.Io.KnownBytes.{Appends};
+ghost use Rattle.std.specs.Prelude.{◌≡◌, [], ℕ, IfErr, IfOk, Some, is_some, map, option_map, slice_get};
 ghost use Rattle.manifest.specs.declared.Entry.{Entry as TheEntry};
 ghost use Rattle.ringcheck_files.specs.Outcomes.{HasCause, HasRisen};
-ghost use Rattle.ringcheck.specs.DrawStatus.{IsDrawStatus, IsOutlinedDrawStatus, IsParsedDrawStatus};
+ghost use Rattle.ringcheck.specs.DrawStatus.{IsOutlinedDrawStatus, IsParsedDrawStatus};
 ghost use Rattle.ringcheck.specs.Inner.Halting.{IsUnreadAt, OfFiles};
 ghost use Rattle.ringcheck.specs.Inner.Jobs.{Holds, SaysJob, given, job_profile};
 ghost use Rattle.manifest.specs.Manifest.{manifest_in};
@@ -14,8 +13,8 @@ ghost use Rattle.ringcheck.specs.MeasureStatus.{IsParsedMeasureStatus};
 ghost use Rattle.ringcheck.specs.ParsedWords as named;
 ghost use Rattle.ringcheck.specs.ReportStatus.{IsOutlinedReportStatus, IsParsedReportStatus};
 ghost use Rattle.ringcheck.specs.CheckStatus.{HasTable, IsParsedCheckStatus, IsParsedLegalStatus, status_of};
-ghost use Rattle.ringcheck.specs.Sentences.{below_measure, below_report};
-ghost use Rattle.ringcheck_files.specs.Words.{usage_line};
+ghost use Rattle.ringcheck.specs.Sentences.{check_sentence, draw_sentence, is_for_people, measure_sentence, report_sentence};
+ghost use Rattle.ringcheck_files.specs.Writers.{texts};
 
 use crate::fewer::fewer_findings;
 use crate::jobs::{Job, Order, PictureOrder, kept_for, report_style};
@@ -24,13 +23,13 @@ use crate::outlines::{load_outline, print_no_outline};
 use crate::parsed_words::{ReportFormat, parse_check, parse_draw, parse_measure, parse_report};
 use crate::refusals::{Halt, Subject, print_halt, print_no_table};
 use crate::reports::{Reported, print_judged, report_on_taken};
-use crate::sentences::{NoMeasure, NoReport, is_for_people};
+use crate::sentences::{NoMeasure, NoPicture, NoReport, is_for_people, refuse};
 use crate::{Entry, Loader, checks, drawings, measures};
 use command_line::{PROGRAM, PictureWords, ReportWords};
-use grid_units::{Profile, Reason, Rules};
+use grid_units::{Profile, Rules};
 use package_check::Keep;
 use print_text::Particulars;
-use ringcheck_files::{Failure, Status, refuse_word};
+use ringcheck_files::{Failure, Status, Streams};
 use std::alloc::{AllocError, Global};
 use std::io::Write;
 use waivers::Waiver;
@@ -165,14 +164,14 @@ fn path_of<'a>(entries: &'a [Entry], halt: Halt) -> &'a str
 }
 
 /// Does a job on the package of a manifest.
-fn run_job<L: Loader, W: Write>(
+fn run_job<L: Loader, W: Write, E: Write>(
     alloc: Global,
     job: &Job,
     name: &str,
     loader: &mut L,
-    out: &mut W,
+    to: &mut Streams<W, E>,
 ) -> Result<Status, Failure>
-    ensures says { IfOk result (SaysJob job.now (L.has loader.old) name.now (W.contents out.old) (W.contents out.new)) }
+    ensures says { IfOk result (SaysJob job.now (L.has loader.old) name.now (texts W.contents E.contents to.old) (texts W.contents E.contents to.new)) }
     ensures cause { IfOk result (HasCause (L.failed loader.old) (L.failed loader.new)) }
 {
     let entries = match load_table::<L, Entry>(
@@ -184,171 +183,116 @@ fn run_job<L: Loader, W: Write>(
     )? {
         Ok(entries) => entries,
         Err(no_table) => {
-            return print_no_table(out, job.style(), &no_table, loader, name);
+            return print_no_table(to, job.style(), &no_table, loader, name);
         }
     };
-    match answer(alloc, job, name, entries.as_slice(), loader, out)? {
+    match answer(alloc, job, name, entries.as_slice(), loader, &mut to.out)? {
         Ok(passes) => Ok(status_of(passes)),
         Err(halt) => {
             let path = path_of(entries.as_slice(), halt);
-            print_halt(out, job.style(), halt, loader, path)
+            print_halt(to, job.style(), halt, loader, path)
         }
     }
 }
 
-/// Prints the line of the words of a measure that are refused, and below it what is said of them.
-fn refuse_measure<W: Write>(
-    out: &mut W,
-    reason: Reason,
-    profile: Option<&str>,
-    format: Option<&str>,
-) -> Result<(), Failure>
-    ensures { OnOk result (Appends (W.contents out.old) (W.contents out.new) (usage_line reason ++ below_measure (option_map (λ w. w.now) profile.entry) (option_map (λ w. w.now) format.entry))) }
-{
-    refuse_word(out, reason)?;
-    write!(out, "  {}\n", NoMeasure { profile, format })?;
-    Ok(())
-}
-
-/// Prints the line of the words of a report that are refused, and where a report would be for people below it what is said of them.
-fn refuse_report<W: Write>(
-    out: &mut W,
-    reason: Reason,
-    unparsed: &ReportWords,
-) -> Result<(), Failure>
-    ensures { OnOk result (Appends (W.contents out.old) (W.contents out.new) (usage_line reason ++ below_report (option_map (λ w. w.now) unparsed.now.profile) unparsed.now.ring.now unparsed.now.gap.now (option_map (λ w. w.now) unparsed.now.limit) (is_some (option_map (λ w. w.now) unparsed.now.outline)) (option_map (λ w. w.now) unparsed.now.format))) }
-{
-    refuse_word(out, reason)?;
-    if is_for_people(unparsed.format) {
-        write!(out, "  {}\n", NoReport(unparsed))?;
-    }
-    Ok(())
-}
-
 /// Checks the package of a manifest under the rules that two words name, in the profile that a word names.
-pub(crate) fn check<L: Loader, W: Write>(
+pub(crate) fn check<L: Loader, W: Write, E: Write>(
     alloc: Global,
     profile: Option<&str>,
     ring: &str,
     gap: &str,
     name: &str,
     loader: &mut L,
-    out: &mut W,
+    to: &mut Streams<W, E>,
 ) -> Result<Status, Failure>
-    ensures says { IfOk result (IsParsedCheckStatus (L.has loader.old) name.now (named.parse_check (option_map (λ w. w.now) profile.entry) ring.now gap.now) (W.contents out.old) (W.contents out.new)) }
+    ensures says { IfOk result (IsParsedCheckStatus (L.has loader.old) name.now (named.parse_check (option_map (λ w. w.now) profile.entry) ring.now gap.now) (check_sentence (option_map (λ w. w.now) profile.entry) ring.now gap.now) (texts W.contents E.contents to.old) (texts W.contents E.contents to.new)) }
     ensures legal { IfOk result (IsParsedLegalStatus (L.has loader.old) name.now (named.profile_of (option_map (λ w. w.now) profile.entry))) }
     ensures cause { IfOk result (HasCause (L.failed loader.old) (L.failed loader.new)) }
 {
     match parse_check(profile, ring, gap) {
-        Ok(rules) => run_job(alloc, &Job::Check(rules), name, loader, out),
+        Ok(rules) => run_job(alloc, &Job::Check(rules), name, loader, to),
         Err(reason) => {
-            refuse_word(out, reason)?;
+            let (ring, gap) = (Some(ring), Some(gap));
+            refuse(to, false, reason, &NoPicture { profile, ring, gap })?;
             Ok(Status::Usage)
         }
     }
 }
 
 /// Measures the package of a manifest in the profile that a word names, and prints the measure in the format that another one names.
-pub(crate) fn measure<L: Loader, W: Write>(
+pub(crate) fn measure<L: Loader, W: Write, E: Write>(
     alloc: Global,
     profile: Option<&str>,
     format: Option<&str>,
     name: &str,
     loader: &mut L,
-    out: &mut W,
+    to: &mut Streams<W, E>,
 ) -> Result<Status, Failure>
-    ensures says { IfOk result (IsParsedMeasureStatus (L.has loader.old) name.now (named.parse_measure (option_map (λ w. w.now) profile.entry) (option_map (λ w. w.now) format.entry)) (below_measure (option_map (λ w. w.now) profile.entry) (option_map (λ w. w.now) format.entry)) (W.contents out.old) (W.contents out.new)) }
+    ensures says { IfOk result (IsParsedMeasureStatus (L.has loader.old) name.now (named.parse_measure (option_map (λ w. w.now) profile.entry) (option_map (λ w. w.now) format.entry)) (measure_sentence (option_map (λ w. w.now) profile.entry) (option_map (λ w. w.now) format.entry)) (texts W.contents E.contents to.old) (texts W.contents E.contents to.new)) }
     ensures cause { IfOk result (HasCause (L.failed loader.old) (L.failed loader.new)) }
 {
     match parse_measure(profile, format) {
-        Ok(order) => run_job(alloc, &Job::Measure(order), name, loader, out),
+        Ok(order) => run_job(alloc, &Job::Measure(order), name, loader, to),
         Err(reason) => {
-            refuse_measure(out, reason, profile, format)?;
+            refuse(to, true, reason, &NoMeasure { profile, format })?;
             Ok(Status::Usage)
         }
     }
 }
 
-/// Prints the picture of the package of a manifest, without an outline.
-fn draw_plain<L: Loader, W: Write>(
-    alloc: Global,
-    named: (Profile, Option<Rules>),
-    name: &str,
-    loader: &mut L,
-    out: &mut W,
-) -> Result<Status, Failure>
-    ensures says { IfOk result (IsDrawStatus (L.has loader.old) name.now named.0 named.1 [] (W.contents out.old) (W.contents out.new)) }
-    ensures cause { IfOk result (HasCause (L.failed loader.old) (L.failed loader.new)) }
-{
-    let (profile, rules) = named;
-    let order = PictureOrder {
-        profile,
-        rules,
-        outline: Vec::new(alloc),
-    };
-    run_job(alloc, &Job::Draw(order), name, loader, out)
-}
-
-/// Prints the picture of the package of a manifest, with the outline of a file, which is loaded first.
-fn draw_outlined<L: Loader, W: Write>(
-    alloc: Global,
-    named: (Profile, Option<Rules>),
-    file: &str,
-    name: &str,
-    loader: &mut L,
-    out: &mut W,
-) -> Result<Status, Failure>
-    ensures says { IfOk result (IsOutlinedDrawStatus (L.has loader.old) name.now named.0 named.1 (Some file.now) (W.contents out.old) (W.contents out.new)) }
-    ensures cause { IfOk result (HasCause (L.failed loader.old) (L.failed loader.new)) }
-{
-    let (profile, rules) = named;
-    match load_outline(alloc, loader, file)? {
-        Ok(outline) => {
-            let order = PictureOrder {
-                profile,
-                rules,
-                outline,
-            };
-            run_job(alloc, &Job::Draw(order), name, loader, out)
-        }
-        Err(why) => print_no_outline(out, why),
-    }
-}
-
-/// Prints the picture of the package of a manifest, with the outline of a file, if one is named.
-fn draw_under<L: Loader, W: Write>(
+/// Prints the picture of the package of a manifest. The file of an outline, if one is named, is loaded first.
+fn draw_outlined<L: Loader, W: Write, E: Write>(
     alloc: Global,
     named: (Profile, Option<Rules>),
     outline: Option<&str>,
     name: &str,
     loader: &mut L,
-    out: &mut W,
+    to: &mut Streams<W, E>,
 ) -> Result<Status, Failure>
-    ensures says { IfOk result (IsOutlinedDrawStatus (L.has loader.old) name.now named.0 named.1 (option_map (λ w. w.now) outline.entry) (W.contents out.old) (W.contents out.new)) }
+    ensures says { IfOk result (IsOutlinedDrawStatus (L.has loader.old) name.now named.0 named.1 (option_map (λ w. w.now) outline.entry) (texts W.contents E.contents to.old) (texts W.contents E.contents to.new)) }
     ensures cause { IfOk result (HasCause (L.failed loader.old) (L.failed loader.new)) }
 {
+    let (profile, rules) = named;
     match outline {
-        Some(file) => draw_outlined(alloc, named, file, name, loader, out),
-        None => draw_plain(alloc, named, name, loader, out),
+        None => {
+            let order = PictureOrder {
+                profile,
+                rules,
+                outline: Vec::new(alloc),
+            };
+            run_job(alloc, &Job::Draw(order), name, loader, to)
+        }
+        Some(file) => match load_outline(alloc, loader, file)? {
+            Ok(outline) => {
+                let order = PictureOrder {
+                    profile,
+                    rules,
+                    outline,
+                };
+                run_job(alloc, &Job::Draw(order), name, loader, to)
+            }
+            Err(why) => print_no_outline(&mut to.out, why),
+        },
     }
 }
 
 /// Prints the picture of the package of a manifest, with what is found under the rules that two words name, if they are given, and the
 /// outline of a file, if one is named.
-pub(crate) fn draw<L: Loader, W: Write>(
+pub(crate) fn draw<L: Loader, W: Write, E: Write>(
     alloc: Global,
     unparsed: &PictureWords,
     name: &str,
     loader: &mut L,
-    out: &mut W,
+    to: &mut Streams<W, E>,
 ) -> Result<Status, Failure>
-    ensures says { IfOk result (IsParsedDrawStatus (L.has loader.old) name.now (named.parse_draw (option_map (λ w. w.now) unparsed.now.profile) (option_map (λ w. w.now) unparsed.now.ring) (option_map (λ w. w.now) unparsed.now.gap)) (option_map (λ w. w.now) unparsed.now.outline) (W.contents out.old) (W.contents out.new)) }
+    ensures says { IfOk result (IsParsedDrawStatus (L.has loader.old) name.now (named.parse_draw (option_map (λ w. w.now) unparsed.now.profile) (option_map (λ w. w.now) unparsed.now.ring) (option_map (λ w. w.now) unparsed.now.gap)) (draw_sentence (option_map (λ w. w.now) unparsed.now.profile) (option_map (λ w. w.now) unparsed.now.ring) (option_map (λ w. w.now) unparsed.now.gap)) (option_map (λ w. w.now) unparsed.now.outline) (texts W.contents E.contents to.old) (texts W.contents E.contents to.new)) }
     ensures cause { IfOk result (HasCause (L.failed loader.old) (L.failed loader.new)) }
 {
     match parse_draw(unparsed) {
-        Ok(named) => draw_under(alloc, named, unparsed.outline, name, loader, out),
+        Ok(named) => draw_outlined(alloc, named, unparsed.outline, name, loader, to),
         Err(reason) => {
-            refuse_word(out, reason)?;
+            let (profile, ring, gap) = (unparsed.profile, unparsed.ring, unparsed.gap);
+            refuse(to, false, reason, &NoPicture { profile, ring, gap })?;
             Ok(Status::Usage)
         }
     }
@@ -356,16 +300,16 @@ pub(crate) fn draw<L: Loader, W: Write>(
 
 /// Prints a report on the package of a manifest: its findings under the rules, with what waives them, in a format. The file of an outline, if
 /// one is named, is loaded first.
-fn report_outlined<L: Loader, W: Write>(
+fn report_outlined<L: Loader, W: Write, E: Write>(
     alloc: Global,
     named: (Rules, Option<usize>, ReportFormat),
     waivers: Option<Vec<Waiver>>,
     outline: Option<&str>,
     name: &str,
     loader: &mut L,
-    out: &mut W,
+    to: &mut Streams<W, E>,
 ) -> Result<Status, Failure>
-    ensures says { IfOk result (IsOutlinedReportStatus (L.has loader.old) name.now named.0 named.1 named.2 (given waivers) (option_map (λ w. w.now) outline.entry) (W.contents out.old) (W.contents out.new)) }
+    ensures says { IfOk result (IsOutlinedReportStatus (L.has loader.old) name.now named.0 named.1 named.2 (given waivers) (option_map (λ w. w.now) outline.entry) (texts W.contents E.contents to.old) (texts W.contents E.contents to.new)) }
     ensures cause { IfOk result (HasCause (L.failed loader.old) (L.failed loader.new)) }
 {
     let (rules, limit, format) = named;
@@ -378,7 +322,7 @@ fn report_outlined<L: Loader, W: Write>(
                 waivers,
                 outline: Vec::new(alloc),
             };
-            run_job(alloc, &Job::Report(order), name, loader, out)
+            run_job(alloc, &Job::Report(order), name, loader, to)
         }
         Some(file) => match load_outline(alloc, loader, file)? {
             Ok(outline) => {
@@ -389,35 +333,36 @@ fn report_outlined<L: Loader, W: Write>(
                     waivers,
                     outline,
                 };
-                run_job(alloc, &Job::Report(order), name, loader, out)
+                run_job(alloc, &Job::Report(order), name, loader, to)
             }
-            Err(why) => print_no_outline(out, why),
+            Err(why) => print_no_outline(&mut to.out, why),
         },
     }
 }
 
 /// Reports on the package of a manifest as these words ask: each finding under the rules, what is lacking, why, and whether it is
 /// waived. A file of waivers is loaded first, and then the file of an outline.
-pub(crate) fn report<L: Loader, W: Write>(
+pub(crate) fn report<L: Loader, W: Write, E: Write>(
     alloc: Global,
     unparsed: &ReportWords,
     name: &str,
     loader: &mut L,
-    out: &mut W,
+    to: &mut Streams<W, E>,
 ) -> Result<Status, Failure>
-    ensures says { IfOk result (IsParsedReportStatus (L.has loader.old) name.now (named.parse_report (option_map (λ w. w.now) unparsed.now.profile) unparsed.now.ring.now unparsed.now.gap.now (option_map (λ w. w.now) unparsed.now.limit) (option_map (λ w. w.now) unparsed.now.waive) (option_map (λ w. w.now) unparsed.now.outline) (option_map (λ w. w.now) unparsed.now.format)) (below_report (option_map (λ w. w.now) unparsed.now.profile) unparsed.now.ring.now unparsed.now.gap.now (option_map (λ w. w.now) unparsed.now.limit) (is_some (option_map (λ w. w.now) unparsed.now.outline)) (option_map (λ w. w.now) unparsed.now.format)) (option_map (λ w. w.now) unparsed.now.waive) (option_map (λ w. w.now) unparsed.now.outline) (W.contents out.old) (W.contents out.new)) }
+    ensures says { IfOk result (IsParsedReportStatus (L.has loader.old) name.now (named.parse_report (option_map (λ w. w.now) unparsed.now.profile) unparsed.now.ring.now unparsed.now.gap.now (option_map (λ w. w.now) unparsed.now.limit) (option_map (λ w. w.now) unparsed.now.waive) (option_map (λ w. w.now) unparsed.now.outline) (option_map (λ w. w.now) unparsed.now.format)) (is_for_people (option_map (λ w. w.now) unparsed.now.format)) (report_sentence (option_map (λ w. w.now) unparsed.now.profile) unparsed.now.ring.now unparsed.now.gap.now (option_map (λ w. w.now) unparsed.now.limit) (is_some (option_map (λ w. w.now) unparsed.now.outline)) (option_map (λ w. w.now) unparsed.now.format)) (option_map (λ w. w.now) unparsed.now.waive) (option_map (λ w. w.now) unparsed.now.outline) (texts W.contents E.contents to.old) (texts W.contents E.contents to.new)) }
     ensures cause { IfOk result (HasCause (L.failed loader.old) (L.failed loader.new)) }
 {
     let named = match parse_report(unparsed) {
         Ok(named) => named,
         Err(reason) => {
-            refuse_report(out, reason, unparsed)?;
+            let below = is_for_people(unparsed.format);
+            refuse(to, below, reason, &NoReport(unparsed))?;
             return Ok(Status::Usage);
         }
     };
     let outline = unparsed.outline;
     match unparsed.waive {
-        None => report_outlined(alloc, named, None, outline, name, loader, out),
+        None => report_outlined(alloc, named, None, outline, name, loader, to),
         Some(file) => match load_table::<L, Waiver>(
             alloc,
             named.0.profile(),
@@ -426,9 +371,9 @@ pub(crate) fn report<L: Loader, W: Write>(
             Subject::Waivers,
         )? {
             Ok(waivers) => {
-                report_outlined(alloc, named, Some(waivers), outline, name, loader, out)
+                report_outlined(alloc, named, Some(waivers), outline, name, loader, to)
             }
-            Err(no_table) => { print_no_table(out, report_style(named.2), &no_table, loader, file) }
+            Err(no_table) => { print_no_table(to, report_style(named.2), &no_table, loader, file) }
         },
     }
 }

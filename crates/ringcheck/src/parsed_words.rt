@@ -2,6 +2,7 @@
 
 ghost use Rattle.std.specs.Prelude.{◌≡◌, option_map};
 ghost use Rattle.ringcheck.specs.ParsedWords as words;
+ghost use Rattle.ringcheck.specs.RequestStatus.{word_bytes};
 
 use command_line::{PictureWords, ReportWords};
 use grid_units::numbers::{capped_value, is_digits};
@@ -189,7 +190,7 @@ fn drawn_under(
 /// The profile and the rules of a picture. The profile is read first.
 #[tactic(auto, unfolding(crate::specs::ParsedWords::drawn_in))]
 pub(crate) fn parse_draw(unparsed: &PictureWords) -> Result<(Profile, Option<Rules>), Reason>
-    ensures { result ≡ words.parse_draw (option_map (λ w. w.now) unparsed.now.profile) (option_map (λ w. w.now) unparsed.now.ring) (option_map (λ w. w.now) unparsed.now.gap) }
+    ensures { result ≡ words.parse_draw (word_bytes unparsed.now.profile) (word_bytes unparsed.now.ring) (word_bytes unparsed.now.gap) }
 {
     match profile_of(unparsed.profile) {
         Some(profile) => Ok((profile, drawn_under(profile, unparsed.ring, unparsed.gap)?)),

@@ -15,14 +15,15 @@ ghost use Rattle.ringcheck.specs.ParsedWords as named;
 ghost use Rattle.ringcheck_files.specs.FileStatus.{IsParsedFileStatus, parse_kind};
 ghost use Rattle.ringcheck.specs.ReportStatus.{IsParsedReportStatus};
 ghost use Rattle.ringcheck.specs.CheckStatus.{IsParsedCheckStatus, IsParsedLegalStatus};
-ghost use Rattle.ringcheck.specs.Sentences.{below_measure, below_report, below_profile};
+ghost use Rattle.ringcheck.specs.Sentences.{check_sentence, draw_sentence, is_for_people, measure_sentence, profile_sentence, report_sentence};
+ghost use Rattle.ringcheck_files.specs.Writers.{texts};
 ghost use Rattle.ringcheck.specs.ShowStatus.{IsParsedShowStatus};
 
 use crate::packages::{check, draw, measure, report};
 use crate::tables::{manifest, show};
 use crate::{LoadFault, Loader};
 use command_line::{CommandLine, Refusal, ReportWords, Request, VERSION_LINE, parse};
-use ringcheck_files::{Failure, FileJob, Status, explain, print};
+use ringcheck_files::{Failure, FileJob, Status, Streams, explain, print};
 use std::alloc::Global;
 use std::fmt;
 use std::fmt::{Display, Formatter};
@@ -39,31 +40,31 @@ fn exit_of(exit_zero: bool, status: Status) -> Status
 }
 
 /// Prints the report that a request asks for, and returns its status by the flag `--exit-zero`.
-fn report_with_flag<L: Loader, W: Write>(
+fn report_with_flag<L: Loader, W: Write, E: Write>(
     alloc: Global,
     options: &ReportWords,
     manifest: &str,
     loader: &mut L,
-    out: &mut W,
+    to: &mut Streams<W, E>,
 ) -> Result<Status, Failure>
     ensures says { IfOk result (IsExitOf options.now.exit_zero (IsParsedReportStatus (L.has loader.old) manifest.now
         (named.parse_report (word_bytes options.now.profile) options.now.ring.now options.now.gap.now (word_bytes options.now.limit) (word_bytes options.now.waive) (word_bytes options.now.outline) (word_bytes options.now.format))
-        (below_report (word_bytes options.now.profile) options.now.ring.now options.now.gap.now (word_bytes options.now.limit) (is_some (word_bytes options.now.outline)) (word_bytes options.now.format))
-        (word_bytes options.now.waive) (word_bytes options.now.outline) (W.contents out.old) (W.contents out.new))) }
+        (is_for_people (word_bytes options.now.format)) (report_sentence (word_bytes options.now.profile) options.now.ring.now options.now.gap.now (word_bytes options.now.limit) (is_some (word_bytes options.now.outline)) (word_bytes options.now.format))
+        (word_bytes options.now.waive) (word_bytes options.now.outline) (texts W.contents E.contents to.old) (texts W.contents E.contents to.new))) }
     ensures cause { IfOk result (HasCause (L.failed loader.old) (L.failed loader.new)) }
 {
-    let status = report(alloc, options, manifest, loader, out)?;
+    let status = report(alloc, options, manifest, loader, to)?;
     Ok(exit_of(options.exit_zero, status))
 }
 
 /// Does what a request asks for.
-fn carry_out<L: Loader, W: Write>(
+fn carry_out<L: Loader, W: Write, E: Write>(
     alloc: Global,
     request: &Request,
     loader: &mut L,
-    out: &mut W,
+    to: &mut Streams<W, E>,
 ) -> Result<Status, Failure>
-    ensures says { IfOk result (IsRequestStatus request.now (L.has loader.old) (L.failed loader.old) (L.failed loader.new) (W.contents out.old) (W.contents out.new)) }
+    ensures says { IfOk result (IsRequestStatus request.now (L.has loader.old) (L.failed loader.old) (L.failed loader.new) (texts W.contents E.contents to.old) (texts W.contents E.contents to.new)) }
     ensures legal { IfOk result (IsLegalRequest request.now (L.has loader.old)) }
     ensures cause { IfOk result (HasCause (L.failed loader.old) (L.failed loader.new)) }
 {
@@ -73,28 +74,28 @@ fn carry_out<L: Loader, W: Write>(
             gap,
             profile,
             manifest,
-        } => check(alloc, *profile, ring, gap, manifest, loader, out),
+        } => check(alloc, *profile, ring, gap, manifest, loader, to),
         Request::Report { options, manifest } => {
-            report_with_flag(alloc, options, manifest, loader, out)
+            report_with_flag(alloc, options, manifest, loader, to)
         }
         Request::Measure {
             profile,
             format,
             manifest,
-        } => measure(alloc, *profile, *format, manifest, loader, out),
-        Request::Draw { options, manifest } => draw(alloc, options, manifest, loader, out),
+        } => measure(alloc, *profile, *format, manifest, loader, to),
+        Request::Draw { options, manifest } => draw(alloc, options, manifest, loader, to),
         Request::Show {
             kind,
             profile,
             file,
-        } => show(alloc, kind, *profile, file, loader, out),
-        Request::Rewrite { kind, file } => print(alloc, FileJob::Rewrite, kind, file, loader, out),
+        } => show(alloc, kind, *profile, file, loader, to),
+        Request::Rewrite { kind, file } => print(alloc, FileJob::Rewrite, kind, file, loader, to),
         Request::Manifest {
             why,
             profile,
             files,
-        } => manifest(alloc, *profile, *why, files, loader, out),
-        Request::Explain { word } => explain(*word, out),
+        } => manifest(alloc, *profile, *why, files, loader, to),
+        Request::Explain { word } => explain(*word, &mut to.out),
     }
 }
 
@@ -128,34 +129,34 @@ fn line_of(fault: LoadFault) -> &'static str {
 }
 
 /// Does what a line asks for, with names from its folder, if it has one.
-fn answer<L: Loader, W: Write>(
+fn answer<L: Loader, W: Write, E: Write>(
     alloc: Global,
     line: &CommandLine,
     loader: &mut L,
-    out: &mut W,
+    to: &mut Streams<W, E>,
 ) -> Status
-    ensures says { IsLineStatus line.now (L.has loader.old) (L.failed loader.old) (L.failed loader.new) (W.contents out.old) (W.contents out.new) result }
+    ensures says { IsLineStatus line.now (L.has loader.old) (L.failed loader.old) (L.failed loader.new) (texts W.contents E.contents to.old) (texts W.contents E.contents to.new) result }
     ensures legal { IsLegalRequest line.now.request (in_folder (word_bytes line.now.folder) (L.has loader.old)) result }
 {
     match enter(alloc, line.folder, loader) {
-        Ok(()) => answer_there(alloc, &line.request, loader, out),
-        Err(fault) => write_text(out, &line_of(fault), Status::Device),
+        Ok(()) => answer_there(alloc, &line.request, loader, to),
+        Err(fault) => write_text(&mut to.out, &line_of(fault), Status::Device),
     }
 }
 
 /// Does what a request asks for, and prints the line `memory` where memory runs out.
-fn answer_there<L: Loader, W: Write>(
+fn answer_there<L: Loader, W: Write, E: Write>(
     alloc: Global,
     request: &Request,
     loader: &mut L,
-    out: &mut W,
+    to: &mut Streams<W, E>,
 ) -> Status
-    ensures says { IsRequestStatus request.now (L.has loader.old) (L.failed loader.old) (L.failed loader.new) (W.contents out.old) (W.contents out.new) result }
+    ensures says { IsRequestStatus request.now (L.has loader.old) (L.failed loader.old) (L.failed loader.new) (texts W.contents E.contents to.old) (texts W.contents E.contents to.new) result }
     ensures legal { IsLegalRequest request.now (L.has loader.old) result }
 {
-    match carry_out(alloc, request, loader, out) {
+    match carry_out(alloc, request, loader, to) {
         Ok(status) => status,
-        Err(Failure::Memory) => write_text(out, &"memory\n", Status::Device),
+        Err(Failure::Memory) => write_text(&mut to.out, &"memory\n", Status::Device),
         Err(Failure::Writer) => Status::Device,
     }
 }
@@ -172,42 +173,47 @@ impl Display for UsageText<'_> {
     }
 }
 
-/// The whole program: does what the words ask for, which come without the program's name. Everything is printed to `out`, a
-/// long report in many small writes. Where that fails the status is Device, and it is not known what was written.
-pub fn run<L: Loader, W: Write>(
+/// The whole program: does what the words ask for, which come without the program's name. The answer is printed to `to.out`, a
+/// long report in many small writes, and to `to.err` a sentence that says why there is none, where the answer has no place for it. Where a
+/// write to either fails the status is Device, and it is not known what was written.
+pub fn run<L: Loader, W: Write, E: Write>(
     alloc: Global,
     words: &[&str],
     loader: &mut L,
-    out: &mut W,
+    to: &mut Streams<W, E>,
 ) -> Status
     ensures check { (r g : List ℕ) (profile folder : Option (List ℕ)) (m : List ℕ) → map (λ w. w.now) words.now ≡ check_words r g profile folder m → is_plain_word r ≡ true → is_plain_word g ≡ true
-        → is_plain_if_some profile ≡ true → is_plain_if_some folder ≡ true → is_plain_word m ≡ true → IsParsedCheckStatus (in_folder folder (L.has loader.old)) m (named.parse_check profile r g) (W.contents out.old) (W.contents out.new) result }
+        → is_plain_if_some profile ≡ true → is_plain_if_some folder ≡ true → is_plain_word m ≡ true → IsParsedCheckStatus (in_folder folder (L.has loader.old)) m (named.parse_check profile r g) (check_sentence profile r g) (texts W.contents E.contents to.old) (texts W.contents E.contents to.new) result }
     ensures legal { (r g : List ℕ) (profile folder : Option (List ℕ)) (m : List ℕ) → map (λ w. w.now) words.now ≡ check_words r g profile folder m → is_plain_word r ≡ true → is_plain_word g ≡ true
         → is_plain_if_some profile ≡ true → is_plain_if_some folder ≡ true → is_plain_word m ≡ true → IsParsedLegalStatus (in_folder folder (L.has loader.old)) m (named.profile_of profile) result }
     ensures report { (exit_zero : Bool) (r g : List ℕ) (profile limit waive outline format folder : Option (List ℕ)) (m : List ℕ) → map (λ w. w.now) words.now ≡ report_words exit_zero r g profile limit waive outline format folder m → is_plain_word r ≡ true → is_plain_word g ≡ true
         → is_plain_if_some profile ≡ true → is_plain_if_some limit ≡ true → is_plain_if_some waive ≡ true → is_plain_if_some outline ≡ true → is_plain_if_some format ≡ true → is_plain_if_some folder ≡ true → is_plain_word m ≡ true
-        → IsExitOf exit_zero (IsParsedReportStatus (in_folder folder (L.has loader.old)) m (named.parse_report profile r g limit waive outline format) (below_report profile r g limit (is_some outline) format) waive outline (W.contents out.old) (W.contents out.new)) result }
+        → IsExitOf exit_zero (IsParsedReportStatus (in_folder folder (L.has loader.old)) m (named.parse_report profile r g limit waive outline format) (is_for_people format) (report_sentence profile r g limit (is_some outline) format) waive outline (texts W.contents E.contents to.old) (texts W.contents E.contents to.new)) result }
     ensures measure { (profile format folder : Option (List ℕ)) (m : List ℕ) → map (λ w. w.now) words.now ≡ measure_words profile format folder m → is_plain_if_some profile ≡ true → is_plain_if_some format ≡ true
-        → is_plain_if_some folder ≡ true → is_plain_word m ≡ true → IsParsedMeasureStatus (in_folder folder (L.has loader.old)) m (named.parse_measure profile format) (below_measure profile format) (W.contents out.old) (W.contents out.new) result }
+        → is_plain_if_some folder ≡ true → is_plain_word m ≡ true → IsParsedMeasureStatus (in_folder folder (L.has loader.old)) m (named.parse_measure profile format) (measure_sentence profile format) (texts W.contents E.contents to.old) (texts W.contents E.contents to.new) result }
     ensures draw { (rules : Option (List ℕ × List ℕ)) (profile outline folder : Option (List ℕ)) (m : List ℕ) → map (λ w. w.now) words.now ≡ draw_words rules profile outline folder m → are_plain_rules rules ≡ true → is_plain_if_some profile ≡ true
-        → is_plain_if_some outline ≡ true → is_plain_if_some folder ≡ true → is_plain_word m ≡ true → IsParsedDrawStatus (in_folder folder (L.has loader.old)) m (named.parse_draw profile (option_map (λ both. both.0) rules) (option_map (λ both. both.1) rules)) outline (W.contents out.old) (W.contents out.new) result }
+        → is_plain_if_some outline ≡ true → is_plain_if_some folder ≡ true → is_plain_word m ≡ true → IsParsedDrawStatus (in_folder folder (L.has loader.old)) m (named.parse_draw profile (option_map (λ both. both.0) rules) (option_map (λ both. both.1) rules)) (draw_sentence profile (option_map (λ both. both.0) rules) (option_map (λ both. both.1) rules)) outline (texts W.contents E.contents to.old) (texts W.contents E.contents to.new) result }
     ensures show { (k : List ℕ) (profile folder : Option (List ℕ)) (f : List ℕ) → map (λ w. w.now) words.now ≡ show_words k profile folder f → is_plain_word k ≡ true → is_plain_if_some profile ≡ true
-        → is_plain_if_some folder ≡ true → is_plain_word f ≡ true → IsParsedShowStatus (named.profile_of profile) (below_profile profile) (parse_kind k) (in_folder folder (L.has loader.old)) f (W.contents out.old) (W.contents out.new) result }
+        → is_plain_if_some folder ≡ true → is_plain_word f ≡ true → IsParsedShowStatus (named.profile_of profile) (profile_sentence profile) (parse_kind k) (in_folder folder (L.has loader.old)) f (texts W.contents E.contents to.old) (texts W.contents E.contents to.new) result }
     ensures rewrite { (k : List ℕ) (folder : Option (List ℕ)) (f : List ℕ) → map (λ w. w.now) words.now ≡ rewrite_words k folder f → is_plain_word k ≡ true → is_plain_if_some folder ≡ true → is_plain_word f ≡ true
-        → IsParsedFileStatus FileJob.Rewrite (parse_kind k) (in_folder folder (L.has loader.old)) f (W.contents out.old) (W.contents out.new) result }
+        → IsParsedFileStatus FileJob.Rewrite (parse_kind k) (in_folder folder (L.has loader.old)) f (texts W.contents E.contents to.old) (texts W.contents E.contents to.new) result }
     ensures manifest { (why : Bool) (profile folder : Option (List ℕ)) (fs : List (List ℕ)) → map (λ w. w.now) words.now ≡ manifest_words why profile folder fs → is_plain_if_some profile ≡ true → is_plain_if_some folder ≡ true → are_plain_words fs ≡ true
-        → IsParsedManifestStatus (named.profile_of profile) (below_profile profile) why (in_folder folder (L.has loader.old)) (L.failed loader.old) (L.failed loader.new) fs (W.contents out.old) (W.contents out.new) result }
-    ensures list { map (λ w. w.now) words.now ≡ explain_words None → IsExplainStatus None (W.contents out.old) (W.contents out.new) result }
+        → IsParsedManifestStatus (named.profile_of profile) (profile_sentence profile) why (in_folder folder (L.has loader.old)) (L.failed loader.old) (L.failed loader.new) fs (texts W.contents E.contents to.old) (texts W.contents E.contents to.new) result }
+    ensures list { map (λ w. w.now) words.now ≡ explain_words None → IsExplainStatus None (W.contents to.old.out) (W.contents to.new.out) result }
     ensures explain { (w : List ℕ) → map (λ w. w.now) words.now ≡ explain_words (Some w) → is_plain_word w ≡ true
-        → IsExplainStatus (Some w) (W.contents out.old) (W.contents out.new) result }
-    ensures version { map (λ w. w.now) words.now ≡ codes "--version" ∷ [] → IsVersionStatus (W.contents out.old) (W.contents out.new) result }
-    ensures line { IsProgramStatus (map (λ w. w.now) words.now) (L.has loader.old) (L.failed loader.old) (L.failed loader.new) (W.contents out.old) (W.contents out.new) result }
+        → IsExplainStatus (Some w) (W.contents to.old.out) (W.contents to.new.out) result }
+    ensures version { map (λ w. w.now) words.now ≡ codes "--version" ∷ [] → IsVersionStatus (W.contents to.old.out) (W.contents to.new.out) result }
+    ensures line { IsProgramStatus (map (λ w. w.now) words.now) (L.has loader.old) (L.failed loader.old) (L.failed loader.new) (texts W.contents E.contents to.old) (texts W.contents E.contents to.new) result }
 {
     match parse(alloc, words) {
-        Ok(line) => answer(alloc, &line, loader, out),
-        Err(Refusal::Memory) => write_text(out, &"memory\n", Status::Device),
-        Err(Refusal::Version) => write_text(out, &VERSION_LINE, Status::Pass),
-        Err(Refusal::Help(text)) => write_text(out, &text, Status::Pass),
-        Err(Refusal::Usage(text)) => write_text(out, &UsageText(text.as_str()), Status::Usage),
+        Ok(line) => answer(alloc, &line, loader, to),
+        Err(Refusal::Memory) => write_text(&mut to.out, &"memory\n", Status::Device),
+        Err(Refusal::Version) => write_text(&mut to.out, &VERSION_LINE, Status::Pass),
+        Err(Refusal::Help(text)) => write_text(&mut to.out, &text, Status::Pass),
+        Err(Refusal::Usage(text)) => write_text(
+            &mut to.out,
+            &UsageText(text.as_str()),
+            Status::Usage,
+        ),
     }
 }

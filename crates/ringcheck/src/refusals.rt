@@ -8,13 +8,13 @@ ghost use Rattle.package_check.specs.Package.{FileView, IsFirstRefused};
 ghost use Rattle.print_json.specs.Packages.{input_error_value};
 ghost use Rattle.print_json.specs.Values.{json_text};
 ghost use Rattle.ringcheck.specs.CheckStatus as tables;
-ghost use Rattle.ringcheck.specs.CheckStatus.{refusal_of_text, role_and_file_at};
-ghost use Rattle.ringcheck.specs.Inner.Halting.{AfterHalt, AfterNoTable, Halts, PrintsUnread, is_role_of, refusal, refusal_of_table};
-ghost use Rattle.ringcheck.specs.Refusals.{PrintsRefusal, indented, of_archive, of_role, refusal_json, refusal_line};
+ghost use Rattle.ringcheck.specs.CheckStatus.{refusal_of_text, role_and_file_at, RefusedAmong};
+ghost use Rattle.ringcheck.specs.Inner.Halting.{AfterHalt, AfterNoTable, Halts, PrintsUnread, explained, is_role_of, refusal, refusal_of_table, refusal_sentence};
+ghost use Rattle.ringcheck.specs.Refusals.{PrintsRefusal, WritesRefusal, beside, indented, refusal_json, refusal_line};
 ghost use Rattle.ringcheck.specs.Refusals as wording;
-ghost use Rattle.ringcheck.specs.CheckStatus.{RefusedAmong};
-ghost use Rattle.ringcheck.specs.Sentences as wordings;
 ghost use Rattle.ringcheck.specs.Sentences.{found_folder_sentence, unread_json, unread_line, unread_sentence, unread_text, unread_words};
+ghost use Rattle.ringcheck_files.specs.Words.{Says};
+ghost use Rattle.ringcheck_files.specs.Writers.{texts};
 ghost use Rattle.std.specs.Io.KnownBytes.{Appends};
 
 use crate::Loader;
@@ -23,7 +23,7 @@ use grid_units::{Fault, Reason};
 use manifest::rows::{read_records, text_field};
 use manifest::{Name, is_archive};
 use print_json::InputError;
-use ringcheck_files::{Container, Failure, Status, explanation};
+use ringcheck_files::{Container, Failure, Status, Streams, explanation, place_of_names};
 use std::alloc::{AllocError, Global};
 use std::fmt;
 use std::fmt::{Display, Formatter};
@@ -264,16 +264,6 @@ struct UnreadSentence<'a> {
     folder: Option<&'a str>,
 }
 
-/// Where file names are taken from: the folder that was entered, if there is one.
-fn place_of_names(folder: Option<&str>) -> &str
-    ensures { result.now ≡ wordings.place_of_names (option_map (λ f. f.now) folder.entry) }
-{
-    match folder {
-        Some(folder) => folder,
-        None => "the working directory",
-    }
-}
-
 impl Display for UnreadSentence<'_> {
     ghost output = { λ it. Some (unread_sentence it.subject it.path.now (option_map (λ f. f.now) it.folder)) };
 
@@ -326,36 +316,12 @@ fn print_refusal<W: Write>(
     subject: Subject,
     fault: Fault,
 ) -> Result<(), Failure>
-    ensures { OnOk result (PrintsRefusal style (refusal subject.entry fault) (W.contents out.old) (W.contents out.new)) }
+    ensures { OnOk result (WritesRefusal style (refusal subject.entry fault) (W.contents out.old) (W.contents out.new)) }
 {
     let line = RefusalLine { subject, fault };
     match style {
         RefusalStyle::Line => write!(out, "{line}")?,
         RefusalStyle::Page => write!(out, "{line}{}", Indented(page_of(fault.reason)))?,
-        RefusalStyle::Json => write!(out, "{}", refused_stop(subject, fault))?,
-    }
-    Ok(())
-}
-
-/// Prints in this style the refusal of a manifest or a file of waivers, under whose name is a zip archive.
-fn print_archive<W: Write>(
-    out: &mut W,
-    style: RefusalStyle,
-    subject: Subject,
-    fault: Fault,
-    name: &str,
-) -> Result<(), Failure>
-    ensures { OnOk result (PrintsRefusal style (of_archive name.now (refusal subject.entry fault)) (W.contents out.old) (W.contents out.new)) }
-{
-    let line = RefusalLine { subject, fault };
-    let archive = Container::Archive(name);
-    match style {
-        RefusalStyle::Line => write!(out, "{line}")?,
-        RefusalStyle::Page => write!(
-            out,
-            "{line}  {archive}\n{}",
-            Indented(page_of(fault.reason))
-        )?,
         RefusalStyle::Json => write!(out, "{}", refused_stop(subject, fault))?,
     }
     Ok(())
@@ -388,52 +354,59 @@ fn role_advice(role: &str, file: &str) -> &'static str
     }
 }
 
-/// What is said of the record of a manifest that is refused for its role.
+/// What is said of a refusal.
 #[derive(Clone, Copy)]
-struct RoleSentence<'a> {
-    number: u64,
-    role: &'a str,
-    file: &'a str,
+enum RefusalSentence<'a> {
+    /// Under this name is a zip archive.
+    Archive(&'a str),
+    /// The record of a manifest with this number, role and file has the role for which it is refused.
+    Role {
+        number: u64,
+        role: &'a str,
+        file: &'a str,
+    },
 }
 
-impl Display for RoleSentence<'_> {
-    ghost output = { λ it. Some (wording.role_sentence it.number it.role.now it.file.now) };
+impl Display for RefusalSentence<'_> {
+    ghost output = { λ it. Some (refusal_sentence it) };
 
     fn fmt<W: fmt::Write>(&self, f: &mut Formatter<W>) -> fmt::Result {
-        let (number, role, file) = (self.number, self.role, self.file);
-        let advice = role_advice(role, file);
-        write!(
-            f,
-            "record {number}, {file}: its role is \"{role}\": {advice}"
-        )
+        match *self {
+            RefusalSentence::Archive(name) => write!(f, "{}", Container::Archive(name)),
+            RefusalSentence::Role { number, role, file } => {
+                let advice = role_advice(role, file);
+                write!(
+                    f,
+                    "record {number}, {file}: its role is \"{role}\": {advice}"
+                )
+            }
+        }
     }
 }
 
-/// Prints in this style the refusal of a manifest for the role of the record of this file.
-fn print_role<'a, W: Write>(
-    out: &mut W,
+/// Prints in this style a refusal of which this sentence is said.
+fn print_explained<W: Write, E: Write>(
+    to: &mut Streams<W, E>,
     style: RefusalStyle,
+    what: Subject,
     fault: Fault,
-    role: &'a str,
-    file: &'a str,
+    said: RefusalSentence,
 ) -> Result<(), Failure>
-    ensures { OnOk result (PrintsRefusal style (of_role role.now file.now fault) (W.contents out.old) (W.contents out.new)) }
+    ensures { OnOk result (PrintsRefusal style (explained said.entry what.entry fault) (texts W.contents E.contents to.old) (texts W.contents E.contents to.new)) }
 {
-    let subject = Subject::Manifest;
+    let subject = what;
     let line = RefusalLine { subject, fault };
-    let sentence = RoleSentence {
-        number: fault.place,
-        role,
-        file,
-    };
+    let page = Indented(page_of(fault.reason));
     match style {
-        RefusalStyle::Line => write!(out, "{line}")?,
-        RefusalStyle::Page => write!(
-            out,
-            "{line}  {sentence}\n{}",
-            Indented(page_of(fault.reason))
-        )?,
-        RefusalStyle::Json => write!(out, "{}", refused_stop(subject, fault))?,
+        RefusalStyle::Line => {
+            write!(to.out, "{line}")?;
+            write!(to.err, "  {said}\n")?;
+        }
+        RefusalStyle::Page => write!(to.out, "{line}  {said}\n{page}")?,
+        RefusalStyle::Json => {
+            write!(to.out, "{}", refused_stop(what, fault))?;
+            write!(to.err, "  {said}\n")?;
+        }
     }
     Ok(())
 }
@@ -475,77 +448,86 @@ impl Display for UnreadWords<'_> {
 }
 
 /// Prints in this style that something cannot be read, which was looked for in this way.
-fn print_sought<'a, W: Write>(
-    out: &mut W,
+fn print_sought<'a, W: Write, E: Write>(
+    to: &mut Streams<W, E>,
     style: RefusalStyle,
     subject: Subject<'a>,
     sought: Sought<'a>,
 ) -> Result<(), Failure>
-    ensures { OnOk result (Appends (W.contents out.old) (W.contents out.new) (unread_text style subject.entry sought.entry)) }
+    ensures answer { OnOk result (Appends (W.contents to.old.out) (W.contents to.new.out) (unread_text style subject.entry sought.entry)) }
+    ensures beside { OnOk result (Says (beside style (Some (unread_words subject.entry sought.entry))) (texts W.contents E.contents to.old) (texts W.contents E.contents to.new)) }
 {
     let line = UnreadLine(subject);
     let words = UnreadWords { subject, sought };
     match style {
-        RefusalStyle::Line => write!(out, "{line}")?,
-        RefusalStyle::Page => write!(out, "{line}  {words}\n")?,
-        RefusalStyle::Json => write!(out, "{}", unread_stop(subject))?,
+        RefusalStyle::Line => {
+            write!(to.out, "{line}")?;
+            write!(to.err, "  {words}\n")?;
+        }
+        RefusalStyle::Page => write!(to.out, "{line}  {words}\n")?,
+        RefusalStyle::Json => {
+            write!(to.out, "{}", unread_stop(subject))?;
+            write!(to.err, "  {words}\n")?;
+        }
     }
     Ok(())
 }
 
 /// Prints in this style that something cannot be read, which was looked for by this name.
-fn print_unread<'a, L: Loader, W: Write>(
-    out: &mut W,
+fn print_unread<'a, L: Loader, W: Write, E: Write>(
+    to: &mut Streams<W, E>,
     style: RefusalStyle,
     subject: Subject<'a>,
     loader: &'a L,
     path: &'a str,
 ) -> Result<(), Failure>
-    ensures { OnOk result (PrintsUnread style subject.entry path.now (W.contents out.old) (W.contents out.new)) }
+    ensures { OnOk result (PrintsUnread style subject.entry path.now (texts W.contents E.contents to.old) (texts W.contents E.contents to.new)) }
 {
-    print_sought(out, style, subject, sought_by(loader, path))
+    print_sought(to, style, subject, sought_by(loader, path))
 }
 
 /// Prints why nothing is done with a package, and returns the status of the run. What cannot be read was looked for by this name.
-pub(crate) fn print_halt<L: Loader, W: Write>(
-    out: &mut W,
+pub(crate) fn print_halt<L: Loader, W: Write, E: Write>(
+    to: &mut Streams<W, E>,
     style: RefusalStyle,
     halt: Halt,
     loader: &L,
     path: &str,
 ) -> Result<Status, Failure>
-    ensures { IfOk result (AfterHalt style halt.entry path.now (W.contents out.old) (W.contents out.new)) }
+    ensures { IfOk result (AfterHalt style halt.entry path.now (texts W.contents E.contents to.old) (texts W.contents E.contents to.new)) }
 {
     match halt {
         Halt::Refused(subject, fault) => {
-            print_refusal(out, style, subject, fault)?;
+            print_refusal(&mut to.out, style, subject, fault)?;
             Ok(Status::Refused)
         }
         Halt::Archive(subject, fault, name) => {
-            print_archive(out, style, subject, fault, name)?;
+            print_explained(to, style, subject, fault, RefusalSentence::Archive(name))?;
             Ok(Status::Refused)
         }
         Halt::Unread(subject) => {
-            print_unread(out, style, subject, loader, path)?;
+            print_unread(to, style, subject, loader, path)?;
             Ok(Status::Device)
         }
     }
 }
 
 /// Prints why there is no table, and returns the status of the run. What cannot be read was looked for by this name.
-pub(crate) fn print_no_table<L: Loader, W: Write>(
-    out: &mut W,
+pub(crate) fn print_no_table<L: Loader, W: Write, E: Write>(
+    to: &mut Streams<W, E>,
     style: RefusalStyle,
     no_table: &NoTable,
     loader: &L,
     path: &str,
 ) -> Result<Status, Failure>
-    ensures { IfOk result (AfterNoTable style no_table.now path.now (W.contents out.old) (W.contents out.new)) }
+    ensures { IfOk result (AfterNoTable style no_table.now path.now (texts W.contents E.contents to.old) (texts W.contents E.contents to.new)) }
 {
     match no_table {
-        NoTable::Halted(halt) => print_halt(out, style, *halt, loader, path),
+        NoTable::Halted(halt) => print_halt(to, style, *halt, loader, path),
         NoTable::Role(fault, row) => {
-            print_role(out, style, *fault, row.role.as_str(), row.file.as_str())?;
+            let (number, role, file) = (fault.place, row.role.as_str(), row.file.as_str());
+            let sentence = RefusalSentence::Role { number, role, file };
+            print_explained(to, style, Subject::Manifest, *fault, sentence)?;
             Ok(Status::Refused)
         }
     }

@@ -1,13 +1,35 @@
-//! What is said below the line of refused words: which word, why, and what to write instead.
+//! What is said of refused words: which word, why, and what to write instead.
 
-ghost use Rattle.std.specs.Prelude.{◌≡◌, Some, is_some, option_map};
+ghost use Rattle.std.specs.Prelude.{◌≡◌, IfSome, OnOk, Some, is_some, option_map};
+ghost use Rattle.ringcheck_files.specs.Words.{PrintsUsage};
+ghost use Rattle.ringcheck_files.specs.Writers.{texts};
 ghost use Rattle.ringcheck.specs.Sentences as sentences;
 
 use crate::parsed_words::{parse_length, parse_limit, parse_rules, profile_of};
 use command_line::ReportWords;
 use grid_units::Reason;
+use ringcheck_files::{Failure, Streams, refuse_word};
 use std::fmt;
 use std::fmt::{Display, Formatter};
+use std::io::Write;
+
+/// Prints the line of words that are refused, and what is said of them: below the line, or if not `below`, beside it.
+pub(crate) fn refuse<W: Write, E: Write, S: Display>(
+    to: &mut Streams<W, E>,
+    below: bool,
+    reason: Reason,
+    said: &S,
+) -> Result<(), Failure>
+    ensures { OnOk result (IfSome (S.output said.now) (λ s. PrintsUsage below reason s (texts W.contents E.contents to.old) (texts W.contents E.contents to.new))) }
+{
+    refuse_word(&mut to.out, reason)?;
+    if below {
+        write!(to.out, "  {said}\n")?;
+    } else {
+        write!(to.err, "  {said}\n")?;
+    }
+    Ok(())
+}
 
 /// What a rule is, where a word is none for this reason.
 fn rule_words(reason: Reason) -> &'static str
@@ -93,7 +115,7 @@ impl Display for NoCount<'_> {
     }
 }
 
-/// What is said of a word that is no format of a report.
+/// What is said of a word that is no format of a report, or of `waivers`, which is refused where a file of waivers is given.
 #[derive(Clone, Copy)]
 struct NoReportFormat<'a>(Option<&'a str>);
 
@@ -102,6 +124,9 @@ impl Display for NoReportFormat<'_> {
 
     fn fmt<W: fmt::Write>(&self, f: &mut Formatter<W>) -> fmt::Result {
         match self.0 {
+            Some("waivers") => f.write_str(
+                "--waive does not work with --format waivers, which prints a file of waivers",
+            ),
             Some(word) => write!(
                 f,
                 "--format must be text, html, json or waivers, not {word}"
@@ -137,6 +162,28 @@ impl Display for NoProfile<'_> {
         match self.0 {
             Some(word) => write!(f, "--profile must be strict or wide, not {word}"),
             None => f.write_str("--profile must be strict or wide"),
+        }
+    }
+}
+
+/// What is said of the words of a check or of a picture that are refused, by the first of them that is. A check has a ring and a gap.
+#[derive(Clone, Copy)]
+pub(crate) struct NoPicture<'a> {
+    pub(crate) profile: Option<&'a str>,
+    pub(crate) ring: Option<&'a str>,
+    pub(crate) gap: Option<&'a str>,
+}
+
+impl Display for NoPicture<'_> {
+    ghost output = { λ it. Some (sentences.draw_sentence (option_map (λ w. w.now) it.profile) (option_map (λ w. w.now) it.ring) (option_map (λ w. w.now) it.gap)) };
+
+    fn fmt<W: fmt::Write>(&self, f: &mut Formatter<W>) -> fmt::Result {
+        if profile_of(self.profile).is_none() {
+            return write!(f, "{}", NoProfile(self.profile));
+        }
+        match (self.ring, self.gap) {
+            (Some(ring), Some(gap)) => write!(f, "{}", NoRules { ring, gap }),
+            _ => f.write_str("--ring and --gap are given together"),
         }
     }
 }

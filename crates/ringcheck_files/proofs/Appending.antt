@@ -1,6 +1,5 @@
 -- Texts that were written one after the other.
-use Rattle.std.proofs.Common.{◌∙◌, ◌++◌, ℕ, List, Option, Some, None, ap, append_assoc}
-use Rattle.std.specs.Io.KnownBytes.{Appends}
+use Rattle.ringcheck_files.proofs.Common.{◌∙◌, ◌++◌, ℕ, List, Option, Some, None, ap, append_assoc, Appends}
 
 -- two texts
 pub appends_both : (before middle after : Option (List ℕ)) (first second : List ℕ) → Appends before middle first → Appends middle after second → Appends before after (first ++ second)

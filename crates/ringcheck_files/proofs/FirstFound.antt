@@ -1,7 +1,5 @@
 -- A search of borrowed texts from the front finds the first one that passes.
-use Rattle.std.proofs.Common.{◌≡◌, ◌<◌, ◌≤◌, ◌+◌, ◌∙◌, ℕ, Bool, Bor, true, false, List, Option, Some, None, length, drop, get_or, map, cond, ap, sym, subst}
-use Rattle.std.specs.List.{find}
-use Rattle.std.proofs.lemmas.List.{at_drop_more, at_drop_all, get_or-map, length-map}
+use Rattle.ringcheck_files.proofs.Common.{◌≡◌, ◌<◌, ◌≤◌, ◌+◌, ◌∙◌, ℕ, Bool, Bor, true, false, List, Option, Some, None, length, drop, get_or, map, cond, ap, sym, subst, find, at_drop_more, at_drop_all, get_or-map, length-map}
 
 -- the texts that are searched
 abbrev pub texts : List (Bor (List ℕ)) → List (List ℕ)

@@ -1,10 +1,8 @@
 -- Bytes that are handed on as they are read.
-use Rattle.std.proofs.Common.{◌≡◌, ◌<◌, ◌≤◌, ◌+◌, ◌++◌, ℕ, List, [], length, Option, None, Some, Ok, Err, arith, ap, refl, subst, sym, ◌∙◌, append-nil, length-append}
+use Rattle.ringcheck_files.proofs.Common.{◌≡◌, ◌<◌, ◌≤◌, ◌+◌, ◌++◌, ℕ, List, [], length, Option, None, Some, Ok, Err, arith, ap, refl, subst, sym, ◌∙◌, append-nil, length-append, Consumes, IsAtEnd, Keeps, HasHandedOn}
 use Rattle.std.proofs.KnownBytes.{Consumes-kept, Consumes-nil, Consumes-trans}
-use Rattle.std.specs.Io.KnownBytes.{Consumes, IsAtEnd, Keeps}
 use Rattle.std.specs.Prelude.{Vec}
 use Rattle.std.specs.declared.alloc.Global.{Global}
-use Rattle.ringcheck_files.specs.Inner.{HasHandedOn}
 use Rattle.ringcheck_files.specs.ReaderBytes.{HandsAll, ReadsAll}
 use Rattle.ringcheck_files.specs.declared.reader_bytes.ReadFail.{ReadFail}
 use Rattle.ringcheck_files.specs.declared.reader_bytes.ReadFail.TheVariants as fails

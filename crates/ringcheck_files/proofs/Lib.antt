@@ -1,3 +1,4 @@
+pub mod Common
 pub mod ManifestStatus
 pub mod Appending
 pub mod HandingOn

@@ -1,13 +1,6 @@
 -- Each listed word has a page, and a search of the list finds only listed words.
-use Rattle.std.proofs.Common.{◌≡◌, ◌↔◌, ◌++◌, ℕ, Bool, Bor, true, false, List, [], ◌∷◌, IfSome, IsSome, MatchOption, Option, Some, None, cond, map, inl, inr, refl, sym, subst}
-use Rattle.std.specs.List.{find, AllByRecursion}
-use Rattle.std.specs.Option.{option_or}
-use Rattle.std.specs.Str.{bytes_eq, str_eq_ignore_ascii_case}
-use Rattle.grid_units.specs.Reasons.{reason_name}
-use Rattle.grid_units.specs.declared.fault.Reason.{Reason}
+use Rattle.ringcheck_files.proofs.Common.{◌≡◌, ◌↔◌, ◌++◌, ℕ, Bool, Bor, true, false, List, [], ◌∷◌, IfSome, IsSome, MatchOption, Option, Some, None, cond, map, inl, inr, refl, sym, subst, find, AllByRecursion, option_or, bytes_eq, str_eq_ignore_ascii_case, reason_name, Reason, IsPageOf, known_word, listed, listed_in_any_case, FitsScreen, HasHeading, IsExplained, all_reasons, all_topics, all_words, topic_word}
 use Rattle.ringcheck_files.specs.declared.topic.Topic.{Topic}
-use Rattle.ringcheck_files.specs.KnownWords.{IsPageOf, known_word, listed, listed_in_any_case}
-use Rattle.ringcheck_files.specs.PageWords.{FitsScreen, HasHeading, IsExplained, all_reasons, all_topics, all_words, topic_word}
 
 -- the names of reasons, before other explained words
 pub reasons_explained : (reasons : List Reason) (rest : List (List ℕ)) → AllByRecursion IsExplained rest → AllByRecursion IsExplained (map reason_name reasons ++ rest)

@@ -1,16 +1,10 @@
 -- Each reason and each topic stands in its list, and a search of a list finds the one with a name.
-use Rattle.std.proofs.Common.{arith, inl, inr, map, ◌≡◌, ◌≢◌, ◌<◌, ◌≤◌, ◌+◌, ◌-◌, ◌∙◌, ℕ, false, List, length, take, get_or, All, sym, refl, ap, subst}
-use Rattle.std.specs.List.{Contains}
-use Rattle.std.specs.Str.{bytes_eq}
-use Rattle.std.proofs.lemmas.List.{length-map, take_all, get_or-map}
+use Rattle.ringcheck_files.proofs.Common.{arith, inl, inr, map, ◌≡◌, ◌≢◌, ◌<◌, ◌≤◌, ◌+◌, ◌-◌, ◌∙◌, ℕ, false, List, length, take, get_or, All, sym, refl, ap, subst, Contains, bytes_eq, length-map, take_all, get_or-map, reason_name, reason_number, Reason, EachWordIsListed, all_reasons, all_topics, all_words, topic_word}
 use Rattle.std.proofs.lemmas.List.Elements.{All-more, Contains-append_left, Contains-append_right}
 use Rattle.std.proofs.lemmas.Slice.Eq.{bytes_eq-Decides}
-use Rattle.grid_units.specs.Reasons.{reason_name, reason_number}
-use Rattle.grid_units.specs.declared.fault.Reason.{Reason}
 use Rattle.grid_units.specs.declared.fault.Reason.TheVariants as reasons
 use Rattle.ringcheck_files.specs.declared.topic.Topic.{Topic}
 use Rattle.ringcheck_files.specs.declared.topic.Topic.TheVariants as topics
-use Rattle.ringcheck_files.specs.PageWords.{EachWordIsListed, all_reasons, all_topics, all_words, topic_word}
 
 -- each reason stands in their list at its number, the first of which is 1
 pub reason_at : (reason : Reason) → (reason_number reason - 1 < length all_reasons) × (get_or all_reasons (reason_number reason - 1) reason ≡ reason)

@@ -1,9 +1,5 @@
 -- Files that were loaded one by one, by their names.
-use Rattle.std.proofs.Common.{◌≡◌, ◌∙◌, ◌<◌, ◌≤◌, ◌+◌, ◌++◌, ◌&&◌, inl, inr, ℕ, zero, suc, Bool, true, false, cond, List, [], ◌∷◌, length, map, take, get_or, Bor, Option, Some, None, arith, refl, ap, sym, subst}
-use Rattle.std.specs.Io.KnownBytes.{Appends}
-use Rattle.std.specs.Prelude.{slice_get}
-use Rattle.std.specs.List.{list_all}
-use Rattle.std.proofs.lemmas.Bool.{false≢true}
+use Rattle.ringcheck_files.proofs.Common.{◌≡◌, ◌∙◌, ◌<◌, ◌≤◌, ◌+◌, ◌++◌, ◌&&◌, inl, inr, ℕ, zero, suc, Bool, true, false, cond, List, [], ◌∷◌, length, map, take, get_or, Bor, Option, Some, None, arith, refl, ap, sym, subst, Appends, slice_get, list_all, false≢true, HasLoaded, HasAllLoaded, IsHeldStatus, IsManifestStatus, IsProposalText, LoadedView, PrintsProposal, HasRisenBy, bytes, unread, folder, long, is_container, are_containers, is_entry_name, count_unread, first_said, loaded_view, is_unread, loaded_file, loaded_files, said_of}
 use Rattle.std.proofs.lemmas.List.Sums.{sum_by_push}
 use Rattle.grid_units.specs.declared.profile.Profile.{Profile}
 use Rattle.manifest.specs.ProposalList.{name_of}
@@ -12,7 +8,6 @@ use Rattle.ringcheck_files.specs.declared.Status.{Status}
 use Rattle.ringcheck_files.specs.declared.Status.TheVariants as status
 use Rattle.ringcheck_files.specs.declared.proposed_manifest.LoadedFile.{LoadedFile}
 use Rattle.ringcheck_files.specs.Outcomes.{HasRisen}
-use Rattle.ringcheck_files.specs.ManifestStatus.{HasLoaded, HasAllLoaded, IsHeldStatus, IsManifestStatus, IsProposalText, LoadedView, PrintsProposal, HasRisenBy, bytes, unread, folder, long, is_container, are_containers, is_entry_name, count_unread, first_said, loaded_view, is_unread, loaded_file, loaded_files, said_of}
 
 -- the names
 abbrev pub texts : List (Bor (List ℕ)) → List (List ℕ)

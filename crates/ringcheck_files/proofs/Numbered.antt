@@ -1,7 +1,6 @@
 -- Rows that are numbered.
-use Rattle.std.proofs.Common.{◌≡◌, ◌<◌, ◌≤◌, ◌+◌, ◌++◌, ℕ, zero, suc, List, [], ◌∷◌, length, drop, get_or, arith, refl, ap, sym, ◌∙◌, append_assoc}
+use Rattle.ringcheck_files.proofs.Common.{◌≡◌, ◌<◌, ◌≤◌, ◌+◌, ◌++◌, ℕ, zero, suc, List, [], ◌∷◌, length, drop, get_or, arith, refl, ap, sym, ◌∙◌, append_assoc, row, rows_from}
 use Rattle.std.proofs.lemmas.List.{append-nil}
-use Rattle.ringcheck_files.specs.Rows.{row, rows_from}
 
 module _ {A : Type 0} (fields : ℕ → A → List (List ℕ)) where
   -- the row of the element at a place, and those after it

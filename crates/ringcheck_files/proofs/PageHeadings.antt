@@ -1,9 +1,5 @@
 -- The page at the number of a reason begins with its name.
-use Rattle.std.proofs.Common.{arith, ◌≡◌, ◌<◌, ◌-◌, ◌∙◌, ℕ, zero, suc, Bor, List, [], ◌∷◌, length, map, get_or, ap, refl, subst}
-use Rattle.std.proofs.lemmas.List.{length-map, get_or-map}
-use Rattle.grid_units.specs.Reasons.{reason_name, reason_number}
-use Rattle.grid_units.specs.declared.fault.Reason.{Reason}
-use Rattle.ringcheck_files.specs.PageWords.{HasHeading, all_reasons}
+use Rattle.ringcheck_files.proofs.Common.{arith, ◌≡◌, ◌<◌, ◌-◌, ◌∙◌, ℕ, zero, suc, Bor, List, [], ◌∷◌, length, map, get_or, ap, refl, subst, length-map, get_or-map, reason_name, reason_number, Reason, HasHeading, all_reasons}
 use Rattle.ringcheck_files.proofs.LookupLemmas.{reason_at}
 
 -- each of these pages begins with the word at its place

@@ -1,25 +1,14 @@
 -- Texts that are read in pieces, for flashes or holes alone.
-use Rattle.std.proofs.Common.{◌≡◌, ◌∙◌, ℕ, List, [], ◌++◌, Result, Ok, Err, IfOk, ap, refl, subst, append-nil}
-use Rattle.std.specs.Global.{Vec}
-use Rattle.grid_units.specs.declared.fault.Fault.{Fault}
+use Rattle.ringcheck_files.proofs.Common.{◌≡◌, ◌∙◌, ℕ, List, [], ◌++◌, Result, Ok, Err, IfOk, ap, refl, subst, append-nil, Vec, Fault, Strict, Wide, Answers, IfFault, ReadsAsIn, ReadsIn, ShowsIn, without_places, ShowsLayerFaultIn, KeptLayer, ReadsKeptIn, LayerImage, ReadsLayerIn, StrictLayers, WidePad, ReadsDrill, ShowsDrill, ShowsLayer, drill_table}
 use Rattle.grid_units.specs.declared.fault.Fail.{Fail}
 use Rattle.grid_units.specs.declared.fault.Fail.TheVariants as fails
 use Rattle.grid_units.specs.declared.profile.Profile.{Profile}
-use Rattle.grid_units.specs.declared.profile.Profile.TheVariants.{Strict, Wide}
-use Rattle.grid_units.specs.Results.{Answers, IfFault}
 use Rattle.drill_text.specs.declared.kept.Keep.{Keep as DrillKeep}
 use Rattle.drill_text.specs.declared.platings.PlatingKind.TheVariants.{Stated}
 use Rattle.drill_text.specs.Outcome.{DrillFile, file_of}
-use Rattle.drill_text.specs.Profiles.{ReadsAsIn, ReadsIn, ShowsIn}
 use Rattle.drill_text.proofs.SpellsTextLemmas.{reads_drill_text}
 use Rattle.layer_features.specs.declared.keep.Keep.{Keep as LayerKeep}
-use Rattle.gerber_text.specs.Writing.{without_places}
-use Rattle.layer_image.specs.Holding.{ShowsLayerFaultIn}
-use Rattle.layer_image.specs.Kept.{KeptLayer, ReadsKeptIn}
-use Rattle.layer_image.specs.Layers.{LayerImage, ReadsLayerIn, StrictLayers}
 use Rattle.layer_features.specs.Features.{features_of, view_in, wide_features_of}
-use Rattle.pad_shapes.specs.declared.wide_pad.WidePad.{WidePad}
-use Rattle.ringcheck_files.specs.Tables.{ReadsDrill, ShowsDrill, ShowsLayer, drill_table}
 
 -- ---- layers
 

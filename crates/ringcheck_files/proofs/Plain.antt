@@ -1,12 +1,7 @@
 -- Fields that need no quotes.
-use Rattle.std.proofs.Common.{◌≡◌, ◌<◌, ◌≤◌, ◌+◌, ◌/◌, ◌%◌, ◌^◌, ◌++◌, ℕ, zero, suc, ℤ, pos, negsuc, unsigned_abs, false, List, [], ◌∷◌, length, arith, rules, refl, append_assoc}
-use Rattle.std.specs.Prelude.{decimal}
-use Rattle.std.specs.List.{flat_map}
+use Rattle.ringcheck_files.proofs.Common.{◌≡◌, ◌<◌, ◌≤◌, ◌+◌, ◌/◌, ◌%◌, ◌^◌, ◌++◌, ℕ, zero, suc, ℤ, pos, negsuc, unsigned_abs, false, List, [], ◌∷◌, length, arith, rules, refl, append_assoc, decimal, flat_map, decimal_by_steps, millimetres, minus, places, NeedNoQuotes, NeedsNoQuotes, row}
 use Rattle.std.proofs.lemmas.List.Folds.{list_any-append}
-use Rattle.std.proofs.lemmas.Fmt.{decimal_by_steps}
 use Rattle.csv.specs.Writing.{default_writer, needs_byte, fields_text, field_text, row_text, is_blank}
-use Rattle.grid_units.specs.Spellings.{millimetres, minus, places}
-use Rattle.ringcheck_files.specs.Rows.{NeedNoQuotes, NeedsNoQuotes, row}
 
 -- a digit, a point or a minus
 pub byte_plain : (b : ℕ) → 45 ≤ b → needs_byte default_writer b ≡ false

@@ -1,14 +1,9 @@
 -- The decimals of a drill line lie in the range of their type.
-use Rattle.std.proofs.Common.{◌≡◌, ℕ, ◌+◌, ◌-◌, ◌*◌, ◌^◌, ◌<◌, ◌≤◌, zero, suc, Bool, true, false, cond, not, ◌&&◌, eqb, leb, ltb, List, [], ◌∷◌, length, take, ℤ, pos, unsigned_abs, Ok, Err, refl, sym, ap, ◌∙◌, arith}
-use Rattle.std.specs.Prelude.{neg_ℤ, All}
-use Rattle.std.specs.List.{list_all, AllByRecursion}
-use Rattle.std.proofs.lemmas.Bool.{ltb-false, leb-true, eqb-true}
-use Rattle.std.proofs.lemmas.List.{length-take}
+use Rattle.ringcheck_files.proofs.Common.{◌≡◌, ℕ, ◌+◌, ◌-◌, ◌*◌, ◌^◌, ◌<◌, ◌≤◌, zero, suc, Bool, true, false, cond, not, ◌&&◌, eqb, leb, ltb, List, [], ◌∷◌, length, take, ℤ, pos, unsigned_abs, Ok, Err, refl, sym, ap, ◌∙◌, arith, neg_ℤ, list_all, AllByRecursion, ltb-false, leb-true, eqb-true, length-take, BadNumber, NoZeros, TooManyDigits, TooFine, TooFar, ◌>>=◌}
+use Rattle.std.specs.Prelude.{All}
 use Rattle.std.proofs.lemmas.List.Elements.{All-from_recursion, All-take}
-use Rattle.grid_units.specs.declared.fault.Reason.TheVariants.{BadNumber, NoZeros, TooManyDigits, TooFine, TooFar}
 use Rattle.grid_units.specs.declared.zero_filling.Zeros.{Zeros}
 use Rattle.grid_units.specs.declared.zero_filling.Zeros.TheVariants.{Leading, Trailing, Full}
-use Rattle.grid_units.specs.Results.{◌>>=◌}
 use Rattle.grid_units.specs.Numbers.{is_digit, is_digits, value, without_sign, is_negative, signed, to_units, whole, fraction, is_decimal, fits_eight_decimals, value_without_point, parse_decimal, zeros_to_fill, zero_filled, parse_zero_filled}
 use Rattle.grid_units.proofs.ResultLemmas.{bind_ok}
 use Rattle.grid_units.proofs.DigitLemmas.{to_units_is, filled_lt}

@@ -1,15 +1,8 @@
 -- A text is rewritten in one way.
-use Rattle.std.proofs.Common.{◌≡◌, ◌↔◌, ◌⊎◌, ℕ, List, Result, Ok, Err, refl, sym, ap, ◌∙◌, inl, inr}
-use Rattle.grid_units.specs.declared.fault.Fault.{Fault}
-use Rattle.grid_units.specs.declared.profile.Profile.TheVariants.{Strict}
-use Rattle.gerber_text.specs.Writing.{canonical_text, without_places}
-use Rattle.layer_image.specs.Layers.{LayerImage, ReadsLayer, ReadingIsUniqueIn}
-use Rattle.drill_lines.specs.declared.command.DrillCommand.{DrillCommand}
+use Rattle.ringcheck_files.proofs.Common.{◌≡◌, ◌↔◌, ◌⊎◌, ℕ, List, Result, Ok, Err, refl, sym, ap, ◌∙◌, inl, inr, Fault, Strict, canonical_text, without_places, LayerImage, ReadsLayer, ReadingIsUniqueIn, DrillCommand, IsDrillText, RewritesLayer, RewritesDrill, RewritingIsUnique}
 use Rattle.drill_text.specs.Profiles as drills
-use Rattle.drill_text.specs.Texts.{IsDrillText}
 use Rattle.drill_text.specs.Writing.{written}
 use Rattle.ringcheck_files.specs.declared.rewrite.Kind.TheVariants as kind
-use Rattle.ringcheck_files.specs.Rewriting.{RewritesLayer, RewritesDrill, RewritingIsUnique}
 
 module _ {X : Type 0} (says : Result X Fault → Type 0) (text : X → Result (List ℕ) Fault) (once : (a b : Result X Fault) → says a → says b → a ≡ b) where
   abbrev Seen : Result (List ℕ) Fault → Type 0

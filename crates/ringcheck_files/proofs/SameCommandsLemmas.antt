@@ -1,23 +1,14 @@
 -- A rewritten text has the same commands.
-use Rattle.std.proofs.Common.{◌≡◌, ℕ, ◌≤◌, Bool, true, false, cond, ltb, List, length, Ok, Err, refl, sym, ap, subst, ◌∙◌}
-use Rattle.std.proofs.lemmas.Bool.{ltb-false}
-use Rattle.grid_units.specs.declared.fault.Reason.TheVariants.{TooLong}
-use Rattle.grid_units.specs.Results.{fault}
+use Rattle.ringcheck_files.proofs.Common.{◌≡◌, ℕ, ◌≤◌, Bool, true, false, cond, ltb, List, length, Ok, Err, refl, sym, ap, subst, ◌∙◌, ltb-false, TooLong, fault, Strict, canonical_text, lines, without_places, IsLayerTextIn, LayerImage, ReadsLayer, image_of, DrillCommand, IsDrillText, SpellsText, KeepsCommands, RewritingIsIdempotent}
 use Rattle.grid_units.specs.Limits.{text_limit}
-use Rattle.grid_units.specs.declared.profile.Profile.TheVariants.{Strict}
-use Rattle.gerber_text.specs.Writing.{canonical_text, lines, without_places}
 use Rattle.gerber_text.proofs.TextIsSayable.{text_sayable}
 use Rattle.gerber_text.proofs.RoundTrip.{reads_as}
 use Rattle.gerber_text.proofs.SpellsTextLemmas.{reads_spells}
-use Rattle.layer_image.specs.Layers.{IsLayerTextIn, LayerImage, ReadsLayer, image_of}
 use Rattle.grid_units.specs.Lists.{IsLegal}
-use Rattle.drill_lines.specs.declared.command.DrillCommand.{DrillCommand}
-use Rattle.drill_text.specs.Texts.{IsDrillText, SpellsText}
 use Rattle.drill_text.specs.Writing as drills
 use Rattle.drill_text.proofs.RoundTrip.{round_trip}
 use Rattle.drill_text.proofs.TextIsSayable as saying
 use Rattle.ringcheck_files.specs.declared.rewrite.Kind.TheVariants as kind
-use Rattle.ringcheck_files.specs.Rewriting.{KeepsCommands, RewritingIsIdempotent}
 use Rattle.ringcheck_files.proofs.Typed.{text_typed}
 use Rattle.layer_state.specs.Rules.{broken_rule}
 

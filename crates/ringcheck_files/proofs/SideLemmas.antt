@@ -1,8 +1,5 @@
 -- Sides of pads, as they are spelled.
-use Rattle.std.proofs.Common.{◌≡◌, ◌∙◌, ◌<◌, ◌++◌, ◌∷◌, ◌/◌, ◌%◌, ◌^◌, ℕ, pos, List, ap, ap₂, sym, arith, lit<}
-use Rattle.std.specs.Prelude.{decimal}
-use Rattle.std.proofs.lemmas.Fmt.{decimal_digit}
-use Rattle.grid_units.specs.Spellings.{millimetres, places}
+use Rattle.ringcheck_files.proofs.Common.{◌≡◌, ◌∙◌, ◌<◌, ◌++◌, ◌∷◌, ◌/◌, ◌%◌, ◌^◌, ℕ, pos, List, ap, ap₂, sym, arith, lit<, decimal, decimal_digit, millimetres, places}
 
 -- less than a millimetre: its whole part is 0
 pub below_one : (n : ℕ) → n < 10 ^ 9 → millimetres (pos n) ≡ 48 ∷ 46 ∷ places 9 n

@@ -1,17 +1,10 @@
 -- The commands that a drill text spells have numbers in the ranges of their types.
-use Rattle.std.proofs.Common.{◌≡◌, ℕ, ◌-◌, ◌≤◌, Bool, true, false, cond, ◌&&◌, eqb, leb, List, [], ◌∷◌, ◌++◌, length, drop, ℤ, Option, Some, None, unwrap_or, Result, Ok, Err, refl, sym, ap, subst, ◌∙◌, arith, append-nil, append_assoc}
-use Rattle.std.specs.Prelude.{codes, option_and_then, take_while, count_by}
-use Rattle.std.specs.List.{list_all, list_any, prefix_len, AllByRecursion}
-use Rattle.std.specs.Option.{option_map, option_or, option_to_list}
-use Rattle.std.proofs.lemmas.Bool.{leb-true}
+use Rattle.ringcheck_files.proofs.Common.{◌≡◌, ℕ, ◌-◌, ◌≤◌, Bool, true, false, cond, ◌&&◌, eqb, leb, List, [], ◌∷◌, ◌++◌, length, drop, ℤ, Option, Some, None, unwrap_or, Result, Ok, Err, refl, sym, ap, subst, ◌∙◌, arith, append-nil, append_assoc, codes, option_and_then, take_while, count_by, list_all, list_any, prefix_len, AllByRecursion, option_map, option_or, option_to_list, leb-true, Reason, OldFormat, BadLine, BadNumber, ◌>>=◌, both, DrillCommand, spelled_after, SpellsText}
 use Rattle.grid_units.specs.Lists.{last_set}
-use Rattle.grid_units.specs.declared.fault.Reason.{Reason}
-use Rattle.grid_units.specs.declared.fault.Reason.TheVariants.{OldFormat, BadLine, BadNumber}
 use Rattle.grid_units.specs.declared.lengths.Unit.{Unit as Units}
 use Rattle.grid_units.specs.declared.lengths.Unit.TheVariants.{Inch, Millimetre}
 use Rattle.grid_units.specs.declared.zero_filling.Zeros.{Zeros}
 use Rattle.grid_units.specs.declared.zero_filling.Zeros.TheVariants.{Leading, Trailing}
-use Rattle.grid_units.specs.Results.{◌>>=◌, both}
 use Rattle.grid_units.specs.Rows.{RowOf, first_match_or, strip_prefix, literal_row}
 use Rattle.grid_units.specs.Numbers.{is_digit, is_number_char, parse_decimal, parse_zero_filled}
 use Rattle.grid_units.proofs.ResultLemmas.{bind_ok, both_ok}
@@ -19,7 +12,6 @@ use Rattle.drill_lines.specs.declared.command.Coordinates.{Coordinates}
 use Rattle.drill_lines.specs.declared.command.Part.{Part}
 use Rattle.drill_lines.specs.declared.command.Part.TheVariants as part
 use Rattle.drill_lines.specs.declared.command.Settings.{Settings}
-use Rattle.drill_lines.specs.declared.command.DrillCommand.{DrillCommand}
 use Rattle.drill_lines.specs.declared.command.DrillCommand.TheVariants.{Comment, Start, UnitLine, Tool, HeaderEnd, UnitCode, Pick, Hit, Slot, Finish}
 use Rattle.drill_lines.specs.Formats.{Digits, AreDigitCounts}
 use Rattle.drill_lines.specs.Lines.{trimmed}
@@ -32,7 +24,6 @@ use Rattle.drill_lines.proofs.Rows.{RowHas, first_match_has, just_has, beginning
 use Rattle.grid_units.proofs.BoolLemmas.{both_true}
 use Rattle.drill_text.specs.Lookback.{header, format_set, settings_after}
 use Rattle.drill_text.specs.Lookback as lookback
-use Rattle.drill_text.specs.Texts.{spelled_after, SpellsText}
 use Rattle.drill_text.proofs.SplitsLemmas.{AllR-append}
 use Rattle.drill_text.proofs.RoundTrip.{AreTyped, typed_none, typed_more}
 use Rattle.ringcheck_files.proofs.Ranges.{dec_small, zeros_small}

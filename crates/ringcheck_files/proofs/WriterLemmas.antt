@@ -1,50 +1,37 @@
 -- A legal layer that is read again, and rewritten as it is read.
-use Rattle.std.proofs.Common.{◌≡◌, ℕ, List, ◌++◌, Result, Ok, Err, sym, ap, subst, append-nil, [], ◌∙◌, inl, inr}
-use Rattle.std.specs.Global.{Vec}
-use Rattle.grid_units.specs.declared.fault.Fault.{Fault}
+use Rattle.ringcheck_files.proofs.Common.{◌≡◌, ℕ, List, ◌++◌, Result, Ok, Err, sym, ap, subst, append-nil, [], ◌∙◌, inl, inr, Vec, Fault, Answers, AnswersAlways, IfFault, ReadsAs, Strict, Entries, entries_after, canonical_text, without_places, LayerImage, ReadsLayer, KeptLayer, ReadsKeptIn, WidePad, ShowsLayerFaultIn, RewritesDrill, RewritesLayer, ShowsReadFault}
 use Rattle.grid_units.specs.declared.fault.Fail.{Fail}
 use Rattle.grid_units.specs.declared.fault.Fail.TheVariants as fails
-use Rattle.grid_units.specs.Results.{Answers, AnswersAlways, IfFault}
 use Rattle.drill_text.specs.Profiles as drills
 use Rattle.drill_text.specs.Outcome.{DrillFile, file_of}
-use Rattle.drill_text.specs.Texts.{ReadsAs}
 use Rattle.drill_text.specs.Writing.{vec_bytes}
 use Rattle.drill_text.specs.declared.kept.Keep.TheVariants as drill_keep
 use Rattle.drill_text.specs.declared.platings.PlatingKind.TheVariants.{Stated}
-use Rattle.grid_units.specs.declared.profile.Profile.TheVariants.{Strict}
-use Rattle.gerber_text.specs.Reading.{Entries, Reads, entries_after}
-use Rattle.gerber_text.specs.Holding.{FailsWith}
-use Rattle.gerber_text.specs.Writing.{canonical_text, without_places}
+use Rattle.gerber_text.specs.Reading.{ReadsIn}
+use Rattle.gerber_text.specs.Holding.{FailsWithIn}
 use Rattle.gerber_text.proofs.SpellsTextLemmas.{spells_reads}
 use Rattle.gerber_text.proofs.UniqueReading.{one_read}
 use Rattle.gerber_text.proofs.FinishLemmas.{shows_reads}
 use Rattle.gerber_text.proofs.FaultsStay.{fails_longer}
-use Rattle.layer_image.specs.Layers.{LayerImage, ReadsLayer}
-use Rattle.layer_image.specs.Kept.{KeptLayer, ReadsKeptIn}
-use Rattle.grid_units.specs.declared.profile.Profile.TheVariants.{Strict}
-use Rattle.pad_shapes.specs.declared.wide_pad.WidePad.{WidePad}
-use Rattle.layer_image.specs.Holding.{ShowsLayerFaultIn}
 use Rattle.layer_features.specs.declared.keep.Keep.{Keep}
-use Rattle.ringcheck_files.specs.Rewriting.{RewritesDrill, RewritesLayer}
-use Rattle.ringcheck_files.specs.Inner.Writing.{ShowsReadFault}
 
-pub stops : (text : List ℕ) (cs : Entries) (e : Fail) → FailsWith text cs e → IfFault (ShowsReadFault text) e
+pub stops : (text : List ℕ) (cs : Entries) (e : Fail) → FailsWithIn Strict text cs e → IfFault (ShowsReadFault text) e
 stops text cs fails.Memory h = tt
 stops text cs (fails.Refused f) h = (cs, h)
 
 -- a text that spells commands has no fault
-no_fault : (text : List ℕ) (cs : Entries) (f : Fault) → Reads text (Ok cs) → Reads text (Err f) → ⊥
+no_fault : (text : List ℕ) (cs : Entries) (f : Fault) → ReadsIn Strict text (Ok cs) → ReadsIn Strict text (Err f) → ⊥
 no_fault text cs f h k = let e : (let x : Result Entries Fault = Ok cs in let y : Result Entries Fault = Err f in x ≡ y) = one_read Strict text (Ok cs) (Err f) h k in cc
 
 -- reading gives the commands of a layer's text
-pub layer_read : (text : List ℕ) (image : LayerImage) → ReadsLayer text (Ok image) → Reads text (Ok image.commands)
+pub layer_read : (text : List ℕ) (image : LayerImage) → ReadsLayer text (Ok image) → ReadsIn Strict text (Ok image.commands)
 layer_read text image h = spells_reads Strict text image.commands h.0.spells
 
-pub same_commands : (text : List ℕ) (cs ds : Entries) → Reads text (Ok cs) → Reads text (Ok ds) → cs ≡ ds
+pub same_commands : (text : List ℕ) (cs ds : Entries) → ReadsIn Strict text (Ok cs) → ReadsIn Strict text (Ok ds) → cs ≡ ds
 same_commands text cs ds h k = let e : (let x : Result Entries Fault = Ok cs in let y : Result Entries Fault = Ok ds in x ≡ y) = one_read Strict text (Ok cs) (Ok ds) h k in cc
 
 pub legal_ends : {T V : Type 0} (view : T → V) (P : Result V Fault → Type 0) (text : List ℕ) (gone : Entries) (image : LayerImage) (e : Fail) → ReadsLayer text (Ok image)
-    → AnswersAlways (entries_after gone) (λ answer. Reads text answer) (Err e) → Answers view P (Err e)
+    → AnswersAlways (entries_after gone) (λ answer. ReadsIn Strict text answer) (Err e) → Answers view P (Err e)
 legal_ends view P text gone image fails.Memory h k = tt
 legal_ends view P text gone image (fails.Refused f) h k = absurd (no_fault text image.commands f (layer_read text image h) k)
 
@@ -53,7 +40,7 @@ pub legal_goes_on : {T V : Type 0} (view : T → V) (P : Result V Fault → Type
 legal_goes_on view P text more whole image fails.Memory is h k = tt
 legal_goes_on view P text more whole image (fails.Refused f) is h k =
     let on = fails_longer Strict text more k.0 (fails.Refused f) k.1 in
-    absurd (no_fault whole image.commands f (layer_read whole image h) (subst (λ (t : List ℕ). Reads t (Err f)) is (shows_reads Strict (text ++ more) f on.reported)))
+    absurd (no_fault whole image.commands f (layer_read whole image h) (subst (λ (t : List ℕ). ReadsIn Strict t (Err f)) is (shows_reads Strict (text ++ more) f on.reported)))
 
 pub from_always : {T V : Type 0} (view : T → V) (P : Result V Fault → Type 0) (r : Result T Fail) → AnswersAlways view P r → Answers view P r
 from_always view P (Ok x) h = h

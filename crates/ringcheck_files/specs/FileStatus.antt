@@ -15,7 +15,10 @@ use Rattle.ringcheck_files.specs.declared.Status.TheVariants as status
 use Rattle.ringcheck_files.specs.declared.file_jobs.FileJob.{FileJob}
 use Rattle.ringcheck_files.specs.declared.file_jobs.FileJob.TheVariants as job
 use Rattle.ringcheck_files.specs.LoaderRelation.{Relation, file_limit, too_long, within}
-use Rattle.ringcheck_files.specs.Words.{IsUsageStatus}
+use Rattle.ringcheck_files.specs.Containers.{folder_sentence}
+use Rattle.ringcheck_files.specs.Sentences.{unread_sentence}
+use Rattle.ringcheck_files.specs.Words.{IsUsageStatus, Says}
+use Rattle.ringcheck_files.specs.Writers.{IsSilent, IsSilentStatus, Written}
 use Rattle.grid_units.specs.Ascii as ascii
 
 -- the kind that a word names: `layer` or `drill`; no other word names one
@@ -65,7 +68,20 @@ IsFileStatus what kind has name before after status.Refused = PrintsFileRefusal 
 IsFileStatus what kind has name before after status.Usage = ⊥
 IsFileStatus what kind has name before after status.Device = ⊤
 
+-- beside the answer just why the file of this name cannot be read was said: that it is a folder, or where names are taken from
+abbrev pub SaysUnread : List ℕ → Written → Written → Type 0
+SaysUnread name before after = Says (Some (folder_sentence name)) before after ⊎ ((folder : Option (List ℕ)) × Says (Some (unread_sentence name folder)) before after)
+
+-- what was said beside the answer of `show` or `rewrite`, by its status: at Device just why the file of this name cannot be read, and else nothing
+abbrev pub SaysOfFile : List ℕ → Written → Written → Status → Type 0
+SaysOfFile name before after status.Device = SaysUnread name before after
+SaysOfFile name before after s = IsSilent before after
+
 -- what a status says of `show` or `rewrite` on a file of the kind that a word names, or where it names none
-abbrev pub IsParsedFileStatus : FileJob → Option Kind → Relation → List ℕ → Option (List ℕ) → Option (List ℕ) → Status → Type 0
-IsParsedFileStatus what (Some kind) has name before after s = IsFileStatus what kind has name before after s
-IsParsedFileStatus what None has name before after s = IsUsageStatus BadRole before after s
+abbrev pub IsKindStatus : FileJob → Option Kind → Relation → List ℕ → Option (List ℕ) → Option (List ℕ) → Status → Type 0
+IsKindStatus what (Some kind) has name before after s = IsFileStatus what kind has name before after s
+IsKindStatus what None has name before after s = IsUsageStatus BadRole before after s
+
+-- the same, with what was said beside it
+abbrev pub IsParsedFileStatus : FileJob → Option Kind → Relation → List ℕ → Written → Written → Status → Type 0
+IsParsedFileStatus what kind has name before after s = IsKindStatus what kind has name before.0 after.0 s × IsSilentStatus before after s

@@ -6,6 +6,7 @@ pub mod ExitCodes
 pub mod Sentences
 pub mod Containers
 pub mod Words
+pub mod Writers
 pub mod ReaderBytes
 pub mod Inner
 pub mod Rows

@@ -1,4 +1,4 @@
--- What is said below the line of a word that `manifest` or `explain` refuses (docs/FORMATS.md, The program).
+-- What is said of a word that `manifest` or `explain` refuses, and of a single file that cannot be read (docs/FORMATS.md, Sentences).
 use Rattle.std.specs.Prelude.{◌++◌, ℕ, List, Option, Some, None, codes}
 use Rattle.ringcheck_files.specs.KnownWords.{near_word}
 
@@ -14,3 +14,12 @@ guess None = codes "; ringcheck explain lists the words that have one"
 -- what is said of a word without a page: `no page for smal; did you mean small?`
 abbrev pub no_page_sentence : List ℕ → List ℕ
 no_page_sentence word = codes "no page for " ++ (word ++ guess (near_word word))
+
+-- where file names are taken from: the folder that was entered, if there is one
+abbrev pub place_of_names : Option (List ℕ) → List ℕ
+place_of_names None = codes "the working directory"
+place_of_names (Some folder) = folder
+
+-- what is said of a single file that cannot be read: `cannot read top.gbr: file names are taken from the working directory`
+abbrev pub unread_sentence : List ℕ → Option (List ℕ) → List ℕ
+unread_sentence path folder = codes "cannot read " ++ (path ++ (codes ": file names are taken from " ++ place_of_names folder))

@@ -1,5 +1,5 @@
 -- The table of a layer's flashes and contours and that of a drill file's holes (docs/FORMATS.md, The tables).
-use Rattle.std.specs.Prelude.{◌≡◌, ◌*◌, ◌++◌, ℕ, pos, List, [], ◌∷◌, map, codes, decimal, Result, Ok, Err}
+use Rattle.std.specs.Prelude.{◌≡◌, ◌*◌, ◌++◌, ℕ, pos, List, [], ◌∷◌, codes, decimal, Result, Ok, Err}
 use Rattle.std.specs.Option.{option_map_or}
 use Rattle.grid_units.specs.Holes.{GridHole}
 use Rattle.grid_units.specs.Points.{abs_diff}

@@ -1,11 +1,12 @@
 -- What is printed where a word is refused (docs/FORMATS.md, The program).
-use Rattle.std.specs.Prelude.{◌≡◌, ◌++◌, ◌∷◌, ◌⊎◌, [], ℕ, List, Option, codes}
+use Rattle.std.specs.Prelude.{◌≡◌, ◌++◌, ◌∷◌, ◌⊎◌, [], ℕ, Bool, true, false, List, Option, Some, None, codes}
 use Rattle.std.specs.Io.KnownBytes.{Appends}
 use Rattle.grid_units.specs.Ascii as ascii
 use Rattle.grid_units.specs.Reasons.{reason_name}
 use Rattle.grid_units.specs.declared.fault.Reason.{Reason}
 use Rattle.ringcheck_files.specs.declared.Status.{Status}
 use Rattle.ringcheck_files.specs.declared.Status.TheVariants as status
+use Rattle.ringcheck_files.specs.Writers.{IsSilent, Written}
 
 -- the line of a word that is refused: `usage reason=BadRole`
 abbrev pub usage_line : Reason → List ℕ
@@ -19,6 +20,16 @@ IsUsageStatus why before after s = ((s ≡ status.Usage) × Appends before after
 abbrev pub sentence_line : List ℕ → List ℕ
 sentence_line sentence = codes "  " ++ (sentence ++ ascii.line_feed ∷ [])
 
--- what a status says where a word is refused and something stands below its line: just both were written, or the status is Device
-abbrev pub IsExplainedUsage : Reason → List ℕ → Option (List ℕ) → Option (List ℕ) → Status → Type 0
-IsExplainedUsage why below before after s = ((s ≡ status.Usage) × Appends before after (usage_line why ++ below)) ⊎ (s ≡ status.Device)
+-- beside the answer just this sentence was said, on a line, or nothing where there is none
+abbrev pub Says : Option (List ℕ) → Written → Written → Type 0
+Says None before after = IsSilent before after
+Says (Some sentence) before after = Appends before.1 after.1 (sentence_line sentence)
+
+-- just the line of a word that is refused was written, with this sentence below it, or, if not `below`, beside it
+abbrev pub PrintsUsage : Bool → Reason → List ℕ → Written → Written → Type 0
+PrintsUsage true why sentence before after = Appends before.0 after.0 (usage_line why ++ sentence_line sentence) × IsSilent before after
+PrintsUsage false why sentence before after = Appends before.0 after.0 (usage_line why) × Says (Some sentence) before after
+
+-- what a status says where a word is refused and a sentence says why: just both were written, or the status is Device
+abbrev pub IsExplainedUsage : Bool → Reason → List ℕ → Written → Written → Status → Type 0
+IsExplainedUsage below why sentence before after s = ((s ≡ status.Usage) × PrintsUsage below why sentence before after) ⊎ (s ≡ status.Device)

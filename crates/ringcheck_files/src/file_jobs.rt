@@ -1,17 +1,22 @@
 //! Prints the table or the canonical text of one file.
 
-ghost use Rattle.std.specs.Prelude.{◌≡◌, IfOk, OnOk};
+ghost use Rattle.std.specs.Prelude.{◌≡◌, IfOk, None, OnOk, Some, option_map};
 ghost use Rattle.std.specs.Io.KnownBytes.{Appends};
 ghost use Rattle.grid_units.specs.Results.{Answers};
 ghost use Rattle.ringcheck_files.specs.Outcomes.{HasCause};
-ghost use Rattle.ringcheck_files.specs.FileStatus.{Prints, IsFileStatus, IsParsedFileStatus, Shows, refusal_line};
+ghost use Rattle.ringcheck_files.specs.FileStatus.{Prints, IsFileStatus, IsParsedFileStatus, SaysOfFile, SaysUnread, Shows, refusal_line};
 ghost use Rattle.ringcheck_files.specs.FileStatus as printing;
+ghost use Rattle.ringcheck_files.specs.Sentences as sentences;
+ghost use Rattle.ringcheck_files.specs.Writers.{texts};
 
+use crate::containers::Container;
 use crate::loader::{ABOVE_LIMIT, FILE_LIMIT};
-use crate::outcomes::{Failure, refuse_word};
+use crate::outcomes::{Failure, Streams, refuse_word};
 use crate::{Kind, LoadFault, Loader, Status, rewrite_bytes, show_drill_in, show_layer_in};
 use grid_units::{Fail, Fault, Profile, Reason};
 use std::alloc::Global;
+use std::fmt;
+use std::fmt::{Display, Formatter};
 use std::io::Write;
 
 /// What is printed of a file.
@@ -64,37 +69,87 @@ fn refuse_file<W: Write>(out: &mut W, fault: Fault) -> Result<(), Failure>
     Ok(())
 }
 
-/// Loads a file and prints its table or its canonical text.
-fn print_job<L: Loader, W: Write>(
+/// Where file names are taken from: the folder that was entered, if there is one.
+pub fn place_of_names(folder: Option<&str>) -> &str
+    ensures { result.now ≡ sentences.place_of_names (option_map (λ f. f.now) folder.entry) }
+{
+    match folder {
+        Some(folder) => folder,
+        None => "the working directory",
+    }
+}
+
+/// What is said of a file that cannot be read: the name by which it was looked for, and from where names are taken.
+#[derive(Clone, Copy)]
+struct UnreadFile<'a> {
+    path: &'a str,
+    folder: Option<&'a str>,
+}
+
+impl Display for UnreadFile<'_> {
+    ghost output = { λ it. Some (sentences.unread_sentence it.path.now (option_map (λ f. f.now) it.folder)) };
+
+    fn fmt<W: fmt::Write>(&self, f: &mut Formatter<W>) -> fmt::Result {
+        let (path, place) = (self.path, place_of_names(self.folder));
+        write!(f, "cannot read {path}: file names are taken from {place}")
+    }
+}
+
+/// What is said of a file that this loader cannot read.
+fn unread_sentence<'a, L: Loader>(loader: &'a L, path: &'a str) -> UnreadFile<'a>
+    ensures { result.path.now ≡ path.now }
+{
+    UnreadFile {
+        path,
+        folder: loader.folder(),
+    }
+}
+
+/// Says why the file of a name cannot be read: it is a folder, or nothing that can be read.
+fn say_unread<L: Loader, E: Write>(err: &mut E, loader: &L, name: &str) -> Result<(), Failure>
+    ensures { OnOk result (SaysUnread name.now (None, E.contents err.old) (None, E.contents err.new)) }
+{
+    if loader.is_folder(name) {
+        write!(err, "  {}\n", Container::Folder(name))?;
+    } else {
+        write!(err, "  {}\n", unread_sentence(loader, name))?;
+    }
+    Ok(())
+}
+
+/// Loads a file and prints its table or its canonical text. Beside the line of a file that cannot be read stands why.
+fn print_job<L: Loader, W: Write, E: Write>(
     alloc: Global,
     job: FileJob,
     kind: Kind,
     name: &str,
     loader: &mut L,
-    out: &mut W,
+    to: &mut Streams<W, E>,
 ) -> Result<Status, Failure>
-    ensures says { IfOk result (λ status. IsFileStatus job kind (L.has loader.old) name.now (W.contents out.old) (W.contents out.new) status) }
+    ensures says { IfOk result (λ status. IsFileStatus job kind (L.has loader.old) name.now (W.contents to.old.out) (W.contents to.new.out) status) }
+    ensures beside { IfOk result (SaysOfFile name.now (texts W.contents E.contents to.old) (texts W.contents E.contents to.new)) }
     ensures cause { IfOk result (HasCause (L.failed loader.old) (L.failed loader.new)) }
 {
     match loader.load(alloc, name, FILE_LIMIT) {
         Ok(bytes) => match text_of(alloc, job, kind, bytes.as_slice()) {
             Ok(text) => {
-                out.write_all(text.as_slice())?;
+                to.out.write_all(text.as_slice())?;
                 Ok(Status::Pass)
             }
             Err(Fail::Memory) => Err(Failure::Memory),
             Err(Fail::Refused(fault)) => {
-                refuse_file(out, fault)?;
+                refuse_file(&mut to.out, fault)?;
                 Ok(Status::Refused)
             }
         },
         Err(LoadFault::Device) => {
-            write!(out, "device\n")?;
+            write!(to.out, "device\n")?;
+            say_unread(&mut to.err, loader, name)?;
             Ok(Status::Device)
         }
         Err(LoadFault::Memory) => Err(Failure::Memory),
         Err(LoadFault::TooLong) => {
-            refuse_file(out, ABOVE_LIMIT)?;
+            refuse_file(&mut to.out, ABOVE_LIMIT)?;
             Ok(Status::Refused)
         }
     }
@@ -104,22 +159,22 @@ fn print_job<L: Loader, W: Write>(
 ///
 /// # Errors
 ///
-/// [`Failure::Memory`] where memory runs out, and [`Failure::Writer`] where the writer fails.
-pub fn print<L: Loader, W: Write>(
+/// [`Failure::Memory`] where memory runs out, and [`Failure::Writer`] where a writer fails.
+pub fn print<L: Loader, W: Write, E: Write>(
     alloc: Global,
     job: FileJob,
     kind: &str,
     name: &str,
     loader: &mut L,
-    out: &mut W,
+    to: &mut Streams<W, E>,
 ) -> Result<Status, Failure>
-    ensures says { IfOk result (λ status. IsParsedFileStatus job (printing.parse_kind kind.now) (L.has loader.old) name.now (W.contents out.old) (W.contents out.new) status) }
+    ensures says { IfOk result (IsParsedFileStatus job (printing.parse_kind kind.now) (L.has loader.old) name.now (texts W.contents E.contents to.old) (texts W.contents E.contents to.new)) }
     ensures cause { IfOk result (HasCause (L.failed loader.old) (L.failed loader.new)) }
 {
     match parse_kind(kind) {
-        Some(kind) => print_job(alloc, job, kind, name, loader, out),
+        Some(kind) => print_job(alloc, job, kind, name, loader, to),
         None => {
-            refuse_word(out, Reason::BadRole)?;
+            refuse_word(&mut to.out, Reason::BadRole)?;
             Ok(Status::Usage)
         }
     }

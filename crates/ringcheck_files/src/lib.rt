@@ -28,10 +28,10 @@ mod word_list;
 
 pub use containers::{Container, path_in};
 pub use explanation_pages::explain;
-pub use file_jobs::{FileJob, print};
+pub use file_jobs::{FileJob, place_of_names, print};
 pub use known_words::near_word;
 pub use loader::{ABOVE_LIMIT, FILE_LIMIT, LoadFault, Loader};
-pub use outcomes::{Failure, refuse_word};
+pub use outcomes::{Failure, Streams, refuse_word};
 pub use proposed_manifest::print_manifest;
 pub use reader_bytes::{MAX_LIMIT, ReadFail, read_all, read_into};
 pub use rewrite::{Kind, rewrite_bytes};

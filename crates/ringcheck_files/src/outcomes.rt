@@ -1,4 +1,4 @@
-//! Why a run cannot go on, and the line of a refused word.
+//! Where a run prints, why it cannot go on, and the line of a refused word.
 
 ghost use Rattle.std.specs.Prelude.{◌≡◌, OnOk};
 ghost use Rattle.std.specs.Io.KnownBytes.{Appends};
@@ -10,12 +10,21 @@ use std::alloc::AllocError;
 use std::io;
 use std::io::Write;
 
+/// Where a run prints: its answer to `out`, and to `err` the sentences that have no place in the answer.
+#[derive(Drop)]
+pub struct Streams<W, E> {
+    /// What gets the answer, as standard output does.
+    pub out: W,
+    /// What gets sentences beside the answer, as standard error does.
+    pub err: E,
+}
+
 /// Why a run cannot go on.
 #[derive(Clone, Copy, Debug, PartialEq, Eq)]
 pub enum Failure {
     /// Memory ran out.
     Memory,
-    /// The writer failed, and it is not known what was written.
+    /// A writer failed, and it is not known what was written.
     Writer,
 }
 

@@ -1,3 +1,4 @@
+pub mod Common
 pub mod FirstPlaces
 pub mod IdlePlaces
 pub mod RecordLemmas

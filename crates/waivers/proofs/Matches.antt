@@ -1,20 +1,12 @@
 -- The first waiver whose fields are those of a finding, found by its key.
-use Rattle.std.proofs.Common.{◌≡◌, ◌∙◌, ◌≤◌, ◌+◌, ◌++◌, ℕ, List, [], ◌∷◌, Bool, Option, Some, map, length, arith, refl, ap, sym}
+use Rattle.waivers.proofs.Common.{◌≡◌, ◌∙◌, ◌≤◌, ◌+◌, ◌++◌, ℕ, List, [], ◌∷◌, Bool, Option, Some, map, length, arith, refl, ap, sym, position_from, bytes_eq, bytes_eq-Decides, slice_eq-Decides, default_writer, read_back, row_text, CsvRecord, Waiver, joined, compared_fields, waived_by, waives}
 use Rattle.std.specs.Cmp.Lexicographic.{pointwise}
-use Rattle.std.specs.List.{position_from}
-use Rattle.std.specs.Str.{bytes_eq}
 use Rattle.std.proofs.lemmas.Bool.Decides.{Decides-like, same_from_decides}
 use Rattle.std.proofs.lemmas.Iterator.Adapters.{position_from-zero}
-use Rattle.std.proofs.lemmas.Slice.Eq.{bytes_eq-Decides, slice_eq-Decides}
 use Rattle.csv.specs.Machine.{Read, next_record}
 use Rattle.csv.specs.Reading.{default_config}
-use Rattle.csv.specs.Writing.{default_writer, read_back, row_text}
 use Rattle.csv.specs.declared.parser.State.TheVariants as st
 use Rattle.csv.proofs.RoundTrip.{read-write}
-use Rattle.manifest.specs.Manifest.{CsvRecord}
-use Rattle.waivers.specs.declared.Waiver.{Waiver}
-use Rattle.waivers.specs.Inner.{joined}
-use Rattle.waivers.specs.Waiving.{compared_fields, waived_by, waives}
 use Rattle.waivers.proofs.Quoted.{row_joined}
 
 some_is : (p q : Read) → Some p ≡ Some q → p ≡ q

@@ -1,17 +1,12 @@
 -- Fields as CSV: which stand between quotes, and what stands there.
-use Rattle.std.proofs.Common.{◌≡◌, ◌≢◌, ◌∙◌, ◌<◌, ◌≤◌, ◌+◌, ◌*◌, ◌/◌, ◌%◌, ◌^◌, ◌++◌, ◌==◌, ◌||◌, ℕ, zero, suc, ℤ, pos, negsuc, unsigned_abs, Bool, true, false, cond, nat_lt, List, [], ◌∷◌, length, get_or, codes, arith, rules, refl, ap, sym, append-nil, append_assoc, ne_eqb}
+use Rattle.waivers.proofs.Common.{◌≡◌, ◌≢◌, ◌∙◌, ◌<◌, ◌≤◌, ◌+◌, ◌*◌, ◌/◌, ◌%◌, ◌^◌, ◌++◌, ◌==◌, ◌||◌, ℕ, zero, suc, ℤ, pos, negsuc, unsigned_abs, Bool, true, false, cond, nat_lt, List, [], ◌∷◌, length, get_or, codes, arith, rules, refl, ap, sym, append-nil, append_assoc, ne_eqb, AllByRecursion, default_writer, escaped, field_text, fields_text, is_blank, needs_byte, needs_quotes, row_text, CsvRecord, finding_record, head_record, joined}
 use Rattle.std.specs.Fmt.{decimal, digit_glyph, digits, digits_onto}
-use Rattle.std.specs.List.{AllByRecursion}
 use Rattle.std.proofs.lemmas.List.Folds.{list_any-append}
-use Rattle.csv.specs.Writing.{default_writer, escaped, field_text, fields_text, is_blank, needs_byte, needs_quotes, row_text}
 use Rattle.grid_units.specs.Holes.{GridHole, is_round}
 use Rattle.grid_units.specs.Points.{GridPoint}
 use Rattle.grid_units.specs.Spellings.{fraction_text, minus, places, trimmed}
-use Rattle.manifest.specs.Manifest.{CsvRecord}
 use Rattle.grid_units.specs.LengthWords.{short_millimetres}
 use Rattle.grid_units.specs.HoleWords.{drilled_words, ends_words, point_words, two_lengths}
-use Rattle.waivers.specs.Findings.{finding_record, head_record}
-use Rattle.waivers.specs.Inner.{joined}
 
 -- ---- a text between quotes
 

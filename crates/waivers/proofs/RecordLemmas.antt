@@ -1,7 +1,5 @@
 -- One record after another.
-use Rattle.std.proofs.Common.{◌≡◌, ◌∙◌, ◌+◌, ◌++◌, ℕ, List, [], ◌∷◌, Option, Some, None, Ok, Err, length, map, slice_get, refl, ap, sym}
-use Rattle.std.proofs.lemmas.List.{map-append}
-use Rattle.std.specs.Prelude.{Vec}
+use Rattle.waivers.proofs.Common.{◌≡◌, ◌∙◌, ◌+◌, ◌++◌, ℕ, List, [], ◌∷◌, Option, Some, None, Ok, Err, length, map, slice_get, refl, ap, sym, map-append, Vec, CsvRecord, Waiver, checked_waiver, unless_broken, broken_rule, unless_wrong, waiver_of, waivers_after_head}
 use Rattle.std.specs.declared.alloc.Global.{Global}
 use Rattle.grid_units.proofs.LookbackLemmas.{violations-first, violations-more}
 use Rattle.grid_units.specs.Lists.{violations}
@@ -10,10 +8,6 @@ use Rattle.grid_units.specs.declared.fault.Reason.{Reason}
 use Rattle.grid_units.specs.declared.fault.Fault.{Fault}
 use Rattle.grid_units.specs.declared.fault.Fail.{Fail}
 use Rattle.grid_units.specs.declared.fault.Fail.TheVariants as fails
-use Rattle.manifest.specs.Manifest.{CsvRecord}
-use Rattle.waivers.specs.declared.Waiver.{Waiver}
-use Rattle.waivers.specs.Inner.{checked_waiver, unless_broken}
-use Rattle.waivers.specs.Reading.{broken_rule, unless_wrong, waiver_of, waivers_after_head}
 
 -- the rule of a record, whatever comes before it
 abbrev pub rule : List CsvRecord → CsvRecord → Option Reason

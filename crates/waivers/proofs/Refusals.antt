@@ -1,14 +1,10 @@
 -- A file of waivers is refused for one of its own reasons.
-use Rattle.std.proofs.Common.{◌≡◌, ◌∙◌, ◌+◌, ◌==◌, nat_lt, ℕ, Bool, true, false, List, [], ◌∷◌, Option, Some, None, Result, Err, length, map, not, refl, ap, sym}
-use Rattle.std.specs.Prelude.{if◌then◌else◌}
+use Rattle.waivers.proofs.Common.{◌≡◌, ◌∙◌, ◌+◌, ◌==◌, nat_lt, ℕ, Bool, true, false, List, [], ◌∷◌, Option, Some, None, Result, Err, length, map, not, refl, ap, sym, if◌then◌else◌, CsvRecord, field, is_well_formed, csv_records, Waiver, broken_rule, first_wrong, is_heading, is_kind, is_waiver_reason, reason_limit, unless_wrong, waiver_of, waivers, waivers_after_head, waivers_of}
 use Rattle.grid_units.specs.Results.{fault}
 use Rattle.grid_units.specs.declared.fault.Fault.{Fault}
 use Rattle.grid_units.specs.declared.fault.Reason.{Reason}
 use Rattle.grid_units.specs.declared.fault.Reason.TheVariants.{BadManifest, BadRole, EmptyName, TooLong}
-use Rattle.manifest.specs.Manifest.{CsvRecord, field, is_well_formed, csv_records}
 use Rattle.manifest.proofs.ManifestReasons.{Fair, FairAt, listed_if, first_is_listed}
-use Rattle.waivers.specs.declared.Waiver.{Waiver}
-use Rattle.waivers.specs.Reading.{broken_rule, first_wrong, is_heading, is_kind, is_waiver_reason, reason_limit, unless_wrong, waiver_of, waivers, waivers_after_head, waivers_of}
 use Rattle.waivers.proofs.RecordLemmas.{rule}
 
 broken_fair : (row : CsvRecord) → Fair is_waiver_reason (broken_rule row)

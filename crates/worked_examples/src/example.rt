@@ -4,7 +4,7 @@ use crate::draft::{Change, Draft};
 use crate::shelf::Shelf;
 use gerber_text::read_words;
 use grid_units::Fail;
-use ringcheck::{Status, run};
+use ringcheck::{Status, Streams, run};
 use std::alloc::{AllocError, Global};
 use std::fmt;
 
@@ -25,6 +25,7 @@ pub(crate) struct Example {
     question: Question,
     status: u8,
     wanted: String,
+    said: String,
     lines: Vec<String>,
     parts: Vec<Vec<u8>>,
     lacking: Vec<Vec<u8>>,
@@ -37,7 +38,7 @@ pub(crate) struct Example {
 #[derive(Drop)]
 struct Answer {
     status: u8,
-    text: Vec<u8>,
+    to: Streams<Vec<u8>, Vec<u8>>,
 }
 
 impl Example {
@@ -47,6 +48,7 @@ impl Example {
             question: Question::Nothing,
             status: 0,
             wanted: String::new(alloc),
+            said: String::new(alloc),
             lines: Vec::new(alloc),
             parts: Vec::new(alloc),
             lacking: Vec::new(alloc),
@@ -72,7 +74,7 @@ impl Example {
             "#" => Ok(()),
             "example" => self.title.push_str(rest),
             "run" | "words" => self.ask(alloc, word, rest),
-            "status" | ">" | "has" | "part" | "lacks" | "begins" | "ends" => {
+            "status" | ">" | "says" | "has" | "part" | "lacks" | "begins" | "ends" => {
                 self.want(alloc, word, rest)
             }
             _ => {
@@ -98,6 +100,7 @@ impl Example {
         match word {
             "status" => self.status = rest.parse().unwrap_or(u8::MAX),
             ">" => push_line(&mut self.wanted, rest)?,
+            "says" => push_line(&mut self.said, rest)?,
             "has" => self.lines.push(String::from_str(alloc, rest)?)?,
             "part" => self.parts.push(unescaped(alloc, rest)?)?,
             "lacks" => self.lacking.push(unescaped(alloc, rest)?)?,
@@ -123,13 +126,14 @@ impl Example {
     }
 
     fn agrees(&self, answer: &Answer) -> bool {
-        let is_whole = self.wanted.is_empty()
-            || self.wanted.as_str().as_bytes() == answer.text.as_slice();
+        let text = &answer.to.out;
+        let is_whole = self.wanted.is_empty() || self.wanted.as_bytes() == text.as_slice();
         answer.status == self.status
             && is_whole
-            && answer.text.starts_with(&self.head)
-            && answer.text.ends_with(&self.tail)
-            && self.has_all(&answer.text)
+            && self.said.as_bytes() == answer.to.err.as_slice()
+            && text.starts_with(&self.head)
+            && text.ends_with(&self.tail)
+            && self.has_all(text)
     }
 
     /// Whether a text contains all lines and parts that it must contain, and none of those that it must not.
@@ -172,12 +176,12 @@ fn answer_of_run(alloc: Global, shelf: &mut Shelf, words: &str) -> Result<Answer
         .split_whitespace()
         .map(|word| if word == "''" { "" } else { word });
     let words: Vec<&str> = words.collect(alloc)?;
-    let mut text = Vec::new(alloc);
-    let status = run(alloc, words.as_slice(), shelf, &mut text);
-    Ok(Answer {
-        status: status_number(status),
-        text,
-    })
+    let mut to = Streams {
+        out: Vec::new(alloc),
+        err: Vec::new(alloc),
+    };
+    let status = status_number(run(alloc, words.as_slice(), shelf, &mut to));
+    Ok(Answer { status, to })
 }
 
 /// How the reading of a file's words ended.
@@ -203,10 +207,11 @@ fn answer_of_words(alloc: Global, shelf: &mut Shelf, name: &str) -> Result<Answe
         None => read_words(alloc, b""),
     };
     let text = format!(in alloc; "{}", Ended(read.err()))?;
-    Ok(Answer {
-        status: 0,
-        text: text.into_bytes(),
-    })
+    let to = Streams {
+        out: text.into_bytes(),
+        err: Vec::new(alloc),
+    };
+    Ok(Answer { status: 0, to })
 }
 
 /// Begins a file, `NAME`, or files of one text, `NAME.. from BASE`. False if there is no such base text.

@@ -13,7 +13,7 @@ use Rattle.layer_features.specs.declared.part.Part.{Part}
 use Rattle.layer_features.specs.Blocks.{changes_block}
 use Rattle.layer_features.specs.Clearing.{draws, polarity_set}
 use Rattle.layer_features.specs.Contours.{contour_of, part_by, starts_region}
-use Rattle.layer_features.specs.FurtherPads.{CopperState, ended_copies, max_regions, mirroring_set}
+use Rattle.layer_features.specs.FurtherPads.{CopperState, ended_copies, max_regions, mirroring_set, plot_state}
 
 -- the command of an operation that a reader has passed
 abbrev pub command_of : LeadingOperation → Command
@@ -29,7 +29,7 @@ copper_state c = record { draw = draw_state c.pencil; mirroring = c.mirroring; b
 
 -- the parts of the last region after one more command
 abbrev pub parts_after : Command → DrawState → List Part → List Part
-parts_after c s parts = if starts_region c then [] else parts ++ cons_option (part_by s c) []
+parts_after c s parts = if starts_region c then [] else parts ++ cons_option (part_by (plot_state s) c) []
 
 -- polarity, and whether something of the open block was drawn in clear polarity, after one more command
 abbrev pub clearing_with : Command → Clearing → Clearing

@@ -139,11 +139,14 @@ impl Write for Narrow {
     }
 }
 
-/// How a run over these files ends whose writer fails at the call numbered `fails_at`, and how many calls it made.
+/// How a run over these files ends each of whose writers fails at its call numbered `fails_at`, and how many calls the busier one got.
 fn narrowed(alloc: Global, files: &[(&str, &str)], words: &[&str], fails_at: u64) -> (Status, u64) {
-    let mut out = Narrow { calls: 0, fails_at };
-    let status = run(alloc, words, &mut Shelf::new(files), &mut out);
-    (status, out.calls)
+    let mut to = Streams {
+        out: Narrow { calls: 0, fails_at },
+        err: Narrow { calls: 0, fails_at },
+    };
+    let status = run(alloc, words, &mut Shelf::new(files), &mut to);
+    (status, to.out.calls.max(to.err.calls))
 }
 
 /// Whether a run whose writer fails at this call ends there.
@@ -242,35 +245,47 @@ fn a_long_measure_is_written_in_parts(rt: HostRuntime) -> Result<(), Failure> {
 
 const PACKAGE: [(&str, &str); 3] = [("m.csv", MANIFEST), ("top.gbr", LAYER), ("pth.drl", DRILL)];
 
-const COMMANDS: [&[&str]; 2] = [&WORDS, &MEASURE];
+/// Two commands that pass, and three of which a sentence is said, and their statuses.
+const COMMANDS: [(&[&str], Status); 5] = [
+    (&WORDS, Status::Pass),
+    (&MEASURE, Status::Pass),
+    (&["check", "--ring=x", "--gap=1", "m.csv"], Status::Usage),
+    (&["check", "--ring=1", "--gap=1", "none"], Status::Device),
+    (&["show", "--kind", "layer", "none"], Status::Device),
+];
 
-/// Whether a run passes with more than three calls of its writer, and ends at each of them that fails.
-fn ends_at_each(alloc: Global, words: &[&str]) -> bool {
+/// Whether a run ends with this status after more than three calls of a writer, and ends at each of them that fails.
+fn ends_at_each(alloc: Global, words: &[&str], wanted: Status) -> bool {
     let (status, calls) = narrowed(alloc, &PACKAGE, words, 0);
     for call in 1..=calls {
         if !ends_at(alloc, &PACKAGE, words, call) {
             return false;
         }
     }
-    status == Status::Pass && calls >= 4
+    status == wanted && calls >= 4
 }
 
 #[test]
 fn a_writer_that_fails_is_told_at_each_write(rt: HostRuntime) {
-    for &words in &COMMANDS {
-        assert!(rt; ends_at_each(rt.alloc(), words), "{words:?}");
+    for &(words, wanted) in &COMMANDS {
+        assert!(rt; ends_at_each(rt.alloc(), words, wanted), "{words:?}");
     }
 }
 
 /// Whether a run passes and prints just this, or prints just that memory ran out.
 fn passes_or_lacks_memory(alloc: Global, words: &[&str], text: &str) -> bool {
-    let mut out = [0; 256];
-    let mut rest = out.as_mut_slice();
-    let status = run(alloc, words, &mut Shelf::new(&PACKAGE), &mut rest);
-    let len = 256_usize.saturating_sub(rest.len());
+    // What is printed needs no more memory, so that it can be printed that there is none.
+    let Ok(out) = Vec::with_capacity(alloc, 256) else {
+        return true;
+    };
+    let mut to = Streams {
+        out,
+        err: Vec::new(alloc),
+    };
+    let status = run(alloc, words, &mut Shelf::new(&PACKAGE), &mut to);
     match status {
-        Status::Pass => &out[..len] == text.as_bytes(),
-        Status::Device => &out[..len] == b"memory\n".as_slice(),
+        Status::Pass => to.out.as_slice() == text.as_bytes(),
+        Status::Device => to.out.as_slice() == b"memory\n".as_slice(),
         _ => false,
     }
 }

@@ -15,9 +15,9 @@ fn written_at<'x>(alloc: Global, words: &[&str], name: &'x str, length: u64) -> 
         name,
         length,
     };
-    let mut out: Vec<u8> = Vec::new(alloc);
-    let status = run(alloc, words, &mut shelf, &mut out);
-    (status, out)
+    let mut to = streams(alloc);
+    let status = run(alloc, words, &mut shelf, &mut to);
+    (status, to.out)
 }
 
 const LONG_MANIFEST: &str = "refused manifest place=0 reason=TooLong\n";

@@ -23,8 +23,8 @@ fn is_passed<'x>(alloc: Global, records: &'x str, layer: &'x str, drill: &'x str
         × IsSound (sources rules.profile entries files) rules }
 {
     let files = [("m.csv", records), ("top.gbr", layer), ("pth.drl", drill)];
-    let mut out: Vec<u8> = Vec::new(alloc);
-    run(alloc, &WORDS, &mut Shelf::new(&files), &mut out) == Status::Pass
+    let mut to = streams(alloc);
+    run(alloc, &WORDS, &mut Shelf::new(&files), &mut to) == Status::Pass
 }
 
 #[test]
@@ -56,8 +56,8 @@ fn is_passed_wide<'x>(alloc: Global, records: &'x str, layer: &'x str, drill: &'
         × IsSound (sources rules.profile entries files) rules }
 {
     let files = [("m.csv", records), ("top.gbr", layer), ("pth.drl", drill)];
-    let mut out: Vec<u8> = Vec::new(alloc);
-    run(alloc, &WIDE_WORDS, &mut Shelf::new(&files), &mut out) == Status::Pass
+    let mut to = streams(alloc);
+    run(alloc, &WIDE_WORDS, &mut Shelf::new(&files), &mut to) == Status::Pass
 }
 
 /// Layers, and whether the package with each of them passes in the wide profile, and in the strict one.
@@ -84,8 +84,8 @@ fn is_measured<'x>(alloc: Global, records: &'x str, layer: &'x str, drill: &'x s
         × (measure : Measure) × PackagePasses order.profile (sources order.profile entries files) measure.meets.ring measure.meets.gap }
 {
     let files = [("m.csv", records), ("top.gbr", layer), ("pth.drl", drill)];
-    let mut out: Vec<u8> = Vec::new(alloc);
-    run(alloc, &MEASURE, &mut Shelf::new(&files), &mut out) == Status::Pass
+    let mut to = streams(alloc);
+    run(alloc, &MEASURE, &mut Shelf::new(&files), &mut to) == Status::Pass
 }
 
 #[test]
@@ -103,8 +103,8 @@ fn is_told_sound<'x>(alloc: Global, records: &'x str, layer: &'x str, drill: &'x
         × IsSound (sources asked.0.profile entries files) asked.0 }
 {
     let files = [("m.csv", records), ("top.gbr", layer), ("pth.drl", drill)];
-    let mut out: Vec<u8> = Vec::new(alloc);
-    run(alloc, &REPORT_WORDS, &mut Shelf::new(&files), &mut out) == Status::Pass
+    let mut to = streams(alloc);
+    run(alloc, &REPORT_WORDS, &mut Shelf::new(&files), &mut to) == Status::Pass
 }
 
 #[test]

@@ -25,9 +25,9 @@ const HELP: [&[&str]; 3] = [
 
 /// Whether a run passes and prints some text that is no refusal of its words.
 fn gives_help(alloc: Global, words: &[&str]) -> bool {
-    let mut out: Vec<u8> = Vec::new(alloc);
-    let status = run(alloc, words, &mut Shelf::new(&[]), &mut out);
-    status == Status::Pass && !out.is_empty() && !out.as_slice().starts_with(b"usage\n")
+    let mut to = streams(alloc);
+    let status = run(alloc, words, &mut Shelf::new(&[]), &mut to);
+    status == Status::Pass && !to.out.is_empty() && !to.out.as_slice().starts_with(b"usage\n")
 }
 
 #[test]
@@ -211,10 +211,10 @@ fn a_file_that_is_not_loaded_is_told(rt: HostRuntime) {
 #[test]
 fn out_of_memory_changes_no_proposal(rt: HostRuntime) {
     let files = &[("top.gbr", LAYER), ("pth.drl", DRILL)];
-    let mut out: Vec<u8> = Vec::new(rt.alloc());
+    let mut to = streams(rt.alloc());
     let words = &["manifest", "top.gbr", "pth.drl"];
-    let status = run(rt.alloc(), words, &mut Shelf::new(files), &mut out);
+    let status = run(rt.alloc(), words, &mut Shelf::new(files), &mut to);
     let text = "role,name,file\ncopper,top.gbr,top.gbr\nplated,pth.drl,pth.drl\n";
-    let is_text = status == Status::Pass && out.as_slice() == text.as_bytes();
+    let is_text = status == Status::Pass && to.out.as_slice() == text.as_bytes();
     assert!(rt; is_text || status == Status::Device);
 }

@@ -6,7 +6,10 @@ use Rattle.grid_units.specs.declared.fault.Reason.{Reason}
 use Rattle.grid_units.specs.declared.profile.Profile.{Profile}
 use Rattle.manifest.specs.declared.Entry.{Entry}
 use Rattle.package_check.specs.Package.{FileView}
+use Rattle.ringcheck_files.specs.Containers.{archive_sentence}
 use Rattle.ringcheck_files.specs.LoaderRelation.{Relation, file_limit, within}
+use Rattle.ringcheck_files.specs.Words.{Says}
+use Rattle.ringcheck_files.specs.Writers.{Written}
 use Rattle.ringcheck_files.specs.declared.Status.{Status}
 use Rattle.ringcheck_files.specs.declared.Status.TheVariants as status
 use Rattle.ringcheck.specs.declared.refusals.Halt.{Halt}
@@ -14,12 +17,14 @@ use Rattle.ringcheck.specs.declared.refusals.Halt.TheVariants as halt
 use Rattle.ringcheck.specs.declared.refusals.NoTable.{NoTable}
 use Rattle.ringcheck.specs.declared.refusals.NoTable.TheVariants as none
 use Rattle.ringcheck.specs.declared.refusals.RefusalStyle.{RefusalStyle}
+use Rattle.ringcheck.specs.declared.refusals.RefusalSentence.{RefusalSentence}
+use Rattle.ringcheck.specs.declared.refusals.RefusalSentence.TheVariants as sentence
 use Rattle.ringcheck.specs.declared.refusals.Sought.{Sought}
 use Rattle.ringcheck.specs.declared.refusals.Subject.{Subject}
 use Rattle.ringcheck.specs.declared.refusals.Subject.TheVariants as subject
 use Rattle.std.specs.Io.KnownBytes.{Appends}
-use Rattle.ringcheck.specs.Sentences.{unread_text}
-use Rattle.ringcheck.specs.Refusals.{Refusal, PrintsRefusal, of_archive, of_file, of_manifest, of_role, of_waivers}
+use Rattle.ringcheck.specs.Sentences.{unread_text, unread_words}
+use Rattle.ringcheck.specs.Refusals.{Refusal, PrintsRefusal, beside, of_archive, of_explained, of_file, of_manifest, of_role, of_waivers, role_sentence}
 use Rattle.ringcheck.specs.CheckStatus.{HasFiles, HasTable, RefusedAmong, RefusedFile, RefusedTable, is_of_role, sources}
 
 -- the refusal of a subject, with its fault
@@ -33,6 +38,15 @@ abbrev pub refusal_of : Halt → Option Refusal
 refusal_of (halt.Refused what why) = Some (refusal what why)
 refusal_of (halt.Archive what why name) = Some (of_archive name.now (refusal what why))
 refusal_of (halt.Unread what) = None
+
+-- what is said of a refusal
+abbrev pub refusal_sentence : RefusalSentence → List ℕ
+refusal_sentence (sentence.Archive name) = archive_sentence name.now
+refusal_sentence (sentence.Role number role file) = role_sentence number role.now file.now
+
+-- the refusal of a subject, of which this sentence is said
+abbrev pub explained : RefusalSentence → Subject → Fault → Refusal
+explained said what why = of_explained (refusal_sentence said) (refusal what why)
 
 -- what a halt says: `Is` of the refusal, or `Risen` where something cannot be read
 abbrev pub Halts : (Refusal → Type 0) → Type 0 → Halt → Type 0
@@ -48,12 +62,13 @@ IsUnreadAt (halt.Unread subject.Manifest) index = ⊥
 IsUnreadAt (halt.Unread subject.Waivers) index = ⊥
 IsUnreadAt (halt.Unread (subject.File at name)) index = at ≡ index
 
--- the writer got just the text of something that cannot be read, in this style; it was looked for by this name
-abbrev pub PrintsUnread : RefusalStyle → Subject → List ℕ → Option (List ℕ) → Option (List ℕ) → Type 0
-PrintsUnread refusal_style what path before after = (sought : Sought) × (sought.path.now ≡ path) × Appends before after (unread_text refusal_style what sought)
+-- just the text of something that cannot be read was written in this style, and beside it its sentence; it was looked for by this name
+abbrev pub PrintsUnread : RefusalStyle → Subject → List ℕ → Written → Written → Type 0
+PrintsUnread refusal_style what path before after =
+    (sought : Sought) × (sought.path.now ≡ path) × Appends before.0 after.0 (unread_text refusal_style what sought) × Says (beside refusal_style (Some (unread_words what sought))) before after
 
 -- what a status says where a halt was printed in this style; what cannot be read was looked for by this name
-abbrev pub AfterHalt : RefusalStyle → Halt → List ℕ → Option (List ℕ) → Option (List ℕ) → Status → Type 0
+abbrev pub AfterHalt : RefusalStyle → Halt → List ℕ → Written → Written → Status → Type 0
 AfterHalt refusal_style (halt.Refused what why) path before after s = (s ≡ status.Refused) × PrintsRefusal refusal_style (refusal what why) before after
 AfterHalt style (halt.Archive what why name) path before after s = (s ≡ status.Refused) × PrintsRefusal style (of_archive name.now (refusal what why)) before after
 AfterHalt refusal_style (halt.Unread what) path before after s = (s ≡ status.Device) × PrintsUnread refusal_style what path before after
@@ -75,7 +90,7 @@ HaltsTable Is Risen (none.Halted halt) = Halts Is Risen halt
 HaltsTable Is Risen (none.Role why row) = Is (of_role row.role row.file why)
 
 -- what a status says where it was printed in this style why there is no table; what cannot be read was looked for by this name
-abbrev pub AfterNoTable : RefusalStyle → NoTable → List ℕ → Option (List ℕ) → Option (List ℕ) → Status → Type 0
+abbrev pub AfterNoTable : RefusalStyle → NoTable → List ℕ → Written → Written → Status → Type 0
 AfterNoTable refusal_style (none.Halted halt) path before after s = AfterHalt refusal_style halt path before after s
 AfterNoTable style (none.Role why row) path before after s = (s ≡ status.Refused) × PrintsRefusal style (of_role row.role row.file why) before after
 

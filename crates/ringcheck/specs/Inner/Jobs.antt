@@ -4,6 +4,7 @@ use Rattle.std.specs.Global.{Vec}
 use Rattle.grid_units.specs.declared.profile.Profile.{Profile}
 use Rattle.package_check.specs.Package.{FileView}
 use Rattle.ringcheck_files.specs.LoaderRelation.{Relation}
+use Rattle.ringcheck_files.specs.Writers.{Written}
 use Rattle.ringcheck_files.specs.declared.Status.{Status}
 use Rattle.ringcheck.specs.declared.jobs.Job.{Job}
 use Rattle.ringcheck.specs.declared.jobs.Job.TheVariants as job
@@ -41,5 +42,5 @@ Holds (job.Report options) has name before after = Reports has name options.rule
 Holds (job.Draw order) has name before after = PrintsPicture order.rules order.outline.items before after
 
 -- what a status says of a job on the package under a name
-abbrev pub SaysJob : Job → Relation → List ℕ → Option (List ℕ) → Option (List ℕ) → Status → Type 0
-SaysJob job has name before after s = SaysPackage has (job_profile job) name (Holds job has name before after) (job_style job) before after s
+abbrev pub SaysJob : Job → Relation → List ℕ → Written → Written → Status → Type 0
+SaysJob job has name before after s = SaysPackage has (job_profile job) name (Holds job has name before.0 after.0) (job_style job) before after s

@@ -2,8 +2,9 @@
 use Rattle.std.specs.Prelude.{◌≡◌, ℕ, ◌<◌, ◌≤◌, true, false, List, length}
 use Rattle.grid_units.specs.declared.fault.Fault.{Fault}
 use Rattle.grid_units.specs.declared.fault.Fail.TheVariants as fails
+use Rattle.grid_units.specs.declared.profile.Profile.TheVariants.{Strict}
 use Rattle.gerber_text.specs.Reading.{Entries}
-use Rattle.gerber_text.specs.Holding.{StandsAfterDrop, FailsWith}
+use Rattle.gerber_text.specs.Holding.{StandsIn, FailsWithIn}
 use Rattle.gerber_text.specs.Writing.{lines, without_places}
 use Rattle.ringcheck_files.specs.declared.lines.Lines.{Lines}
 use Rattle.ringcheck_files.specs.declared.layer_writer.LayerWriter.{LayerWriter}
@@ -19,12 +20,12 @@ pub record HoldsText (held : Lines) (text : List ℕ) : Type 0 where
 abbrev pub HoldsLines : Lines → Entries → Type 0
 HoldsLines held commands = HoldsText held (lines (without_places commands))
 
--- the text was read so far without a fault of reading, and the lines of its commands are held
+-- the text was read so far in the strict profile without a fault of reading, and the lines of its commands are held
 pub record IsWriterAfter (writer : LayerWriter) (text : List ℕ) : Type 0 where
   pub gone : Entries
-  pub words : StandsAfterDrop writer.words gone text
+  pub words : StandsIn writer.words Strict gone text
   pub lines : HoldsLines writer.lines gone
 
--- the text shows this fault of reading, after some commands
+-- in the strict profile the text shows this fault of reading, after some commands
 abbrev pub ShowsReadFault : List ℕ → Fault → Type 0
-ShowsReadFault text f = (commands : Entries) × FailsWith text commands (fails.Refused f)
+ShowsReadFault text f = (commands : Entries) × FailsWithIn Strict text commands (fails.Refused f)

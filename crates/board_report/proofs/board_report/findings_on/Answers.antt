@@ -1,13 +1,7 @@
-use Rattle.std.proofs.Common.{◌≡◌, List, length, subst, sym}
-use Rattle.std.specs.Global.{Vec}
-use Rattle.std.specs.List.{All}
-use Rattle.std.proofs.lemmas.List.Elements.{All-append}
+use Rattle.board_report.proofs.Common.{◌≡◌, List, length, subst, sym, Vec, All, All-append, wide_pad_covers, Finding, board_findings}
 use Rattle.std.proofs.lemmas.Result.{IfOk-weaker}
-use Rattle.pad_shapes.specs.WidePads.{wide_pad_covers}
 use Rattle.ring_rules.specs.Findings.{gap_findings, ring_findings}
 use Rattle.ring_rules.specs.WithoutFindings.{NamesPlaces}
-use Rattle.ring_rules.specs.declared.finding.Finding.{Finding}
-use Rattle.package_check.specs.Boards.{board_findings}
 use Rattle.board_report.proofs.board_report.findings_on.Goals as goal
 
 pub returns-clause-places : goal.returns-clause-places

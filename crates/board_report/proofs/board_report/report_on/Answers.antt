@@ -1,10 +1,4 @@
-use Rattle.std.proofs.Common.{◌∙◌, List, refl, subst}
-use Rattle.std.specs.Prelude.{not}
-use Rattle.std.specs.List.{AllZip, filter}
-use Rattle.ring_rules.specs.declared.finding.Finding.{Finding}
-use Rattle.grid_units.specs.declared.profile.Profile.{Profile}
-use Rattle.board_report.specs.Measures.{IsMeasure}
-use Rattle.board_report.specs.BoardReport.{IsGapEntry, IsRingEntry, is_gap}
+use Rattle.board_report.proofs.Common.{◌∙◌, List, refl, subst, not, AllZip, filter, Finding, Profile, IsMeasure, IsGapEntry, IsRingEntry, is_gap}
 use Rattle.board_report.proofs.board_report.report_on.Goals as goal
 
 pub returns : goal.returns

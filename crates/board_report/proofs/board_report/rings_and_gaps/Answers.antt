@@ -1,8 +1,4 @@
-use Rattle.std.proofs.Common.{◌≡◌, Bor, List, [], get_or, length, map, sym, subst, ap, ◌∙◌, arith}
-use Rattle.pad_shapes.specs.WidePads.{wide_pad_covers}
-use Rattle.pad_shapes.specs.declared.wide_pad.WidePad.{WidePad}
-use Rattle.ring_rules.specs.declared.finding.Drilled.{Drilled}
-use Rattle.margins.specs.BestPads.{AreBestPads}
+use Rattle.board_report.proofs.Common.{◌≡◌, Bor, List, [], get_or, length, map, sym, subst, ap, ◌∙◌, arith, wide_pad_covers, WidePad, Drilled, AreBestPads}
 use Rattle.board_report.proofs.board_report.rings_and_gaps.Goals as goal
 
 pub ring_findings_from_bests-requires : goal.ring_findings_from_bests-requires

@@ -1,9 +1,7 @@
-use Rattle.std.proofs.Common.{◌≡◌, ◌∙◌, rules, sym, subst, w64}
+use Rattle.board_report.proofs.Common.{◌≡◌, ◌∙◌, rules, sym, subst, w64, GridHole, hole_at}
 use mir.Val.{to_z, of_z}
 use Rattle.std.proofs.lemmas.Int.{to_z-of_z}
-use Rattle.grid_units.specs.Holes.{GridHole}
 use Rattle.margins.specs.Gaps.{IsGap}
-use Rattle.ring_rules.specs.Places.{hole_at}
 use Rattle.board_report.proofs.gaps.gap_lack.Goals as goal
 
 pub returns : goal.returns

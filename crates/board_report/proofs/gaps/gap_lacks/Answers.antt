@@ -1,8 +1,4 @@
-use Rattle.std.proofs.Common.{List, take, subst, sym}
-use Rattle.std.specs.List.{AllZip, filter}
-use Rattle.std.proofs.lemmas.List.{take_more}
-use Rattle.ring_rules.specs.declared.finding.Finding.{Finding}
-use Rattle.board_report.specs.BoardReport.{IsGapEntry, is_gap}
+use Rattle.board_report.proofs.Common.{List, take, subst, sym, AllZip, filter, take_more, Finding, IsGapEntry, is_gap}
 use Rattle.board_report.proofs.AddedEntries.{added}
 use Rattle.board_report.proofs.gaps.gap_lacks.Goals as goal
 

@@ -1,6 +1,4 @@
-use Rattle.std.proofs.Common.{take}
-use Rattle.std.specs.List.{AllZip, filter}
-use Rattle.board_report.specs.BoardReport.{IsGapEntry, is_gap}
+use Rattle.board_report.proofs.Common.{take, AllZip, filter, IsGapEntry, is_gap}
 use Rattle.board_report.proofs.gaps.gap_lacks.Given as goal
 
 abbrev pub invariant-loop-finding : goal.invariant-loop-finding

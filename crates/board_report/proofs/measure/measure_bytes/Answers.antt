@@ -1,4 +1,4 @@
-use Rattle.package_check.specs.Package.{file_views_in}
+use Rattle.board_report.proofs.Common.{file_views_in}
 use Rattle.board_report.proofs.MeasuresLemmas.{measured, refused_alike}
 use Rattle.board_report.proofs.measure.measure_bytes.Goals as goal
 

@@ -1,15 +1,5 @@
-use Rattle.std.proofs.Common.{Bor, ◌≡◌, ◌+◌, ◌<◌, ◌≤◌, ℕ, List, [], length, get_or, map, ap, sym, subst, ◌∙◌, arith, rules}
+use Rattle.board_report.proofs.Common.{Bor, ◌≡◌, ◌+◌, ◌<◌, ◌≤◌, ℕ, List, [], length, get_or, map, ap, sym, subst, ◌∙◌, arith, rules, Vec, get_or-map, length-map, wide_pad_covers, WidePad, Drilled, AreBestPads, MeetsOnLayers, BestPad, AreLayerBests, AreRowLines}
 use Rattle.std.specs.Prelude.{Option}
-use Rattle.std.specs.Global.{Vec}
-use Rattle.std.proofs.lemmas.List.{get_or-map, length-map}
-use Rattle.pad_shapes.specs.WidePads.{wide_pad_covers}
-use Rattle.pad_shapes.specs.declared.wide_pad.WidePad.{WidePad}
-use Rattle.ring_rules.specs.declared.finding.Drilled.{Drilled}
-use Rattle.margins.specs.BestPads.{AreBestPads}
-use Rattle.margins.specs.Meets.{MeetsOnLayers}
-use Rattle.margins.specs.declared.best.BestPad.{BestPad}
-use Rattle.board_report.specs.Measures.{AreLayerBests}
-use Rattle.board_report.specs.Rows.{AreRowLines}
 use Rattle.board_report.proofs.JoinedRows.{none}
 use Rattle.board_report.proofs.LayerBestsLemmas.{all_kept, none_kept, one_more}
 use Rattle.board_report.proofs.UnitMistakeLinesLemmas.{ScalesAt, all_layers, first_layer, later_layer, no_layer_yet}

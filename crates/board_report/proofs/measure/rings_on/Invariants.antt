@@ -1,8 +1,4 @@
-use Rattle.std.proofs.Common.{◌≡◌, ◌<◌, true, map}
-use Rattle.pad_shapes.specs.WidePads.{wide_pad_covers}
-use Rattle.margins.specs.Meets.{MeetsOnLayers}
-use Rattle.board_report.specs.Measures.{AreLayerBests}
-use Rattle.board_report.specs.Rows.{AreRowLines}
+use Rattle.board_report.proofs.Common.{◌≡◌, ◌<◌, true, map, wide_pad_covers, MeetsOnLayers, AreLayerBests, AreRowLines}
 use Rattle.board_report.proofs.UnitMistakeLinesLemmas.{ScalesAt}
 use Rattle.board_report.proofs.measure.rings_on.Given as goal
 

@@ -1,4 +1,4 @@
-use Rattle.std.proofs.Common.{length, ap, arith}
+use Rattle.board_report.proofs.Common.{length, ap, arith}
 use Rattle.board_report.proofs.HolePlacesLemmas.{start_in}
 use Rattle.board_report.proofs.places.end_of.Goals as goal
 

@@ -1,8 +1,6 @@
-use Rattle.std.proofs.Common.{length, rules}
-use Rattle.std.proofs.lemmas.List.Elements.{Contains-get_or}
+use Rattle.board_report.proofs.Common.{length, rules, Contains-get_or, FileHoles}
 use Rattle.std.proofs.lemmas.List.Sorted.{IsPartitionPoint-from_clause}
 use lib.Dec.{leb}
-use Rattle.board_report.specs.declared.places.FileHoles.{FileHoles}
 use Rattle.board_report.proofs.FilesWithHolesLemmas.{found, parted}
 use Rattle.board_report.proofs.places.file_of.Goals as goal
 

@@ -1,6 +1,4 @@
-use Rattle.std.proofs.Common.{inl, inr, refl}
-use Rattle.std.proofs.lemmas.Bool.{cases_lt}
-use Rattle.board_report.specs.declared.places.FileHoles.{FileHoles}
+use Rattle.board_report.proofs.Common.{inl, inr, refl, cases_lt, FileHoles}
 use Rattle.board_report.proofs.FilesWithHolesLemmas.{empty_more, with_holes_more}
 use Rattle.board_report.proofs.places.files_with_holes.Goals as goal
 

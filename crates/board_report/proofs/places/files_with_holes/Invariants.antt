@@ -1,6 +1,4 @@
-use Rattle.std.proofs.Common.{◌≡◌}
-use Rattle.board_report.specs.Rows.{AreFileHoles}
-use Rattle.package_check.specs.Boards.{holes_before}
+use Rattle.board_report.proofs.Common.{◌≡◌, AreFileHoles, holes_before}
 use Rattle.board_report.proofs.places.files_with_holes.Given as goal
 
 abbrev pub invariant-loop-drill : goal.invariant-loop-drill

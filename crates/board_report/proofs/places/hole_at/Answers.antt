@@ -1,7 +1,4 @@
-use Rattle.std.proofs.Common.{List, get_or, ap, ◌∙◌}
-use Rattle.std.proofs.lemmas.List.{get_or_default}
-use Rattle.ring_rules.specs.Places.{default_hole}
-use Rattle.ring_rules.specs.declared.finding.Drilled.{Drilled}
+use Rattle.board_report.proofs.Common.{List, get_or, ap, ◌∙◌, get_or_default, default_hole, Drilled}
 use Rattle.board_report.proofs.places.hole_at.Goals as goal
 
 pub place_among-requires : goal.place_among-requires

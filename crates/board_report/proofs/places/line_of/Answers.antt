@@ -1,4 +1,4 @@
-use Rattle.std.proofs.Common.{rules}
+use Rattle.board_report.proofs.Common.{rules}
 use Rattle.board_report.proofs.places.line_of.Goals as goal
 
 pub returns : goal.returns

@@ -1,5 +1,4 @@
-use Rattle.std.proofs.Common.{◌≡◌, ◌≤◌}
-use Rattle.package_check.specs.Boards.{holes_before}
+use Rattle.board_report.proofs.Common.{◌≡◌, ◌≤◌, holes_before}
 use Rattle.board_report.proofs.places.place_of.Given as goal
 
 abbrev pub invariant-loop-drill : goal.invariant-loop-drill

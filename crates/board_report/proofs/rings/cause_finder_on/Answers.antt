@@ -1,12 +1,7 @@
-use Rattle.std.proofs.Common.{◌≡◌, ◌<◌, ◌∙◌, List, length, get_or, ap, subst, sym, arith}
+use Rattle.board_report.proofs.Common.{◌≡◌, ◌<◌, ◌∙◌, List, length, get_or, ap, subst, sym, arith, nat_tests, AreBestPads, wide_pad_covers, Drilled, layer_pads, layer_uncounted}
 use Rattle.std.specs.Prelude.{IfOk}
-use Rattle.std.proofs.lemmas.Bool.Decides.{nat_tests}
-use Rattle.margins.specs.BestPads.{AreBestPads}
 use Rattle.report.specs.Causes.{HoldsRowsAndBests, UncountedPads, uncounted_pads}
-use Rattle.pad_shapes.specs.WidePads.{wide_pad_covers}
 use Rattle.pad_shapes.specs.declared.row.FeatureRow.{FeatureRow}
-use Rattle.ring_rules.specs.declared.finding.Drilled.{Drilled}
-use Rattle.board_report.specs.BoardReport.{layer_pads, layer_uncounted}
 use Rattle.board_report.proofs.BestPads.{bests_at}
 use Rattle.board_report.proofs.rings.cause_finder_on.Goals as goal
 

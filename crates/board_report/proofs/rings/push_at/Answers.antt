@@ -1,5 +1,4 @@
-use Rattle.std.proofs.Common.{ℕ, subst}
-use Rattle.board_report.specs.BoardReport.{IsRingEntryAt}
+use Rattle.board_report.proofs.Common.{ℕ, subst, IsRingEntryAt}
 use Rattle.board_report.proofs.rings.push_at.Goals as goal
 
 pub returns-clause-adds : goal.returns-clause-adds

@@ -1,5 +1,4 @@
-use Rattle.std.proofs.Common.{Bor, List, ap, map, ◌∙◌}
-use Rattle.pad_shapes.specs.declared.wide_pad.WidePad.{WidePad}
+use Rattle.board_report.proofs.Common.{Bor, List, ap, map, ◌∙◌, WidePad}
 use Rattle.board_report.proofs.rings.ring_lacks.Goals as goal
 
 pub ring_lacks_of-requires-clause-board_data : goal.ring_lacks_of-requires-clause-board_data

@@ -1,9 +1,4 @@
-use Rattle.std.proofs.Common.{List, take, subst, sym}
-use Rattle.std.specs.Prelude.{not}
-use Rattle.std.specs.List.{AllZip, filter}
-use Rattle.std.proofs.lemmas.List.{take_more}
-use Rattle.ring_rules.specs.declared.finding.Finding.{Finding}
-use Rattle.board_report.specs.BoardReport.{IsRingEntry, is_gap}
+use Rattle.board_report.proofs.Common.{List, take, subst, sym, not, AllZip, filter, take_more, Finding, IsRingEntry, is_gap}
 use Rattle.board_report.proofs.AddedEntries.{added}
 use Rattle.board_report.proofs.rings.ring_lacks_of.Goals as goal
 

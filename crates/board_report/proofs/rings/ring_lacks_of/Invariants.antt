@@ -1,8 +1,4 @@
-use Rattle.std.proofs.Common.{take}
-use Rattle.std.specs.Prelude.{IfSome, not}
-use Rattle.std.specs.List.{AllZip, filter}
-use Rattle.board_report.specs.Inner.EntriesSoFar.{IsCurrentLayer}
-use Rattle.board_report.specs.BoardReport.{IsRingEntry, is_gap}
+use Rattle.board_report.proofs.Common.{take, IfSome, not, AllZip, filter, IsCurrentLayer, IsRingEntry, is_gap}
 use Rattle.board_report.proofs.rings.ring_lacks_of.Given as goal
 
 abbrev pub invariant-loop-finding : goal.invariant-loop-finding

@@ -1,9 +1,5 @@
-use Rattle.std.proofs.Common.{◌≡◌, ◌+◌, ◌<◌, ◌≤◌, ◌∷◌, [], ℕ, List, length, get_or, drop, subst, sym, ap, ◌∙◌, arith}
-use Rattle.std.specs.Global.{Vec}
-use Rattle.std.specs.List.{All}
-use Rattle.std.specs.BTreeMap.{keys, values}
+use Rattle.board_report.proofs.Common.{◌≡◌, ◌+◌, ◌<◌, ◌≤◌, ◌∷◌, [], ℕ, List, length, get_or, drop, subst, sym, ap, ◌∙◌, arith, Vec, All, keys, values, length-append, length-map}
 use Rattle.std.specs.Map.Iter.{deref}
-use Rattle.std.proofs.lemmas.List.{length-append, length-map}
 use Rattle.std.proofs.lemmas.Map.Iter.{rest_more, rest_all}
 use Rattle.board_report.proofs.RowLinesLemmas.{all_lined, all_taken, entry_next, lines_more}
 use Rattle.board_report.proofs.TablesLemmas.{places_inside}

@@ -1,8 +1,4 @@
-use Rattle.std.proofs.Common.{◌≡◌, ◌<◌, ◌≤◌, ℕ, length, get_or, drop}
-use Rattle.std.specs.BTreeMap.{keys, values}
-use Rattle.report.specs.declared.RingLine.{RingLine}
-use Rattle.board_report.specs.Rows.{IsRowLine}
-use Rattle.board_report.specs.Inner.Tables.{row_of}
+use Rattle.board_report.proofs.Common.{◌≡◌, ◌<◌, ◌≤◌, ℕ, length, get_or, drop, keys, values, RingLine, IsRowLine, row_of}
 use Rattle.board_report.proofs.rows.lines_of_table.Given as goal
 
 abbrev pub invariant-loop-places : goal.invariant-loop-places

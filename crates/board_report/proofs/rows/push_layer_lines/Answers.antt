@@ -1,8 +1,4 @@
-use Rattle.std.proofs.Common.{◌++◌, List, get_or, refl, ap, ◌∙◌}
-use Rattle.std.proofs.lemmas.List.{get_or_default}
-use Rattle.report.specs.declared.RingLine.{RingLine}
-use Rattle.board_report.specs.declared.places.FileHoles.{FileHoles}
-use Rattle.board_report.specs.declared.rows.LayerFileHoles.{LayerFileHoles}
+use Rattle.board_report.proofs.Common.{◌++◌, List, get_or, refl, ap, ◌∙◌, get_or_default, RingLine, FileHoles, LayerFileHoles}
 use Rattle.board_report.proofs.LayerLinesLemmas.{first_file, last_file, next_file}
 use Rattle.board_report.proofs.rows.push_layer_lines.Goals as goal
 

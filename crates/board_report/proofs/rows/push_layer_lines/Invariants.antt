@@ -1,4 +1,4 @@
-use Rattle.board_report.specs.Rows.{AreRowLines}
+use Rattle.board_report.proofs.Common.{AreRowLines}
 use Rattle.board_report.proofs.LayerLinesLemmas.{IsUpTo}
 use Rattle.board_report.proofs.rows.push_layer_lines.Given as goal
 

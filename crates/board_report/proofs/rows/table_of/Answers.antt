@@ -1,11 +1,4 @@
-use Rattle.std.proofs.Common.{◌≡◌, ◌&&◌, ◌||◌, ◌++◌, ◌∷◌, [], ◌+◌, ◌-◌, ◌<◌, ℕ, cond, eqb, List, length, get_or, subst, sym, ap, ◌∙◌, arith, rules}
-use Rattle.std.specs.List.{filter, range_with_len}
-use Rattle.std.proofs.lemmas.List.{get_or_default}
-use Rattle.ring_rules.specs.Places.{default_hole}
-use Rattle.ring_rules.specs.declared.finding.Drilled.{Drilled}
-use Rattle.margins.specs.Meets.{needs_ring}
-use Rattle.board_report.specs.Rows.{is_in_row}
-use Rattle.board_report.specs.Inner.Tables.{has_radius, is_not_empty, items_at, row_of}
+use Rattle.board_report.proofs.Common.{◌≡◌, ◌&&◌, ◌||◌, ◌++◌, ◌∷◌, [], ◌+◌, ◌-◌, ◌<◌, ℕ, cond, eqb, List, length, get_or, subst, sym, ap, ◌∙◌, arith, rules, filter, range_with_len, get_or_default, default_hole, Drilled, needs_ring, is_in_row, has_radius, is_not_empty, items_at, row_of}
 use Rattle.board_report.proofs.TablesLemmas.{items_added, places_in_file, there_added}
 use Rattle.board_report.proofs.rows.table_of.Goals as goal
 

@@ -1,7 +1,4 @@
-use Rattle.std.proofs.Common.{◌≡◌, ◌-◌, ℕ}
-use Rattle.std.specs.List.{filter, range_with_len}
-use Rattle.board_report.specs.Rows.{is_in_row}
-use Rattle.board_report.specs.Inner.Tables.{has_radius, is_not_empty, items_at, row_of}
+use Rattle.board_report.proofs.Common.{◌≡◌, ◌-◌, ℕ, filter, range_with_len, is_in_row, has_radius, is_not_empty, items_at, row_of}
 use Rattle.board_report.proofs.rows.table_of.Given as goal
 
 abbrev pub invariant-loop-place : goal.invariant-loop-place

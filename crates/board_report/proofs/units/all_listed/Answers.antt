@@ -1,4 +1,4 @@
-use Rattle.std.proofs.Common.{◌<◌, length, get_or, arith, None}
+use Rattle.board_report.proofs.Common.{◌<◌, length, get_or, arith, None}
 use Rattle.board_report.proofs.UnitMistakeLinesLemmas.{all_files, file_more}
 use Rattle.board_report.proofs.units.all_listed.Goals as goal
 

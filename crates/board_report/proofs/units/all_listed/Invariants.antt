@@ -1,4 +1,4 @@
-use Rattle.board_report.specs.Rows.{AreUnitMistakes}
+use Rattle.board_report.proofs.Common.{AreUnitMistakes}
 use Rattle.board_report.proofs.units.all_listed.Given as goal
 
 abbrev pub invariant-loop-line : goal.invariant-loop-line

@@ -1,6 +1,4 @@
-use Rattle.std.proofs.Common.{◌≡◌}
-use Rattle.package_check.specs.Boards.{holes_before}
-use Rattle.board_report.specs.Inner.Tables.{AreSearched}
+use Rattle.board_report.proofs.Common.{◌≡◌, holes_before, AreSearched}
 use Rattle.board_report.proofs.units.all_searched.Given as goal
 
 abbrev pub invariant-loop-drill : goal.invariant-loop-drill

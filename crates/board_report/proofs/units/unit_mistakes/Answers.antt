@@ -1,8 +1,6 @@
-use Rattle.std.proofs.Common.{List, sym, subst}
-use Rattle.ring_rules.specs.declared.finding.Drilled.{Drilled}
+use Rattle.board_report.proofs.Common.{List, sym, subst, Drilled, AreFoundMistakes}
 use Rattle.report.specs.UnitMistakes.{AreFileRanges, AreUnitMistakes}
 use Rattle.report.specs.declared.mistakes.FileRange.{FileRange}
-use Rattle.board_report.specs.Inner.Tables.{AreFoundMistakes}
 use Rattle.board_report.proofs.UnitMistakeLinesLemmas.{all_found, searched_fit}
 use Rattle.board_report.proofs.units.unit_mistakes.Goals as goal
 

@@ -1,6 +1,4 @@
-use Rattle.std.proofs.Common.{◌-◌, ◌+◌, length, not, refl, sym, ap, subst, ◌∙◌}
-use Rattle.drill_lines.specs.declared.command.Coordinates.{Coordinates}
-use Rattle.drill_text.specs.Inner.FastPath.{HasLeadingHit}
+use Rattle.drill_text.proofs.Common.{◌-◌, ◌+◌, length, not, refl, sym, ap, subst, ◌∙◌, Coordinates, HasLeadingHit}
 use Rattle.drill_text.proofs.FastPathLemmas.{hit_found}
 use Rattle.drill_text.proofs.fast_path.leading_hit.Goals as goal
 

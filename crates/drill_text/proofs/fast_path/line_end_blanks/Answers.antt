@@ -1,4 +1,4 @@
-use Rattle.std.proofs.Common.{refl, ◌∙◌, ◌∷◌, [], lit≤}
+use Rattle.drill_text.proofs.Common.{refl, ◌∙◌, ◌∷◌, [], lit≤}
 use Rattle.drill_text.proofs.fast_path.line_end_blanks.Goals as goal
 
 pub returns-in-Some-split_first : goal.returns-in-Some-split_first

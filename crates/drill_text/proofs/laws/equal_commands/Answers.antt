@@ -1,6 +1,4 @@
-use Rattle.std.proofs.Common.{ap}
-use Rattle.drill_text.specs.Lookback.{tools_of}
-use Rattle.drill_text.specs.Holes.{holes_of}
+use Rattle.drill_text.proofs.Common.{ap, tools_of, holes_of}
 use Rattle.drill_text.proofs.laws.equal_commands.Goals as goal
 
 pub returns-clause-holes : goal.returns-clause-holes

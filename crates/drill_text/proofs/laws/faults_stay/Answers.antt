@@ -1,5 +1,4 @@
-use Rattle.grid_units.specs.declared.profile.Profile.TheVariants.{Strict}
-use Rattle.drill_text.specs.Profiles.{plain}
+use Rattle.drill_text.proofs.Common.{Strict, plain}
 use Rattle.drill_text.proofs.FaultsStay.{shows_stay_in, shown_is_read_in}
 use Rattle.drill_text.proofs.laws.faults_stay.Goals as goal
 

@@ -1,4 +1,4 @@
-use Rattle.drill_text.specs.Profiles.{plain}
+use Rattle.drill_text.proofs.Common.{plain}
 use Rattle.drill_text.proofs.FaultsStay.{shown_is_read_in}
 use Rattle.drill_text.proofs.FirstFaults.{each_read_in}
 use Rattle.drill_text.proofs.UniqueReading.{one_shown_in, one_read_in}

@@ -1,5 +1,4 @@
-use Rattle.grid_units.specs.declared.profile.Profile.TheVariants.{Strict}
-use Rattle.drill_text.specs.Profiles.{plain}
+use Rattle.drill_text.proofs.Common.{Strict, plain}
 use Rattle.drill_text.proofs.UniqueReading.{one_shown_in, one_read_in}
 use Rattle.drill_text.proofs.laws.unique_reading.Goals as goal
 

@@ -1,9 +1,4 @@
-use Rattle.std.proofs.Common.{◌≡◌, [], ◌∷◌, ◌++◌, Some, Err, sym, subst}
-use Rattle.grid_units.specs.Results.{IfFault, with_place}
-use Rattle.grid_units.specs.declared.item_fail.ItemFail.{ItemFail}
-use Rattle.drill_text.specs.Plating.{rule_in}
-use Rattle.drill_text.specs.Profiles.{checked_by}
-use Rattle.drill_text.specs.Inner.StateSteps.{AppliesOrRefuses}
+use Rattle.drill_text.proofs.Common.{◌≡◌, [], ◌∷◌, ◌++◌, Some, Err, sym, subst, IfFault, with_place, ItemFail, rule_in, checked_by, AppliesOrRefuses}
 use Rattle.drill_text.proofs.SpelledLemmas.{checked_kept, checked_broken}
 use Rattle.drill_text.proofs.reader.keep.Goals as goal
 

@@ -1,7 +1,4 @@
-use Rattle.std.proofs.Common.{◌≢◌, ℕ, ◌<◌, ◌≤◌, List, length, take, get_or, All, sym, subst, arith}
-use Rattle.std.proofs.lemmas.Bool.{eqb-true, eq-eqb}
-use Rattle.std.proofs.lemmas.List.{get_or-take, length-take}
-use Rattle.std.proofs.lemmas.List.Elements.{All-from_get_or}
+use Rattle.drill_text.proofs.Common.{◌≢◌, ℕ, ◌<◌, ◌≤◌, List, length, take, get_or, All, sym, subst, arith, eqb-true, eq-eqb, get_or-take, length-take, All-from_get_or}
 use Rattle.memchr.specs.Find.{Nowhere, Passes, is_byte}
 use Rattle.drill_text.proofs.reader.line_len.Goals as goal
 

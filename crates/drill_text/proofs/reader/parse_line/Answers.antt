@@ -1,14 +1,4 @@
-use Rattle.std.proofs.Common.{◌≡◌, map, Option, None, Some, Ok, Err, sym, ap, subst, ◌∙◌}
-use Rattle.drill_lines.specs.declared.command.DrillCommand.{DrillCommand}
-use Rattle.drill_lines.specs.declared.command.Settings.{Settings}
-use Rattle.drill_lines.specs.Lines.{trimmed}
-use Rattle.drill_lines.specs.LineReading.{HasReadLines, ReadsLine}
-use Rattle.drill_lines.specs.Routes.{meaning_in}
-use Rattle.grid_units.specs.declared.item_fail.ItemFail.{ItemFail}
-use Rattle.grid_units.specs.Results.{IsRefusedAs, IfFault, fault, with_place}
-use Rattle.drill_text.specs.Lookback.{settings_after}
-use Rattle.drill_text.specs.Plating.{rule_in}
-use Rattle.drill_text.specs.Profiles.{checked_by, spelled_in}
+use Rattle.drill_text.proofs.Common.{◌≡◌, map, Option, None, Some, Ok, Err, sym, ap, subst, ◌∙◌, DrillCommand, Settings, trimmed, HasReadLines, ReadsLine, meaning_in, ItemFail, IsRefusedAs, IfFault, fault, with_place, settings_after, rule_in, checked_by, spelled_in}
 use Rattle.drill_text.proofs.ProfileLemmas.{spelled_in_is}
 use Rattle.drill_text.proofs.SpelledLemmas.{settings_are, lines_more, line_results}
 use Rattle.drill_text.proofs.reader.parse_line.Goals as goal

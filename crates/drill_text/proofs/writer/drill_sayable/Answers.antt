@@ -1,7 +1,5 @@
-use Rattle.std.proofs.Common.{◌+◌, drop, ◌&&◌, sym, ap, ◌∙◌}
-use Rattle.std.proofs.lemmas.List.{drop_all}
+use Rattle.drill_text.proofs.Common.{◌+◌, drop, ◌&&◌, sym, ap, ◌∙◌, drop_all, are_sayable, part_from, is_after_end}
 use Rattle.drill_lines.specs.declared.command.Part.TheVariants.{Before}
-use Rattle.drill_text.specs.Writing.{are_sayable, part_from, is_after_end}
 use Rattle.drill_text.proofs.RoundTrip.{sayable_more, sayable_not, part_at}
 use Rattle.drill_text.proofs.writer.drill_sayable.Goals as goal
 

@@ -1,6 +1,5 @@
-use Rattle.std.proofs.Common.{◌≡◌, drop}
+use Rattle.drill_text.proofs.Common.{◌≡◌, drop, are_sayable, part_from}
 use Rattle.drill_lines.specs.declared.command.Part.TheVariants.{Before}
-use Rattle.drill_text.specs.Writing.{are_sayable, part_from}
 use Rattle.drill_text.proofs.writer.drill_sayable.Given as goal
 
 abbrev pub invariant-loop-command : goal.invariant-loop-command

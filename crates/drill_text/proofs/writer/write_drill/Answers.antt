@@ -1,12 +1,4 @@
-use Rattle.std.proofs.Common.{◌≡◌, ℕ, ◌+◌, ◌<◌, ◌≤◌, List, [], ◌∷◌, ◌++◌, Err, length, take, get_or, sym, ap, subst, ◌∙◌, arith}
-use Rattle.std.proofs.lemmas.List.{take_more, take_all}
-use Rattle.drill_lines.specs.declared.command.DrillCommand.{DrillCommand}
-use Rattle.drill_lines.specs.Writing.{canonical}
-use Rattle.grid_units.specs.Limits.{text_limit}
-use Rattle.drill_text.specs.Texts.{SpellsText}
-use Rattle.drill_text.specs.Writing.{canonical_lines, written, vec_bytes}
-use Rattle.grid_units.specs.declared.fault.Fail.{Fail}
-use Rattle.grid_units.specs.Results.{Answers}
+use Rattle.drill_text.proofs.Common.{◌≡◌, ℕ, ◌+◌, ◌<◌, ◌≤◌, List, [], ◌∷◌, ◌++◌, Err, length, take, get_or, sym, ap, subst, ◌∙◌, arith, take_more, take_all, DrillCommand, canonical, text_limit, SpellsText, canonical_lines, written, vec_bytes, Fail, Answers}
 use Rattle.drill_text.proofs.RoundTrip.{AreTyped, typed_none, typed_more, text_more, text_prefix, written_long, written_short, round_trip}
 use Rattle.drill_text.proofs.writer.write_drill.Goals as goal
 

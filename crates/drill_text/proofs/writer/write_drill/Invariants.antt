@@ -1,5 +1,4 @@
-use Rattle.std.proofs.Common.{◌≡◌, ◌≤◌, take, vec_len}
-use Rattle.drill_text.specs.Writing.{canonical_lines}
+use Rattle.drill_text.proofs.Common.{◌≡◌, ◌≤◌, take, vec_len, canonical_lines}
 use Rattle.drill_text.proofs.RoundTrip.{AreTyped}
 use Rattle.drill_text.proofs.writer.write_drill.Given as goal
 

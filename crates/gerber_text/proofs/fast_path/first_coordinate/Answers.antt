@@ -1,4 +1,4 @@
-use Rattle.std.proofs.Common.{◌≡◌, ◌<◌, length, w64, rules, arith}
+use Rattle.gerber_text.proofs.Common.{◌≡◌, ◌<◌, length, w64, rules, arith}
 use Rattle.std.proofs.lemmas.Int.{to_z-of_z}
 use mir.Val.{to_z, of_z}
 use Rattle.gerber_text.proofs.FastPathLemmas.{coordinate_there, coordinate_away}

@@ -1,11 +1,7 @@
-use Rattle.std.proofs.Common.{◌≡◌, true, cond, ◌-◌, ◌<◌, length, take, drop, ap, sym, subst, ◌∙◌, w64, rules, arith}
-use Rattle.std.specs.Prelude.{ℤ, pos, neg_ℤ}
+use Rattle.gerber_text.proofs.Common.{◌≡◌, true, cond, ◌-◌, ◌<◌, length, take, drop, ap, sym, subst, ◌∙◌, w64, rules, arith, neg_ℤ, take_rest, recursion_from_All, is_digit, HasLeadingInt}
+use Rattle.std.specs.Prelude.{ℤ, pos}
 use Rattle.std.proofs.lemmas.Int.{to_z-of_z}
-use Rattle.std.proofs.lemmas.List.{take_rest}
-use Rattle.std.proofs.lemmas.List.Elements.{recursion_from_All}
 use mir.Val.{to_z, of_z}
-use Rattle.grid_units.specs.Numbers.{is_digit}
-use Rattle.gerber_text.specs.FastPath.{HasLeadingInt}
 use Rattle.gerber_text.proofs.FastPathLemmas.{begins_with_int}
 use Rattle.gerber_text.proofs.fast_path.first_int.Goals as goal
 

@@ -1,4 +1,4 @@
-use Rattle.grid_units.specs.declared.profile.Profile.TheVariants.{Strict}
+use Rattle.gerber_text.proofs.Common.{Strict}
 use Rattle.gerber_text.proofs.GrammarItems.{item_written, item_ends}
 use Rattle.gerber_text.proofs.SpelledCommands.{said, is_spelled, was_spelled}
 use Rattle.gerber_text.proofs.laws.spelled_commands.Goals as goal

@@ -1,4 +1,4 @@
-use Rattle.grid_units.specs.declared.profile.Profile.TheVariants.{Strict, Wide}
+use Rattle.gerber_text.proofs.Common.{Strict, Wide}
 use Rattle.gerber_text.proofs.ProfileLemmas.{spells_more}
 use Rattle.gerber_text.proofs.SpellsTextLemmas.{reads_spells, spells_reads}
 use Rattle.gerber_text.proofs.laws.wide_reads_more.Goals as goal

@@ -1,6 +1,5 @@
-use Rattle.std.proofs.Common.{rules, ◌≡◌, [], ◌++◌, List, sym, ap, ◌∙◌, append-nil}
-use Rattle.gerber_commands.specs.declared.command.Command.{Command}
-use Rattle.gerber_text.specs.Reading.{placed, is_plotting}
+use Rattle.gerber_text.proofs.Common.{rules, ◌≡◌, [], ◌++◌, List, sym, ap, ◌∙◌, Command, placed, is_plotting}
+use Rattle.std.proofs.Common.{append-nil}
 use Rattle.gerber_text.proofs.reader.add.Goals as goal
 
 pub returns-in-None-None-clause-plotting : goal.returns-in-None-None-clause-plotting

@@ -1,5 +1,4 @@
-use Rattle.std.proofs.Common.{[], ◌∷◌, ◌++◌, refl}
-use Rattle.gerber_text.specs.Reading.{placed}
+use Rattle.gerber_text.proofs.Common.{[], ◌∷◌, ◌++◌, refl, placed}
 use Rattle.gerber_text.proofs.PlottingLemmas.{plots_on}
 use Rattle.gerber_text.proofs.reader.add_command.Goals as goal
 

@@ -1,9 +1,4 @@
-use Rattle.std.proofs.Common.{◌≡◌, [], ◌∷◌, ◌++◌, List, ap}
-use Rattle.grid_units.proofs.LookbackLemmas.{option_or_none}
-use Rattle.gerber_commands.specs.declared.command.Command.{Command}
-use Rattle.gerber_commands.specs.declared.command.Command.TheVariants.{Mode}
-use Rattle.gerber_commands.specs.Rows.{modes_of}
-use Rattle.gerber_text.specs.Reading.{plot_of, placed}
+use Rattle.gerber_text.proofs.Common.{◌≡◌, [], ◌∷◌, ◌++◌, List, ap, option_or_none, Command, Mode, modes_of, plot_of, placed}
 use Rattle.gerber_text.proofs.PlottingLemmas.{plots_on}
 use Rattle.gerber_text.proofs.reader.add_with_mode.Goals as goal
 

@@ -1,7 +1,4 @@
-use Rattle.std.proofs.Common.{◌≡◌, ◌<◌, ◌∙◌, ℕ, zero, suc, List, true, false, get_or, sym, arith}
-use Rattle.std.proofs.lemmas.Bool.{false≢true}
-use Rattle.std.proofs.lemmas.List.Elements.{All-more}
-use Rattle.gerber_text.specs.Items.{is_line_break}
+use Rattle.gerber_text.proofs.Common.{◌≡◌, ◌<◌, ◌∙◌, ℕ, zero, suc, List, true, false, get_or, sym, arith, false≢true, All-more, is_line_break}
 use Rattle.gerber_text.proofs.reader.breaks_len.Goals as goal
 
 after_first : (bytes : List ℕ) (i : ℕ) → is_line_break (get_or bytes i 0) ≡ false → is_line_break (get_or bytes 0 0) ≡ true → 0 < i

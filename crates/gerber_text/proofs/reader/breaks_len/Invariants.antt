@@ -1,5 +1,4 @@
-use Rattle.std.proofs.Common.{◌≡◌, true, take, All}
-use Rattle.gerber_text.specs.Items.{is_line_break}
+use Rattle.gerber_text.proofs.Common.{◌≡◌, true, take, All, is_line_break}
 use Rattle.gerber_text.proofs.reader.breaks_len.Given as goal
 
 abbrev pub invariant-loop-i : goal.invariant-loop-i

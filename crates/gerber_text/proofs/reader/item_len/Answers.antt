@@ -1,7 +1,4 @@
-use Rattle.std.proofs.Common.{◌≡◌, ℕ, List, take, drop, get_or, length, All, ◌<◌, subst, ◌∙◌, arith}
-use Rattle.std.proofs.lemmas.List.{take_rest, length-drop}
-use Rattle.gerber_text.specs.Items.{end_byte}
-use Rattle.gerber_text.specs.Inner.Bytes.{IsInside}
+use Rattle.gerber_text.proofs.Common.{◌≡◌, ℕ, List, take, drop, get_or, length, All, ◌<◌, subst, ◌∙◌, arith, take_rest, length-drop, end_byte, IsInside}
 use Rattle.gerber_text.proofs.LeadingItemLemmas.{leading_item}
 use Rattle.gerber_text.proofs.reader.item_len.Goals as goal
 

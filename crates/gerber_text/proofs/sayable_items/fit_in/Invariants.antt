@@ -1,4 +1,4 @@
-use Rattle.std.proofs.Common.{◌≡◌, ◌+◌, length, take}
+use Rattle.gerber_text.proofs.Common.{◌≡◌, ◌+◌, length, take}
 use Rattle.gerber_text.proofs.PieceLemmas.{starred}
 use Rattle.gerber_text.proofs.sayable_items.fit_in.Given as goal
 

@@ -1,5 +1,4 @@
-use Rattle.std.proofs.Common.{◌+◌, length, ◌∙◌, leb}
-use Rattle.std.specs.Prelude.{decimal}
+use Rattle.gerber_text.proofs.Common.{◌+◌, length, ◌∙◌, leb, decimal}
 use Rattle.gerber_text.proofs.LengthLemmas.{named_few, named_test, plain_test}
 use Rattle.gerber_text.proofs.sayable_items.is_named_short.Goals as goal
 

@@ -1,4 +1,4 @@
-use Rattle.std.proofs.Common.{ℕ, ◌+◌, ◌≤◌, List, inl, inr, subst, sym, ◌∙◌, ap, length, leb}
+use Rattle.gerber_text.proofs.Common.{ℕ, ◌+◌, ◌≤◌, List, inl, inr, subst, sym, ◌∙◌, ap, length, leb}
 use Rattle.gerber_text.proofs.PieceLemmas.{starred}
 use Rattle.gerber_text.proofs.LengthLemmas.{comment_test, attribute_test, removal_test, macro_test, name_length, are_bounded, bounded_short, short_true}
 use Rattle.gerber_text.proofs.sayable_items.is_short.Goals as goal

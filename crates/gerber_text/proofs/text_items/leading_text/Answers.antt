@@ -1,4 +1,4 @@
-use Rattle.std.proofs.Common.{◌+◌, sym, ◌∙◌, arith}
+use Rattle.gerber_text.proofs.Common.{◌+◌, sym, ◌∙◌, arith}
 use Rattle.gerber_text.proofs.LeadingTextLemmas.{text_found}
 use Rattle.gerber_text.proofs.text_items.leading_text.Goals as goal
 

@@ -1,4 +1,4 @@
-use Rattle.gerber_commands.specs.declared.command.Command.{Command}
+use Rattle.gerber_text.proofs.Common.{Command}
 use Rattle.gerber_text.proofs.WriterLemmas.{line, written_step, written_all}
 use Rattle.gerber_text.proofs.writer.lines_of.Goals as goal
 

@@ -1,6 +1,4 @@
-use Rattle.std.proofs.Common.{◌≡◌, take}
-use Rattle.std.specs.List.{flat_map}
-use Rattle.gerber_commands.specs.declared.command.Command.{Command}
+use Rattle.gerber_text.proofs.Common.{◌≡◌, take, flat_map, Command}
 use Rattle.gerber_text.proofs.WriterLemmas.{line}
 use Rattle.gerber_text.proofs.writer.lines_of.Given as goal
 

@@ -1,6 +1,4 @@
-use Rattle.std.proofs.Common.{◌∙◌}
-use Rattle.gerber_commands.specs.declared.command.Command.{Command}
-use Rattle.gerber_text.specs.declared.placed.Placed.{Placed}
+use Rattle.gerber_text.proofs.Common.{◌∙◌, Command, Placed}
 use Rattle.gerber_text.proofs.WriterLemmas.{line, written_step, written_all, lines_placed}
 use Rattle.gerber_text.proofs.writer.lines_of_placed.Goals as goal
 

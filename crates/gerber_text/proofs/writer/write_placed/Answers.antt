@@ -1,4 +1,4 @@
-use Rattle.gerber_text.specs.Writing.{without_places}
+use Rattle.gerber_text.proofs.Common.{without_places}
 use Rattle.gerber_text.proofs.WriterLemmas.{exact_of, reads_back}
 use Rattle.gerber_text.proofs.writer.write_placed.Goals as goal
 

@@ -1,6 +1,4 @@
-use Rattle.std.proofs.Common.{◌≡◌, true, take}
-use Rattle.std.specs.List.{list_all}
-use Rattle.layer_features.specs.Contours.{is_move}
+use Rattle.layer_features.proofs.Common.{◌≡◌, true, take, list_all, is_move}
 use Rattle.layer_features.proofs.contour.are_moves.Given as goal
 
 abbrev pub invariant-loop-part : goal.invariant-loop-part

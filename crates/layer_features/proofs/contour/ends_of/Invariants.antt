@@ -1,6 +1,4 @@
-use Rattle.std.proofs.Common.{◌≡◌, ◌++◌, ◌∷◌, length}
-use Rattle.std.specs.Prelude.{option_map}
-use Rattle.layer_features.specs.Contours.{ends_of}
+use Rattle.layer_features.proofs.Common.{◌≡◌, ◌++◌, ◌∷◌, length, option_map, ends_of}
 use Rattle.layer_features.proofs.contour.ends_of.Given as goal
 
 abbrev pub invariant-loop-left : goal.invariant-loop-left

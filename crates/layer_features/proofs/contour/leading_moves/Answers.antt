@@ -1,8 +1,5 @@
-use Rattle.std.proofs.Common.{◌≡◌, true, get_or, ap, sym, ◌∙◌, arith, below_more}
-use Rattle.std.proofs.lemmas.List.{get_or_default}
-use Rattle.std.proofs.lemmas.List.Sums.{prefix_len_is}
+use Rattle.layer_features.proofs.Common.{◌≡◌, true, get_or, ap, sym, ◌∙◌, arith, below_more, get_or_default, prefix_len_is, is_move}
 use Rattle.layer_features.specs.declared.part.Part.TheVariants as part
-use Rattle.layer_features.specs.Contours.{is_move}
 use Rattle.layer_features.proofs.contour.leading_moves.Goals as goal
 
 pub loop-i-preserved : goal.loop-i-preserved

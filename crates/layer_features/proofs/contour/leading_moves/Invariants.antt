@@ -1,6 +1,5 @@
-use Rattle.std.proofs.Common.{◌≡◌, true, ℕ, ◌<◌, get_or}
+use Rattle.layer_features.proofs.Common.{◌≡◌, true, ℕ, ◌<◌, get_or, is_move}
 use Rattle.layer_features.specs.declared.part.Part.TheVariants as part
-use Rattle.layer_features.specs.Contours.{is_move}
 use Rattle.layer_features.proofs.contour.leading_moves.Given as goal
 
 abbrev pub invariant-loop-i : goal.invariant-loop-i

@@ -1,8 +1,5 @@
-use Rattle.std.proofs.Common.{◌≡◌, false, not, get_or, ap, sym, ◌∙◌, arith, below_more}
-use Rattle.std.proofs.lemmas.List.{get_or_default}
-use Rattle.std.proofs.lemmas.List.Sums.{prefix_len_is}
+use Rattle.layer_features.proofs.Common.{◌≡◌, false, not, get_or, ap, sym, ◌∙◌, arith, below_more, get_or_default, prefix_len_is, is_move, is_no_move}
 use Rattle.layer_features.specs.declared.part.Part.TheVariants as part
-use Rattle.layer_features.specs.Contours.{is_move, is_no_move}
 use Rattle.layer_features.proofs.contour.leading_sides.Goals as goal
 
 pub loop-i-preserved : goal.loop-i-preserved

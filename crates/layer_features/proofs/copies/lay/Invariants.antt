@@ -1,12 +1,4 @@
-use Rattle.std.proofs.Common.{◌≡◌, ◌++◌, List, map}
-use Rattle.std.specs.List.{filter_map, flat_map}
-use Rattle.pad_shapes.specs.Placed.{shape_at}
-use Rattle.pad_shapes.specs.declared.wide_pad.WidePad.{WidePad}
-use Rattle.layer_features.specs.declared.feature.Feature.{Feature}
-use Rattle.layer_state.specs.Flashes.{numbers_below}
-use Rattle.layer_state.specs.Placing.{copy_in}
-use Rattle.layer_features.specs.Features.{contour_feature}
-use Rattle.layer_features.specs.Kept.{KeepsFeatures}
+use Rattle.layer_features.proofs.Common.{◌≡◌, ◌++◌, List, map, filter_map, flat_map, shape_at, WidePad, Feature, numbers_below, copy_in, contour_feature, KeepsFeatures}
 use Rattle.layer_features.proofs.copies.lay.Given as goal
 
 abbrev pub invariant-loop-u : goal.invariant-loop-u

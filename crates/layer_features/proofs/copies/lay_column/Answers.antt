@@ -1,11 +1,5 @@
 -- One copy more.
-use Rattle.std.proofs.Common.{◌≡◌, ◌∙◌, ◌++◌, ℕ, map, arith, subst, refl, sym, append-nil}
-use Rattle.std.specs.List.{filter_map}
-use Rattle.layer_state.specs.Flashes.{numbers_below}
-use Rattle.pad_shapes.specs.Placed.{shape_at}
-use Rattle.layer_state.specs.Placing.{copy_in}
-use Rattle.layer_features.specs.Features.{contour_feature}
-use Rattle.layer_features.specs.Kept.{KeepsFeatures}
+use Rattle.layer_features.proofs.Common.{◌≡◌, ◌∙◌, ◌++◌, ℕ, map, arith, subst, refl, sym, append-nil, filter_map, numbers_below, shape_at, copy_in, contour_feature, KeepsFeatures}
 use Rattle.layer_features.proofs.CopiesLemmas.{and_mapped, next_copy}
 use Rattle.layer_features.proofs.copies.lay_column.Goals as goal
 

@@ -1,12 +1,5 @@
 -- The copy has a shape where it may lie there.
-use Rattle.std.proofs.Common.{◌≡◌, ◌∙◌, ◌++◌, ◌∷◌, [], List, Option, Some, map, ap, subst, sym}
-use Rattle.std.specs.List.{cons_option}
-use Rattle.pad_shapes.specs.Placed.{shape_at}
-use Rattle.pad_shapes.specs.Rounded.{GridRounded}
-use Rattle.layer_features.specs.declared.feature.Feature.{Feature}
-use Rattle.layer_state.specs.Placing.{copy_in}
-use Rattle.layer_features.specs.Features.{contour_feature}
-use Rattle.layer_features.specs.Kept.{KeepsFeatures}
+use Rattle.layer_features.proofs.Common.{◌≡◌, ◌∙◌, ◌++◌, ◌∷◌, [], Option, Some, map, subst, sym, cons_option, shape_at, GridRounded, Feature, copy_in, contour_feature, KeepsFeatures}
 use Rattle.layer_features.proofs.CopiesLemmas.{back}
 use Rattle.layer_features.proofs.copies.lay_copy.Goals as goal
 

@@ -1,5 +1,5 @@
 -- The product fits in 128 bits.
-use Rattle.std.proofs.Common.{◌∙◌, ◌<◌, ◌≤◌, ◌^◌, ◌*ℤ◌, pos, unsigned_abs, arith, sym, subst, ℤ}
+use Rattle.layer_features.proofs.Common.{◌∙◌, ◌<◌, ◌≤◌, ◌^◌, ◌*ℤ◌, pos, unsigned_abs, arith, sym, subst, ℤ}
 use Rattle.layer_features.proofs.CopiesLemmas.{stepped_is, steps_bound}
 use Rattle.layer_features.proofs.copies.stepped.Goals as goal
 

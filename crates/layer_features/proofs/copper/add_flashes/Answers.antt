@@ -1,10 +1,5 @@
 -- One flash more.
-use Rattle.std.proofs.Common.{◌≡◌, ◌∙◌, ◌+◌, ◌++◌, [], ◌∷◌, List, map, take, ap, refl, subst, sym, arith, append-nil, append_assoc}
-use Rattle.std.proofs.lemmas.List.{map-append, take_all, take_more}
-use Rattle.layer_state.specs.declared.flash.Flash.{Flash}
-use Rattle.layer_features.specs.declared.feature.Feature.{Feature}
-use Rattle.layer_features.specs.Features.{flash_feature}
-use Rattle.layer_features.specs.Kept.{KeepsFeatures}
+use Rattle.layer_features.proofs.Common.{◌≡◌, ◌∙◌, ◌+◌, ◌++◌, [], ◌∷◌, List, map, take, ap, refl, subst, sym, arith, append-nil, append_assoc, map-append, take_all, take_more, Flash, Feature, flash_feature, KeepsFeatures}
 use Rattle.layer_features.proofs.copper.add_flashes.Goals as goal
 
 pub loop-flash-init : goal.loop-flash-init

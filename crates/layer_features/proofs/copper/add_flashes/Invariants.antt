@@ -1,9 +1,4 @@
-use Rattle.std.proofs.Common.{◌≡◌, ◌++◌, List, map, take}
-use Rattle.pad_shapes.specs.declared.wide_pad.WidePad.{WidePad}
-use Rattle.layer_features.specs.declared.feature.Feature.{Feature}
-use Rattle.layer_features.specs.FurtherPads.{CopperState, flash_shape, macro_why}
-use Rattle.layer_features.specs.Features.{flash_feature}
-use Rattle.layer_features.specs.Kept.{KeepsFeatures}
+use Rattle.layer_features.proofs.Common.{◌≡◌, ◌++◌, List, map, take, WidePad, Feature, CopperState, flash_shape, macro_why, flash_feature, KeepsFeatures}
 use Rattle.layer_features.proofs.copper.add_flashes.Given as goal
 
 abbrev pub invariant-loop-flash : goal.invariant-loop-flash

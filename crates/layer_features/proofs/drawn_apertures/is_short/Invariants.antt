@@ -1,5 +1,4 @@
-use Rattle.std.proofs.Common.{◌≡◌, ◌+◌, take}
-use Rattle.layer_features.specs.Drawn.{macro_len}
+use Rattle.layer_features.proofs.Common.{◌≡◌, ◌+◌, take, macro_len}
 use Rattle.layer_features.proofs.drawn_apertures.is_short.Given as goal
 
 abbrev pub invariant-loop-text : goal.invariant-loop-text

@@ -1,5 +1,5 @@
-use Rattle.std.proofs.Common.{◌≡◌, ◌↔◌, ℕ, List, Some, ap, ◌∙◌}
-use Rattle.std.specs.Option.{option_copied}
+use Rattle.layer_features.proofs.Common.{◌≡◌, ℕ, List, Some, ap, ◌∙◌, option_copied}
+use Rattle.std.proofs.Common.{◌↔◌}
 use Rattle.std.proofs.lemmas.Result.{IfOk-weaker}
 use Rattle.macro_shapes.specs.Pieces.{IsMacro}
 use Rattle.macro_shapes.specs.Macros.{fields_of}

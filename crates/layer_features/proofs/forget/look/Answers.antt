@@ -1,9 +1,6 @@
 -- One part that makes no contour stands for parts that make none.
-use Rattle.std.proofs.Common.{◌≡◌, ◌∙◌, List, [], ◌∷◌, ◌++◌, ap, subst, sym, true}
-use Rattle.layer_features.specs.declared.part.Part.{Part}
+use Rattle.layer_features.proofs.Common.{◌≡◌, ◌∙◌, List, [], ◌∷◌, ◌++◌, ap, subst, sym, true, Part, starts_no_pad, MakeSameContour}
 use Rattle.layer_features.specs.declared.part.Part.TheVariants as part
-use Rattle.layer_features.specs.Inner.Forgetting.{starts_no_pad}
-use Rattle.layer_features.specs.Inner.States.{MakeSameContour}
 use Rattle.layer_features.proofs.ForgettingLemmas.{forgotten, kept_all}
 use Rattle.layer_features.proofs.forget.look.Goals as goal
 

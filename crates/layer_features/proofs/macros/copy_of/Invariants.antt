@@ -1,4 +1,4 @@
-use Rattle.std.proofs.Common.{◌≡◌, take}
+use Rattle.layer_features.proofs.Common.{◌≡◌, take}
 use Rattle.layer_features.proofs.macros.copy_of.Given as goal
 
 abbrev pub invariant-loop-text : goal.invariant-loop-text

@@ -1,8 +1,5 @@
 -- The part was added, and the parts may have been forgotten since.
-use Rattle.std.proofs.Common.{◌++◌, [], List, Option, subst, sym}
-use Rattle.std.specs.List.{cons_option}
-use Rattle.layer_features.specs.declared.part.Part.{Part}
-use Rattle.layer_features.specs.Inner.States.{MakeSameContour}
+use Rattle.layer_features.proofs.Common.{◌++◌, [], List, Option, subst, sym, cons_option, Part, MakeSameContour}
 use Rattle.layer_features.proofs.ForgettingLemmas.{none_added}
 use Rattle.layer_features.proofs.part.add_part.Goals as goal
 

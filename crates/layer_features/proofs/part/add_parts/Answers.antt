@@ -1,11 +1,5 @@
 -- A region starts, or it can make no contour any more, or a part is added.
-use Rattle.std.proofs.Common.{◌++◌, [], List, Option, ap, subst, sym, ◌∙◌}
-use Rattle.std.specs.List.{cons_option}
-use Rattle.layer_features.specs.Inner.Pencils.{draw_state}
-use Rattle.layer_features.specs.declared.part.Part.{Part}
-use Rattle.layer_features.specs.Contours.{part_by}
-use Rattle.layer_features.specs.Inner.Forgetting.{is_over}
-use Rattle.layer_features.specs.Inner.States.{MakeSameContour, parts_after}
+use Rattle.layer_features.proofs.Common.{◌++◌, [], List, Option, ap, subst, sym, ◌∙◌, cons_option, draw_state, Part, part_by, plot_state, is_over, MakeSameContour, parts_after}
 use Rattle.layer_features.proofs.ForgettingLemmas.{over_stays, started, went_on}
 use Rattle.layer_features.proofs.part.add_parts.Goals as goal
 
@@ -19,7 +13,7 @@ pub returns-then-is_over : goal.returns-then-is_over
 returns-then-is_over c =
     let s = draw_state c.args.pencil.now in
     let old = c.args.parts.now.items in
-    went_on c.args.command.now s old old (sym c.starts_region.ensures ∙ c.if-starts_region.false) (over_stays old (cons_option (part_by s c.args.command.now) []) (ap is_over (sym c.deref.ensures.value) ∙ (sym c.is_over.ensures ∙ c.if-is_over.true)))
+    went_on c.args.command.now s old old (sym c.starts_region.ensures ∙ c.if-starts_region.false) (over_stays old (cons_option (part_by (plot_state s) c.args.command.now) []) (ap is_over (sym c.deref.ensures.value) ∙ (sym c.is_over.ensures ∙ c.if-is_over.true)))
 
 pub returns : goal.returns
 returns c =

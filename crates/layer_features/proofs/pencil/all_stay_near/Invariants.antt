@@ -1,6 +1,4 @@
-use Rattle.std.proofs.Common.{◌≡◌, true, take}
-use Rattle.std.specs.List.{list_all}
-use Rattle.layer_features.specs.Drawn.{stays_near}
+use Rattle.layer_features.proofs.Common.{◌≡◌, true, take, list_all, stays_near}
 use Rattle.layer_features.proofs.pencil.all_stay_near.Given as goal
 
 abbrev pub invariant-loop-corner : goal.invariant-loop-corner

@@ -1,7 +1,5 @@
 -- A sum of two numbers of 64 bits fits 128 bits.
-use Rattle.std.proofs.Common.{◌≡◌, ◌≤◌, ◌^◌, ◌+ℤ◌, FitsSigned, ℤ, unsigned_abs, ap, subst, sym, ◌∙◌, to_z, of_z}
-use Rattle.std.proofs.lemmas.Int.{to_z-of_z}
-use mir.Syntax.{w128, w64}
+use Rattle.layer_features.proofs.Common.{◌≡◌, ◌≤◌, ◌^◌, ◌+ℤ◌, FitsSigned, ℤ, unsigned_abs, ap, subst, sym, ◌∙◌, to_z, of_z, to_z-of_z, w128, w64}
 use Rattle.layer_state.proofs.SumLemmas as lemmas
 use Rattle.layer_features.proofs.pencil.sum.Goals as goal
 

@@ -1,4 +1,4 @@
-use Rattle.std.proofs.Common.{◌∙◌, ◌-ℤ◌, ◌*ℤ◌}
+use Rattle.layer_features.proofs.Common.{◌∙◌, ◌-ℤ◌, ◌*ℤ◌}
 use Rattle.pad_shapes.proofs.EdgesLemmas.{difference, fits_difference, difference_of_products}
 use Rattle.layer_features.proofs.turns.cross.Goals as goal
 

@@ -1,7 +1,5 @@
 -- The product of two differences fits 128 bits.
-use Rattle.std.proofs.Common.{◌≡◌, ◌≤◌, ◌*ℤ◌, unsigned_abs, ℤ, to_z, of_z, ◌∙◌, sym, ap, subst, arith}
-use Rattle.std.proofs.lemmas.Int.{to_z-of_z}
-use mir.Syntax.{w128, w64}
+use Rattle.layer_features.proofs.Common.{◌≡◌, ◌≤◌, ◌*ℤ◌, unsigned_abs, ℤ, to_z, of_z, ◌∙◌, sym, ap, subst, arith, to_z-of_z, w128, w64}
 use Rattle.pad_shapes.proofs.EdgesLemmas.{factors, product_fits, product_bound}
 use Rattle.layer_features.proofs.turns.product.Goals as goal
 

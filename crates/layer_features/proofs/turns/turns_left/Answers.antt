@@ -1,5 +1,5 @@
 -- A run of less than three points does not turn.
-use Rattle.std.proofs.Common.{◌∙◌, sym}
+use Rattle.layer_features.proofs.Common.{◌∙◌, sym}
 use Rattle.layer_features.proofs.ShortRuns.{no_left}
 use Rattle.layer_features.proofs.turns.turns_left.Goals as goal
 

@@ -1,5 +1,4 @@
-use Rattle.std.proofs.Common.{◌≡◌, length}
-use Rattle.layer_features.specs.Inner.Turns.{turns_left}
+use Rattle.layer_features.proofs.Common.{◌≡◌, length, turns_left}
 use Rattle.layer_features.proofs.turns.turns_left.Given as goal
 
 abbrev pub invariant-loop-rest : goal.invariant-loop-rest

@@ -1,5 +1,5 @@
 -- A run of less than three points does not turn.
-use Rattle.std.proofs.Common.{◌∙◌, sym}
+use Rattle.layer_features.proofs.Common.{◌∙◌, sym}
 use Rattle.layer_features.proofs.ShortRuns.{no_right}
 use Rattle.layer_features.proofs.turns.turns_right.Goals as goal
 

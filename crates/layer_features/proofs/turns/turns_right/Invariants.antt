@@ -1,5 +1,4 @@
-use Rattle.std.proofs.Common.{◌≡◌, length}
-use Rattle.layer_features.specs.Inner.Turns.{turns_right}
+use Rattle.layer_features.proofs.Common.{◌≡◌, length, turns_right}
 use Rattle.layer_features.proofs.turns.turns_right.Given as goal
 
 abbrev pub invariant-loop-rest : goal.invariant-loop-rest

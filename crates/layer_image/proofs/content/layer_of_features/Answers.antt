@@ -1,9 +1,4 @@
-use Rattle.std.proofs.Common.{subst, sym}
-use Rattle.gerber_text.specs.Writing.{without_places}
-use Rattle.layer_state.specs.Flashes.{flashes_of}
-use Rattle.layer_features.specs.Kept.{left_pads}
-use Rattle.layer_state.specs.KeptFlashes.{without_flashes}
-use Rattle.layer_image.specs.Kept.{IsKeptOf, KeptLayer}
+use Rattle.layer_image.proofs.Common.{subst, sym, without_places, flashes_of, left_pads, without_flashes, IsKeptOf, KeptLayer}
 use Rattle.layer_image.proofs.KeptLemmas.{kept_by_features}
 use Rattle.layer_image.proofs.content.layer_of_features.Goals as goal
 

@@ -1,7 +1,4 @@
-use Rattle.std.proofs.Common.{subst, sym}
-use Rattle.gerber_text.specs.Writing.{without_places}
-use Rattle.layer_state.specs.KeptFlashes.{without_pads}
-use Rattle.layer_image.specs.Kept.{IsKeptOf, KeptLayer}
+use Rattle.layer_image.proofs.Common.{subst, sym, without_places, without_pads, IsKeptOf, KeptLayer}
 use Rattle.layer_image.proofs.KeptLemmas.{kept_by_flashes}
 use Rattle.layer_image.proofs.content.layer_of_flashes.Goals as goal
 

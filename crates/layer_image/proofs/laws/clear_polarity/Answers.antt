@@ -1,5 +1,4 @@
-use Rattle.std.proofs.Common.{refl}
-use Rattle.layer_state.specs.Rules.{first_broken}
+use Rattle.layer_image.proofs.Common.{refl, first_broken}
 use Rattle.layer_image.proofs.laws.clear_polarity.Goals as goal
 
 pub returns : goal.returns

@@ -1,5 +1,5 @@
 -- Reading gives commands just where a text spells them.
-use Rattle.gerber_text.proofs.SpellsTextLemmas.{reads_spells, spells_reads}
+use Rattle.layer_image.proofs.Common.{reads_spells, spells_reads}
 use Rattle.layer_image.proofs.FaultReasons.{reason_is_of_rule}
 use Rattle.layer_image.proofs.Pieces.{shown_longer, shown_read, shown_joined}
 use Rattle.layer_image.proofs.ReadingExists.{each_answers}

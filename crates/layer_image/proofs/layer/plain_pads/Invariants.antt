@@ -1,5 +1,4 @@
-use Rattle.std.proofs.Common.{◌≡◌, map}
-use Rattle.layer_image.specs.Kept.{plain}
+use Rattle.layer_image.proofs.Common.{◌≡◌, map, plain}
 use Rattle.layer_image.proofs.layer.plain_pads.Given as goal
 
 abbrev pub invariant-loop-pad : goal.invariant-loop-pad

@@ -1,11 +1,5 @@
-use Rattle.std.proofs.Common.{List, [], subst, sym}
-use Rattle.std.proofs.lemmas.Result.{err_from_is_err_and}
-use Rattle.grid_units.specs.Results.{Answers}
-use Rattle.grid_units.specs.declared.profile.Profile.TheVariants.{Strict}
-use Rattle.pad_shapes.specs.declared.wide_pad.WidePad.{WidePad}
+use Rattle.layer_image.proofs.Common.{List, [], subst, sym, err_from_is_err_and, Answers, Strict, WidePad, has_forgotten, KeptLayer, ReadsKeptIn}
 use Rattle.layer_features.specs.declared.keep.Keep.TheVariants as keep
-use Rattle.layer_image.specs.Holding.{has_forgotten}
-use Rattle.layer_image.specs.Kept.{KeptLayer, ReadsKeptIn}
 use Rattle.layer_image.proofs.Pieces.{all_kept, layer_shows_reads, none_left}
 use Rattle.layer_image.proofs.layer.read_layer.Goals as goal
 

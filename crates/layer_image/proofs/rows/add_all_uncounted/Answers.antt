@@ -1,8 +1,5 @@
 -- One flash or contour more.
-use Rattle.std.proofs.Common.{◌≡◌, ◌++◌, [], ◌∷◌, List, Option, append_assoc, ap, sym, ◌∙◌}
-use Rattle.std.specs.List.{cons_option, filter_map}
-use Rattle.std.proofs.lemmas.List.Elements.{filter_map-append}
-use Rattle.layer_features.specs.Features.{contour_pad, macro_pad}
+use Rattle.layer_image.proofs.Common.{◌≡◌, ◌++◌, [], ◌∷◌, List, Option, append_assoc, ap, sym, ◌∙◌, cons_option, filter_map, filter_map-append, contour_pad, macro_pad}
 use Rattle.layer_features.specs.declared.feature.Feature.{Feature}
 use Rattle.layer_image.proofs.rows.add_all_uncounted.Goals as goal
 

@@ -1,6 +1,4 @@
-use Rattle.std.proofs.Common.{◌≡◌, ◌++◌}
-use Rattle.std.specs.List.{filter_map}
-use Rattle.layer_features.specs.Features.{contour_pad, macro_pad}
+use Rattle.layer_image.proofs.Common.{◌≡◌, ◌++◌, filter_map, contour_pad, macro_pad}
 use Rattle.layer_image.proofs.rows.add_all_uncounted.Given as goal
 
 abbrev pub invariant-loop-feature : goal.invariant-loop-feature

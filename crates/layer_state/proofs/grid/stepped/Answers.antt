@@ -1,7 +1,5 @@
 -- The steps and their sum with the start fit 128 bits.
-use Rattle.std.proofs.Common.{FitsSigned, arith, ap, subst, sym, ◌∙◌, to_z, of_z}
-use Rattle.std.proofs.lemmas.Int.{to_z-of_z}
-use mir.Syntax.{w128}
+use Rattle.layer_state.proofs.Common.{FitsSigned, arith, ap, subst, sym, ◌∙◌, to_z, of_z, to_z-of_z, w128}
 use Rattle.layer_state.proofs.SumLemmas.{steps, steps_fit, stepped, stepped_fits}
 use Rattle.layer_state.proofs.grid.stepped.Goals as goal
 

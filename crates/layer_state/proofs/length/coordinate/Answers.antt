@@ -1,8 +1,5 @@
 -- A number of 64 bits times a small one fits 128 bits.
-use Rattle.std.proofs.Common.{◌≡◌, ◌≤◌, ◌^◌, ◌*ℤ◌, pos, unsigned_abs, ℤ, to_z, of_z, ◌∙◌, sym, ap, subst}
-use Rattle.std.proofs.lemmas.Int.{to_z-of_z}
-use mir.Syntax.{w128, w64}
-use Rattle.grid_units.proofs.LengthLemmas.{factors, product_fits, product_bound}
+use Rattle.layer_state.proofs.Common.{◌≡◌, ◌≤◌, ◌^◌, ◌*ℤ◌, pos, unsigned_abs, ℤ, to_z, of_z, ◌∙◌, sym, ap, subst, to_z-of_z, w128, w64, factors, product_fits, product_bound}
 use Rattle.layer_state.proofs.length.coordinate.Goals as goal
 
 stored : (c : goal.After-from-2) → to_z w128 (of_z w128 (to_z w128 (of_z w128 c.from.result) *ℤ to_z w128 (of_z w128 c.from-2.result))) ≡ c.args.n *ℤ pos c.step_length.result

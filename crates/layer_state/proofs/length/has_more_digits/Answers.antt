@@ -1,4 +1,4 @@
-use Rattle.std.proofs.Common.{◌∙◌, ◌/◌, nat_le, sym, arith}
+use Rattle.layer_state.proofs.Common.{◌∙◌, ◌/◌, nat_le, sym, arith}
 use Rattle.layer_state.proofs.DigitLemmas.{more_digits, no_more_digits}
 use Rattle.layer_state.proofs.length.has_more_digits.Goals as goal
 

@@ -1,4 +1,4 @@
-use Rattle.std.proofs.Common.{sym, arith, lit<}
+use Rattle.layer_state.proofs.Common.{sym, arith, lit<}
 use Rattle.layer_state.proofs.DigitLemmas.{no_finer}
 use Rattle.layer_state.proofs.length.inch_step.Goals as goal
 

@@ -1,7 +1,6 @@
 -- The shape is neither mirrored nor turned.
-use Rattle.std.proofs.Common.{◌≡◌, ◌∙◌, ℕ, IfOk, arith, subst, sym}
+use Rattle.layer_state.proofs.Common.{◌≡◌, ◌∙◌, ℕ, IfOk, arith, subst, sym, no_mirroring, oriented_shape}
 use Rattle.layer_state.specs.declared.mirroring.Mirroring.{Mirroring}
-use Rattle.layer_state.specs.Placing.{no_mirroring, oriented_shape}
 use Rattle.layer_state.proofs.OrientLemmas.{same_mirroring}
 use Rattle.layer_state.proofs.mirroring.oriented.Goals as goal
 

@@ -1,5 +1,4 @@
-use Rattle.std.proofs.Common.{◌≡◌, map, take}
-use Rattle.layer_state.specs.Placing.{oriented_point}
+use Rattle.layer_state.proofs.Common.{◌≡◌, map, take, oriented_point}
 use Rattle.layer_state.proofs.mirroring.oriented_points.Given as goal
 
 abbrev pub invariant-loop-point : goal.invariant-loop-point

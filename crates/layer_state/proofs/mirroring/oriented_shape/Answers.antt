@@ -1,10 +1,7 @@
 -- The corners are those that were asked for.
-use Rattle.std.proofs.Common.{rules, w64, FitsSigned, to_z, of_z, ◌≡◌, ◌∙◌, ◌<◌, map, length, unsigned_abs, ap, sym, subst}
-use Rattle.std.proofs.lemmas.Int.{to_z-of_z}
-use Rattle.std.proofs.lemmas.List.{length-map}
+use Rattle.layer_state.proofs.Common.{rules, FitsSigned, to_z, of_z, ◌≡◌, ◌∙◌, ◌<◌, map, length, unsigned_abs, ap, sym, subst, to_z-of_z, length-map, max_corners, in_order, oriented_point, rounded_by}
+use Rattle.std.proofs.Common.{w64}
 use Rattle.pad_shapes.specs.Shapes.{IsPadRadius}
-use Rattle.pad_shapes.specs.Rounded.{max_corners}
-use Rattle.layer_state.specs.Placing.{in_order, oriented_point, rounded_by}
 use Rattle.layer_state.proofs.OrientLemmas.{in_order_length, rounded_is}
 use Rattle.layer_state.proofs.mirroring.oriented_shape.Goals as goal
 

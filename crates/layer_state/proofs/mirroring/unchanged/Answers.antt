@@ -1,6 +1,5 @@
 -- The shape is a rounded polygon already.
-use Rattle.std.proofs.Common.{◌≡◌, ◌∙◌, true, Some, ap, subst}
-use Rattle.pad_shapes.specs.Rounded.{GridRounded, is_outline}
+use Rattle.layer_state.proofs.Common.{◌≡◌, ◌∙◌, true, Some, ap, subst, GridRounded, is_outline}
 use Rattle.layer_state.proofs.OrientLemmas.{unturned}
 use Rattle.layer_state.proofs.mirroring.unchanged.Goals as goal
 

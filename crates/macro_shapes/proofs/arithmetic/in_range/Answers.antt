@@ -1,7 +1,4 @@
-use Rattle.std.proofs.Common.{ap, ◌∙◌, w64}
-use Rattle.std.proofs.lemmas.Int.{to_z-of_z}
-use mir.Val.{to_z, of_z}
-use Rattle.macro_shapes.specs.Values.{in_range}
+use Rattle.macro_shapes.proofs.Common.{ap, ◌∙◌, w64, to_z-of_z, to_z, of_z, in_range}
 use Rattle.macro_shapes.proofs.ArithmeticLemmas.{in_range_is}
 use Rattle.macro_shapes.proofs.arithmetic.in_range.Goals as goal
 

@@ -1,6 +1,4 @@
-use Rattle.std.proofs.Common.{◌≡◌, ◌-◌, ◌∙◌, take, drop, sym, ap, None, Some, arith}
-use Rattle.macro_shapes.specs.Values.{lookup}
-use Rattle.macro_shapes.specs.Inner.Reading.{step, finished}
+use Rattle.macro_shapes.proofs.Common.{◌≡◌, ◌-◌, ◌∙◌, take, drop, sym, ap, None, Some, arith, lookup, step, finished}
 use Rattle.macro_shapes.specs.Inner.State.{state}
 use Rattle.macro_shapes.proofs.ScanLemmas.{byte_on, sign_on, sign_fails, text_ends, slice_is, rest_is}
 use Rattle.macro_shapes.proofs.expression.scan.Goals as goal

@@ -1,6 +1,4 @@
-use Rattle.std.proofs.Common.{◌≡◌, ◌≤◌, [], take, drop}
-use Rattle.macro_shapes.specs.Values.{lookup}
-use Rattle.macro_shapes.specs.Inner.Reading.{start, run}
+use Rattle.macro_shapes.proofs.Common.{◌≡◌, ◌≤◌, [], take, drop, lookup, start, run}
 use Rattle.macro_shapes.specs.Inner.State.{state}
 use Rattle.macro_shapes.proofs.expression.scan.Given as goal
 

@@ -1,6 +1,4 @@
-use Rattle.std.proofs.Common.{sym, ◌∙◌}
-use Rattle.macro_shapes.specs.Values.{lookup}
-use Rattle.macro_shapes.specs.Inner.PiecesLemmas.{value_exactly}
+use Rattle.macro_shapes.proofs.Common.{sym, ◌∙◌, lookup, value_exactly}
 use Rattle.macro_shapes.proofs.expression.value.Goals as goal
 
 pub returns : goal.returns

@@ -1,11 +1,4 @@
-use Rattle.std.proofs.Common.{◌≡◌, ◌↔◌, List, Option, Some, None, sym, ◌∙◌}
-use Rattle.std.proofs.lemmas.Result.{IfOk-weaker}
-use Rattle.std.specs.Option.{option_copied}
-use Rattle.macro_shapes.specs.Values.{lookup}
-use Rattle.macro_shapes.specs.Pieces.{IsMacro}
-use Rattle.macro_shapes.specs.Inner.Pieces.{fields_from, parameters_of}
-use Rattle.macro_shapes.specs.declared.fields.Fields.{Fields}
-use Rattle.macro_shapes.specs.Inner.PiecesLemmas.{macro_exactly, no_macro}
+use Rattle.macro_shapes.proofs.Common.{◌≡◌, ◌↔◌, List, Option, Some, None, sym, ◌∙◌, IfOk-weaker, option_copied, lookup, IsMacro, fields_from, parameters_of, Fields, macro_exactly, no_macro}
 use Rattle.macro_shapes.proofs.fields.read_macro.Goals as goal
 
 pub returns-in-Some : goal.returns-in-Some

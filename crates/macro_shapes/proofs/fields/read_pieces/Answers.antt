@@ -1,9 +1,6 @@
 -- Each piece leaves what the primitives and the pieces left give together.
-use Rattle.std.proofs.Common.{◌≡◌, ◌+◌, ◌<◌, ◌∷◌, ℕ, List, length, drop, get_or, sym, ap, not, ◌∙◌, add-one}
+use Rattle.macro_shapes.proofs.Common.{◌≡◌, ◌+◌, ◌<◌, ◌∷◌, ℕ, List, length, drop, get_or, sym, ap, not, ◌∙◌, add-one, drop_all, lookup, fields_from}
 use Rattle.std.proofs.Math.Seq.{drop-cons}
-use Rattle.std.proofs.lemmas.List.{drop_all}
-use Rattle.macro_shapes.specs.Values.{lookup}
-use Rattle.macro_shapes.specs.Inner.Pieces.{fields_from}
 use Rattle.macro_shapes.proofs.TakenPieces.{of_some, of_none, begun, taken, refused, ended}
 use Rattle.macro_shapes.proofs.fields.read_pieces.Goals as goal
 

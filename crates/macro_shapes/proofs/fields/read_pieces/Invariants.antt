@@ -1,7 +1,4 @@
-use Rattle.std.proofs.Common.{◌≡◌, ◌++◌, drop}
-use Rattle.std.specs.Prelude.{option_map}
-use Rattle.macro_shapes.specs.Values.{lookup}
-use Rattle.macro_shapes.specs.Inner.Pieces.{fields_from}
+use Rattle.macro_shapes.proofs.Common.{◌≡◌, ◌++◌, drop, option_map, lookup, fields_from}
 use Rattle.macro_shapes.proofs.fields.read_pieces.Given as goal
 
 abbrev pub invariant-loop-piece : goal.invariant-loop-piece

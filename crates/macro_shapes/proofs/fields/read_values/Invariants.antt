@@ -1,9 +1,4 @@
-use Rattle.std.proofs.Common.{◌≡◌, ◌++◌}
-use Rattle.std.specs.Prelude.{option_map}
-use Rattle.std.specs.Option.{option_copied}
-use Rattle.macro_shapes.specs.Values.{lookup}
-use Rattle.macro_shapes.specs.Inner.Parts.{split_by_if, left_of}
-use Rattle.macro_shapes.specs.Inner.Pieces.{all_values}
+use Rattle.macro_shapes.proofs.Common.{◌≡◌, ◌++◌, option_map, option_copied, lookup, split_by_if, left_of, all_values}
 use Rattle.macro_shapes.proofs.fields.read_values.Given as goal
 
 abbrev pub invariant-loop-left : goal.invariant-loop-left

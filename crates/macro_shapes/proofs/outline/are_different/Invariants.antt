@@ -1,5 +1,4 @@
-use Rattle.std.proofs.Common.{◌≡◌, length}
-use Rattle.macro_shapes.specs.Primitives.{are_different}
+use Rattle.macro_shapes.proofs.Common.{◌≡◌, length, are_different}
 use Rattle.macro_shapes.proofs.outline.are_different.Given as goal
 
 abbrev pub invariant-loop-left : goal.invariant-loop-left

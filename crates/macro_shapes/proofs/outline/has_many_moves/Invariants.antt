@@ -1,7 +1,4 @@
-use Rattle.std.proofs.Common.{◌≡◌, ◌≤◌, ◌+◌, ◌∷◌, drop, length}
-use Rattle.std.specs.Prelude.{zip}
-use Rattle.std.specs.List.{filter_map}
-use Rattle.macro_shapes.specs.Primitives.{moved}
+use Rattle.macro_shapes.proofs.Common.{◌≡◌, ◌≤◌, ◌+◌, ◌∷◌, drop, length, zip, filter_map, moved}
 use Rattle.macro_shapes.proofs.outline.has_many_moves.Given as goal
 
 abbrev pub invariant-loop-next : goal.invariant-loop-next

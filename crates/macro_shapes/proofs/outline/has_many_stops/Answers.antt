@@ -1,7 +1,5 @@
 -- The run moves on from its first point.
-use Rattle.std.proofs.Common.{◌∙◌, List, length, ap}
-use Rattle.std.specs.Prelude.{nat_lt}
-use Rattle.grid_units.specs.Points.{GridPoint}
+use Rattle.macro_shapes.proofs.Common.{◌∙◌, List, length, ap, nat_lt, GridPoint}
 use Rattle.macro_shapes.proofs.RunsOfPoints.{many_either_way, moves_from_own_first}
 use Rattle.macro_shapes.proofs.outline.has_many_stops.Goals as goal
 

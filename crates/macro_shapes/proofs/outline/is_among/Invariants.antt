@@ -1,6 +1,4 @@
-use Rattle.std.proofs.Common.{◌≡◌, drop}
-use Rattle.std.specs.List.{list_any}
-use Rattle.macro_shapes.specs.Primitives.{is_same}
+use Rattle.macro_shapes.proofs.Common.{◌≡◌, drop, list_any, is_same}
 use Rattle.macro_shapes.proofs.outline.is_among.Given as goal
 
 abbrev pub invariant-loop-other : goal.invariant-loop-other

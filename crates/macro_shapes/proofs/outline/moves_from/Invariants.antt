@@ -1,7 +1,4 @@
-use Rattle.std.proofs.Common.{◌≡◌, ◌∷◌, ◌++◌, drop}
-use Rattle.std.specs.Prelude.{zip}
-use Rattle.std.specs.List.{filter_map}
-use Rattle.macro_shapes.specs.Primitives.{moved}
+use Rattle.macro_shapes.proofs.Common.{◌≡◌, ◌∷◌, ◌++◌, drop, zip, filter_map, moved}
 use Rattle.macro_shapes.proofs.outline.moves_from.Given as goal
 
 abbrev pub invariant-loop-point : goal.invariant-loop-point

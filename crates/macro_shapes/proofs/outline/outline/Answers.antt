@@ -1,7 +1,4 @@
-use Rattle.std.proofs.Common.{◌≡◌, ◌-◌, ◌<◌, length, take, drop, refl, arith}
-use Rattle.std.proofs.lemmas.Bool.Decides.{nat_tests}
-use Rattle.std.proofs.lemmas.Result.{IfOk-weaker}
-use Rattle.macro_shapes.specs.Primitives.{outline_at, outline}
+use Rattle.macro_shapes.proofs.Common.{◌≡◌, ◌-◌, ◌<◌, length, take, drop, refl, arith, nat_tests, IfOk-weaker, outline_at, outline}
 use Rattle.macro_shapes.proofs.OutlineLemmas.{outline_made}
 use Rattle.macro_shapes.proofs.outline.outline.Goals as goal
 

@@ -1,6 +1,4 @@
-use Rattle.std.proofs.Common.{◌≡◌, ◌++◌, length}
-use Rattle.std.specs.Prelude.{option_map}
-use Rattle.macro_shapes.specs.Primitives.{run_of}
+use Rattle.macro_shapes.proofs.Common.{◌≡◌, ◌++◌, length, option_map, run_of}
 use Rattle.macro_shapes.proofs.outline.run_of.Given as goal
 
 abbrev pub invariant-loop-left : goal.invariant-loop-left

@@ -1,6 +1,4 @@
-use Rattle.std.proofs.Common.{◌+◌, ℕ, List, ◌∷◌, take, sym, ap, ◌∙◌}
-use Rattle.std.proofs.lemmas.List.{take_rest}
-use Rattle.macro_shapes.specs.Pieces.{split_by}
+use Rattle.macro_shapes.proofs.Common.{◌+◌, ℕ, List, ◌∷◌, take, sym, ap, ◌∙◌, take_rest, split_by}
 use Rattle.macro_shapes.proofs.SplitLemmas.{split_some, split_none}
 use Rattle.macro_shapes.proofs.piece.split_first.Goals as goal
 

@@ -1,7 +1,4 @@
-use Rattle.std.proofs.Common.{◌∙◌, w64}
-use Rattle.std.proofs.lemmas.Int.{to_z-of_z}
-use mir.Val.{to_z, of_z}
-use Rattle.macro_shapes.specs.Primitives.{grid_point}
+use Rattle.macro_shapes.proofs.Common.{◌∙◌, w64, to_z-of_z, to_z, of_z, grid_point}
 use Rattle.macro_shapes.proofs.GridLemmas.{grid_point_is}
 use Rattle.macro_shapes.proofs.primitive.grid_point.Goals as goal
 

@@ -1,6 +1,4 @@
-use Rattle.std.proofs.Common.{◌≡◌, ◌++◌, drop}
-use Rattle.std.specs.Prelude.{option_map}
-use Rattle.macro_shapes.specs.Primitives.{primitives_of}
+use Rattle.macro_shapes.proofs.Common.{◌≡◌, ◌++◌, drop, option_map, primitives_of}
 use Rattle.macro_shapes.proofs.primitive.read_primitives.Given as goal
 
 abbrev pub invariant-loop-spelled : goal.invariant-loop-spelled

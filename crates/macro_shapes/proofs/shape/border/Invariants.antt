@@ -1,8 +1,4 @@
-use Rattle.std.proofs.Common.{◌≡◌, drop}
-use Rattle.std.specs.List.{fold}
-use Rattle.pad_shapes.specs.Rounded.{edges_back}
-use Rattle.macro_shapes.specs.Shapes.{line_along}
-use Rattle.macro_shapes.specs.Inner.Borders.{least, discs_in_turn}
+use Rattle.macro_shapes.proofs.Common.{◌≡◌, drop, fold, edges_back, line_along, least, discs_in_turn}
 use Rattle.macro_shapes.proofs.shape.border.Given as goal
 
 abbrev pub invariant-loop-to : goal.invariant-loop-to

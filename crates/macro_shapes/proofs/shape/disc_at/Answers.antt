@@ -1,7 +1,4 @@
-use Rattle.std.proofs.Common.{◌≡◌, List, ap, ◌∙◌, arith}
-use Rattle.std.proofs.lemmas.List.{take_all}
-use Rattle.macro_shapes.specs.Inner.Borders.{disc_in_turn}
-use Rattle.macro_shapes.specs.declared.primitive.Primitive.{Primitive}
+use Rattle.macro_shapes.proofs.Common.{◌≡◌, List, ap, ◌∙◌, arith, take_all, disc_in_turn, Primitive}
 use Rattle.macro_shapes.proofs.BordersInTurn.{disc_is}
 use Rattle.macro_shapes.proofs.shape.disc_at.Goals as goal
 

@@ -1,5 +1,4 @@
-use Rattle.std.proofs.Common.{◌≡◌, take}
-use Rattle.macro_shapes.specs.Inner.Borders.{disc_in_turn}
+use Rattle.macro_shapes.proofs.Common.{◌≡◌, take, disc_in_turn}
 use Rattle.macro_shapes.proofs.shape.disc_at.Given as goal
 
 abbrev pub invariant-loop-primitive : goal.invariant-loop-primitive

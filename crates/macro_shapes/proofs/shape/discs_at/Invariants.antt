@@ -1,7 +1,4 @@
-use Rattle.std.proofs.Common.{◌≡◌, take}
-use Rattle.std.specs.List.{fold}
-use Rattle.macro_shapes.specs.Shapes.{disc_at}
-use Rattle.macro_shapes.specs.Inner.Borders.{least}
+use Rattle.macro_shapes.proofs.Common.{◌≡◌, take, fold, disc_at, least}
 use Rattle.macro_shapes.proofs.shape.discs_at.Given as goal
 
 abbrev pub invariant-loop-corner : goal.invariant-loop-corner

@@ -1,8 +1,4 @@
-use Rattle.std.proofs.Common.{◌≡◌, List, ap, ◌∙◌, arith}
-use Rattle.std.proofs.lemmas.List.{take_all}
-use Rattle.pad_shapes.specs.Rounded.{Edge}
-use Rattle.macro_shapes.specs.Inner.Borders.{line_in_turn}
-use Rattle.macro_shapes.specs.declared.primitive.Primitive.{Primitive}
+use Rattle.macro_shapes.proofs.Common.{◌≡◌, List, ap, ◌∙◌, arith, take_all, Edge, line_in_turn, Primitive}
 use Rattle.macro_shapes.proofs.BordersInTurn.{line_is}
 use Rattle.macro_shapes.proofs.shape.line_along.Goals as goal
 

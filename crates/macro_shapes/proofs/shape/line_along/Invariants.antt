@@ -1,5 +1,4 @@
-use Rattle.std.proofs.Common.{◌≡◌, take}
-use Rattle.macro_shapes.specs.Inner.Borders.{line_in_turn}
+use Rattle.macro_shapes.proofs.Common.{◌≡◌, take, line_in_turn}
 use Rattle.macro_shapes.proofs.shape.line_along.Given as goal
 
 abbrev pub invariant-loop-primitive : goal.invariant-loop-primitive

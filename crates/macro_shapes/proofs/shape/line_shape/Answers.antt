@@ -1,9 +1,4 @@
-use Rattle.std.proofs.Common.{◌≡◌, List, Option, sym, ap, ◌∙◌}
-use Rattle.std.proofs.lemmas.Result.{IfOk-weaker}
-use Rattle.grid_units.specs.Points.{GridPoint}
-use Rattle.pad_shapes.specs.Rounded.{GridRounded}
-use Rattle.macro_shapes.specs.Primitives.{rounded_of}
-use Rattle.macro_shapes.specs.Shapes.{rectangle_along, rounded_or_along, line_shape}
+use Rattle.macro_shapes.proofs.Common.{◌≡◌, List, Option, sym, ap, ◌∙◌, IfOk-weaker, GridPoint, GridRounded, rounded_of, rectangle_along, rounded_or_along, line_shape}
 use Rattle.macro_shapes.proofs.BordersInTurn.{line_shape_is}
 use Rattle.macro_shapes.proofs.shape.line_shape.Goals as goal
 

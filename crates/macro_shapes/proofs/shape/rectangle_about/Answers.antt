@@ -1,7 +1,4 @@
-use Rattle.std.proofs.Common.{◌≡◌, ◌/◌, ◌+ℤ◌, ◌-ℤ◌, ◌∙◌, w64}
-use Rattle.std.proofs.lemmas.Result.{IfOk-weaker}
-use mir.Val.{to_z, of_z}
-use Rattle.macro_shapes.specs.Shapes.{rectangle_of, rectangle_about}
+use Rattle.macro_shapes.proofs.Common.{◌≡◌, ◌/◌, ◌+ℤ◌, ◌-ℤ◌, ◌∙◌, w64, IfOk-weaker, to_z, of_z, rectangle_of, rectangle_about}
 use Rattle.macro_shapes.proofs.RectangleLemmas.{about_made, less_half, and_half}
 use Rattle.macro_shapes.proofs.shape.rectangle_about.Goals as goal
 

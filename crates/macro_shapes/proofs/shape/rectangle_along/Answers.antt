@@ -1,9 +1,4 @@
-use Rattle.std.proofs.Common.{◌≡◌, ◌/◌, ◌+ℤ◌, ◌-ℤ◌, ◌∙◌, w64, arith}
-use Rattle.std.proofs.lemmas.Result.{IfOk-weaker}
-use Rattle.std.proofs.lemmas.Int.{ints}
-use Rattle.std.specs.Int.{int_min, int_max}
-use mir.Val.{to_z, of_z}
-use Rattle.macro_shapes.specs.Shapes.{rectangle_of, rectangle_along}
+use Rattle.macro_shapes.proofs.Common.{◌≡◌, ◌/◌, ◌+ℤ◌, ◌-ℤ◌, ◌∙◌, w64, arith, IfOk-weaker, ints, int_min, int_max, to_z, of_z, rectangle_of, rectangle_along}
 use Rattle.macro_shapes.proofs.RectangleLemmas.{lying_made, upright_made, less_half, and_half, least_made, greatest_made}
 use Rattle.macro_shapes.proofs.shape.rectangle_along.Goals as goal
 

@@ -1,5 +1,4 @@
-use Rattle.std.proofs.Common.{w64}
-use Rattle.std.proofs.lemmas.Int.{to_z-of_z}
+use Rattle.macro_shapes.proofs.Common.{w64, to_z-of_z}
 use Rattle.macro_shapes.proofs.RectangleLemmas.{corner_made, rectangle_made}
 use Rattle.macro_shapes.proofs.shape.rectangle_of.Goals as goal
 

@@ -1,4 +1,4 @@
-use Rattle.std.proofs.Common.{◌≡◌, ℕ, ◌-◌, ◌≤◌, None, length, get_or}
+use Rattle.macro_shapes.proofs.Common.{◌≡◌, ℕ, ◌-◌, ◌≤◌, None, length, get_or}
 use Rattle.macro_shapes.proofs.variables.pad.Given as goal
 
 abbrev pub invariant-loop-values : goal.invariant-loop-values

@@ -1,9 +1,4 @@
-use Rattle.std.proofs.Common.{◌≡◌, ◌∷◌, ◌++◌, List, ℤ, Option, sym, ap, ◌∙◌}
-use Rattle.std.specs.Prelude.{option_map}
-use Rattle.std.specs.Option.{option_copied}
-use Rattle.macro_shapes.specs.Inner.Parts.{split_by_if}
-use Rattle.macro_shapes.specs.Inner.Pieces.{all_decimals}
-use Rattle.macro_shapes.specs.Inner.PiecesLemmas.{decimals_next}
+use Rattle.macro_shapes.proofs.Common.{◌≡◌, ◌∷◌, ◌++◌, List, ℤ, Option, sym, ap, ◌∙◌, option_map, option_copied, split_by_if, all_decimals, decimals_next}
 use Rattle.macro_shapes.proofs.variables.read_decimals.Goals as goal
 
 pub loop-left-preserved : goal.loop-left-preserved

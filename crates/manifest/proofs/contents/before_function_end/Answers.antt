@@ -1,5 +1,4 @@
-use Rattle.std.proofs.Common.{rules, arith}
-use Rattle.manifest.specs.Contents.{ends_function}
+use Rattle.manifest.proofs.Common.{rules, arith, ends_function}
 use Rattle.manifest.proofs.FirstByteLemmas.{before_at, before_none}
 use Rattle.manifest.proofs.contents.before_function_end.Goals as goal
 

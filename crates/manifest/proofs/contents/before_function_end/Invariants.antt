@@ -1,5 +1,4 @@
-use Rattle.std.proofs.Common.{◌≡◌, ℕ, ◌<◌, false, get_or}
-use Rattle.manifest.specs.Contents.{ends_function}
+use Rattle.manifest.proofs.Common.{◌≡◌, ℕ, ◌<◌, false, get_or, ends_function}
 use Rattle.manifest.proofs.contents.before_function_end.Given as goal
 
 abbrev pub invariant-loop-i : goal.invariant-loop-i

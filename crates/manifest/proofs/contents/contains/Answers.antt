@@ -1,4 +1,4 @@
-use Rattle.std.proofs.Common.{◌∙◌, ap}
+use Rattle.manifest.proofs.Common.{◌∙◌, ap}
 use Rattle.std.specs.Option.{is_some}
 use Rattle.memchr.proofs.lemmas.ValueLemmas.{FindsNeedle-value}
 use Rattle.manifest.proofs.contents.contains.Goals as goal

@@ -1,9 +1,5 @@
-use Rattle.std.proofs.Common.{◌≡◌, ◌∙◌, ◌+◌, ◌-◌, ℕ, List, Option, Some, None, ap, take, drop, length, arith}
-use Rattle.std.specs.Option.{option_map}
-use Rattle.std.specs.List.{before_first}
-use Rattle.std.proofs.lemmas.List.{take_all, length-drop}
+use Rattle.manifest.proofs.Common.{◌≡◌, ◌∙◌, ◌+◌, ◌-◌, ℕ, List, Option, Some, None, ap, take, drop, length, arith, option_map, before_first, take_all, length-drop, ends_function, function_prefix}
 use Rattle.memchr.proofs.lemmas.ValueLemmas.{FindsLastNeedle-value}
-use Rattle.manifest.specs.Contents.{ends_function, function_prefix}
 use Rattle.manifest.proofs.contents.function_of.Goals as goal
 
 pub returns-in-Some : goal.returns-in-Some

@@ -1,7 +1,4 @@
-use Rattle.std.proofs.Common.{rules, tests, ◌==◌}
-use Rattle.std.proofs.lemmas.Iterator.Splits.{YieldsList-from_slice_split}
-use Rattle.std.proofs.lemmas.Iterator.Search.{any_from_yields_List}
-use Rattle.manifest.specs.Contents.{is_line_of}
+use Rattle.manifest.proofs.Common.{rules, tests, ◌==◌, YieldsList-from_slice_split, any_from_yields_List, is_line_of}
 use Rattle.manifest.proofs.contents.has_line.Goals as goal
 
 pub returns : goal.returns

@@ -1,7 +1,4 @@
-use Rattle.std.proofs.Common.{rules, tests, ◌==◌}
-use Rattle.std.proofs.lemmas.Iterator.Splits.{YieldsList-from_slice_split}
-use Rattle.std.proofs.lemmas.Iterator.Search.{all_from_yields_List}
-use Rattle.manifest.specs.Contents.{has_no_hole}
+use Rattle.manifest.proofs.Common.{rules, tests, ◌==◌, YieldsList-from_slice_split, all_from_yields_List, has_no_hole}
 use Rattle.manifest.proofs.contents.has_no_holes.Goals as goal
 
 pub returns : goal.returns

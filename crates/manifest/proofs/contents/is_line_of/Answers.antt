@@ -1,8 +1,4 @@
-use Rattle.std.proofs.Common.{◌≡◌, ◌∙◌, ◌&&◌, rules, tests, ap, sym, drop, length}
-use Rattle.std.specs.List.{list_all}
-use Rattle.std.proofs.lemmas.Iterator.{YieldsList-from_slice}
-use Rattle.std.proofs.lemmas.Iterator.Search.{all_from_yields_List}
-use Rattle.manifest.specs.Contents.{is_blank}
+use Rattle.manifest.proofs.Common.{◌≡◌, ◌∙◌, ◌&&◌, rules, tests, ap, sym, drop, length, list_all, YieldsList-from_slice, all_from_yields_List, is_blank}
 use Rattle.manifest.proofs.contents.is_line_of.Goals as goal
 
 pub returns-in-Some : goal.returns-in-Some

@@ -1,5 +1,4 @@
-use Rattle.std.proofs.Common.{rules, tests, arith}
-use Rattle.manifest.specs.Contents.{is_comma}
+use Rattle.manifest.proofs.Common.{rules, tests, arith, is_comma}
 use Rattle.manifest.proofs.FirstByteLemmas.{before_at, before_none, after_at, after_none}
 use Rattle.manifest.proofs.contents.split_at_comma.Goals as goal
 

@@ -1,5 +1,4 @@
-use Rattle.std.proofs.Common.{◌≡◌, ℕ, ◌<◌, false, get_or}
-use Rattle.manifest.specs.Contents.{is_comma}
+use Rattle.manifest.proofs.Common.{◌≡◌, ℕ, ◌<◌, false, get_or, is_comma}
 use Rattle.manifest.proofs.contents.split_at_comma.Given as goal
 
 abbrev pub invariant-loop-i : goal.invariant-loop-i

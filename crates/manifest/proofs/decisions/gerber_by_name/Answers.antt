@@ -1,6 +1,4 @@
-use Rattle.std.proofs.Common.{◌≡◌, ◌∙◌, ap, map, List, ℕ, Bor}
-use Rattle.manifest.specs.Decisions.{gerber_by_words}
-use Rattle.manifest.specs.Names.{has_end, word_runs, words_of}
+use Rattle.manifest.proofs.Common.{◌≡◌, ◌∙◌, ap, map, List, ℕ, Bor, gerber_by_words, has_end, word_runs, words_of}
 use Rattle.manifest.proofs.decisions.gerber_by_name.Goals as goal
 
 pub returns : goal.returns

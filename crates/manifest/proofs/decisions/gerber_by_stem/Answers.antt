@@ -1,7 +1,4 @@
-use Rattle.std.proofs.Common.{◌∙◌, Bor, List, ℕ, None, Some, map, sym}
-use Rattle.std.specs.List.{list_any}
-use Rattle.manifest.specs.Decisions.{gerber_by_word, other_by_name}
-use Rattle.manifest.specs.Names.{ends_in_copper, is_other_word, is_unclear_word, last_other_word, names_copper}
+use Rattle.manifest.proofs.Common.{◌∙◌, Bor, List, ℕ, None, Some, map, sym, list_any, gerber_by_word, other_by_name, ends_in_copper, is_other_word, is_unclear_word, last_other_word, names_copper}
 use Rattle.manifest.proofs.NamesLemmas.{third}
 use Rattle.manifest.proofs.decisions.gerber_by_stem.Goals as goal
 

@@ -1,7 +1,4 @@
-use Rattle.std.proofs.Common.{◌∙◌, ap, unwrap_or, Option}
-use Rattle.std.specs.Option.{option_or}
-use Rattle.manifest.specs.Decisions.{Decision, gerber_by_extension, gerber_by_stem}
-use Rattle.manifest.specs.declared.model.ProposedRole.TheVariants.{Undecided}
+use Rattle.manifest.proofs.Common.{◌∙◌, ap, unwrap_or, Option, option_or, Decision, gerber_by_extension, gerber_by_stem, Undecided}
 use Rattle.manifest.specs.declared.model.ProposalReason.TheVariants.{NothingSays}
 use Rattle.manifest.proofs.decisions.gerber_by_words.Goals as goal
 

@@ -1,8 +1,4 @@
-use Rattle.std.proofs.Common.{◌≡◌, ◌∙◌, rules, tests, List, ℕ, Bor}
-use Rattle.std.specs.List.{list_any}
-use Rattle.std.proofs.lemmas.Iterator.{YieldsList-from_slice}
-use Rattle.std.proofs.lemmas.Iterator.Search.{any_from_yields_List}
-use Rattle.manifest.specs.Names.{is_other_word}
+use Rattle.manifest.proofs.Common.{◌≡◌, ◌∙◌, rules, tests, List, ℕ, Bor, list_any, YieldsList-from_slice, any_from_yields_List, is_other_word}
 use Rattle.manifest.proofs.NamesLemmas.{any_map}
 use Rattle.manifest.proofs.decisions.has_other_word.Goals as goal
 

@@ -1,4 +1,4 @@
-use Rattle.std.proofs.Common.{length}
+use Rattle.manifest.proofs.Common.{length}
 use Rattle.manifest.proofs.file_names.+has_non_plated.Given as goal
 
 abbrev pub decreases-has_non_plated : goal.decreases-has_non_plated

@@ -1,5 +1,4 @@
-use Rattle.std.proofs.Common.{◌≡◌, ◌∙◌, ◌-◌, ◌+◌, length, drop, take, arith}
-use Rattle.std.proofs.lemmas.List.{take_all, length-drop}
+use Rattle.manifest.proofs.Common.{◌≡◌, ◌∙◌, ◌-◌, ◌+◌, length, drop, take, arith, take_all, length-drop}
 use Rattle.manifest.proofs.BaseNameLemmas.{short_none, short_some}
 use Rattle.manifest.proofs.file_names.base_name.Goals as goal
 

@@ -1,8 +1,4 @@
-use Rattle.std.proofs.Common.{◌≡◌, ◌∙◌, rules, tests, List, ℕ, Bor}
-use Rattle.std.specs.List.{list_any}
-use Rattle.std.specs.Str.{bytes_eq}
-use Rattle.std.proofs.lemmas.Iterator.{YieldsList-from_slice}
-use Rattle.std.proofs.lemmas.Iterator.Search.{any_from_yields_List}
+use Rattle.manifest.proofs.Common.{◌≡◌, ◌∙◌, rules, tests, List, ℕ, Bor, list_any, bytes_eq, YieldsList-from_slice, any_from_yields_List}
 use Rattle.manifest.proofs.NamesLemmas.{any_map}
 use Rattle.manifest.proofs.file_names.is_one_of.Goals as goal
 

@@ -1,9 +1,5 @@
-use Rattle.std.proofs.Common.{◌≡◌, ◌∙◌, [], ap, sym, rules, tests, List, ℕ, Bor, Option, None, reverse, not, unwrap_or}
-use Rattle.std.specs.Option.{option_map}
-use Rattle.std.specs.List.{find}
+use Rattle.manifest.proofs.Common.{◌≡◌, ◌∙◌, [], ap, sym, rules, tests, List, ℕ, Bor, Option, None, reverse, not, unwrap_or, option_map, find, find_from_yields_List, is_copper_word}
 use Rattle.std.proofs.lemmas.Iterator.Adapters.{YieldsList-from_rev_slice}
-use Rattle.std.proofs.lemmas.Iterator.Search.{find_from_yields_List}
-use Rattle.manifest.specs.Names.{is_copper_word}
 use Rattle.manifest.proofs.NamesLemmas.{last_found}
 use Rattle.manifest.proofs.file_names.last_other_word.Goals as goal
 

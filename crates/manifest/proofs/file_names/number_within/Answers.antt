@@ -1,5 +1,4 @@
-use Rattle.std.proofs.Common.{◌≡◌, sym, true, arith}
-use Rattle.grid_units.specs.Numbers.{is_digits}
+use Rattle.manifest.proofs.Common.{◌≡◌, sym, true, arith, is_digits}
 use Rattle.manifest.proofs.NamesLemmas.{number_is}
 use Rattle.manifest.proofs.file_names.number_within.Goals as goal
 

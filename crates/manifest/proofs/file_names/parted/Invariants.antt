@@ -1,4 +1,4 @@
-use Rattle.std.proofs.Common.{◌≡◌, ◌++◌, drop}
+use Rattle.manifest.proofs.Common.{◌≡◌, ◌++◌, drop}
 use Rattle.manifest.specs.Names.{parted as parted_text}
 use Rattle.manifest.proofs.file_names.parted.Given as goal
 

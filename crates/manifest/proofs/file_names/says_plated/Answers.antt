@@ -1,5 +1,4 @@
-use Rattle.std.proofs.Common.{◌∙◌, ◌+◌, sym, ap, map, drop}
-use Rattle.manifest.specs.Names.{has_plated}
+use Rattle.manifest.proofs.Common.{◌∙◌, ◌+◌, sym, ap, map, drop, has_plated}
 use Rattle.manifest.proofs.NamesLemmas.{plated_here, plated_more}
 use Rattle.manifest.proofs.file_names.says_plated.Goals as goal
 

@@ -1,5 +1,4 @@
-use Rattle.std.proofs.Common.{◌≡◌, false, drop, map}
-use Rattle.manifest.specs.Names.{has_plated}
+use Rattle.manifest.proofs.Common.{◌≡◌, false, drop, map, has_plated}
 use Rattle.manifest.proofs.file_names.says_plated.Given as goal
 
 abbrev pub invariant-loop-word : goal.invariant-loop-word

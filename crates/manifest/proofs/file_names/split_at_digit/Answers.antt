@@ -1,5 +1,4 @@
-use Rattle.std.proofs.Common.{rules, arith, ◌∙◌}
-use Rattle.grid_units.specs.Numbers.{is_digit}
+use Rattle.manifest.proofs.Common.{rules, arith, ◌∙◌, is_digit}
 use Rattle.manifest.proofs.FirstByteLemmas.{before_at, before_none, from_at, from_none}
 use Rattle.manifest.proofs.file_names.split_at_digit.Goals as goal
 

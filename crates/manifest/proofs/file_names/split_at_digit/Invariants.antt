@@ -1,5 +1,4 @@
-use Rattle.std.proofs.Common.{◌≡◌, ℕ, ◌<◌, false, get_or}
-use Rattle.grid_units.specs.Numbers.{is_digit}
+use Rattle.manifest.proofs.Common.{◌≡◌, ℕ, ◌<◌, false, get_or, is_digit}
 use Rattle.manifest.proofs.file_names.split_at_digit.Given as goal
 
 abbrev pub invariant-loop-i : goal.invariant-loop-i

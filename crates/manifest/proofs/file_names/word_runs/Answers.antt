@@ -1,7 +1,5 @@
-use Rattle.std.proofs.Common.{rules, tests, not, ◌==◌, length}
+use Rattle.manifest.proofs.Common.{rules, tests, not, ◌==◌, length, YieldsList-from_slice_split, is_word_byte}
 use Rattle.std.proofs.lemmas.Iterator.Consumers.{map_from_collect, YieldsList-at, YieldsList-from_filter}
-use Rattle.std.proofs.lemmas.Iterator.Splits.{YieldsList-from_slice_split}
-use Rattle.manifest.specs.Names.{is_word_byte}
 use Rattle.manifest.proofs.file_names.word_runs.Goals as goal
 
 pub returns : goal.returns

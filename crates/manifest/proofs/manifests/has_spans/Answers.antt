@@ -1,9 +1,4 @@
-use Rattle.std.proofs.Common.{◌≡◌, ◌∙◌, rules, tests, ap, map, Bor}
-use Rattle.std.specs.List.{list_any}
-use Rattle.std.proofs.lemmas.Iterator.{YieldsList-from_slice}
-use Rattle.std.proofs.lemmas.Iterator.Search.{any_from_yields_List}
-use Rattle.manifest.specs.declared.model.Proposal.{Proposal}
-use Rattle.manifest.specs.Manifests.{is_partial, layers_of_role}
+use Rattle.manifest.proofs.Common.{◌≡◌, ◌∙◌, rules, tests, ap, map, Bor, list_any, YieldsList-from_slice, any_from_yields_List, Proposal, is_partial, layers_of_role}
 use Rattle.manifest.proofs.NamesLemmas.{any_map}
 use Rattle.manifest.proofs.manifests.has_spans.Goals as goal
 

@@ -1,9 +1,5 @@
-use Rattle.std.proofs.Common.{◌≡◌, ◌∙◌, ◌++◌, IfOk, ap, map, Bor, subst, length}
-use Rattle.std.specs.Prelude.{◌==◌, ◌||◌, if◌then◌else◌}
-use Rattle.std.specs.List.{flat_map}
-use Rattle.manifest.specs.Names.{base_name}
-use Rattle.manifest.specs.declared.model.Proposal.{Proposal}
-use Rattle.manifest.specs.Manifests.{entry_row, heading, label, manifest_text, named_row}
+use Rattle.manifest.proofs.Common.{◌≡◌, ◌∙◌, ◌++◌, IfOk, ap, map, Bor, subst, length, if◌then◌else◌, flat_map, base_name, Proposal, entry_row, heading, label, manifest_text, named_row}
+use Rattle.std.specs.Prelude.{◌==◌, ◌||◌}
 use Rattle.manifest.proofs.RowLemmas.{row_more, rows_all, rows_of}
 use Rattle.manifest.proofs.manifests.manifest_text.Goals as goal
 

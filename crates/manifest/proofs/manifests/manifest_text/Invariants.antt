@@ -1,7 +1,4 @@
-use Rattle.std.proofs.Common.{◌≡◌, ◌++◌, take, map, Bor}
-use Rattle.std.specs.List.{flat_map}
-use Rattle.manifest.specs.declared.model.Proposal.{Proposal}
-use Rattle.manifest.specs.Manifests.{entry_row}
+use Rattle.manifest.proofs.Common.{◌≡◌, ◌++◌, take, map, Bor, flat_map, Proposal, entry_row}
 use Rattle.manifest.proofs.manifests.manifest_text.Given as goal
 
 abbrev pub invariant-loop-entry : goal.invariant-loop-entry

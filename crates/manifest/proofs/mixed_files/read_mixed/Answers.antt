@@ -1,6 +1,5 @@
 use Rattle.std.proofs.lemmas.Result.{err_from_is_err_and}
-use Rattle.std.proofs.Common.{[]}
-use Rattle.grid_units.specs.declared.profile.Profile.TheVariants.{Wide}
+use Rattle.manifest.proofs.Common.{[], Wide}
 use Rattle.drill_text.specs.Profiles.{mixed_in}
 use Rattle.drill_text.specs.declared.kept.Keep.TheVariants.{Holes}
 use Rattle.manifest.proofs.MixedFileLemmas.{refused}

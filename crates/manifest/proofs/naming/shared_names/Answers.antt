@@ -1,4 +1,4 @@
-use Rattle.std.proofs.Common.{◌∙◌, ap, not}
+use Rattle.manifest.proofs.Common.{◌∙◌, ap, not}
 use Rattle.manifest.proofs.SharedNames.{met_more, shared_kept, shared_more, was_met}
 use Rattle.manifest.proofs.naming.shared_names.Goals as goal
 

@@ -1,8 +1,4 @@
-use Rattle.std.proofs.Common.{◌≡◌, List, ℕ}
-use Rattle.std.specs.Prelude.{nat_lt}
-use Rattle.std.specs.BTreeSet.{contains_by}
-use Rattle.std.specs.Cmp.Lexicographic.{slice_cmp}
-use Rattle.std.specs.Ordering.{nat_cmp}
+use Rattle.manifest.proofs.Common.{◌≡◌, List, ℕ, nat_lt, contains_by, slice_cmp, nat_cmp}
 use Rattle.manifest.proofs.SharedNames.{so_far}
 use Rattle.manifest.proofs.naming.shared_names.Given as goal
 

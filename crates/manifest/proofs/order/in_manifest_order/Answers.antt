@@ -1,5 +1,4 @@
-use Rattle.std.proofs.Common.{◌≡◌, rules, tests}
-use Rattle.std.proofs.lemmas.List.Sorted.{IsNonDecreasingBy-from_sort_by_key}
+use Rattle.manifest.proofs.Common.{◌≡◌, rules, tests, IsNonDecreasingBy-from_sort_by_key}
 use Rattle.std.proofs.lemmas.Fn.{always_returns_same}
 use Rattle.manifest.proofs.SortLemmas.{is_in_order, key}
 use Rattle.manifest.proofs.order.in_manifest_order.Goals as goal

@@ -1,10 +1,4 @@
-use Rattle.std.proofs.Common.{◌≡◌, ◌∙◌, ℕ, ap, get_or, length, map, sym}
-use Rattle.std.specs.Prelude.{nat_lt}
-use Rattle.std.specs.BTreeSet.{contains_by}
-use Rattle.std.specs.Ordering.{nat_cmp}
-use Rattle.manifest.specs.declared.model.Proposal.{Proposal}
-use Rattle.manifest.specs.Manifests.{rank}
-use Rattle.manifest.specs.Places.{count_ranked, place_checked_in}
+use Rattle.manifest.proofs.Common.{◌≡◌, ◌∙◌, ℕ, ap, get_or, length, map, sym, nat_lt, contains_by, nat_cmp, Proposal, rank, count_ranked, place_checked_in}
 use Rattle.manifest.proofs.LayerCheckLoop.{all_done, one_more, written}
 use Rattle.manifest.proofs.places.check_all_places.Goals as goal
 

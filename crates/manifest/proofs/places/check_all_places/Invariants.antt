@@ -1,8 +1,4 @@
-use Rattle.std.proofs.Common.{◌≡◌, ◌++◌, take, drop, map}
-use Rattle.std.specs.BTreeSet.{contains_by}
-use Rattle.std.specs.Ordering.{nat_cmp}
-use Rattle.manifest.specs.Manifests.{rank}
-use Rattle.manifest.specs.Places.{place_checked_in}
+use Rattle.manifest.proofs.Common.{◌≡◌, ◌++◌, take, drop, map, contains_by, nat_cmp, rank, place_checked_in}
 use Rattle.manifest.proofs.places.check_all_places.Given as goal
 
 abbrev pub invariant-loop-file : goal.invariant-loop-file

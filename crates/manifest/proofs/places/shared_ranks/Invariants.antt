@@ -1,8 +1,4 @@
-use Rattle.std.proofs.Common.{◌≡◌, ℕ, take}
-use Rattle.std.specs.Prelude.{nat_lt}
-use Rattle.std.specs.BTreeSet.{contains_by}
-use Rattle.std.specs.Ordering.{nat_cmp}
-use Rattle.manifest.specs.Places.{count_ranked}
+use Rattle.manifest.proofs.Common.{◌≡◌, ℕ, take, nat_lt, contains_by, nat_cmp, count_ranked}
 use Rattle.manifest.proofs.places.shared_ranks.Given as goal
 
 abbrev pub invariant-loop-file : goal.invariant-loop-file

@@ -1,5 +1,4 @@
-use Rattle.std.proofs.Common.{◌≡◌, ◌∙◌, ◌++◌, ◌∷◌, [], ap, sym, not, true, rules}
-use Rattle.std.specs.Result.{is_ok}
+use Rattle.manifest.proofs.Common.{◌≡◌, ◌∙◌, ◌++◌, ◌∷◌, [], ap, sym, not, true, rules, is_ok}
 use Rattle.manifest.proofs.DistinctFiles.{had_more, is_new, no_more, one_more}
 use Rattle.manifest.proofs.proposal_list.propose_each.Goals as goal
 

@@ -1,8 +1,4 @@
-use Rattle.std.proofs.Common.{◌≡◌, List, ℕ, take}
-use Rattle.std.specs.BTreeSet.{contains_by}
-use Rattle.std.specs.Cmp.Lexicographic.{slice_cmp}
-use Rattle.std.specs.Ordering.{nat_cmp}
-use Rattle.manifest.specs.ProposalList.{separate_proposals, is_named}
+use Rattle.manifest.proofs.Common.{◌≡◌, List, ℕ, take, contains_by, slice_cmp, nat_cmp, separate_proposals, is_named}
 use Rattle.manifest.proofs.proposal_list.propose_each.Given as goal
 
 abbrev pub invariant-loop-file : goal.invariant-loop-file

@@ -1,6 +1,4 @@
-use Rattle.std.proofs.Common.{◌≡◌, ◌∙◌, ◌++◌, IfOk, ap, subst}
-use Rattle.std.specs.List.{flat_map}
-use Rattle.manifest.specs.Manifests.{reason_row}
+use Rattle.manifest.proofs.Common.{◌≡◌, ◌∙◌, ◌++◌, IfOk, ap, subst, flat_map, reason_row}
 use Rattle.manifest.proofs.RowLemmas.{row_more, rows_all}
 use Rattle.manifest.proofs.reasons.write_reasons.Goals as goal
 

@@ -1,6 +1,4 @@
-use Rattle.std.proofs.Common.{◌≡◌, ◌++◌, take}
-use Rattle.std.specs.List.{flat_map}
-use Rattle.manifest.specs.Manifests.{reason_row}
+use Rattle.manifest.proofs.Common.{◌≡◌, ◌++◌, take, flat_map, reason_row}
 use Rattle.manifest.proofs.reasons.write_reasons.Given as goal
 
 abbrev pub invariant-loop-file : goal.invariant-loop-file

@@ -1,5 +1,4 @@
-use Rattle.std.proofs.Common.{◌≡◌, true, rules}
-use Rattle.std.specs.Result.{is_ok}
+use Rattle.manifest.proofs.Common.{◌≡◌, true, rules, is_ok}
 use Rattle.manifest.proofs.rows.add_record.Goals as goal
 
 pub returns : goal.returns

@@ -1,6 +1,4 @@
-use Rattle.std.proofs.Common.{◌∙◌, ap₂, sym}
-use Rattle.std.specs.Str.{bytes_eq}
-use Rattle.csv.specs.Records.{fields_of}
+use Rattle.manifest.proofs.Common.{◌∙◌, ap₂, sym, bytes_eq, fields_of}
 use Rattle.manifest.proofs.EntryFields.{empty_differs, field_is, no_field}
 use Rattle.manifest.proofs.rows.has_field.Goals as goal
 

@@ -1,9 +1,4 @@
-use Rattle.std.proofs.Common.{◌≡◌, false, refl, inl, inr}
-use Rattle.std.proofs.lemmas.Str.{is_utf8-from_IsUtf8, IsUtf8-from_is_utf8}
-use Rattle.std.proofs.lemmas.Bool.{cases_Bool}
-use Rattle.std.specs.Str.{is_utf8}
-use Rattle.std.specs.List.{list_any}
-use Rattle.manifest.specs.Manifest.{is_control}
+use Rattle.manifest.proofs.Common.{◌≡◌, false, refl, inl, inr, is_utf8-from_IsUtf8, IsUtf8-from_is_utf8, cases_Bool, is_utf8, list_any, is_control}
 use Rattle.manifest.proofs.rows.plain_text.Goals as goal
 
 pub returns-in_default : goal.returns-in_default

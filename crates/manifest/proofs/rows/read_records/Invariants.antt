@@ -1,6 +1,4 @@
-use Rattle.std.proofs.Common.{◌≡◌, ◌<◌, ℕ, List, Some, map}
-use Rattle.csv.specs.Reading.{Reached, Ready, default_config, source_of, strip_bom}
-use Rattle.csv.specs.Records.{fields_of}
+use Rattle.manifest.proofs.Common.{◌≡◌, ◌<◌, ℕ, List, Some, map, Reached, Ready, default_config, source_of, strip_bom, fields_of}
 use Rattle.csv.specs.declared.parser.State.TheVariants as st
 use Rattle.csv.specs.declared.reader.Trim.TheVariants as trim
 use Rattle.manifest.proofs.rows.read_records.Given as goal

@@ -1,6 +1,4 @@
-use Rattle.std.proofs.Common.{sym, ap, ◌∙◌}
-use Rattle.csv.specs.Records.{fields_of}
-use Rattle.manifest.specs.Manifest.{is_plain_text}
+use Rattle.manifest.proofs.Common.{sym, ap, ◌∙◌, fields_of, is_plain_text}
 use Rattle.manifest.proofs.EntryFields.{empty_plain, field_is, no_field}
 use Rattle.manifest.proofs.rows.text_field.Goals as goal
 

@@ -1,6 +1,4 @@
-use Rattle.std.proofs.Common.{◌∙◌, ap}
-use Rattle.std.proofs.lemmas.List.Sorted.{IsNonDecreasingBy-from_sort}
-use Rattle.manifest.specs.Stack.{are_one_to_n}
+use Rattle.manifest.proofs.Common.{◌∙◌, ap, IsNonDecreasingBy-from_sort, are_one_to_n}
 use Rattle.manifest.proofs.OneToN.{counted_moves}
 use Rattle.manifest.proofs.stack.are_one_to_n.Goals as goal
 

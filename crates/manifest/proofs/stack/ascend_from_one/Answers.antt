@@ -1,4 +1,4 @@
-use Rattle.std.proofs.Common.{arith, sym}
+use Rattle.manifest.proofs.Common.{arith, sym}
 use Rattle.manifest.proofs.OneToN.{confirmed, refuted}
 use Rattle.manifest.proofs.stack.ascend_from_one.Goals as goal
 

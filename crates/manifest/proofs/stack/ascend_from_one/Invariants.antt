@@ -1,4 +1,4 @@
-use Rattle.std.proofs.Common.{◌≡◌, ◌<◌, ◌+◌, ℕ, get_or}
+use Rattle.manifest.proofs.Common.{◌≡◌, ◌<◌, ◌+◌, ℕ, get_or}
 use Rattle.manifest.proofs.stack.ascend_from_one.Given as goal
 
 abbrev pub invariant-loop-index : goal.invariant-loop-index

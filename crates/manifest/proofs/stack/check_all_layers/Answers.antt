@@ -1,7 +1,4 @@
-use Rattle.std.proofs.Common.{◌≡◌, ◌∙◌, ap, length, map, sym}
-use Rattle.std.specs.List.{count_by}
-use Rattle.manifest.specs.Manifests.{is_copper}
-use Rattle.manifest.specs.Stack.{is_stack, layers_checked_in}
+use Rattle.manifest.proofs.Common.{◌≡◌, ◌∙◌, ap, length, map, sym, count_by, is_copper, is_stack, layers_checked_in}
 use Rattle.manifest.proofs.LayerCheckLoop.{all_done, one_more, written}
 use Rattle.manifest.proofs.stack.check_all_layers.Goals as goal
 

@@ -1,5 +1,4 @@
-use Rattle.std.proofs.Common.{◌≡◌, ◌++◌, take, drop, map}
-use Rattle.manifest.specs.Stack.{layers_checked_in}
+use Rattle.manifest.proofs.Common.{◌≡◌, ◌++◌, take, drop, map, layers_checked_in}
 use Rattle.manifest.proofs.stack.check_all_layers.Given as goal
 
 abbrev pub invariant-loop-file : goal.invariant-loop-file

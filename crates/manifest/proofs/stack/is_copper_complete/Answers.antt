@@ -1,8 +1,4 @@
-use Rattle.std.proofs.Common.{◌≡◌, ◌∙◌, rules, tests, ap, not}
-use Rattle.std.specs.List.{list_any}
-use Rattle.std.proofs.lemmas.Iterator.{YieldsList-from_slice}
-use Rattle.std.proofs.lemmas.Iterator.Search.{any_from_yields_List}
-use Rattle.manifest.specs.Stack.{hints_at_missing}
+use Rattle.manifest.proofs.Common.{◌≡◌, ◌∙◌, rules, tests, ap, not, list_any, YieldsList-from_slice, any_from_yields_List, hints_at_missing}
 use Rattle.manifest.proofs.stack.is_copper_complete.Goals as goal
 
 pub returns : goal.returns

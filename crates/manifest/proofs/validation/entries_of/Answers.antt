@@ -1,9 +1,5 @@
-use Rattle.std.proofs.Common.{◌≡◌, ◌∙◌, ap, sym, rules, true, map, not, arith, take}
-use Rattle.std.specs.Result.{is_ok}
+use Rattle.manifest.proofs.Common.{◌≡◌, ◌∙◌, ap, sym, rules, true, map, not, arith, take, is_ok, fields_of, violations, broken_after, entry_of, field, is_repeated, joint_fault}
 use Rattle.std.proofs.lemmas.Result.{err_from_is_err_and}
-use Rattle.csv.specs.Records.{fields_of}
-use Rattle.grid_units.specs.Lists.{violations}
-use Rattle.manifest.specs.Manifest.{broken_after, entry_of, field, is_repeated, joint_fault}
 use Rattle.manifest.proofs.NameSet.{set_has_more, set_has}
 use Rattle.manifest.proofs.EntryLoop.{map_split, accepted_more, map_take_all, at_end, length_map_take, one_more, refused}
 use Rattle.manifest.proofs.validation.entries_of.Goals as goal

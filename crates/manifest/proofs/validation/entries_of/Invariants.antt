@@ -1,10 +1,4 @@
-use Rattle.std.proofs.Common.{◌≡◌, List, ℕ, map, take, []}
-use Rattle.std.specs.BTreeSet.{contains_by}
-use Rattle.std.specs.Cmp.Lexicographic.{slice_cmp}
-use Rattle.std.specs.Ordering.{nat_cmp}
-use Rattle.csv.specs.Records.{fields_of}
-use Rattle.grid_units.specs.Lists.{violations}
-use Rattle.manifest.specs.Manifest.{broken_after, entry_of, is_repeated}
+use Rattle.manifest.proofs.Common.{◌≡◌, List, ℕ, map, take, [], contains_by, slice_cmp, nat_cmp, fields_of, violations, broken_after, entry_of, is_repeated}
 use Rattle.manifest.proofs.validation.entries_of.Given as goal
 
 abbrev pub invariant-loop-i : goal.invariant-loop-i

@@ -1,6 +1,4 @@
-use Rattle.std.proofs.Common.{rules, tests}
-use Rattle.std.proofs.lemmas.Iterator.{YieldsList-from_slice}
-use Rattle.std.proofs.lemmas.Iterator.Search.{any_from_yields_List}
+use Rattle.manifest.proofs.Common.{rules, tests, YieldsList-from_slice, any_from_yields_List}
 use Rattle.manifest.specs.Manifest.{is_copper}
 use Rattle.manifest.proofs.validation.has_copper.Goals as goal
 

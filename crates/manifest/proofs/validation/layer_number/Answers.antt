@@ -1,5 +1,4 @@
-use Rattle.std.proofs.Common.{◌≡◌, ◌∙◌, ap, min, sym, true}
-use Rattle.grid_units.specs.Numbers.{is_digits, value}
+use Rattle.manifest.proofs.Common.{◌≡◌, ◌∙◌, ap, min, sym, true, is_digits, value}
 use Rattle.manifest.proofs.SpanFieldLemmas.{layer_number_is}
 use Rattle.manifest.proofs.validation.layer_number.Goals as goal
 

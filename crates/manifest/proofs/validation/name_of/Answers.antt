@@ -1,5 +1,4 @@
-use Rattle.std.proofs.Common.{sym}
-use Rattle.csv.specs.Records.{fields_of}
+use Rattle.manifest.proofs.Common.{sym, fields_of}
 use Rattle.manifest.proofs.EntryFields.{field_is, no_field}
 use Rattle.manifest.proofs.validation.name_of.Goals as goal
 

@@ -1,6 +1,5 @@
-use Rattle.std.proofs.Common.{◌≡◌, arith, true}
+use Rattle.manifest.proofs.Common.{◌≡◌, arith, true, is_bad_span}
 use Rattle.std.proofs.lemmas.Grind.{common_steps}
-use Rattle.manifest.specs.Manifest.{is_bad_span}
 use Rattle.manifest.proofs.SpanFieldLemmas.{bad_span}
 use Rattle.manifest.proofs.validation.named_file.Goals as goal
 

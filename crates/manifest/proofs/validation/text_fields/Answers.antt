@@ -1,5 +1,4 @@
-use Rattle.std.proofs.Common.{◌∙◌, sym}
-use Rattle.csv.specs.Records.{fields_of}
+use Rattle.manifest.proofs.Common.{◌∙◌, sym, fields_of}
 use Rattle.manifest.proofs.EntryFields.{ill_formed, well_formed}
 use Rattle.manifest.proofs.validation.text_fields.Goals as goal
 

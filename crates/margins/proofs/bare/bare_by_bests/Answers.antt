@@ -1,8 +1,5 @@
-use Rattle.std.proofs.Common.{◌≡◌, Bool, List, Option, map, sym, subst, ◌∙◌}
+use Rattle.margins.proofs.Common.{◌≡◌, Bool, List, Option, map, sym, subst, ◌∙◌, AreBare, has_no_best_pad, BestPad}
 use Rattle.std.proofs.lemmas.Result.{IfOk-weaker}
-use Rattle.margins.specs.BestPads.{AreBare}
-use Rattle.margins.specs.Rows.{has_no_best_pad}
-use Rattle.margins.specs.declared.best.BestPad.{BestPad}
 use Rattle.margins.proofs.BareLemmas.{bare_by_bests}
 use Rattle.margins.proofs.bare.bare_by_bests.Goals as goal
 

@@ -1,5 +1,4 @@
-use Rattle.std.proofs.Common.{sym, ◌∙◌}
-use Rattle.std.proofs.lemmas.List.{get_or_default}
+use Rattle.margins.proofs.Common.{sym, ◌∙◌, get_or_default}
 use Rattle.margins.proofs.BareLemmas.{none_more}
 use Rattle.margins.proofs.bare.may_cover_any.Goals as goal
 

@@ -1,7 +1,4 @@
-use Rattle.std.proofs.Common.{◌≡◌, refl, subst, ◌∙◌}
-use Rattle.std.specs.Int.{int_min}
-use Rattle.grid_units.specs.Points.{GridPoint}
-use Rattle.margins.specs.Depths.{IsDepth, IsDepthOfHole}
+use Rattle.margins.proofs.Common.{◌≡◌, refl, subst, ◌∙◌, int_min, GridPoint, IsDepth, IsDepthOfHole}
 use Rattle.margins.proofs.DepthsLemmas.{lesser_depth, round_hole}
 use Rattle.margins.proofs.PassedIntegers.{on, lesser}
 use Rattle.margins.proofs.deep.depth_of_hole.Goals as goal

@@ -1,7 +1,4 @@
-use Rattle.std.proofs.Common.{◌≡◌, ◌↔◌, ℕ, ℤ, pos, ◌+◌, ◌≤◌, ◌-ℤ◌, ◌≤ℤ◌, true, ap, ◌∙◌}
-use Rattle.grid_units.specs.Points.{square}
-use Rattle.ring_rules.specs.Cores.{square_of_cores, are_clear}
-use Rattle.margins.specs.Gaps.{IsGap}
+use Rattle.margins.proofs.Common.{◌≡◌, ◌↔◌, ℕ, ℤ, pos, ◌+◌, ◌≤◌, ◌-ℤ◌, ◌≤ℤ◌, true, ap, ◌∙◌, square, square_of_cores, are_clear, IsGap}
 use Rattle.margins.proofs.GapsLemmas.{gap_exact, gap_same, root_of}
 use Rattle.margins.proofs.PassedIntegers.{on, natural}
 use Rattle.margins.proofs.gap.gap_between.Goals as goal

@@ -1,5 +1,4 @@
-use Rattle.std.proofs.Common.{sym, ◌∙◌, arith}
-use Rattle.std.proofs.lemmas.Int.{ints}
+use Rattle.margins.proofs.Common.{sym, ◌∙◌, arith, ints}
 use Rattle.margins.proofs.GapsLemmas.{gap_of_none, gap_of_far}
 use Rattle.margins.proofs.gap.has_gap.Goals as goal
 

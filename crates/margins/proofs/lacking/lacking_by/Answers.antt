@@ -1,7 +1,4 @@
-use Rattle.std.proofs.Common.{◌≡◌, Bool, List, [], ◌∷◌, ◌++◌, get_or, map, take, sym, ap, ◌∙◌}
-use Rattle.std.proofs.lemmas.List.{map_more}
-use Rattle.ring_rules.specs.Findings.{is_ring_finding}
-use Rattle.ring_rules.specs.declared.finding.Drilled.{Drilled}
+use Rattle.margins.proofs.Common.{◌≡◌, Bool, List, [], ◌∷◌, ◌++◌, get_or, map, take, sym, ap, ◌∙◌, map_more, is_ring_finding, Drilled}
 use Rattle.margins.proofs.LackingLemmas.{short_lacks_ring}
 use Rattle.margins.proofs.lacking.lacking_by.Goals as goal
 

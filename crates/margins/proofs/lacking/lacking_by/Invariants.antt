@@ -1,5 +1,4 @@
-use Rattle.std.proofs.Common.{◌≡◌, [], get_or, map, take}
-use Rattle.ring_rules.specs.Findings.{is_ring_finding}
+use Rattle.margins.proofs.Common.{◌≡◌, [], get_or, map, take, is_ring_finding}
 use Rattle.margins.proofs.lacking.lacking_by.Given as goal
 
 -- the answers so far are those of the holes so far

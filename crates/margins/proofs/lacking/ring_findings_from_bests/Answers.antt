@@ -1,11 +1,6 @@
-use Rattle.std.proofs.Common.{◌≡◌, ◌<◌, ◌≤◌, Option, Bor, List, [], get_or, length, map, sym, subst, ap, ◌∙◌, arith}
+use Rattle.margins.proofs.Common.{◌≡◌, ◌<◌, ◌≤◌, Option, Bor, List, [], get_or, length, map, sym, subst, ap, ◌∙◌, arith, flat_map, get_or-map, length-map, layer_findings, AreBestPads, BestPad}
 use Rattle.std.specs.Global.{Vec}
-use Rattle.std.specs.List.{flat_map}
-use Rattle.std.proofs.lemmas.List.{get_or-map, length-map}
-use Rattle.ring_rules.specs.Findings.{layer_findings}
 use Rattle.ring_rules.proofs.EnumeratedLists.{enumerated_all, flat_listed_more}
-use Rattle.margins.specs.BestPads.{AreBestPads}
-use Rattle.margins.specs.declared.best.BestPad.{BestPad}
 use Rattle.margins.proofs.lacking.ring_findings_from_bests.Goals as goal
 
 pub add_lacking-requires : goal.add_lacking-requires

@@ -1,6 +1,4 @@
-use Rattle.std.proofs.Common.{◌≡◌, take, map}
-use Rattle.std.specs.List.{enumerate_from, flat_map}
-use Rattle.ring_rules.specs.Findings.{layer_findings}
+use Rattle.margins.proofs.Common.{◌≡◌, take, map, enumerate_from, flat_map, layer_findings}
 use Rattle.margins.proofs.lacking.ring_findings_from_bests.Given as goal
 
 -- what is found so far is what the layers so far give

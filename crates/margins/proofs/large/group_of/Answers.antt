@@ -1,8 +1,4 @@
-use Rattle.std.proofs.Common.{◌≡◌, ℕ, ◌<◌, inl, inr, length, get_or, sym, subst, ◌∙◌, arith}
-use Rattle.std.proofs.lemmas.Bool.{cases_lt}
-use Rattle.std.proofs.lemmas.List.{get_or_default}
-use Rattle.std.proofs.lemmas.List.Elements.{All-get_or}
-use Rattle.margins.specs.Inner.BestPads.{IsInGroup}
+use Rattle.margins.proofs.Common.{◌≡◌, ℕ, ◌<◌, inl, inr, length, get_or, sym, subst, ◌∙◌, arith, cases_lt, get_or_default, All-get_or, IsInGroup}
 use Rattle.margins.proofs.GroupLemmas.{in_wider, in_added}
 use Rattle.margins.proofs.large.group_of.Goals as goal
 

@@ -1,5 +1,4 @@
-use Rattle.std.proofs.Common.{ℕ, ◌<◌, ◌≤◌, get_or}
-use Rattle.margins.specs.Inner.BestPads.{IsInGroup}
+use Rattle.margins.proofs.Common.{ℕ, ◌<◌, ◌≤◌, get_or, IsInGroup}
 use Rattle.margins.proofs.large.group_of.Given as goal
 
 -- the pads so far are in the group

@@ -1,6 +1,4 @@
-use Rattle.std.proofs.Common.{sym, subst}
-use Rattle.grid_units.specs.Points.{GridPoint}
-use Rattle.margins.specs.Hulls.{IsDeepIn}
+use Rattle.margins.proofs.Common.{sym, subst, GridPoint, IsDeepIn}
 use Rattle.margins.proofs.GroupLemmas.{holds_not_first, holds_not_second}
 use Rattle.margins.proofs.large.holds_none.Goals as goal
 

@@ -1,5 +1,5 @@
 use Rattle.margins.proofs.GroupLemmas.{hull_of_wider}
-use Rattle.std.proofs.Common.{[]}
+use Rattle.margins.proofs.Common.{[]}
 use Rattle.margins.proofs.large.hull_around.Goals as goal
 
 pub returns-clause-pad : goal.returns-clause-pad

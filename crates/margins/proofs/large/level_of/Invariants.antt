@@ -1,6 +1,4 @@
-use Rattle.std.proofs.Common.{◌-◌, length}
-use Rattle.std.specs.List.{All}
-use Rattle.margins.specs.Inner.BestPads.{IsGroup}
+use Rattle.margins.proofs.Common.{◌-◌, length, All, IsGroup}
 use Rattle.margins.proofs.large.level_of.Given as goal
 
 -- the groups so far are groups of the order

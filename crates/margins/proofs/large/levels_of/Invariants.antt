@@ -1,5 +1,4 @@
-use Rattle.std.specs.List.{All}
-use Rattle.margins.specs.Inner.BestPads.{AreGroups}
+use Rattle.margins.proofs.Common.{All, AreGroups}
 use Rattle.margins.proofs.large.levels_of.Given as goal
 
 -- the groups of the levels so far are groups of the order

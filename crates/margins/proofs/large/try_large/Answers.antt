@@ -1,5 +1,4 @@
-use Rattle.std.proofs.Common.{ℕ, ◌<◌, List, length, sym, subst}
-use Rattle.std.specs.List.{All, Contains}
+use Rattle.margins.proofs.Common.{ℕ, ◌<◌, List, length, sym, subst, All, Contains}
 use Rattle.std.proofs.lemmas.List.Sorted.{All-permutation, Contains-permutation}
 use Rattle.margins.proofs.large.try_large.Goals as goal
 

@@ -1,5 +1,4 @@
-use Rattle.std.proofs.Common.{None, get_or}
-use Rattle.ring_rules.specs.Places.{hole_at}
+use Rattle.margins.proofs.Common.{None, get_or, hole_at}
 use Rattle.margins.proofs.MeetsLemmas.{ring_of_best}
 use Rattle.margins.proofs.laws.row_rings_are_rings.Goals as goal
 

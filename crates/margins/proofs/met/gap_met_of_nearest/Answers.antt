@@ -1,6 +1,4 @@
-use Rattle.std.proofs.Common.{subst, sym}
-use Rattle.margins.specs.NearestHoles.{IsPair, IsNearestOf}
-use Rattle.margins.specs.Meets.{MeetsGaps}
+use Rattle.margins.proofs.Common.{subst, sym, IsPair, IsNearestOf, MeetsGaps}
 use Rattle.margins.specs.declared.met.Met.TheVariants as mets
 use Rattle.margins.proofs.GapsExist.{nearest_least}
 use Rattle.margins.proofs.WithoutFindings.{gaps_pass}

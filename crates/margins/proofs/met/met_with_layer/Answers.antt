@@ -1,8 +1,4 @@
-use Rattle.std.proofs.Common.{◌≡◌, ℕ, ◌+◌, [], map, length, get_or, refl, subst, sym, ap, ◌∙◌, arith}
-use Rattle.std.proofs.lemmas.List.{get_or_default}
-use Rattle.ring_rules.specs.Places.{default_hole}
-use Rattle.margins.specs.Meets.{AreLeast, NeedsRing, HasRing, needs_ring}
-use Rattle.margins.specs.Inner.Meets.{NeedsRingBefore, with_length, with_length_in_pads}
+use Rattle.margins.proofs.Common.{◌≡◌, ℕ, ◌+◌, [], map, length, get_or, refl, subst, sym, ap, ◌∙◌, arith, get_or_default, default_hole, AreLeast, NeedsRing, HasRing, needs_ring, NeedsRingBefore, with_length, with_length_in_pads}
 use Rattle.margins.specs.declared.met.RingsMet.{RingsMet}
 use Rattle.margins.proofs.MeetsLemmas.{hole_by_best, hole_needs_none, no_hole, layer_needs_rings}
 use Rattle.margins.proofs.met.met_with_layer.Goals as goal

@@ -1,6 +1,4 @@
-use Rattle.std.proofs.Common.{map}
-use Rattle.margins.specs.Meets.{AreLeast, HasRing}
-use Rattle.margins.specs.Inner.Meets.{NeedsRingBefore}
+use Rattle.margins.proofs.Common.{map, AreLeast, HasRing, NeedsRingBefore}
 use Rattle.margins.proofs.met.met_with_layer.Given as goal
 
 -- what the layers before and the holes so far ask for

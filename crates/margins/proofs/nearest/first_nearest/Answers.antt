@@ -1,9 +1,6 @@
 use Rattle.std.proofs.lemmas.Result.{IfOk-weaker}
-use Rattle.ring_rules.specs.declared.finding.Drilled.{Drilled}
-use Rattle.margins.specs.NearestHoles.{IsPair, IsNearest}
-use Rattle.margins.specs.Inner.NearestHoles.{IsNearestForLater}
+use Rattle.margins.proofs.Common.{Drilled, IsPair, IsNearest, IsNearestForLater, List, length}
 use Rattle.margins.proofs.NearestSearch.{nearest_of_all}
-use Rattle.std.proofs.Common.{List, length}
 use Rattle.margins.proofs.nearest.first_nearest.Goals as goal
 
 pub returns : goal.returns

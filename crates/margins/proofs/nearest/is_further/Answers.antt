@@ -1,5 +1,4 @@
-use Rattle.std.proofs.Common.{◌<◌, length, arith}
-use Rattle.std.proofs.lemmas.Int.{ints}
+use Rattle.margins.proofs.Common.{◌<◌, length, arith, ints}
 use Rattle.margins.proofs.NearLemmas.{gap_of_read_holes}
 use Rattle.margins.proofs.nearest.is_further.Goals as goal
 

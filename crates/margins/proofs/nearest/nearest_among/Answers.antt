@@ -1,5 +1,4 @@
-use Rattle.std.proofs.Common.{ℕ, max, get_or, subst}
-use Rattle.margins.specs.Inner.NearestHoles.{IsNearerPair}
+use Rattle.margins.proofs.Common.{ℕ, max, get_or, subst, IsNearerPair}
 use Rattle.margins.proofs.NearestSearch.{none_tried, one_tried}
 use Rattle.margins.proofs.nearest.nearest_among.Goals as goal
 

@@ -1,4 +1,4 @@
-use Rattle.margins.specs.Inner.NearestHoles.{IsNearestAmong}
+use Rattle.margins.proofs.Common.{IsNearestAmong}
 use Rattle.margins.proofs.nearest.nearest_among.Given as goal
 
 -- the hole was tried with those at the places so far

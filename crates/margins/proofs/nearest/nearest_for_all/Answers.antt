@@ -1,6 +1,4 @@
-use Rattle.std.proofs.Common.{◌≡◌, ℕ, length, subst, arith, w64, to_z, of_z}
-use Rattle.std.proofs.lemmas.Int.{ints}
-use Rattle.margins.specs.Inner.NearestHoles.{IsNearestForAll}
+use Rattle.margins.proofs.Common.{◌≡◌, ℕ, length, subst, arith, w64, to_z, of_z, ints, IsNearestForAll}
 use Rattle.margins.proofs.NearestSearch.{nearest_for_one_more}
 use Rattle.margins.proofs.nearest.nearest_for_all.Goals as goal
 

@@ -1,4 +1,4 @@
-use Rattle.margins.specs.Inner.NearestHoles.{IsNearestForAll}
+use Rattle.margins.proofs.Common.{IsNearestForAll}
 use Rattle.margins.proofs.nearest.nearest_for_all.Given as goal
 
 -- the holes so far have asked

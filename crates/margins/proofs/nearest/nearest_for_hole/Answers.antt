@@ -1,10 +1,5 @@
-use Rattle.std.proofs.Common.{◌≡◌, ℕ, ℤ, ◌≤◌, List, get_or, refl, sym, subst, arith}
-use Rattle.std.specs.List.{Contains}
-use Rattle.std.proofs.lemmas.Int.{ints}
-use Rattle.std.proofs.lemmas.List.{get_or_default}
+use Rattle.margins.proofs.Common.{◌≡◌, ℕ, ℤ, ◌≤◌, List, get_or, refl, sym, subst, arith, Contains, ints, get_or_default, default_hole, Drilled}
 use Rattle.ring_rules.specs.Near.{size_of, AreNearer}
-use Rattle.ring_rules.specs.Places.{default_hole}
-use Rattle.ring_rules.specs.declared.finding.Drilled.{Drilled}
 use Rattle.margins.proofs.NearestSearch.{nearest_of_prefix}
 use Rattle.margins.proofs.PassedIntegers.{on}
 use Rattle.margins.proofs.nearest.nearest_for_hole.Goals as goal

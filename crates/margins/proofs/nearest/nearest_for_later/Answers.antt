@@ -1,6 +1,4 @@
-use Rattle.std.proofs.Common.{◌≡◌, ℕ, pos, ◌+ℤ◌, length, subst, arith, w64, to_z, of_z}
-use Rattle.std.proofs.lemmas.Int.{ints}
-use Rattle.margins.specs.Inner.NearestHoles.{IsNearestForLater}
+use Rattle.margins.proofs.Common.{◌≡◌, ℕ, pos, ◌+ℤ◌, length, subst, arith, w64, to_z, of_z, ints, IsNearestForLater}
 use Rattle.margins.proofs.NearestSearch.{one_later}
 use Rattle.margins.proofs.nearest.nearest_for_later.Goals as goal
 

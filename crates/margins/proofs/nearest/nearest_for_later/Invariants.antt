@@ -1,4 +1,4 @@
-use Rattle.margins.specs.Inner.NearestHoles.{IsNearestForLater}
+use Rattle.margins.proofs.Common.{IsNearestForLater}
 use Rattle.margins.proofs.nearest.nearest_for_later.Given as goal
 
 -- the later holes so far have asked

@@ -1,7 +1,5 @@
-use Rattle.std.proofs.Common.{◌≤◌, ◌*◌, arith}
-use Rattle.std.proofs.lemmas.Int.{ints}
+use Rattle.margins.proofs.Common.{◌≤◌, ◌*◌, arith, ints, le_of_squares}
 use Rattle.std.proofs.lemmas.Nat.{mul-le}
-use Rattle.grid_units.proofs.TriangleInequalities.{le_of_squares}
 use Rattle.margins.proofs.roots.length_rounded_down.Goals as goal
 
 pub returns-clause-in_range : goal.returns-clause-in_range

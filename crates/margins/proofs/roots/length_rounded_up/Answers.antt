@@ -1,5 +1,4 @@
-use Rattle.std.proofs.Common.{◌≤◌, ◌*◌, arith}
-use Rattle.std.proofs.lemmas.Int.{ints}
+use Rattle.margins.proofs.Common.{◌≤◌, ◌*◌, arith, ints}
 use Rattle.std.proofs.lemmas.Nat.{mul-le}
 use Rattle.margins.proofs.roots.length_rounded_up.Goals as goal
 

@@ -1,10 +1,4 @@
-use Rattle.std.proofs.Common.{◌≡◌, ℕ, ◌<◌, None, Option, length, get_or, refl, sym, ap, ◌∙◌, arith}
-use Rattle.std.proofs.lemmas.List.{get_or_default}
-use Rattle.std.proofs.lemmas.List.Elements.{All-get_or}
-use Rattle.ring_rules.specs.Places.{default_hole}
-use Rattle.ring_rules.specs.declared.finding.Drilled.{Drilled}
-use Rattle.margins.specs.Rows.{ring_from_best, ring_at, has_no_ring}
-use Rattle.margins.specs.declared.best.BestPad.{BestPad}
+use Rattle.margins.proofs.Common.{◌≡◌, ℕ, ◌<◌, None, Option, length, get_or, refl, sym, ap, ◌∙◌, arith, get_or_default, All-get_or, default_hole, Drilled, ring_from_best, ring_at, has_no_ring, BestPad}
 use Rattle.margins.proofs.RowsLemmas.{bare_more, bare_still, next_least}
 use Rattle.margins.proofs.row.ring_row.Goals as goal
 use Rattle.margins.proofs.row.ring_row.Goals.{then-has_none, else-has_none}

@@ -1,6 +1,5 @@
-use Rattle.std.proofs.Common.{◌≡◌, ◌≤◌, take}
+use Rattle.margins.proofs.Common.{◌≡◌, ◌≤◌, take, ring_at, has_no_ring, IsLeastRingOf}
 use Rattle.std.specs.Prelude.{count_by}
-use Rattle.margins.specs.Rows.{ring_at, has_no_ring, IsLeastRingOf}
 use Rattle.margins.proofs.row.ring_row.Given as goal
 
 -- the counts and the least ring are those of the holes so far

@@ -1,7 +1,4 @@
-use Rattle.std.proofs.Common.{◌≡◌, ◌++◌, map}
-use Rattle.std.specs.List.{flat_map}
-use Rattle.package_check.specs.Package.{pads_of}
-use Rattle.package_check.specs.SoundnessAsRead.{drilled_in}
+use Rattle.package_check.proofs.Common.{◌≡◌, ◌++◌, map, flat_map, pads_of, drilled_in}
 use Rattle.package_check.proofs.board.add_contents.Given as goal
 
 abbrev pub invariant-loop-content : goal.invariant-loop-content

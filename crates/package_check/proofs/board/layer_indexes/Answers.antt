@@ -1,10 +1,6 @@
-use Rattle.std.proofs.Common.{◌≡◌, ap, ◌∙◌, ◌∷◌, [], ℕ, refl}
-use Rattle.package_check.specs.declared.contents.Content.{Content}
+use Rattle.package_check.proofs.Common.{◌≡◌, ap, ◌∙◌, ◌∷◌, [], ℕ, refl, Content, index_of, enumerated_all, flat_map}
 use Rattle.package_check.specs.declared.contents.Content.TheVariants as content
 use Rattle.package_check.specs.declared.readers.Layer.{Layer}
-use Rattle.package_check.specs.Package.{index_of}
-use Rattle.ring_rules.proofs.EnumeratedLists.{enumerated_all}
-use Rattle.std.specs.List.{flat_map}
 use Rattle.package_check.proofs.GrowingLists.{flat_map_indexed_more, flat_map_indexed_none}
 use Rattle.package_check.proofs.board.layer_indexes.Goals as goal
 use Rattle.package_check.proofs.board.layer_indexes.Goals.{in-Layer+in_ok-push, in_default}

@@ -1,6 +1,4 @@
-use Rattle.std.proofs.Common.{◌≡◌, take}
-use Rattle.std.specs.List.{flat_map, enumerate_from}
-use Rattle.package_check.specs.Package.{index_of}
+use Rattle.package_check.proofs.Common.{◌≡◌, take, flat_map, enumerate_from, index_of}
 use Rattle.package_check.proofs.board.layer_indexes.Given as goal
 
 abbrev pub invariant-loop-file : goal.invariant-loop-file

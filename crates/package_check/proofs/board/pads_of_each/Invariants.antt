@@ -1,4 +1,4 @@
-use Rattle.std.proofs.Common.{◌≡◌, map, take}
+use Rattle.package_check.proofs.Common.{◌≡◌, map, take}
 use Rattle.package_check.proofs.board.pads_of_each.Given as goal
 
 abbrev pub invariant-loop-layer : goal.invariant-loop-layer

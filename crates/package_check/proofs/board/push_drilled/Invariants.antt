@@ -1,4 +1,4 @@
-use Rattle.std.proofs.Common.{◌≡◌, ◌++◌, map, take}
+use Rattle.package_check.proofs.Common.{◌≡◌, ◌++◌, map, take}
 use Rattle.package_check.proofs.board.push_drilled.Given as goal
 
 abbrev pub invariant-loop-hole : goal.invariant-loop-hole

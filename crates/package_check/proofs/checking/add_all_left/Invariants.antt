@@ -1,6 +1,4 @@
-use Rattle.std.proofs.Common.{◌≡◌, ◌++◌}
-use Rattle.std.specs.List.{flat_map}
-use Rattle.package_check.specs.Inner.Leftovers.{rings_in, sums_in}
+use Rattle.package_check.proofs.Common.{◌≡◌, ◌++◌, flat_map, rings_in, sums_in}
 use Rattle.package_check.proofs.checking.add_all_left.Given as goal
 
 abbrev pub invariant-loop-slot : goal.invariant-loop-slot

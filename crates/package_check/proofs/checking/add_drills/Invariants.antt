@@ -1,6 +1,4 @@
-use Rattle.std.proofs.Common.{◌≡◌, ◌++◌, map}
-use Rattle.std.specs.List.{flat_map}
-use Rattle.package_check.specs.Inner.Leftovers.{count_in, holes_in, left_in}
+use Rattle.package_check.proofs.Common.{◌≡◌, ◌++◌, map, flat_map, count_in, holes_in, left_in}
 use Rattle.package_check.proofs.checking.add_drills.Given as goal
 
 abbrev pub invariant-loop-slot : goal.invariant-loop-slot

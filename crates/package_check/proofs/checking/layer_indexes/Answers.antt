@@ -1,7 +1,4 @@
-use Rattle.std.proofs.Common.{ap, ◌∙◌, ◌∷◌, []}
-use Rattle.std.specs.List.{flat_map}
-use Rattle.ring_rules.proofs.EnumeratedLists.{enumerated_all}
-use Rattle.package_check.specs.Inner.Leftovers.{index_in}
+use Rattle.package_check.proofs.Common.{ap, ◌∙◌, ◌∷◌, [], flat_map, enumerated_all, index_in}
 use Rattle.package_check.proofs.GrowingLists.{flat_map_indexed_more, flat_map_indexed_none, no_index}
 use Rattle.package_check.proofs.checking.layer_indexes.Goals as goal
 use Rattle.package_check.proofs.checking.layer_indexes.Goals.{in-Layer+in_ok-push, in_default}

@@ -1,6 +1,4 @@
-use Rattle.std.proofs.Common.{◌≡◌, take}
-use Rattle.std.specs.List.{enumerate_from, flat_map}
-use Rattle.package_check.specs.Inner.Leftovers.{index_in}
+use Rattle.package_check.proofs.Common.{◌≡◌, take, enumerate_from, flat_map, index_in}
 use Rattle.package_check.proofs.checking.layer_indexes.Given as goal
 
 abbrev pub invariant-loop-index : goal.invariant-loop-index

@@ -1,13 +1,5 @@
-use Rattle.std.proofs.Common.{inl, ℕ, List, Err}
-use Rattle.std.proofs.lemmas.Result.{err_from_is_err_and}
-use Rattle.grid_units.specs.Results.{Answers}
-use Rattle.grid_units.specs.declared.fault.Fail.{Fail}
+use Rattle.package_check.proofs.Common.{inl, ℕ, List, Err, err_from_is_err_and, Answers, Fail, Profile, ReadsLayer, LayerView, ReadsCopper, Content}
 use Rattle.grid_units.specs.declared.fault.Fail.TheVariants as fails
-use Rattle.grid_units.specs.declared.profile.Profile.{Profile}
-use Rattle.package_check.specs.FileTexts.{ReadsLayer}
-use Rattle.package_check.specs.ContentViews.{LayerView}
-use Rattle.package_check.specs.Package.{ReadsCopper}
-use Rattle.package_check.specs.declared.contents.Content.{Content}
 use Rattle.package_check.proofs.FlashReadingLemmas.{held}
 use Rattle.package_check.proofs.contents.read_copper.Goals as goal
 

@@ -1,4 +1,4 @@
-use Rattle.std.proofs.lemmas.Result.{err_from_is_err_and}
+use Rattle.package_check.proofs.Common.{err_from_is_err_and}
 use Rattle.package_check.proofs.OpenFiles.{holes_fault}
 use Rattle.package_check.proofs.contents.read_drill_content.Goals as goal
 

@@ -1,8 +1,4 @@
-use Rattle.std.proofs.Common.{Err, inr, refl, subst, sym, ◌∙◌}
-use Rattle.grid_units.specs.Results.{Answers}
-use Rattle.grid_units.specs.declared.fault.Fail.{Fail}
-use Rattle.package_check.specs.Package.{ReadsCopper}
-use Rattle.package_check.specs.declared.contents.Content.{Content}
+use Rattle.package_check.proofs.Common.{Err, inr, refl, subst, sym, ◌∙◌, Answers, Fail, ReadsCopper, Content}
 use Rattle.package_check.proofs.contents.require_copper.Goals as goal
 
 pub returns-then-is_copper : goal.returns-then-is_copper

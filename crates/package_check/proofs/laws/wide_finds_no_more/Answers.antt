@@ -1,6 +1,4 @@
-use Rattle.std.proofs.Common.{Ok}
-use Rattle.grid_units.specs.declared.profile.Profile.TheVariants.{Strict, Wide}
-use Rattle.drill_text.specs.Profiles.{mixed_in, unplated_in}
+use Rattle.package_check.proofs.Common.{Ok, Strict, Wide, mixed_in, unplated_in}
 use Rattle.package_check.proofs.Uncontradicted.{read_is_uncontradicted}
 use Rattle.package_check.proofs.WiderContents as wider
 use Rattle.package_check.proofs.laws.wide_finds_no_more.Goals as goal

@@ -1,7 +1,5 @@
-use Rattle.std.proofs.Common.{◌≡◌, ◌++◌, ℕ, List, [], ap, rules, subst, sym, ◌∙◌, append_assoc, append-nil}
-use Rattle.std.proofs.lemmas.Result.{err_from_is_err_and}
-use Rattle.std.specs.Slice.Iter.{chunks_rest}
-use Rattle.layer_image.specs.Holding.{LayerStands}
+use Rattle.package_check.proofs.Common.{◌≡◌, ◌++◌, ℕ, List, [], ap, rules, subst, sym, ◌∙◌, append_assoc, err_from_is_err_and, chunks_rest, LayerStands}
+use Rattle.std.proofs.Common.{append-nil}
 use Rattle.package_check.proofs.PiecesLemmas.{fault_stays_in_longer}
 use Rattle.package_check.proofs.open_file.feed_layer.Goals as goal
 

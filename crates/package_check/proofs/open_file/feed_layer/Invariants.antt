@@ -1,9 +1,4 @@
-use Rattle.std.proofs.Common.{◌≡◌, ℕ, List, ◌++◌}
-use Rattle.std.specs.Slice.Iter.{chunks_rest, chunks_size}
-use Rattle.layer_features.specs.declared.keep.Keep.{Keep}
-use Rattle.pad_shapes.specs.declared.wide_pad.WidePad.{WidePad}
-use Rattle.layer_image.specs.Holding.{LayerStands}
-use Rattle.grid_units.specs.declared.profile.Profile.{Profile}
+use Rattle.package_check.proofs.Common.{◌≡◌, ℕ, List, ◌++◌, chunks_rest, chunks_size, Keep, WidePad, LayerStands, Profile}
 use Rattle.package_check.proofs.open_file.feed_layer.Given as goal
 
 abbrev pub invariant-loop-chunk : goal.invariant-loop-chunk

@@ -1,5 +1,4 @@
-use Rattle.package_check.specs.Package.{Setting, layer_count, file_view, file_views_in}
-use Rattle.std.proofs.Common.{refl}
+use Rattle.package_check.proofs.Common.{Setting, layer_count, file_view, file_views_in, refl}
 use Rattle.package_check.proofs.NoObliqueSlots.{passed_straight}
 use Rattle.package_check.proofs.AnswerLemmas.{just, legal, named, passed}
 use Rattle.package_check.proofs.package.check_bytes.Goals as goal

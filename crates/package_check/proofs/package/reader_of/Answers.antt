@@ -1,6 +1,4 @@
-use Rattle.std.proofs.Common.{◌≡◌, ◌∙◌}
-use Rattle.package_check.specs.Package.{file_views_in, layer_count}
-use Rattle.package_check.specs.Holding.{setting_of}
+use Rattle.package_check.proofs.Common.{◌≡◌, ◌∙◌, file_views_in, layer_count, setting_of}
 use Rattle.package_check.proofs.TakeSteps.{both_kinds}
 use Rattle.package_check.proofs.package.reader_of.Goals as goal
 

@@ -1,4 +1,4 @@
-use Rattle.package_check.specs.Package.{file_views_in}
+use Rattle.package_check.proofs.Common.{file_views_in}
 use Rattle.package_check.proofs.package.report_of.Goals as goal
 
 pub returns-in-Ok : goal.returns-in-Ok

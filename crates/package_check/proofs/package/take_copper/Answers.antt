@@ -1,9 +1,6 @@
-use Rattle.std.proofs.Common.{◌≡◌, ◌∙◌, ap, refl, subst, sym, arith, true, ◌&&◌, ◌+◌, ◌++◌, ℕ, [], ltb, map}
+use Rattle.package_check.proofs.Common.{◌≡◌, ◌∙◌, ap, refl, subst, sym, arith, true, ◌&&◌, ◌+◌, ◌++◌, ℕ, [], ltb, map, CheckView, JudgesThose, is_kind_at, FileView, file_view, is_copper, layer_count}
 use Rattle.manifest.specs.declared.Role.TheVariants as role
-use Rattle.package_check.specs.CheckViews.{CheckView, setting_of}
-use Rattle.package_check.specs.Checking.{JudgesThose}
-use Rattle.package_check.specs.Holding.{is_kind_at}
-use Rattle.package_check.specs.Package.{FileView, file_view, is_copper, layer_count}
+use Rattle.package_check.specs.CheckViews.{setting_of}
 use Rattle.package_check.proofs.CheckSteps.{copper_all, copper_left, copper_none, copper_taken, number_left, number_taken}
 use Rattle.package_check.proofs.FileKinds.{role_copper}
 use Rattle.package_check.proofs.PiecesLemmas.{joined_one}

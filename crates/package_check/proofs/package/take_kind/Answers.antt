@@ -1,8 +1,4 @@
-use Rattle.std.proofs.Common.{◌∙◌, ap, refl, subst, sym, ◌&&◌, ◌+◌, ◌++◌, ℕ, List, [], ltb, map}
-use Rattle.package_check.specs.Package.{FileView, Setting, layer_count, file_view}
-use Rattle.package_check.specs.Holding.{TakesThose, setting_of, is_kind_at}
-use Rattle.grid_units.specs.declared.profile.Profile.{Profile}
-use Rattle.package_check.specs.declared.package_reader.PackageReader.{PackageReader}
+use Rattle.package_check.proofs.Common.{◌∙◌, ap, refl, subst, sym, ◌&&◌, ◌+◌, ◌++◌, ℕ, List, [], ltb, map, FileView, Setting, layer_count, file_view, TakesThose, setting_of, is_kind_at, Profile, PackageReader}
 use Rattle.package_check.proofs.PiecesLemmas.{joined_one}
 use Rattle.package_check.proofs.TakeSteps.{kind_all, kind_left, kind_none, kind_taken}
 use Rattle.package_check.proofs.package.take_kind.Goals as goal

@@ -1,8 +1,4 @@
-use Rattle.std.proofs.Common.{◌≡◌, ◌&&◌}
-use Rattle.std.specs.Prelude.{nat_lt}
-use Rattle.package_check.specs.Package.{layer_count, file_views_in}
-use Rattle.package_check.specs.Holding.{TakesThose, setting_of, is_kind_at}
-use Rattle.grid_units.specs.declared.profile.Profile.{Profile}
+use Rattle.package_check.proofs.Common.{◌≡◌, ◌&&◌, nat_lt, layer_count, file_views_in, TakesThose, setting_of, is_kind_at, Profile}
 use Rattle.package_check.proofs.package.take_kind.Given as goal
 
 abbrev pub invariant-loop-index : goal.invariant-loop-index

@@ -1,10 +1,5 @@
-use Rattle.std.proofs.Common.{◌≡◌, ◌∙◌, ap, false, subst, true}
+use Rattle.package_check.proofs.Common.{◌≡◌, ◌∙◌, ap, false, subst, true, Setting, pieced_file_views, pieced_layer_count, GridRules, Profile, JudgesThose, is_kind_at, setting_of}
 use Rattle.layer_features.specs.declared.keep.Keep.TheVariants as keep
-use Rattle.package_check.specs.Package.{Setting, pieced_file_views, pieced_layer_count}
-use Rattle.grid_units.specs.Holes.{GridRules}
-use Rattle.grid_units.specs.declared.profile.Profile.{Profile}
-use Rattle.package_check.specs.Checking.{JudgesThose}
-use Rattle.package_check.specs.Holding.{is_kind_at, setting_of}
 use Rattle.package_check.proofs.CheckSteps.{all_taken}
 use Rattle.package_check.proofs.pieces.check_of.Goals as goal
 

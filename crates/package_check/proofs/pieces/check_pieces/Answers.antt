@@ -1,5 +1,4 @@
-use Rattle.package_check.specs.Package.{pieced_layer_count, pieced_file_view, pieced_file_views, Setting}
-use Rattle.std.proofs.Common.{refl}
+use Rattle.package_check.proofs.Common.{pieced_layer_count, pieced_file_view, pieced_file_views, Setting, refl}
 use Rattle.package_check.proofs.NoObliqueSlots.{passed_straight}
 use Rattle.package_check.proofs.AnswerLemmas.{just, legal, named, passed}
 use Rattle.package_check.proofs.pieces.check_pieces.Goals as goal

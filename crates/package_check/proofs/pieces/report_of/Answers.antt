@@ -1,4 +1,4 @@
-use Rattle.package_check.specs.Package.{pieced_file_views}
+use Rattle.package_check.proofs.Common.{pieced_file_views}
 use Rattle.package_check.proofs.pieces.report_of.Goals as goal
 
 pub returns-in-Ok : goal.returns-in-Ok

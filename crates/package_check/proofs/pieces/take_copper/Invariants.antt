@@ -1,9 +1,6 @@
-use Rattle.std.proofs.Common.{◌≡◌, ◌≤◌, ◌&&◌}
-use Rattle.std.specs.Prelude.{true, nat_lt}
+use Rattle.package_check.proofs.Common.{◌≡◌, ◌≤◌, ◌&&◌, nat_lt, JudgesThose, layer_number, is_kind_at, pieced_file_views, pieced_layer_count}
+use Rattle.std.specs.Prelude.{true}
 use Rattle.package_check.specs.CheckViews.{setting_of}
-use Rattle.package_check.specs.Checking.{JudgesThose, layer_number}
-use Rattle.package_check.specs.Holding.{is_kind_at}
-use Rattle.package_check.specs.Package.{pieced_file_views, pieced_layer_count}
 use Rattle.package_check.proofs.pieces.take_copper.Given as goal
 
 abbrev pub invariant-loop-index : goal.invariant-loop-index

@@ -1,8 +1,4 @@
-use Rattle.std.proofs.Common.{◌∙◌, ap, refl, subst, sym, ◌&&◌, ◌+◌, false, ltb, map}
-use Rattle.package_check.specs.Package.{FileView, Setting, pieced_file_view, pieced_layer_count}
-use Rattle.package_check.specs.Holding.{TakesThose, setting_of, is_kind_at}
-use Rattle.grid_units.specs.declared.profile.Profile.{Profile}
-use Rattle.package_check.specs.declared.package_reader.PackageReader.{PackageReader}
+use Rattle.package_check.proofs.Common.{◌∙◌, ap, refl, subst, sym, ◌&&◌, ◌+◌, false, ltb, map, FileView, Setting, pieced_file_view, pieced_layer_count, TakesThose, setting_of, is_kind_at, Profile, PackageReader}
 use Rattle.package_check.proofs.PiecesLemmas.{joined}
 use Rattle.package_check.proofs.TakeSteps.{kind_all, kind_left, kind_none, kind_taken}
 use Rattle.package_check.proofs.pieces.take_drills.Goals as goal

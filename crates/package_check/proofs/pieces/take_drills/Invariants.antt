@@ -1,8 +1,5 @@
-use Rattle.std.proofs.Common.{◌≡◌, ◌&&◌}
-use Rattle.std.specs.Prelude.{false, nat_lt}
-use Rattle.package_check.specs.Package.{pieced_layer_count, pieced_file_views}
-use Rattle.package_check.specs.Holding.{TakesThose, setting_of, is_kind_at}
-use Rattle.grid_units.specs.declared.profile.Profile.{Profile}
+use Rattle.package_check.proofs.Common.{◌≡◌, ◌&&◌, nat_lt, pieced_layer_count, pieced_file_views, TakesThose, setting_of, is_kind_at, Profile}
+use Rattle.std.specs.Prelude.{false}
 use Rattle.package_check.proofs.pieces.take_drills.Given as goal
 
 abbrev pub invariant-loop-index : goal.invariant-loop-index

@@ -1,5 +1,4 @@
-use Rattle.std.proofs.Common.{◌∙◌, ◌<◌, ◌++◌, ◌∷◌, [], List, ap, arith, false, get_or, inl, inr, length}
-use Rattle.ring_rules.specs.declared.finding.Drilled.{Drilled}
+use Rattle.package_check.proofs.Common.{◌∙◌, ◌<◌, ◌++◌, ◌∷◌, [], List, ap, arith, false, get_or, inl, inr, length, Drilled}
 use Rattle.package_check.proofs.MarkedLemmas.{found_at, marked_all, marked_more}
 use Rattle.package_check.proofs.readers.marked.Goals as goal
 

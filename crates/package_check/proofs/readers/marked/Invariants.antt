@@ -1,5 +1,4 @@
-use Rattle.std.proofs.Common.{◌≡◌, ◌≤◌, length, take}
-use Rattle.package_check.specs.FileTexts.{marked}
+use Rattle.package_check.proofs.Common.{◌≡◌, ◌≤◌, length, take, marked}
 use Rattle.package_check.proofs.readers.marked.Given as goal
 
 abbrev pub invariant-loop-i : goal.invariant-loop-i

@@ -1,6 +1,4 @@
-use Rattle.std.proofs.Common.{ap, refl, ◌∙◌}
-use Rattle.layer_features.specs.declared.counts.FeatureCounts.{FeatureCounts}
-use Rattle.package_check.specs.FileTexts.{is_copper_function}
+use Rattle.package_check.proofs.Common.{ap, refl, ◌∙◌, FeatureCounts, is_copper_function}
 use Rattle.package_check.proofs.readers.pads_view.Goals as goal
 
 pub returns : goal.returns

@@ -1,7 +1,4 @@
-use Rattle.std.proofs.Common.{Ok, subst, sym}
-use Rattle.package_check.specs.ContentViews.{DrillView}
-use Rattle.package_check.specs.FileTexts.{ReadsDrill, drill_kind}
-use Rattle.std.proofs.lemmas.Result.{err_from_is_err_and}
+use Rattle.package_check.proofs.Common.{Ok, subst, sym, DrillView, ReadsDrill, drill_kind, err_from_is_err_and}
 use Rattle.drill_text.specs.declared.kept.Keep.TheVariants as keep
 use Rattle.package_check.proofs.OpenFiles.{drill_fault, drill_read}
 use Rattle.package_check.proofs.readers.read_holes.Goals as goal

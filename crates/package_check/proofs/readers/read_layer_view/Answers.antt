@@ -1,13 +1,5 @@
-use Rattle.std.proofs.Common.{◌≡◌, ◌∙◌, List, [], Ok, sym, subst}
-use Rattle.std.proofs.lemmas.Result.{err_from_is_err_and}
-use Rattle.grid_units.specs.declared.profile.Profile.{Profile}
-use Rattle.pad_shapes.specs.declared.wide_pad.WidePad.{WidePad}
-use Rattle.layer_image.specs.Holding.{has_forgotten, left_pads}
-use Rattle.layer_image.specs.Kept.{ReadsKeptIn}
+use Rattle.package_check.proofs.Common.{◌≡◌, ◌∙◌, List, [], Ok, sym, subst, err_from_is_err_and, Profile, WidePad, has_forgotten, left_pads, ReadsKeptIn, Draws, HasLayerView, HasShown, copper_keep}
 use Rattle.layer_image.proofs.Pieces.{none_left}
-use Rattle.package_check.specs.FileTexts.{Draws, HasLayerView}
-use Rattle.package_check.specs.Holding.{HasShown}
-use Rattle.package_check.specs.OpenFiles.{copper_keep}
 use Rattle.package_check.proofs.OpenFiles.{layer_fault}
 use Rattle.package_check.proofs.readers.read_layer_view.Goals as goal
 

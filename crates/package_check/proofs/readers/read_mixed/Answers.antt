@@ -1,9 +1,5 @@
-use Rattle.std.proofs.Common.{List, Ok, subst, sym, ◌∙◌}
-use Rattle.std.proofs.lemmas.Result.{err_from_is_err_and}
-use Rattle.drill_text.specs.Profiles.{mixed_in}
+use Rattle.package_check.proofs.Common.{List, Ok, subst, sym, ◌∙◌, err_from_is_err_and, mixed_in, Drilled, ReadsMixed, marked}
 use Rattle.drill_text.specs.declared.kept.Keep.TheVariants as keep
-use Rattle.ring_rules.specs.declared.finding.Drilled.{Drilled}
-use Rattle.package_check.specs.FileTexts.{ReadsMixed, marked}
 use Rattle.package_check.proofs.OpenFiles.{mixed_fault, mixed_read}
 use Rattle.package_check.proofs.readers.read_mixed.Goals as goal
 

@@ -1,15 +1,7 @@
-use Rattle.std.proofs.Common.{◌≡◌, List, ap, ◌∙◌}
-use Rattle.grid_units.specs.declared.profile.Profile.{Profile}
-use Rattle.gerber_text.specs.Writing.{without_places}
-use Rattle.layer_features.specs.DrawnCopper.{uncleared_drawn}
+use Rattle.package_check.proofs.Common.{◌≡◌, List, ap, ◌∙◌, Profile, without_places, uncleared_drawn, keeps_drawn, keeps_rows, FeatureCounts, Drawn, Feature, is_copper_function}
 use Rattle.layer_features.specs.Features.{counts_of, features_of, pads_of, rows_of, uncounted_contours, uncounted_macros, view_in, wide_features_of}
-use Rattle.layer_features.specs.Kept.{keeps_drawn, keeps_rows}
-use Rattle.layer_features.specs.declared.counts.FeatureCounts.{FeatureCounts}
-use Rattle.pad_shapes.specs.declared.drawn.Drawn.{Drawn}
-use Rattle.layer_features.specs.declared.feature.Feature.{Feature}
 use Rattle.std.specs.Global.{Vec}
 use Rattle.layer_image.specs.declared.rows.Uncounted.{Uncounted}
-use Rattle.package_check.specs.FileTexts.{is_copper_function}
 use Rattle.package_check.proofs.ShownLemmas.{counted_in, features_kept, parts_kept}
 use Rattle.package_check.proofs.readers.rows_view.Goals as goal
 

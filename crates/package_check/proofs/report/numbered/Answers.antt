@@ -1,4 +1,4 @@
-use Rattle.std.proofs.Common.{ℕ, rules, arith}
+use Rattle.package_check.proofs.Common.{ℕ, rules, arith}
 use Rattle.std.proofs.lemmas.List.Sorted.{IsPartitionPoint-from_clause}
 use lib.Dec.{leb}
 use Rattle.package_check.proofs.FileStartsLemmas.{found, parted, placed}

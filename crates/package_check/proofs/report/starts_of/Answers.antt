@@ -1,4 +1,4 @@
-use Rattle.std.proofs.Common.{refl}
+use Rattle.package_check.proofs.Common.{refl}
 use Rattle.package_check.proofs.FileStartsLemmas.{all_starts, next_start, no_starts, start_in, starts_more}
 use Rattle.package_check.proofs.report.starts_of.Goals as goal
 

@@ -1,6 +1,4 @@
-use Rattle.std.proofs.Common.{◌≡◌}
-use Rattle.package_check.specs.Boards.{holes_before}
-use Rattle.package_check.specs.Inner.Leftovers.{AreStartsOf}
+use Rattle.package_check.proofs.Common.{◌≡◌, holes_before, AreStartsOf}
 use Rattle.package_check.proofs.report.starts_of.Given as goal
 
 abbrev pub invariant-loop-file : goal.invariant-loop-file

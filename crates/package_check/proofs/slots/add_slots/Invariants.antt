@@ -1,6 +1,4 @@
-use Rattle.std.proofs.Common.{◌≡◌, ◌++◌}
-use Rattle.std.specs.List.{flat_map}
-use Rattle.package_check.specs.Holding.{contents_in, shown_in}
+use Rattle.package_check.proofs.Common.{◌≡◌, ◌++◌, flat_map, contents_in, shown_in}
 use Rattle.package_check.proofs.slots.add_slots.Given as goal
 
 abbrev pub invariant-loop-slot : goal.invariant-loop-slot

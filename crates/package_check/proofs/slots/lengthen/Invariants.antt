@@ -1,5 +1,4 @@
-use Rattle.std.proofs.Common.{◌≡◌, ◌≤◌, ◌<◌, ℕ, length, ◌+◌, ◌-◌}
-use Rattle.package_check.specs.Holding.{kept_at}
+use Rattle.package_check.proofs.Common.{◌≡◌, ◌≤◌, ◌<◌, ℕ, length, ◌+◌, ◌-◌, kept_at}
 use Rattle.package_check.proofs.slots.lengthen.Given as goal
 
 abbrev pub invariant-loop-slots : goal.invariant-loop-slots

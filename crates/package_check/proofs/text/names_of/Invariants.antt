@@ -1,4 +1,4 @@
-use Rattle.std.proofs.Common.{◌≡◌, map, take}
+use Rattle.package_check.proofs.Common.{◌≡◌, map, take}
 use Rattle.package_check.proofs.text.names_of.Given as goal
 
 abbrev pub invariant-loop-file : goal.invariant-loop-file

@@ -1,7 +1,4 @@
-use Rattle.std.proofs.Common.{◌≡◌, ◌∙◌, List, ℕ, Bor, ap, map, sym}
-use Rattle.std.proofs.lemmas.Result.{IfOk-weaker}
-use Rattle.package_check.specs.Package.{layer_count, file_views_in}
-use Rattle.package_check.specs.Texts.{report_text, text_of}
+use Rattle.package_check.proofs.Common.{◌≡◌, ◌∙◌, List, ℕ, Bor, ap, map, sym, IfOk-weaker, layer_count, file_views_in, report_text, text_of}
 use Rattle.package_check.proofs.ReportTextLemmas.{same_names}
 use Rattle.package_check.proofs.text.write_report.Goals as goal
 

@@ -1,6 +1,5 @@
 -- Two points are less than 20 m apart along an axis, so the square of their distance is at most 8 * 10^26.
-use Rattle.std.proofs.Common.{◌≤◌, ◌*◌, arith}
-use Rattle.std.proofs.lemmas.Int.{ints}
+use Rattle.picture.proofs.Common.{◌≤◌, ◌*◌, arith, ints}
 use Rattle.std.proofs.lemmas.Nat.{mul-le}
 use Rattle.picture.proofs.copper.arc_radius.Goals as goal
 

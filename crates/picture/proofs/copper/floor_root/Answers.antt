@@ -1,8 +1,6 @@
 -- The whole part of a square root is the one number whose square is at most the number, and the square of the next is above it.
-use Rattle.std.proofs.Common.{◌≡◌, ◌≤◌, ◌<◌, ◌+◌, ◌*◌, ℕ, zero, suc, pos, ◌∙◌, ap, w64, arith}
+use Rattle.picture.proofs.Common.{◌≡◌, ◌≤◌, ◌<◌, ◌+◌, ◌*◌, ℕ, zero, suc, pos, ◌∙◌, ap, w64, arith, to_z_pos, floor_root, next_root}
 use Rattle.std.proofs.lemmas.Grind.{common_steps}
-use Rattle.std.proofs.lemmas.Int.{to_z_pos}
-use Rattle.picture.specs.Copper.{floor_root, next_root}
 use Rattle.picture.proofs.copper.floor_root.Goals as goal
 
 next_root-le : (r n : ℕ) → r * r ≤ n → next_root r (suc n) * next_root r (suc n) ≤ suc n

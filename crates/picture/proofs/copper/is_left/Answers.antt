@@ -1,6 +1,5 @@
 -- The products are those of the differences of coordinates.
-use Rattle.std.proofs.Common.{arith}
-use Rattle.std.proofs.lemmas.Int.{to_z-of_z}
+use Rattle.picture.proofs.Common.{arith, to_z-of_z}
 use Rattle.picture.proofs.copper.is_left.Goals as goal
 
 pub returns : goal.returns

@@ -1,5 +1,4 @@
-use Rattle.std.proofs.Common.{arith, sym}
-use Rattle.std.proofs.lemmas.List.{length-take, take_all}
+use Rattle.picture.proofs.Common.{arith, sym, length-take, take_all}
 use Rattle.picture.proofs.findings.marked.Goals as goal
 
 pub returns-then-lacks-le-MOST_MARKED : goal.returns-then-lacks-le-MOST_MARKED

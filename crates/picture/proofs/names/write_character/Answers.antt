@@ -1,5 +1,4 @@
-use Rattle.std.proofs.Common.{arith, sym}
-use Rattle.std.proofs.Output.{has_written_of_eq}
+use Rattle.picture.proofs.Common.{arith, sym, has_written_of_eq}
 use Rattle.picture.proofs.EscapesLemmas.{and_character, forbidden_character, less_character, more_character, plain_character}
 use Rattle.picture.proofs.names.write_character.Goals as goal
 use Rattle.picture.proofs.names.write_character.Goals.{in_default-via-then-character-lt65534, in_default-via-else-character-lt65534+else-character-lt65536}

@@ -1,5 +1,4 @@
-use Rattle.std.proofs.Common.{◌≡◌, take}
-use Rattle.picture.specs.Scenes.{crosses_of}
+use Rattle.picture.proofs.Common.{◌≡◌, take, crosses_of}
 use Rattle.picture.proofs.scene.crosses_of.Given as goal
 
 abbrev pub invariant-loop-row : goal.invariant-loop-row

@@ -1,7 +1,4 @@
-use Rattle.std.proofs.Common.{◌∙◌, ap}
-use Rattle.std.specs.List.{flat_map}
-use Rattle.ring_rules.proofs.EnumeratedLists.{enumerated_all}
-use Rattle.picture.specs.Scenes.{drawn_finding}
+use Rattle.picture.proofs.Common.{◌∙◌, ap, flat_map, enumerated_all, drawn_finding}
 use Rattle.picture.proofs.Gathered.{placed_more}
 use Rattle.picture.proofs.scene.drawn_findings.Goals as goal
 

@@ -1,6 +1,4 @@
-use Rattle.std.proofs.Common.{◌≡◌, take}
-use Rattle.std.specs.List.{enumerate_from, flat_map}
-use Rattle.picture.specs.Scenes.{drawn_finding}
+use Rattle.picture.proofs.Common.{◌≡◌, take, enumerate_from, flat_map, drawn_finding}
 use Rattle.picture.proofs.scene.drawn_findings.Given as goal
 
 abbrev pub invariant-loop-place : goal.invariant-loop-place

@@ -1,5 +1,4 @@
-use Rattle.std.proofs.Common.{◌≡◌, take}
-use Rattle.picture.specs.Scenes.{plain_pads}
+use Rattle.picture.proofs.Common.{◌≡◌, take, plain_pads}
 use Rattle.picture.proofs.scene.plain_pads.Given as goal
 
 abbrev pub invariant-loop-pad : goal.invariant-loop-pad

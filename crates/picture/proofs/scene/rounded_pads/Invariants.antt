@@ -1,5 +1,4 @@
-use Rattle.std.proofs.Common.{◌≡◌, take}
-use Rattle.picture.specs.Scenes.{rounded_pads}
+use Rattle.picture.proofs.Common.{◌≡◌, take, rounded_pads}
 use Rattle.picture.proofs.scene.rounded_pads.Given as goal
 
 abbrev pub invariant-loop-pad : goal.invariant-loop-pad

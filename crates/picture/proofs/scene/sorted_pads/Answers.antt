@@ -1,6 +1,5 @@
-use Rattle.std.proofs.Common.{◌≡◌, rules}
+use Rattle.picture.proofs.Common.{◌≡◌, rules, kind_of}
 use Rattle.std.proofs.lemmas.Fn.{always_returns_same}
-use Rattle.picture.specs.Scenes.{kind_of}
 use Rattle.picture.proofs.scene.sorted_pads.Goals as goal
 
 pub returns-clause-order : goal.returns-clause-order

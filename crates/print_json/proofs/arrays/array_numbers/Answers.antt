@@ -1,4 +1,4 @@
-use Rattle.std.proofs.Common.{arith}
+use Rattle.print_json.proofs.Common.{arith}
 use Rattle.print_json.proofs.Lists.{items_numbers}
 use Rattle.print_json.proofs.arrays.array_numbers.Goals as goal
 

@@ -1,6 +1,4 @@
-use Rattle.std.proofs.Common.{ℕ, ◌<◌, get_or}
-use Rattle.json.specs.Json.{null}
-use Rattle.json.specs.Tree.{HasNumbers}
+use Rattle.print_json.proofs.Common.{ℕ, ◌<◌, get_or, null, HasNumbers}
 use Rattle.print_json.proofs.arrays.array_numbers.Given as goal
 
 abbrev pub invariant-loop-place : goal.invariant-loop-place

@@ -1,4 +1,4 @@
-use Rattle.std.proofs.Common.{◌≡◌, drop}
+use Rattle.print_json.proofs.Common.{◌≡◌, drop}
 use Rattle.package_check.specs.Boards.{holes_before}
 use Rattle.print_json.proofs.measured.holes_from.Given as goal
 

@@ -1,6 +1,4 @@
-use Rattle.std.proofs.Common.{append_assoc}
-use Rattle.std.proofs.Output.{has_written_of_eq}
-use Rattle.json.specs.Print.{escape_byte}
+use Rattle.print_json.proofs.Common.{append_assoc, has_written_of_eq, escape_byte}
 use Rattle.print_json.proofs.refused.write_refused_manifest.Goals as goal
 
 pub returns : goal.returns

@@ -1,5 +1,4 @@
-use Rattle.std.proofs.Common.{arith}
-use Rattle.std.proofs.Output.{has_written_of_eq}
+use Rattle.print_json.proofs.Common.{arith, has_written_of_eq}
 use Rattle.print_json.proofs.Escapes.{letter_stands}
 use Rattle.print_json.proofs.strings.write_letter.Goals as goal
 

@@ -1,4 +1,4 @@
-use Rattle.std.proofs.Output.{has_written_of_eq}
+use Rattle.print_json.proofs.Common.{has_written_of_eq}
 use Rattle.std.proofs.lemmas.Iterator.{YieldsList-from_chars}
 use Rattle.std.proofs.lemmas.Iterator.Consumers.{YieldsList-end}
 use Rattle.print_json.proofs.Escapes.{text_escaped}

@@ -1,7 +1,4 @@
-use Rattle.std.specs.Char.{encode_utf8}
-use Rattle.std.specs.Fmt.{HasWritten, IsPlainFormatter}
-use Rattle.std.specs.List.{flat_map}
-use Rattle.json.specs.Print.{escape}
+use Rattle.print_json.proofs.Common.{encode_utf8, HasWritten, IsPlainFormatter, flat_map, escape}
 use Rattle.print_json.proofs.strings.write_letters.Given as goal
 
 abbrev pub invariant-loop-letter : goal.invariant-loop-letter

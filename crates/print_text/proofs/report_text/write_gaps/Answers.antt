@@ -1,10 +1,4 @@
-use Rattle.std.proofs.Common.{◌∙◌, ◌+◌, ◌++◌, ℕ, List, Option, ap, ap₂, map, refl, sym, take}
-use Rattle.std.specs.Borrow.{Bor}
-use Rattle.std.specs.List.{enumerate_from}
-use Rattle.std.proofs.Output.{has_written_append, has_written_of_eq}
-use Rattle.report.specs.declared.GapLack.{GapLack}
-use Rattle.print_text.specs.Inner.{gap_lines}
-use Rattle.print_text.specs.Texts.{gap_line}
+use Rattle.print_text.proofs.Common.{◌∙◌, ◌+◌, ◌++◌, ℕ, List, Option, ap, ap₂, map, refl, sym, take, Bor, enumerate_from, has_written_append, has_written_of_eq, GapLack, gap_lines, gap_line}
 use Rattle.print_text.proofs.Showing.{gap_added, gap_left_out, marks_all}
 use Rattle.print_text.proofs.report_text.write_gaps.Goals as goal
 

@@ -1,8 +1,4 @@
-use Rattle.std.proofs.Common.{◌∙◌, ◌++◌, ◌<◌, ℕ, List, ap, arith, get_or, length, map, refl, sym, take}
-use Rattle.std.specs.List.{enumerate_from, flat_map}
-use Rattle.std.proofs.Output.{has_written_append, has_written_of_eq}
-use Rattle.report.specs.declared.LayerHead.{LayerHead}
-use Rattle.print_text.specs.Texts.{layer_text}
+use Rattle.print_text.proofs.Common.{◌∙◌, ◌++◌, ◌<◌, ℕ, List, ap, arith, get_or, length, map, refl, sym, take, enumerate_from, flat_map, has_written_append, has_written_of_eq, LayerHead, layer_text}
 use Rattle.print_text.proofs.Showing.{layers_more, marks_all}
 use Rattle.print_text.proofs.report_text.write_layers.Goals as goal
 

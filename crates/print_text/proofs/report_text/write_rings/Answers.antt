@@ -1,13 +1,5 @@
-use Rattle.std.proofs.Common.{◌∙◌, ◌+◌, ◌++◌, ◌<◌, ℕ, List, Option, ap, ap₂, arith, length, map, refl, rules, sym, take}
-use Rattle.std.specs.Prelude.{◌==◌, ◌&&◌}
-use Rattle.std.specs.Borrow.{Bor}
-use Rattle.std.specs.List.{enumerate_from, filter, flat_map}
-use Rattle.std.proofs.Output.{has_written_append, has_written_of_eq}
+use Rattle.print_text.proofs.Common.{◌∙◌, ◌+◌, ◌++◌, ◌<◌, ℕ, List, Option, ap, ap₂, arith, length, map, refl, rules, sym, take, ◌==◌, ◌&&◌, Bor, enumerate_from, filter, flat_map, has_written_append, has_written_of_eq, RingLack, ring_lines, is_shown, number_of, ring_line, acceptance_at}
 use Rattle.grid_units.specs.Holes.{GridRules}
-use Rattle.report.specs.declared.RingLack.{RingLack}
-use Rattle.print_text.specs.Inner.{ring_lines}
-use Rattle.print_text.specs.Texts.{is_shown, number_of, ring_line}
-use Rattle.report.specs.Acceptances.{acceptance_at}
 use Rattle.print_text.proofs.Showing.{ring_added, ring_left_out}
 use Rattle.print_text.proofs.RunLemmas.{all_after, none_before}
 use Rattle.print_text.proofs.report_text.write_rings.Goals as goal

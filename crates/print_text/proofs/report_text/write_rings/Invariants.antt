@@ -1,7 +1,4 @@
-use Rattle.std.proofs.Common.{map, take}
-use Rattle.std.specs.Fmt.{HasWritten, IsPlainFormatter}
-use Rattle.std.specs.List.{enumerate_from}
-use Rattle.print_text.specs.Inner.{ring_lines}
+use Rattle.print_text.proofs.Common.{map, take, HasWritten, IsPlainFormatter, enumerate_from, ring_lines}
 use Rattle.print_text.proofs.report_text.write_rings.Given as goal
 
 abbrev pub invariant-loop-i : goal.invariant-loop-i

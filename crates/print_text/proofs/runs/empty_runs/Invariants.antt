@@ -1,5 +1,4 @@
-use Rattle.std.proofs.Common.{◌≡◌, length}
-use Rattle.print_text.specs.Inner.{AreRuns}
+use Rattle.print_text.proofs.Common.{◌≡◌, length, AreRuns}
 use Rattle.print_text.proofs.runs.empty_runs.Given as goal
 
 abbrev pub invariant-loop-layer : goal.invariant-loop-layer

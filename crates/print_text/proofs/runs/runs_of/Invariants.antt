@@ -1,5 +1,4 @@
-use Rattle.std.proofs.Common.{◌≡◌, length}
-use Rattle.print_text.specs.Inner.{AreRuns}
+use Rattle.print_text.proofs.Common.{◌≡◌, length, AreRuns}
 use Rattle.print_text.proofs.runs.runs_of.Given as goal
 
 abbrev pub invariant-loop-i : goal.invariant-loop-i

@@ -1,8 +1,7 @@
-use Rattle.std.proofs.Common.{◌∙◌, reverse, rules, sym, tests}
+use Rattle.print_text.proofs.Common.{◌∙◌, reverse, rules, sym, tests, is_alike}
 use Rattle.std.proofs.lemmas.Iterator.Adapters.{YieldsList-from_rev_slice}
 use Rattle.std.proofs.lemmas.Iterator.Search.{any_from_yields_List}
 use Rattle.std.proofs.lemmas.List.Sorted.{IsPermutation-reverse, list_any-IsPermutation}
-use Rattle.print_text.specs.Texts.{is_alike}
 use Rattle.print_text.proofs.summary.is_any_alike.Goals as goal
 
 pub returns : goal.returns

@@ -1,9 +1,4 @@
-use Rattle.std.proofs.Common.{◌∙◌, None, ap, ap₂, sym}
-use Rattle.std.specs.Prelude.{if◌then◌else◌}
-use Rattle.report.specs.declared.RingLack.{RingLack}
-use Rattle.print_text.specs.Inner.{smaller}
-use Rattle.print_text.specs.Texts.{is_alike}
-use Rattle.report.specs.Causes.{ring_of}
+use Rattle.print_text.proofs.Common.{◌∙◌, None, ap, ap₂, sym, if◌then◌else◌, RingLack, smaller, is_alike, ring_of}
 use Rattle.print_text.proofs.SmallestLemmas.{smallest_filtered}
 use Rattle.print_text.proofs.summary.smallest_alike.Goals as goal
 

@@ -1,7 +1,4 @@
-use Rattle.std.proofs.Common.{◌≡◌, take}
-use Rattle.std.specs.List.{filter, filter_map}
-use Rattle.print_text.specs.Texts.{is_alike, smallest}
-use Rattle.report.specs.Causes.{ring_of}
+use Rattle.print_text.proofs.Common.{◌≡◌, take, filter, filter_map, is_alike, smallest, ring_of}
 use Rattle.print_text.proofs.summary.smallest_alike.Given as goal
 
 abbrev pub invariant-loop-i : goal.invariant-loop-i

@@ -1,7 +1,5 @@
-use Rattle.std.proofs.Common.{◌≡◌, ◌∙◌, Bool, ap, arith, sym}
-use Rattle.std.specs.Prelude.{◌&&◌, not}
+use Rattle.print_text.proofs.Common.{◌≡◌, ◌∙◌, Bool, ap, arith, sym, ◌&&◌, not, is_first_alike}
 use Rattle.std.proofs.lemmas.Bool.{eq-eqb}
-use Rattle.print_text.specs.Texts.{is_first_alike}
 use Rattle.print_text.proofs.RunLemmas.{any_in_run}
 use Rattle.print_text.proofs.summary.starts_group.Goals as goal
 

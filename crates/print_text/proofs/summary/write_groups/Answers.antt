@@ -1,10 +1,4 @@
-use Rattle.std.proofs.Common.{◌≡◌, ◌∙◌, ◌++◌, ◌<◌, ℕ, List, ap, arith, length, refl, rules, sym, take}
-use Rattle.std.specs.Prelude.{◌==◌, ◌&&◌}
-use Rattle.std.specs.List.{enumerate_from, filter, flat_map}
-use Rattle.std.proofs.Output.{has_written_append, has_written_of_eq}
-use Rattle.report.specs.declared.RingLack.{RingLack}
-use Rattle.print_text.specs.Inner.{group_lines}
-use Rattle.print_text.specs.Texts.{group_line, is_first_alike}
+use Rattle.print_text.proofs.Common.{◌≡◌, ◌∙◌, ◌++◌, ◌<◌, ℕ, List, ap, arith, length, refl, rules, sym, take, ◌==◌, ◌&&◌, enumerate_from, filter, flat_map, has_written_append, has_written_of_eq, RingLack, group_lines, group_line, is_first_alike}
 use Rattle.print_text.proofs.Showing.{group_added, group_left_out}
 use Rattle.print_text.proofs.RunLemmas.{all_after, group_in_run, none_before, on_layer}
 use Rattle.print_text.proofs.summary.write_groups.Goals as goal

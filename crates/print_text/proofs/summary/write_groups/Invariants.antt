@@ -1,7 +1,4 @@
-use Rattle.std.proofs.Common.{take}
-use Rattle.std.specs.Fmt.{HasWritten, IsPlainFormatter}
-use Rattle.std.specs.List.{enumerate_from}
-use Rattle.print_text.specs.Inner.{group_lines}
+use Rattle.print_text.proofs.Common.{take, HasWritten, IsPlainFormatter, enumerate_from, group_lines}
 use Rattle.print_text.proofs.summary.write_groups.Given as goal
 
 abbrev pub invariant-loop-i : goal.invariant-loop-i

@@ -1,5 +1,4 @@
-use Rattle.std.proofs.Common.{◌∙◌, ◌+◌, ℕ, Bool, ap, ap₂, arith, sym}
-use Rattle.std.specs.Prelude.{not, if◌then◌else◌}
+use Rattle.print_text.proofs.Common.{◌∙◌, ◌+◌, ℕ, Bool, ap, ap₂, arith, sym, not, if◌then◌else◌}
 use Rattle.print_text.proofs.Showing.{gaps_hidden, gaps_left_more, marks_all}
 use Rattle.print_text.proofs.tallies.gaps_hidden_count.Goals as goal
 

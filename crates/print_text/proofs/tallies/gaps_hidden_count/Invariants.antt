@@ -1,7 +1,4 @@
-use Rattle.std.proofs.Common.{◌≡◌, ◌≤◌, take}
-use Rattle.std.specs.Prelude.{not}
-use Rattle.std.specs.List.{count_by, enumerate_from}
-use Rattle.print_text.specs.Texts.{is_shown}
+use Rattle.print_text.proofs.Common.{◌≡◌, ◌≤◌, take, not, count_by, enumerate_from, is_shown}
 use Rattle.print_text.proofs.tallies.gaps_hidden_count.Given as goal
 
 abbrev pub invariant-loop-i : goal.invariant-loop-i

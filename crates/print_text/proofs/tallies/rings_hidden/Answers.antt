@@ -1,8 +1,4 @@
-use Rattle.std.proofs.Common.{◌∙◌, ◌+◌, ℕ, Bool, ap, ap₂, arith, sym}
-use Rattle.std.specs.Prelude.{◌==◌, ◌&&◌, not, if◌then◌else◌}
-use Rattle.std.specs.List.{count_by}
-use Rattle.report.specs.declared.RingLack.{RingLack}
-use Rattle.print_text.specs.Texts.{is_shown}
+use Rattle.print_text.proofs.Common.{◌∙◌, ◌+◌, ℕ, Bool, ap, ap₂, arith, sym, ◌==◌, ◌&&◌, not, if◌then◌else◌, count_by, RingLack, is_shown}
 use Rattle.print_text.proofs.Showing.{rings_counted_more}
 use Rattle.print_text.proofs.RunLemmas.{all_after, none_before}
 use Rattle.print_text.proofs.tallies.rings_hidden.Goals as goal

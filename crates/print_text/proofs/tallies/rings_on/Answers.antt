@@ -1,4 +1,4 @@
-use Rattle.std.proofs.Common.{◌∙◌}
+use Rattle.print_text.proofs.Common.{◌∙◌}
 use Rattle.print_text.proofs.RunLemmas.{count_in_run}
 use Rattle.print_text.proofs.tallies.rings_on.Goals as goal
 

@@ -1,8 +1,6 @@
-use Rattle.std.proofs.Common.{◌≡◌, ◌∙◌, ℤ, Some, ap₂, get_or, rules, sym, w64}
+use Rattle.print_text.proofs.Common.{◌≡◌, ◌∙◌, ℤ, Some, ap₂, get_or, rules, sym, w64, GapLack, smaller}
 use mir.Val.{to_z, of_z}
 use Rattle.std.proofs.lemmas.Int.{to_z-of_z}
-use Rattle.report.specs.declared.GapLack.{GapLack}
-use Rattle.print_text.specs.Inner.{smaller}
 use Rattle.print_text.proofs.SmallestLemmas.{smallest_mapped}
 use Rattle.print_text.proofs.tallies.smallest_gap.Goals as goal
 

@@ -1,5 +1,4 @@
-use Rattle.std.proofs.Common.{◌≡◌, map, take}
-use Rattle.print_text.specs.Texts.{smallest}
+use Rattle.print_text.proofs.Common.{◌≡◌, map, take, smallest}
 use Rattle.print_text.proofs.tallies.smallest_gap.Given as goal
 
 abbrev pub invariant-loop-i : goal.invariant-loop-i

@@ -1,7 +1,4 @@
-use Rattle.std.proofs.Common.{◌∙◌, ap₂, sym}
-use Rattle.report.specs.declared.RingLack.{RingLack}
-use Rattle.print_text.specs.Inner.{smaller}
-use Rattle.report.specs.Causes.{ring_of}
+use Rattle.print_text.proofs.Common.{◌∙◌, ap₂, sym, RingLack, smaller, ring_of}
 use Rattle.print_text.proofs.SmallestLemmas.{smallest_more}
 use Rattle.print_text.proofs.tallies.smallest_ring.Goals as goal
 

@@ -1,8 +1,4 @@
-use Rattle.std.proofs.Common.{◌∙◌, ◌+◌, ℕ, Bool, ap, ap₂, arith, sym}
-use Rattle.std.specs.Prelude.{◌==◌, ◌&&◌, if◌then◌else◌}
-use Rattle.std.specs.List.{count_by}
-use Rattle.report.specs.declared.RingLack.{RingLack}
-use Rattle.report.specs.Acceptances.{is_waived}
+use Rattle.print_text.proofs.Common.{◌∙◌, ◌+◌, ℕ, Bool, ap, ap₂, arith, sym, ◌==◌, ◌&&◌, if◌then◌else◌, count_by, RingLack, is_waived}
 use Rattle.print_text.proofs.Showing.{rings_counted_more}
 use Rattle.print_text.proofs.RunLemmas.{all_after, none_before}
 use Rattle.print_text.proofs.waived.waived_on.Goals as goal

@@ -1,7 +1,4 @@
-use Rattle.std.proofs.Common.{◌≡◌, ◌≤◌, take}
-use Rattle.std.specs.Prelude.{◌==◌}
-use Rattle.std.specs.List.{count_by, enumerate_from, filter}
-use Rattle.report.specs.Acceptances.{is_waived}
+use Rattle.print_text.proofs.Common.{◌≡◌, ◌≤◌, take, ◌==◌, count_by, enumerate_from, filter, is_waived}
 use Rattle.print_text.proofs.waived.waived_on.Given as goal
 
 abbrev pub invariant-loop-i : goal.invariant-loop-i

@@ -1,6 +1,4 @@
-use Rattle.std.proofs.Common.{◌+◌, take, ap, sym, subst, ◌∙◌}
-use Rattle.ring_rules.specs.declared.finding.Drilled.{Drilled}
-use Rattle.report.specs.Inner.RescaledCounts.{AreRescaled, IsRescaled}
+use Rattle.report.proofs.Common.{◌+◌, take, ap, sym, subst, ◌∙◌, Drilled, AreRescaled, IsRescaled}
 use Rattle.report.proofs.RescaledCounts.{passed_over, taken_in}
 use Rattle.report.proofs.bare.all_rescaled.Goals as goal
 use Rattle.report.proofs.bare.all_rescaled.Goals.{in-Some+in_ok-push, in_default}

@@ -1,5 +1,4 @@
-use Rattle.std.proofs.Common.{take}
-use Rattle.report.specs.Inner.RescaledCounts.{AreRescaled}
+use Rattle.report.proofs.Common.{take, AreRescaled}
 use Rattle.report.proofs.bare.all_rescaled.Given as goal
 
 abbrev pub invariant-loop-drilled : goal.invariant-loop-drilled

@@ -1,11 +1,5 @@
-use Rattle.std.proofs.Common.{◌≡◌, ◌&&◌, Option, get_or, ap, ◌∙◌, arith}
-use Rattle.std.specs.List.{count_by}
-use Rattle.std.proofs.lemmas.List.{take_all}
-use Rattle.grid_units.specs.Holes.{is_round}
-use Rattle.ring_rules.specs.declared.finding.Drilled.{Drilled}
+use Rattle.report.proofs.Common.{◌≡◌, ◌&&◌, Option, get_or, ap, ◌∙◌, arith, count_by, take_all, is_round, Drilled, BestPad, is_bare}
 use Rattle.margins.specs.Rows.{has_no_best_pad}
-use Rattle.margins.specs.declared.best.BestPad.{BestPad}
-use Rattle.report.specs.UnitMistakes.{is_bare}
 use Rattle.report.proofs.BareLemmas.{bare_more, bare_still}
 use Rattle.report.proofs.bare.bare_among.Goals as goal
 use Rattle.report.proofs.bare.bare_among.Goals.{then-is_bare, else-is_bare}

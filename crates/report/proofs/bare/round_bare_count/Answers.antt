@@ -1,9 +1,4 @@
-use Rattle.std.proofs.Common.{◌≡◌, ◌&&◌, false, get_or, ap, ◌∙◌, arith}
-use Rattle.std.specs.List.{count_by}
-use Rattle.std.proofs.lemmas.List.{take_all}
-use Rattle.grid_units.specs.Holes.{is_round}
-use Rattle.ring_rules.specs.declared.finding.Drilled.{Drilled}
-use Rattle.report.specs.UnitMistakes.{is_bare}
+use Rattle.report.proofs.Common.{◌≡◌, ◌&&◌, false, get_or, ap, ◌∙◌, arith, count_by, take_all, is_round, Drilled, is_bare}
 use Rattle.report.proofs.BareLemmas.{given_more, given_still}
 use Rattle.report.proofs.bare.round_bare_count.Goals as goal
 use Rattle.report.proofs.bare.round_bare_count.Goals.{then-is_round_and_bare, else-is_round_and_bare}

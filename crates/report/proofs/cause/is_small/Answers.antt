@@ -1,7 +1,5 @@
-use Rattle.std.proofs.Common.{◌≡◌, ◌+◌, ◌∙◌, ap, subst}
+use Rattle.report.proofs.Common.{◌≡◌, ◌+◌, ◌∙◌, ap, subst, GridPoint, abs_diff, half_apart}
 use Rattle.std.specs.Prelude.{not}
-use Rattle.grid_units.specs.Points.{GridPoint, abs_diff}
-use Rattle.report.specs.Causes.{half_apart}
 use Rattle.report.proofs.PadSymmetry.{ends_alike}
 use Rattle.report.proofs.cause.is_small.Goals as goal
 

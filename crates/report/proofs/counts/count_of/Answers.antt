@@ -1,4 +1,4 @@
-use Rattle.std.proofs.Common.{length, refl}
+use Rattle.report.proofs.Common.{length, refl}
 use Rattle.report.proofs.RescaledCounts.{all_bare}
 use Rattle.report.proofs.counts.count_of.Goals as goal
 

@@ -1,7 +1,4 @@
-use Rattle.std.proofs.Common.{◌≡◌, ◌+◌, ◌∙◌, get_or, take, arith}
-use Rattle.std.proofs.lemmas.List.{get_or_default}
-use Rattle.report.specs.declared.counts.HoleRange.{HoleRange}
-use Rattle.report.specs.Inner.RescaledCounts.{holes_of}
+use Rattle.report.proofs.Common.{◌≡◌, ◌+◌, ◌∙◌, get_or, take, arith, get_or_default, HoleRange, holes_of}
 use Rattle.report.proofs.RescaledLists.{bare_part, rescaled_part}
 use Rattle.report.proofs.UnitMistakeLemmas.{IsCount, as_counted, from_counted}
 use Rattle.report.proofs.PairedLists.{paired_all, paired_more}

@@ -1,9 +1,4 @@
-use Rattle.std.proofs.Common.{List, take}
-use Rattle.pad_shapes.specs.WidePads.{wide_pad_covers}
-use Rattle.pad_shapes.specs.declared.wide_pad.WidePad.{WidePad}
-use Rattle.margins.specs.BestPads.{AreBare}
-use Rattle.report.specs.declared.UnitFactor.{UnitFactor}
-use Rattle.report.specs.Inner.RescaledCounts.{AreCounted, AreRescaledRanges}
+use Rattle.report.proofs.Common.{List, take, wide_pad_covers, WidePad, AreBare, UnitFactor, AreCounted, AreRescaledRanges}
 use Rattle.report.proofs.counts.counts_in.Given as goal
 
 abbrev pub invariant-loop-place : goal.invariant-loop-place

@@ -1,6 +1,4 @@
-use Rattle.std.proofs.Common.{get_or}
-use Rattle.std.proofs.lemmas.List.{get_or_default}
-use Rattle.report.specs.declared.counts.HoleRange.{HoleRange}
+use Rattle.report.proofs.Common.{get_or, get_or_default, HoleRange}
 use Rattle.report.proofs.RescaledLists.{ranges_all, ranges_more, ranges_none}
 use Rattle.report.proofs.counts.rescale_ranges.Goals as goal
 

@@ -1,5 +1,4 @@
-use Rattle.std.proofs.Common.{take}
-use Rattle.report.specs.Inner.RescaledCounts.{AreRescaledRanges}
+use Rattle.report.proofs.Common.{take, AreRescaledRanges}
 use Rattle.report.proofs.counts.rescale_ranges.Given as goal
 
 abbrev pub invariant-loop-range : goal.invariant-loop-range

@@ -1,7 +1,4 @@
-use Rattle.std.proofs.lemmas.Result.{IfOk-weaker}
-use Rattle.pad_shapes.specs.WidePads.{wide_pad_covers}
-use Rattle.margins.specs.BestPads.{AreBare}
-use Rattle.report.specs.Causes.{TellsBare}
+use Rattle.report.proofs.Common.{IfOk-weaker, wide_pad_covers, AreBare, TellsBare}
 use Rattle.report.proofs.UncountedLemmas.{tells}
 use Rattle.report.proofs.cover.bare_in.Goals as goal
 

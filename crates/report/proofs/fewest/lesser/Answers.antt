@@ -1,4 +1,4 @@
-use Rattle.std.proofs.Common.{inl, inr, arith}
+use Rattle.report.proofs.Common.{inl, inr, arith}
 use Rattle.report.proofs.FewestLemmas.{next_taken, old_kept}
 use Rattle.report.proofs.fewest.lesser.Goals as goal
 

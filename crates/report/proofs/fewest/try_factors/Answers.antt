@@ -1,10 +1,5 @@
-use Rattle.std.proofs.Common.{ℕ, List, [], ◌∷◌, ◌++◌, length, ap, sym, subst, ◌∙◌}
-use Rattle.std.proofs.lemmas.Result.{IfOk-weaker}
-use Rattle.report.specs.UnitMistakes.{factors}
-use Rattle.report.specs.declared.UnitFactor.{UnitFactor}
+use Rattle.report.proofs.Common.{ℕ, List, [], ◌∷◌, ◌++◌, length, ap, sym, subst, ◌∙◌, IfOk-weaker, factors, UnitFactor, HoleRange, AreCounted, AreTried}
 use Rattle.report.specs.declared.UnitFactor.TheVariants as kind
-use Rattle.report.specs.declared.counts.HoleRange.{HoleRange}
-use Rattle.report.specs.Inner.RescaledCounts.{AreCounted, AreTried}
 use Rattle.report.proofs.fewest.try_factors.Goals as goal
 
 pub with_first-requires : goal.with_first-requires

@@ -1,11 +1,4 @@
-use Rattle.std.proofs.Common.{◌≡◌, ℕ, List, [], ◌∷◌, ◌++◌, length, map, ap, sym, subst, ◌∙◌}
-use Rattle.std.proofs.lemmas.List.{length-map}
-use Rattle.std.proofs.lemmas.Result.{IfOk-weaker}
-use Rattle.pad_shapes.specs.declared.wide_pad.WidePad.{WidePad}
-use Rattle.ring_rules.specs.declared.finding.Drilled.{Drilled}
-use Rattle.report.specs.declared.UnitFactor.{UnitFactor}
-use Rattle.report.specs.declared.counts.HoleRange.{HoleRange}
-use Rattle.report.specs.Inner.RescaledCounts.{AreCounted, AreHoleRanges, AreTried, open_part}
+use Rattle.report.proofs.Common.{◌≡◌, ℕ, List, [], ◌∷◌, ◌++◌, length, map, ap, sym, subst, ◌∙◌, length-map, IfOk-weaker, WidePad, Drilled, UnitFactor, HoleRange, AreCounted, AreHoleRanges, AreTried, open_part}
 use Rattle.report.proofs.UnitMistakeLemmas.{open_fit}
 use Rattle.report.proofs.fewest.try_next.Goals as goal
 

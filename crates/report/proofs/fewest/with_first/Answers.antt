@@ -1,10 +1,5 @@
-use Rattle.std.proofs.Common.{◌+◌, [], ◌∷◌, get_or, take, refl}
-use Rattle.std.proofs.lemmas.List.{get_or_default}
-use Rattle.report.specs.UnitMistakes.{bare_count_with}
-use Rattle.report.specs.Inner.RescaledCounts.{IsTried, holes_of}
+use Rattle.report.proofs.Common.{◌+◌, [], ◌∷◌, get_or, take, refl, get_or_default, bare_count_with, IsTried, holes_of, HoleRange, Fewest}
 use Rattle.report.specs.declared.UnitFactor.TheVariants as kind
-use Rattle.report.specs.declared.counts.HoleRange.{HoleRange}
-use Rattle.report.specs.declared.fewest.Fewest.{Fewest}
 use Rattle.report.proofs.FewestLemmas.{only_one}
 use Rattle.report.proofs.UnitMistakeLemmas.{as_tried, from_tried}
 use Rattle.report.proofs.PairedLists.{paired_all, paired_more}

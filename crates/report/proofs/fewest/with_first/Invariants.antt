@@ -1,8 +1,5 @@
-use Rattle.std.proofs.Common.{List, [], ◌∷◌, take}
-use Rattle.pad_shapes.specs.declared.wide_pad.WidePad.{WidePad}
-use Rattle.ring_rules.specs.declared.finding.Drilled.{Drilled}
+use Rattle.report.proofs.Common.{List, [], ◌∷◌, take, WidePad, Drilled, AreCounted, AreTried}
 use Rattle.report.specs.declared.UnitFactor.TheVariants as kind
-use Rattle.report.specs.Inner.RescaledCounts.{AreCounted, AreTried}
 use Rattle.report.proofs.fewest.with_first.Given as goal
 
 abbrev pub invariant-loop-place : goal.invariant-loop-place

@@ -1,10 +1,5 @@
-use Rattle.std.proofs.Common.{◌≡◌, ℕ, ◌+◌, ◌<◌, ◌≤◌, ◌⊎◌, [], ◌∷◌, ◌++◌, get_or, length, map, take, ap, subst, ◌∙◌, arith}
-use Rattle.std.proofs.lemmas.List.{get_or-map, get_or_default, length-map}
-use Rattle.report.specs.UnitMistakes.{bare_count_with}
-use Rattle.report.specs.Inner.RescaledCounts.{IsTried, holes_of, open_part}
+use Rattle.report.proofs.Common.{◌≡◌, ℕ, ◌+◌, ◌<◌, ◌≤◌, ◌⊎◌, [], ◌∷◌, ◌++◌, get_or, length, map, take, ap, subst, ◌∙◌, arith, get_or-map, get_or_default, length-map, bare_count_with, IsTried, holes_of, open_part, HoleRange, Tried}
 use Rattle.report.specs.declared.UnitFactor.TheVariants as kind
-use Rattle.report.specs.declared.counts.HoleRange.{HoleRange}
-use Rattle.report.specs.declared.fewest.Tried.{Tried}
 use Rattle.report.proofs.UnitMistakeLemmas.{as_tried, from_tried, open_counted}
 use Rattle.report.proofs.PairedLists.{paired_all, paired_more}
 use Rattle.report.proofs.fewest.with_next.Goals as goal

@@ -1,9 +1,4 @@
-use Rattle.std.proofs.Common.{List, [], ◌∷◌, ◌++◌, map, take}
-use Rattle.pad_shapes.specs.declared.wide_pad.WidePad.{WidePad}
-use Rattle.ring_rules.specs.declared.finding.Drilled.{Drilled}
-use Rattle.report.specs.declared.UnitFactor.{UnitFactor}
-use Rattle.report.specs.declared.counts.HoleRange.{HoleRange}
-use Rattle.report.specs.Inner.RescaledCounts.{AreCounted, AreTried, open_part}
+use Rattle.report.proofs.Common.{List, [], ◌∷◌, ◌++◌, map, take, WidePad, Drilled, UnitFactor, HoleRange, AreCounted, AreTried, open_part}
 use Rattle.report.proofs.fewest.with_next.Given as goal
 
 abbrev pub invariant-loop-place : goal.invariant-loop-place

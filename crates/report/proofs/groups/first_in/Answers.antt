@@ -1,7 +1,4 @@
-use Rattle.std.proofs.Common.{List, arith, length, subst, take, ◌∙◌}
-use Rattle.std.proofs.lemmas.List.{take_all}
-use Rattle.report.specs.Inner.CauseParts.{IsFirstIn}
-use Rattle.report.specs.declared.other.Other.{Other}
+use Rattle.report.proofs.Common.{List, arith, length, subst, take, ◌∙◌, take_all, IsFirstIn, Other}
 use Rattle.report.proofs.FirstInHole.{first_is_found, joined_to}
 use Rattle.report.proofs.groups.first_in.Goals as goal
 

@@ -1,5 +1,4 @@
-use Rattle.std.proofs.Common.{◌-◌, length}
-use Rattle.report.specs.Inner.CauseParts.{HasPassed}
+use Rattle.report.proofs.Common.{◌-◌, length, HasPassed}
 use Rattle.report.proofs.groups.first_in.Given as goal
 
 abbrev pub invariant-loop-search : goal.invariant-loop-search

@@ -1,5 +1,4 @@
-use Rattle.std.proofs.Common.{subst, sym}
-use Rattle.report.specs.Causes.{AreGroups}
+use Rattle.report.proofs.Common.{subst, sym, AreGroups}
 use Rattle.report.proofs.groups.groups_of.Goals.{then-start-eq0+in_ok-push_groups, else-start-eq0}
 use Rattle.report.proofs.groups.groups_of.Goals as goal
 

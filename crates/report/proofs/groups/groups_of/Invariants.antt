@@ -1,4 +1,4 @@
-use Rattle.report.specs.Causes.{AreGroups}
+use Rattle.report.proofs.Common.{AreGroups}
 use Rattle.report.proofs.groups.groups_of.Given as goal
 
 abbrev pub invariant-loop-start : goal.invariant-loop-start

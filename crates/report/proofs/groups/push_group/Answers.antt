@@ -1,6 +1,4 @@
-use Rattle.std.proofs.Common.{◌∷◌, [], subst, sym}
-use Rattle.std.proofs.lemmas.List.Elements.{All-append, All-cons, All-nil}
-use Rattle.report.specs.Causes.{AreGroups, IsGroup}
+use Rattle.report.proofs.Common.{◌∷◌, [], subst, sym, All-append, All-cons, All-nil, AreGroups, IsGroup}
 use Rattle.report.proofs.groups.push_group.Goals as goal
 
 pub returns-in_ok-push : goal.returns-in_ok-push

@@ -1,4 +1,4 @@
-use Rattle.std.proofs.Common.{refl}
+use Rattle.report.proofs.Common.{refl}
 use Rattle.report.proofs.UnitMistakeLemmas.{a_line, no_line}
 use Rattle.report.proofs.mistakes.line_of.Goals as goal
 

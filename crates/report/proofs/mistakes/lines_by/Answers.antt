@@ -1,12 +1,5 @@
-use Rattle.std.proofs.Common.{◌≡◌, ◌+◌, ◌<◌, get_or, length, map, take, subst, refl, arith}
-use Rattle.std.proofs.lemmas.List.{get_or-map, get_or_default, length-map}
-use Rattle.report.specs.UnitMistakes.{bare_count_with, factors}
-use Rattle.report.specs.Inner.RescaledCounts.{IsFewest, holes_of}
+use Rattle.report.proofs.Common.{◌≡◌, ◌+◌, ◌<◌, get_or, length, map, take, subst, refl, arith, get_or-map, get_or_default, length-map, bare_count_with, factors, IsFewest, holes_of, HoleRange, Tried, Suspect, FileRange}
 use Rattle.report.specs.declared.UnitFactor.TheVariants as kind
-use Rattle.report.specs.declared.counts.HoleRange.{HoleRange}
-use Rattle.report.specs.declared.fewest.Tried.{Tried}
-use Rattle.report.specs.declared.mistakes.Suspect.{Suspect}
-use Rattle.report.specs.declared.mistakes.FileRange.{FileRange}
 use Rattle.report.proofs.UnitMistakeLemmas.{IsLineOf, as_lines, from_lines}
 use Rattle.report.proofs.PairedLists.{paired_all, paired_more}
 use Rattle.report.proofs.mistakes.lines_by.Goals as goal

@@ -1,9 +1,4 @@
-use Rattle.std.proofs.Common.{List, map, take}
-use Rattle.pad_shapes.specs.declared.wide_pad.WidePad.{WidePad}
-use Rattle.ring_rules.specs.declared.finding.Drilled.{Drilled}
-use Rattle.report.specs.UnitMistakes.{AreUnitMistakes, factors}
-use Rattle.report.specs.Inner.RescaledCounts.{AreSuspects, AreTried}
-use Rattle.report.specs.declared.mistakes.Suspect.{Suspect}
+use Rattle.report.proofs.Common.{List, map, take, WidePad, Drilled, AreUnitMistakes, factors, AreSuspects, AreTried, Suspect}
 use Rattle.report.proofs.mistakes.lines_by.Given as goal
 
 abbrev pub invariant-loop-place : goal.invariant-loop-place

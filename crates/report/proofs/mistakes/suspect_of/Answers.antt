@@ -1,5 +1,4 @@
-use Rattle.std.proofs.Common.{◌≡◌, ◌↔◌, ◌*◌, ◌<◌, ℕ, true, inl, inr, refl, subst, arith}
-use Rattle.report.specs.UnitMistakes.{holes_in}
+use Rattle.report.proofs.Common.{◌≡◌, ◌↔◌, ◌*◌, ◌<◌, ℕ, true, inl, inr, refl, subst, arith, holes_in}
 use Rattle.report.proofs.FewestLemmas.{too_few}
 use Rattle.report.proofs.Slices.{bests_of_part}
 use Rattle.report.proofs.mistakes.suspect_of.Goals as goal

@@ -1,7 +1,4 @@
-use Rattle.std.proofs.Common.{◌+◌, get_or, take}
-use Rattle.std.proofs.lemmas.List.{get_or_default}
-use Rattle.report.specs.Inner.RescaledCounts.{IsSuspect}
-use Rattle.report.specs.declared.mistakes.FileRange.{FileRange}
+use Rattle.report.proofs.Common.{◌+◌, get_or, take, get_or_default, IsSuspect, FileRange}
 use Rattle.report.proofs.UnitMistakeLemmas.{as_suspects, from_suspects}
 use Rattle.report.proofs.PairedLists.{paired_all, paired_more}
 use Rattle.report.proofs.mistakes.suspects_of.Goals as goal

@@ -1,8 +1,4 @@
-use Rattle.std.proofs.Common.{List, take}
-use Rattle.pad_shapes.specs.WidePads.{wide_pad_covers}
-use Rattle.pad_shapes.specs.declared.wide_pad.WidePad.{WidePad}
-use Rattle.margins.specs.BestPads.{AreBestPads}
-use Rattle.report.specs.Inner.RescaledCounts.{AreSuspects}
+use Rattle.report.proofs.Common.{List, take, wide_pad_covers, WidePad, AreBestPads, AreSuspects}
 use Rattle.report.proofs.mistakes.suspects_of.Given as goal
 
 abbrev pub invariant-loop-file : goal.invariant-loop-file

@@ -1,10 +1,4 @@
-use Rattle.std.proofs.Common.{◌≡◌, List, length, map, ap, sym, subst, ◌∙◌}
-use Rattle.std.proofs.lemmas.List.{length-map}
-use Rattle.report.specs.UnitMistakes.{factors}
-use Rattle.report.specs.Inner.RescaledCounts.{AreHoleRanges, AreSuspects, AreTried}
-use Rattle.report.specs.declared.counts.HoleRange.{HoleRange}
-use Rattle.report.specs.declared.fewest.Tried.{Tried}
-use Rattle.report.specs.declared.mistakes.Suspect.{Suspect}
+use Rattle.report.proofs.Common.{◌≡◌, List, length, map, ap, sym, subst, ◌∙◌, length-map, factors, AreHoleRanges, AreSuspects, AreTried, HoleRange, Tried, Suspect}
 use Rattle.report.proofs.UnitMistakeLemmas.{ranges_fit}
 use Rattle.report.proofs.mistakes.unit_mistakes.Goals as goal
 

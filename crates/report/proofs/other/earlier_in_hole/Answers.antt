@@ -1,6 +1,4 @@
-use Rattle.std.proofs.Common.{◌++◌, ◌∷◌, [], Some, subst, sym, ◌∙◌}
-use Rattle.report.specs.Inner.CauseParts.{IsFirstIn}
-use Rattle.report.specs.declared.other.Other.{Other}
+use Rattle.report.proofs.Common.{◌++◌, ◌∷◌, [], Some, subst, sym, ◌∙◌, IsFirstIn, Other}
 use Rattle.report.proofs.FirstInHole.{lesser_is, passed_by}
 use Rattle.report.proofs.other.earlier_in_hole.Goals as goal
 

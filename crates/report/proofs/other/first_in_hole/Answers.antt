@@ -1,7 +1,4 @@
-use Rattle.std.proofs.Common.{◌++◌, ◌∷◌, [], List, take, ap, append_assoc, append-nil, subst, sym, ◌∙◌}
-use Rattle.std.proofs.lemmas.List.{take_all, take_more}
-use Rattle.report.specs.Inner.CauseParts.{IsFirstIn}
-use Rattle.report.specs.declared.other.Other.{Other}
+use Rattle.report.proofs.Common.{◌++◌, ◌∷◌, [], List, take, ap, append_assoc, append-nil, subst, sym, ◌∙◌, take_all, take_more, IsFirstIn, Other}
 use Rattle.report.proofs.other.first_in_hole.Goals as goal
 
 pub loop-other-init : goal.loop-other-init

@@ -1,6 +1,4 @@
-use Rattle.std.proofs.Common.{◌++◌, List, take}
-use Rattle.report.specs.Inner.CauseParts.{IsFirstIn}
-use Rattle.report.specs.declared.other.Other.{Other}
+use Rattle.report.proofs.Common.{◌++◌, List, take, IsFirstIn, Other}
 use Rattle.report.proofs.other.first_in_hole.Given as goal
 
 abbrev pub invariant-loop-other : goal.invariant-loop-other

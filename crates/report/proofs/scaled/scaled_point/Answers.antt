@@ -1,6 +1,5 @@
-use Rattle.std.proofs.Common.{ap, ◌∙◌}
+use Rattle.report.proofs.Common.{ap, ◌∙◌, scaled}
 use Rattle.margins.proofs.PassedIntegers.{same}
-use Rattle.report.specs.UnitMistakes.{scaled}
 use Rattle.report.proofs.RescaledCounts.{placed_at}
 use Rattle.report.proofs.scaled.scaled_point.Goals as goal
 

@@ -1,11 +1,6 @@
-use Rattle.std.proofs.Common.{◌∙◌, ◌++◌, ℕ, List, ap, ap₂, length, map, refl, sym, take}
-use Rattle.std.specs.List.{enumerate_from}
-use Rattle.std.proofs.Output.{has_written_append, has_written_of_eq}
-use Rattle.package_check.specs.declared.FileSum.{FileSum}
+use Rattle.report_page.proofs.Common.{◌∙◌, ◌++◌, ℕ, List, ap, ap₂, length, map, refl, sym, take, enumerate_from, has_written_append, has_written_of_eq, FileSum, file_items, file_words, marks_all}
 use Rattle.picture.specs.Escapes.{escaped}
-use Rattle.report_page.specs.Pages.{file_items, file_words}
 use Rattle.report_page.proofs.RowLemmas.{file_added}
-use Rattle.print_text.proofs.Showing.{marks_all}
 use Rattle.report_page.proofs.files.write_files.Goals as goal
 
 pub loop-i-preserved : goal.loop-i-preserved

@@ -1,7 +1,4 @@
-use Rattle.std.proofs.Common.{map, take}
-use Rattle.std.specs.Fmt.{HasWritten, IsPlainFormatter}
-use Rattle.std.specs.List.{enumerate_from}
-use Rattle.report_page.specs.Pages.{file_items}
+use Rattle.report_page.proofs.Common.{map, take, HasWritten, IsPlainFormatter, enumerate_from, file_items}
 use Rattle.report_page.proofs.files.write_files.Given as goal
 
 -- the files so far

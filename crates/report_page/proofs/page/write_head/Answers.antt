@@ -1,9 +1,5 @@
-use Rattle.std.proofs.Common.{◌++◌, ℕ, List, ap₂, map, refl}
-use Rattle.std.specs.List.{flat_map}
-use Rattle.std.proofs.Output.{has_written_append, has_written_of_eq}
-use Rattle.grid_units.specs.declared.profile.Profile.{Profile}
+use Rattle.report_page.proofs.Common.{◌++◌, ℕ, List, ap₂, map, refl, flat_map, has_written_append, has_written_of_eq, Profile, conflict_warning, files_text, particulars_text, verdict}
 use Rattle.report.specs.declared.RoleConflict.{RoleConflict}
-use Rattle.report_page.specs.Pages.{conflict_warning, files_text, particulars_text, verdict}
 use Rattle.report_page.specs.declared.frame.TheConstants.{BEFORE_RULES, BEFORE_STYLE, BODY, HEAD}
 use Rattle.report_page.specs.declared.style.TheConstants.{STYLE}
 use Rattle.report_page.proofs.page.write_head.Goals as goal

@@ -1,11 +1,5 @@
-use Rattle.std.proofs.Common.{◌≡◌, ◌∙◌, ◌<◌, ◌≤◌, ◌+◌, ◌++◌, ℕ, List, Option, ap, ap₂, get_or, length, map, refl, subst, sym, take}
-use Rattle.std.specs.Borrow.{Bor}
-use Rattle.std.specs.List.{enumerate_from}
-use Rattle.std.proofs.Output.{has_written_append, has_written_of_eq}
+use Rattle.report_page.proofs.Common.{◌≡◌, ◌∙◌, ◌<◌, ◌≤◌, ◌+◌, ◌++◌, ℕ, List, Option, ap, ap₂, get_or, length, map, refl, subst, sym, take, Bor, enumerate_from, has_written_append, has_written_of_eq, RingLack, marks_all, gap_row, gap_rows}
 use Rattle.report.specs.declared.GapLack.{GapLack}
-use Rattle.report.specs.declared.RingLack.{RingLack}
-use Rattle.print_text.proofs.Showing.{marks_all}
-use Rattle.report_page.specs.Pages.{gap_row, gap_rows}
 use Rattle.report_page.proofs.RowLemmas.{gap_added}
 use Rattle.report_page.proofs.rows.write_gap_rows.Goals as goal
 

@@ -1,7 +1,4 @@
-use Rattle.std.proofs.Common.{length, map, take}
-use Rattle.std.specs.Fmt.{HasWritten, IsPlainFormatter}
-use Rattle.std.specs.List.{enumerate_from}
-use Rattle.report_page.specs.Pages.{gap_rows}
+use Rattle.report_page.proofs.Common.{length, map, take, HasWritten, IsPlainFormatter, enumerate_from, gap_rows}
 use Rattle.report_page.proofs.rows.write_gap_rows.Given as goal
 
 -- the rows of the gaps so far

@@ -1,11 +1,4 @@
-use Rattle.std.proofs.Common.{◌≡◌, ◌∙◌, ◌<◌, ◌≤◌, ◌+◌, ◌++◌, ℕ, List, Option, ap, ap₂, get_or, length, map, refl, subst, sym, take}
-use Rattle.std.specs.Borrow.{Bor}
-use Rattle.std.specs.List.{enumerate_from}
-use Rattle.std.proofs.Output.{has_written_append, has_written_of_eq}
-use Rattle.report.specs.declared.LayerHead.{LayerHead}
-use Rattle.report.specs.declared.RingLack.{RingLack}
-use Rattle.print_text.proofs.Showing.{marks_all}
-use Rattle.report_page.specs.Pages.{ring_row, ring_rows}
+use Rattle.report_page.proofs.Common.{◌≡◌, ◌∙◌, ◌<◌, ◌≤◌, ◌+◌, ◌++◌, ℕ, List, Option, ap, ap₂, get_or, length, map, refl, subst, sym, take, Bor, enumerate_from, has_written_append, has_written_of_eq, LayerHead, RingLack, marks_all, ring_row, ring_rows}
 use Rattle.report_page.proofs.RowLemmas.{ring_added}
 use Rattle.report_page.proofs.rows.write_ring_rows.Goals as goal
 

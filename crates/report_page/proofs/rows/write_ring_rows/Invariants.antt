@@ -1,7 +1,4 @@
-use Rattle.std.proofs.Common.{map, take}
-use Rattle.std.specs.Fmt.{HasWritten, IsPlainFormatter}
-use Rattle.std.specs.List.{enumerate_from}
-use Rattle.report_page.specs.Pages.{ring_rows}
+use Rattle.report_page.proofs.Common.{map, take, HasWritten, IsPlainFormatter, enumerate_from, ring_rows}
 use Rattle.report_page.proofs.rows.write_ring_rows.Given as goal
 
 -- the rows of the rings so far

@@ -1,5 +1,4 @@
-use Rattle.std.proofs.Common.{arith}
-use Rattle.std.proofs.lemmas.Int.{ints}
+use Rattle.ring_rules.proofs.Common.{arith, ints}
 use Rattle.ring_rules.proofs.PlacesLemmas.{end-le}
 use Rattle.ring_rules.proofs.axis.even_end.Goals as goal
 

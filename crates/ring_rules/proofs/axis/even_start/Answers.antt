@@ -1,5 +1,4 @@
-use Rattle.std.proofs.Common.{◌<◌, arith}
-use Rattle.std.proofs.lemmas.Int.{ints}
+use Rattle.ring_rules.proofs.Common.{◌<◌, arith, ints}
 use Rattle.ring_rules.proofs.PlacesLemmas.{start-le}
 use Rattle.ring_rules.proofs.axis.even_start.Goals as goal
 

@@ -1,7 +1,5 @@
-use Rattle.std.proofs.Common.{rules, ◌≡◌, ℤ, pos, get_or, slice_index_or, w64, to_z, of_z, arith}
-use Rattle.std.proofs.lemmas.Int.{ints, to_z-of_z}
+use Rattle.ring_rules.proofs.Common.{rules, ◌≡◌, ℤ, pos, get_or, slice_index_or, w64, to_z, of_z, arith, ints, to_z-of_z, int_le}
 use Rattle.std.proofs.lemmas.List.Sums.{prefix_len-le-length}
-use Rattle.std.specs.Prelude.{int_le}
 use Rattle.ring_rules.proofs.BordersLemmas.{before_by, after_by}
 use Rattle.ring_rules.proofs.axis.is_before.Goals as goal
 

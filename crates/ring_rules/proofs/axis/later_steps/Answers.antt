@@ -1,5 +1,4 @@
-use Rattle.std.proofs.Common.{rules, ◌≡◌, w64, to_z, of_z, arith}
-use Rattle.std.proofs.lemmas.Int.{ints, to_z-of_z}
+use Rattle.ring_rules.proofs.Common.{rules, ◌≡◌, w64, to_z, of_z, arith, ints, to_z-of_z}
 use Rattle.ring_rules.proofs.BordersLemmas.{up_to-le}
 use Rattle.ring_rules.proofs.axis.later_steps.Goals as goal
 

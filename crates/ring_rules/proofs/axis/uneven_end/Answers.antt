@@ -1,6 +1,4 @@
-use Rattle.std.proofs.Common.{rules, ◌≡◌, ◌<◌, ◌≤ℤ◌, ℤ, length, w64, to_z, of_z, sym, subst, arith}
-use Rattle.std.proofs.lemmas.Int.{to_z-of_z}
-use Rattle.std.proofs.lemmas.Bool.Decides.{nat_tests}
+use Rattle.ring_rules.proofs.Common.{rules, ◌≡◌, ◌<◌, ◌≤ℤ◌, ℤ, length, w64, to_z, of_z, sym, subst, arith, to_z-of_z, nat_tests}
 use Rattle.ring_rules.proofs.BordersLemmas.{end_by}
 use Rattle.ring_rules.proofs.axis.uneven_end.Goals as goal
 

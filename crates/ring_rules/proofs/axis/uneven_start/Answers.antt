@@ -1,5 +1,4 @@
-use Rattle.std.proofs.Common.{rules, ◌≡◌, ◌-◌, ◌<◌, ◌≤ℤ◌, ℤ, w64, to_z, of_z, sym, subst, arith}
-use Rattle.std.proofs.lemmas.Int.{to_z-of_z}
+use Rattle.ring_rules.proofs.Common.{rules, ◌≡◌, ◌-◌, ◌<◌, ◌≤ℤ◌, ℤ, w64, to_z, of_z, sym, subst, arith, to_z-of_z}
 use Rattle.ring_rules.specs.Borders.{borders_up_to}
 use Rattle.ring_rules.proofs.BordersLemmas.{start_by}
 use Rattle.ring_rules.proofs.axis.uneven_start.Goals as goal

@@ -1,6 +1,4 @@
-use Rattle.std.proofs.Common.{rules, ℤ}
-use Rattle.std.specs.Prelude.{int_le}
-use Rattle.std.proofs.lemmas.List.Sorted.{IsPartitionPoint-from_clause}
+use Rattle.ring_rules.proofs.Common.{rules, ℤ, int_le, IsPartitionPoint-from_clause}
 use Rattle.ring_rules.proofs.BordersLemmas.{borders_are_partitioned, partition_point_is}
 use Rattle.ring_rules.proofs.axis.uneven_steps.Goals as goal
 

@@ -1,8 +1,4 @@
-use Rattle.std.proofs.Common.{◌≡◌, ℕ, ◌+◌, ◌<◌, List, [], ◌∷◌, ◌++◌, length, get_or, set, sym, ap, subst, ◌∙◌, arith}
-use Rattle.std.proofs.lemmas.List.{get_or_default, length-set}
-use Rattle.ring_rules.specs.Places.{IsChained, default_hole, entry_at}
-use Rattle.ring_rules.specs.Cells.{cell_of, cell_at, column_of, row_of}
-use Rattle.ring_rules.specs.declared.finding.Drilled.{Drilled}
+use Rattle.ring_rules.proofs.Common.{◌≡◌, ℕ, ◌+◌, ◌<◌, List, [], ◌∷◌, ◌++◌, length, get_or, set, sym, ap, subst, ◌∙◌, arith, get_or_default, length-set, IsChained, default_hole, entry_at, cell_of, cell_at, column_of, row_of, Drilled}
 use Rattle.ring_rules.proofs.ChainLemmas.{chained_more}
 use Rattle.ring_rules.proofs.SpotLemmas.{in_last_row}
 use Rattle.ring_rules.proofs.cells.links.Goals as goal

@@ -1,6 +1,4 @@
-use Rattle.std.proofs.Common.{◌≡◌, ◌+◌, ◌*◌, length}
-use Rattle.ring_rules.specs.Places.{IsChained}
-use Rattle.ring_rules.specs.Cells.{cell_at}
+use Rattle.ring_rules.proofs.Common.{◌≡◌, ◌+◌, ◌*◌, length, IsChained, cell_at}
 use Rattle.ring_rules.proofs.cells.links.Given as goal
 
 -- the holes so far are chained

@@ -1,7 +1,4 @@
-use Rattle.std.proofs.Common.{ℕ, List, sym, subst, ◌∙◌}
-use Rattle.ring_rules.specs.Cores.{are_clear}
-use Rattle.ring_rules.specs.Inner.ClashingPairs.{in_order, AreClashing, AddsClashes}
-use Rattle.ring_rules.specs.declared.spots.Spot.{Spot}
+use Rattle.ring_rules.proofs.Common.{ℕ, List, sym, subst, ◌∙◌, are_clear, in_order, AreClashing, AddsClashes, Spot}
 use Rattle.ring_rules.proofs.AddedClashes.{adds_one}
 use Rattle.ring_rules.proofs.clashes.add_pair.Goals as goal
 

@@ -1,6 +1,4 @@
-use Rattle.std.proofs.Common.{ℕ, ◌<◌, List, length, subst, ◌∙◌, arith}
-use Rattle.std.proofs.lemmas.List.{get_or_default}
-use Rattle.ring_rules.specs.Inner.ClashingPairs.{ListsClash}
+use Rattle.ring_rules.proofs.Common.{ℕ, ◌<◌, List, length, subst, ◌∙◌, arith, get_or_default, ListsClash}
 use Rattle.ring_rules.proofs.AddedClashes.{adds_both, lists_clash_of_more}
 use Rattle.ring_rules.proofs.clashes.add_pairs.Goals as goal
 

@@ -1,5 +1,4 @@
-use Rattle.std.proofs.Common.{ℕ, ◌<◌, get_or}
-use Rattle.ring_rules.specs.Inner.ClashingPairs.{AddsClashes, ListsClash}
+use Rattle.ring_rules.proofs.Common.{ℕ, ◌<◌, get_or, AddsClashes, ListsClash}
 use Rattle.ring_rules.proofs.clashes.add_pairs.Given as goal
 
 -- the pairs with the spots so far are there

@@ -1,4 +1,4 @@
-use Rattle.std.proofs.Common.{◌∙◌, sym}
+use Rattle.ring_rules.proofs.Common.{◌∙◌, sym}
 use Rattle.ring_rules.proofs.CoreLemmas.{clear_from_test, test_from_clear, clear_holes_are_apart}
 use Rattle.ring_rules.proofs.cores.clear_of.Goals as goal
 

@@ -1,4 +1,4 @@
-use Rattle.std.proofs.Common.{◌≤◌, ℕ, subst, sym}
+use Rattle.ring_rules.proofs.Common.{◌≤◌, ℕ, subst, sym}
 use Rattle.ring_rules.proofs.CoreLemmas.{passed, passed_coordinate, range_distance_in_range}
 use Rattle.ring_rules.proofs.cores.core_distance_x.Goals as goal
 

@@ -1,6 +1,4 @@
-use Rattle.std.proofs.Common.{◌≡◌}
-use Rattle.std.proofs.lemmas.Result.{IfOk-weaker}
-use Rattle.ring_rules.specs.Findings.{gap_findings}
+use Rattle.ring_rules.proofs.Common.{◌≡◌, IfOk-weaker, gap_findings}
 use Rattle.ring_rules.proofs.gaps.gap_findings.Goals as goal
 
 pub returns : goal.returns

@@ -1,10 +1,4 @@
-use Rattle.std.proofs.Common.{◌≡◌, ℕ, List, map, ap, ◌∙◌}
-use Rattle.std.proofs.lemmas.Result.{IfOk-weaker}
-use Rattle.std.specs.List.{Contains}
-use Rattle.ring_rules.specs.Findings.{gap_findings}
-use Rattle.ring_rules.specs.Inner.ClashingPairs.{IsClash}
-use Rattle.ring_rules.specs.declared.finding.Drilled.{Drilled}
-use Rattle.ring_rules.specs.declared.finding.Finding.TheVariants.{Gap}
+use Rattle.ring_rules.proofs.Common.{◌≡◌, ℕ, List, map, ap, ◌∙◌, IfOk-weaker, Contains, gap_findings, IsClash, Drilled, Gap}
 use Rattle.ring_rules.proofs.ClashLemmas.{gaps_listed}
 use Rattle.ring_rules.proofs.gaps.gaps_of.Goals as goal
 

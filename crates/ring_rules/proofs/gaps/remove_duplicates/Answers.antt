@@ -1,5 +1,5 @@
 use Rattle.std.proofs.lemmas.List.Filters.{dedup_is}
-use Rattle.std.proofs.lemmas.List.Kept.{Contains-dedup, Contains-from_dedup, IsStrictlySortedBy-dedup}
+use Rattle.ring_rules.proofs.Common.{Contains-dedup, Contains-from_dedup, IsStrictlySortedBy-dedup}
 use Rattle.ring_rules.proofs.SortedPairs.{pairs_total, pairs_tie, pairs_equal, pairs_same, rising_from_strict}
 use Rattle.ring_rules.proofs.gaps.remove_duplicates.Goals as goal
 

@@ -1,5 +1,4 @@
-use Rattle.std.proofs.Common.{ℕ, List}
-use Rattle.ring_rules.specs.declared.spots.Spot.{Spot}
+use Rattle.ring_rules.proofs.Common.{ℕ, List, Spot}
 use Rattle.ring_rules.proofs.FoundPlaces.{found_both, listed_row}
 use Rattle.ring_rules.proofs.index.add_rows.Goals as goal
 

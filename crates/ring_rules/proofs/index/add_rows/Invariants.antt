@@ -1,7 +1,4 @@
-use Rattle.std.proofs.Common.{ℕ, ◌<◌, length}
-use Rattle.ring_rules.specs.Spots.{point_at}
-use Rattle.ring_rules.specs.Inner.Regions.{IsInRegion}
-use Rattle.ring_rules.specs.Inner.FoundPlaces.{AddsFound, ListsFound}
+use Rattle.ring_rules.proofs.Common.{ℕ, ◌<◌, length, point_at, IsInRegion, AddsFound, ListsFound}
 use Rattle.ring_rules.proofs.index.add_rows.Given as goal
 
 -- the rows so far are tried

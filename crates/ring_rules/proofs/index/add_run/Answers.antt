@@ -1,4 +1,4 @@
-use Rattle.std.proofs.Common.{ℕ, List}
+use Rattle.ring_rules.proofs.Common.{ℕ, List}
 use Rattle.ring_rules.proofs.FoundPlaces.{found_both, listed_more}
 use Rattle.ring_rules.proofs.index.add_run.Goals as goal
 

@@ -1,5 +1,4 @@
-use Rattle.std.proofs.Common.{ℕ, ◌<◌, ◌≤◌}
-use Rattle.ring_rules.specs.Inner.FoundPlaces.{AddsFound, ListsFound}
+use Rattle.ring_rules.proofs.Common.{ℕ, ◌<◌, ◌≤◌, AddsFound, ListsFound}
 use Rattle.ring_rules.proofs.index.add_run.Given as goal
 
 -- the spots so far are tried

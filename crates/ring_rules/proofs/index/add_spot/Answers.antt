@@ -1,7 +1,4 @@
-use Rattle.std.proofs.Common.{ℕ, List, sym, subst}
-use Rattle.pad_shapes.specs.Zones.{IsInZone}
-use Rattle.ring_rules.specs.Spots.{point_at}
-use Rattle.ring_rules.specs.Inner.FoundPlaces.{AddsFound}
+use Rattle.ring_rules.proofs.Common.{ℕ, List, sym, subst, IsInZone, point_at, AddsFound}
 use Rattle.ring_rules.proofs.FoundPlaces.{found_one}
 use Rattle.ring_rules.proofs.index.add_spot.Goals as goal
 

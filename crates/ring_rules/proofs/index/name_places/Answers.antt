@@ -1,4 +1,4 @@
-use Rattle.std.proofs.Common.{◌<◌, length, arith}
+use Rattle.ring_rules.proofs.Common.{◌<◌, length, arith}
 use Rattle.ring_rules.proofs.FoundPlaces.{named_more, rest_less}
 use Rattle.ring_rules.proofs.index.name_places.Goals as goal
 

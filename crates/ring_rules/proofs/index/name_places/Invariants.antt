@@ -1,5 +1,4 @@
-use Rattle.std.proofs.Common.{◌≡◌, ℕ, ◌<◌, ◌≤◌, get_or}
-use Rattle.ring_rules.specs.Spots.{spot_at}
+use Rattle.ring_rules.proofs.Common.{◌≡◌, ℕ, ◌<◌, ◌≤◌, get_or, spot_at}
 use Rattle.ring_rules.proofs.index.name_places.Given as goal
 
 -- the indices so far are replaced

@@ -1,8 +1,4 @@
-use Rattle.std.proofs.Common.{◌≡◌, List, Bool, length, drop, ◌∙◌}
-use Rattle.std.proofs.lemmas.List.{take_at}
-use Rattle.ring_rules.specs.Search.{drilled_at}
-use Rattle.ring_rules.specs.declared.finding.Drilled.{Drilled}
-use Rattle.ring_rules.specs.declared.spots.Spot.{Spot}
+use Rattle.ring_rules.proofs.Common.{◌≡◌, List, Bool, length, drop, ◌∙◌, take_at, drilled_at, Drilled, Spot}
 use Rattle.ring_rules.proofs.MarksAfterPads.{marked_places}
 use Rattle.ring_rules.proofs.layer_search.lacking.Goals as goal
 

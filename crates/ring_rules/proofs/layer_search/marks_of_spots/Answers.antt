@@ -1,7 +1,4 @@
-use Rattle.std.proofs.Common.{◌≡◌, ℕ, ◌+◌, ◌<◌, Bool, false, List, length, get_or, sym, subst, arith}
-use Rattle.std.proofs.lemmas.List.{length_push}
-use Rattle.ring_rules.specs.Spots.{spot_at}
-use Rattle.ring_rules.specs.Inner.Marks.{is_marked}
+use Rattle.ring_rules.proofs.Common.{◌≡◌, ℕ, ◌+◌, ◌<◌, Bool, false, List, length, get_or, sym, subst, arith, length_push, spot_at, is_marked}
 use Rattle.ring_rules.proofs.MarksAfterPads.{own_more}
 use Rattle.ring_rules.proofs.layer_search.marks_of_spots.Goals as goal
 

@@ -1,6 +1,4 @@
-use Rattle.std.proofs.Common.{◌≡◌, ℕ, ◌<◌, length}
-use Rattle.ring_rules.specs.Spots.{spot_at}
-use Rattle.ring_rules.specs.Inner.Marks.{is_marked}
+use Rattle.ring_rules.proofs.Common.{◌≡◌, ℕ, ◌<◌, length, spot_at, is_marked}
 use Rattle.ring_rules.proofs.layer_search.marks_of_spots.Given as goal
 
 -- the spots so far have their marks

@@ -1,5 +1,4 @@
-use Rattle.std.proofs.Common.{◌<◌, false, length, get_or, ◌∙◌, arith}
-use Rattle.std.proofs.lemmas.List.{length-set}
+use Rattle.ring_rules.proofs.Common.{◌<◌, false, length, get_or, ◌∙◌, arith, length-set}
 use Rattle.ring_rules.proofs.MarksAfterPads.{put_more}
 use Rattle.ring_rules.proofs.layer_search.put_marks.Goals as goal
 

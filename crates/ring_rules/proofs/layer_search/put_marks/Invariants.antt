@@ -1,6 +1,4 @@
-use Rattle.std.proofs.Common.{◌≡◌, ℕ, ◌<◌, Bool, length}
-use Rattle.ring_rules.specs.Spots.{spot_at}
-use Rattle.ring_rules.specs.Inner.Marks.{is_marked}
+use Rattle.ring_rules.proofs.Common.{◌≡◌, ℕ, ◌<◌, Bool, length, spot_at, is_marked}
 use Rattle.ring_rules.proofs.layer_search.put_marks.Given as goal
 
 -- the marks of the spots so far are put, for any test that the marks stand for

@@ -1,10 +1,4 @@
-use Rattle.std.proofs.Common.{◌≡◌, inl, inr, sym, ap, subst, ◌∙◌, arith}
-use Rattle.std.proofs.lemmas.Bool.{cases_lt}
-use Rattle.std.proofs.lemmas.List.{get_or_default}
-use Rattle.grid_units.specs.Points.{GridPoint}
-use Rattle.pad_shapes.specs.Zones.{IsInZone}
-use Rattle.ring_rules.specs.Places.{default_hole, entry_at}
-use Rattle.ring_rules.specs.declared.finding.Drilled.{Drilled}
+use Rattle.ring_rules.proofs.Common.{◌≡◌, inl, inr, sym, ap, subst, ◌∙◌, arith, cases_lt, get_or_default, GridPoint, IsInZone, default_hole, entry_at, Drilled}
 use Rattle.ring_rules.proofs.layout.entry_zone.Goals as goal
 
 pub loop-drilled-preserved : goal.loop-drilled-preserved

@@ -1,6 +1,4 @@
-use Rattle.std.proofs.Common.{ℕ, ◌<◌}
-use Rattle.pad_shapes.specs.Zones.{IsInZone}
-use Rattle.ring_rules.specs.Places.{entry_at}
+use Rattle.ring_rules.proofs.Common.{ℕ, ◌<◌, IsInZone, entry_at}
 use Rattle.ring_rules.proofs.layout.entry_zone.Given as goal
 
 -- the zone contains the entry points of the holes so far

@@ -1,5 +1,4 @@
-use Rattle.std.proofs.Common.{arith}
-use Rattle.std.proofs.lemmas.Int.{ints, clamps}
+use Rattle.ring_rules.proofs.Common.{arith, ints, clamps}
 use Rattle.ring_rules.proofs.layout.joined.Goals as goal
 
 pub returns-clause-old : goal.returns-clause-old

@@ -1,8 +1,4 @@
-use Rattle.std.proofs.Common.{◌≡◌, Bool, true, false, sym, ap, ◌∙◌}
-use Rattle.std.specs.Prelude.{◌&&◌, not}
-use Rattle.pad_shapes.specs.Holding.{covers_hole}
-use Rattle.ring_rules.specs.Findings.{is_refused_slot}
-use Rattle.ring_rules.specs.Inner.Marks.{gives_ring}
+use Rattle.ring_rules.proofs.Common.{◌≡◌, Bool, true, false, sym, ap, ◌∙◌, ◌&&◌, not, covers_hole, is_refused_slot, gives_ring}
 use Rattle.ring_rules.proofs.marks.gives_ring.Goals as goal
 
 pub returns-then-not-is_refused_slot : goal.returns-then-not-is_refused_slot

@@ -1,9 +1,4 @@
-use Rattle.std.proofs.Common.{rules, ◌≡◌, ◌+◌, ◌≤ℤ◌, ℤ, List, w64, to_z, of_z, sym, subst, ◌∙◌}
-use Rattle.std.proofs.lemmas.Int.{to_z-of_z}
-use Rattle.grid_units.specs.Holes.{GridHole}
-use Rattle.ring_rules.specs.Spots.{spot_at}
-use Rattle.ring_rules.specs.Inner.Marks.{gives_ring_at}
-use Rattle.ring_rules.specs.declared.spots.Spot.{Spot}
+use Rattle.ring_rules.proofs.Common.{rules, ◌≡◌, ◌+◌, ◌≤ℤ◌, ℤ, List, w64, to_z, of_z, sym, subst, ◌∙◌, to_z-of_z, GridHole, spot_at, gives_ring_at, Spot}
 use Rattle.ring_rules.proofs.GivesRingLemmas.{given_from}
 use Rattle.ring_rules.proofs.ZoneRowsLemmas.{fails}
 use Rattle.ring_rules.proofs.marks.try_ordered.Goals as goal

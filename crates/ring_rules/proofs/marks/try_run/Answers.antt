@@ -1,6 +1,4 @@
-use Rattle.std.proofs.Common.{◌≡◌, ℕ, ◌<◌, Bool, List, length, arith}
-use Rattle.std.specs.Prelude.{◌&&◌, not}
-use Rattle.ring_rules.specs.Inner.Marks.{gives_ring_at, is_marked}
+use Rattle.ring_rules.proofs.Common.{◌≡◌, ℕ, ◌<◌, Bool, List, length, arith, ◌&&◌, not, gives_ring_at, is_marked}
 use Rattle.ring_rules.proofs.MarksLemmas.{removes_more, tried_more, none_more}
 use Rattle.ring_rules.proofs.marks.try_run.Goals as goal
 

@@ -1,5 +1,4 @@
-use Rattle.std.proofs.Common.{◌≡◌, false}
-use Rattle.ring_rules.specs.Inner.Marks.{gives_ring_at, RemovesMarks, NoMarkPassesFrom, HasNoMarkFrom}
+use Rattle.ring_rules.proofs.Common.{◌≡◌, false, gives_ring_at, RemovesMarks, NoMarkPassesFrom, HasNoMarkFrom}
 use Rattle.ring_rules.proofs.marks.try_run.Given as goal
 
 -- the spots so far are tried

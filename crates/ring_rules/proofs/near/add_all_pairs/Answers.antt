@@ -1,5 +1,4 @@
-use Rattle.std.proofs.Common.{ℕ, List, arith}
-use Rattle.ring_rules.specs.declared.spots.Spot.{Spot}
+use Rattle.ring_rules.proofs.Common.{ℕ, List, arith, Spot}
 use Rattle.ring_rules.proofs.AddedClashes.{adds_none, adds_both, lists_clashes_more}
 use Rattle.ring_rules.proofs.near.add_all_pairs.Goals as goal
 

@@ -1,5 +1,4 @@
-use Rattle.std.proofs.Common.{ℕ, ◌<◌}
-use Rattle.ring_rules.specs.Inner.ClashingPairs.{AddsClashes, ListsClashes}
+use Rattle.ring_rules.proofs.Common.{ℕ, ◌<◌, AddsClashes, ListsClashes}
 use Rattle.ring_rules.proofs.near.add_all_pairs.Given as goal
 
 -- the pairs of the spots so far with all that are no larger are listed

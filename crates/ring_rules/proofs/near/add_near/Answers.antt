@@ -1,11 +1,4 @@
-use Rattle.std.proofs.Common.{◌≡◌, ℕ, ℤ, ◌<◌, ◌≤◌, List, length, false, sym, subst}
-use Rattle.std.specs.List.{All, Contains}
-use Rattle.std.proofs.lemmas.List.Elements.{All-weaker}
-use Rattle.ring_rules.specs.declared.spots.Spot.{Spot}
-use Rattle.ring_rules.specs.Near.{size_of, AreNearer}
-use Rattle.ring_rules.specs.Cores.{are_clear}
-use Rattle.ring_rules.specs.Spots.{spot_at}
-use Rattle.ring_rules.specs.Inner.FoundPlaces.{IsSpotInZone}
+use Rattle.ring_rules.proofs.Common.{◌≡◌, ℕ, ℤ, ◌<◌, ◌≤◌, List, length, false, sym, subst, All, Contains, All-weaker, Spot, size_of, AreNearer, are_clear, spot_at, IsSpotInZone}
 use Rattle.ring_rules.proofs.NearLemmas.{near_from_test, passed_on}
 use Rattle.ring_rules.proofs.near.add_near.Goals as goal
 

@@ -1,6 +1,4 @@
-use Rattle.std.proofs.Common.{ℕ, List, sym, subst}
-use Rattle.ring_rules.specs.Near.{IsWithinLimits}
-use Rattle.ring_rules.specs.Inner.ClashingPairs.{AddsClashes}
+use Rattle.ring_rules.proofs.Common.{ℕ, List, sym, subst, IsWithinLimits, AddsClashes}
 use Rattle.ring_rules.proofs.AddedClashes.{clash_found, all_clashes}
 use Rattle.ring_rules.proofs.near.clashes_in.Goals as goal
 

@@ -1,5 +1,4 @@
-use Rattle.std.proofs.Common.{ap, ◌∙◌}
-use Rattle.grid_units.specs.Points.{GridPoint}
+use Rattle.ring_rules.proofs.Common.{ap, ◌∙◌, GridPoint}
 use Rattle.ring_rules.proofs.NearLemmas.{passed_less}
 use Rattle.ring_rules.proofs.near.left_of.Goals as goal
 

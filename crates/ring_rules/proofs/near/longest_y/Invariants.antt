@@ -1,6 +1,4 @@
-use Rattle.std.proofs.Common.{ℕ, ◌<◌, ◌≤◌}
-use Rattle.ring_rules.specs.Places.{hole_at}
-use Rattle.grid_units.specs.Points.{abs_diff}
+use Rattle.ring_rules.proofs.Common.{ℕ, ◌<◌, ◌≤◌, hole_at, abs_diff}
 use Rattle.ring_rules.proofs.near.longest_y.Given as goal
 
 -- no hole so far exceeds the length

@@ -1,5 +1,4 @@
-use Rattle.std.proofs.Common.{arith}
-use Rattle.std.proofs.lemmas.Int.{ints}
+use Rattle.ring_rules.proofs.Common.{arith, ints}
 use Rattle.ring_rules.proofs.NearLemmas.{none_within, all_within}
 use Rattle.ring_rules.proofs.near.near_zone.Goals as goal
 

@@ -1,5 +1,4 @@
-use Rattle.std.proofs.Common.{ℕ, ◌<◌, ◌≤◌}
-use Rattle.ring_rules.specs.Places.{hole_at}
+use Rattle.ring_rules.proofs.Common.{ℕ, ◌<◌, ◌≤◌, hole_at}
 use Rattle.ring_rules.proofs.near.widest.Given as goal
 
 -- no hole so far exceeds the radius

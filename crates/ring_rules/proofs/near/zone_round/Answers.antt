@@ -1,6 +1,4 @@
-use Rattle.std.proofs.Common.{arith}
-use Rattle.std.proofs.lemmas.Int.{ints}
-use Rattle.grid_units.specs.Points.{abs_diff}
+use Rattle.ring_rules.proofs.Common.{arith, ints, abs_diff}
 use Rattle.ring_rules.proofs.NearLemmas.{starts_near}
 use Rattle.ring_rules.proofs.near.zone_round.Goals as goal
 

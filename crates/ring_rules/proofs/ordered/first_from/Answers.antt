@@ -1,7 +1,4 @@
-use Rattle.std.proofs.Common.{rules, ◌≡◌, ℕ, ◌+◌, ◌-◌, ◌/◌, ◌<◌, ◌≤◌, w64, to_z, of_z, ap, ◌∙◌, arith}
-use Rattle.std.proofs.lemmas.Int.{ints, to_z-of_z}
-use Rattle.grid_units.specs.Points.{GridPoint}
-use Rattle.ring_rules.specs.Spots.{point_at}
+use Rattle.ring_rules.proofs.Common.{rules, ◌≡◌, ℕ, ◌+◌, ◌-◌, ◌/◌, ◌<◌, ◌≤◌, w64, to_z, of_z, ap, ◌∙◌, arith, ints, to_z-of_z, GridPoint, point_at}
 use Rattle.ring_rules.proofs.OrderLemmas.{all_before, all_after}
 use Rattle.ring_rules.proofs.ordered.first_from.Goals as goal
 

@@ -1,5 +1,4 @@
-use Rattle.std.proofs.Common.{ℕ, ◌-◌, ◌≤◌, ◌<◌, ◌≤ℤ◌, ◌<ℤ◌}
-use Rattle.ring_rules.specs.Spots.{point_at}
+use Rattle.ring_rules.proofs.Common.{ℕ, ◌-◌, ◌≤◌, ◌<◌, ◌≤ℤ◌, ◌<ℤ◌, point_at}
 use Rattle.ring_rules.proofs.ordered.first_from.Given as goal
 
 -- the spots before `low` lie left of the coordinate, those from `high` on do not

@@ -1,8 +1,4 @@
-use Rattle.std.proofs.Common.{List, length, subst}
-use Rattle.ring_rules.specs.Spots.{point_at}
-use Rattle.ring_rules.specs.Inner.Marks.{gives_ring_at}
-use Rattle.ring_rules.specs.Inner.Trees.{NoMarkPassesInLeaves}
-use Rattle.ring_rules.specs.declared.tree.Node.{Node}
+use Rattle.ring_rules.proofs.Common.{List, length, subst, point_at, gives_ring_at, NoMarkPassesInLeaves, Node}
 use Rattle.ring_rules.proofs.pads.try_all.Goals as goal
 
 pub returns-clause-tried : goal.returns-clause-tried

@@ -1,9 +1,4 @@
-use Rattle.std.proofs.Common.{◌≡◌, ℕ, ◌<◌, length, take}
-use Rattle.std.specs.Prelude.{◌&&◌, not}
-use Rattle.std.specs.List.{list_any}
-use Rattle.ring_rules.specs.Spots.{spot_at}
-use Rattle.ring_rules.specs.Inner.Marks.{gives_ring, is_marked}
-use Rattle.ring_rules.specs.Inner.Trees.{AreClosedUnmarked}
+use Rattle.ring_rules.proofs.Common.{◌≡◌, ℕ, ◌<◌, length, take, ◌&&◌, not, list_any, spot_at, gives_ring, is_marked, AreClosedUnmarked}
 use Rattle.ring_rules.proofs.pads.try_pads.Given as goal
 
 -- a mark is left where none of the pads so far covers the hole

@@ -1,6 +1,4 @@
-use Rattle.std.proofs.Common.{◌+◌}
-use Rattle.ring_rules.specs.Spots.{spot_at, point_at}
-use Rattle.ring_rules.specs.Inner.Marks.{gives_ring_at}
+use Rattle.ring_rules.proofs.Common.{◌+◌, spot_at, point_at, gives_ring_at}
 use Rattle.ring_rules.proofs.ZoneRowsLemmas.{fails}
 use Rattle.ring_rules.proofs.GivesRingLemmas.{given_from}
 use Rattle.ring_rules.proofs.pads.try_range.Goals as goal

@@ -1,6 +1,4 @@
-use Rattle.std.proofs.Common.{rules, ◌≡◌, ◌+◌, w64, to_z, of_z, ap, ◌∙◌, arith}
-use Rattle.std.proofs.lemmas.Int.{to_z-of_z}
-use Rattle.ring_rules.specs.Cells.{place_of}
+use Rattle.ring_rules.proofs.Common.{rules, ◌≡◌, ◌+◌, w64, to_z, of_z, ap, ◌∙◌, arith, to_z-of_z, place_of}
 use Rattle.ring_rules.proofs.ZoneRowsLemmas.{in_rows}
 use Rattle.ring_rules.proofs.regions.region_of.Goals as goal
 

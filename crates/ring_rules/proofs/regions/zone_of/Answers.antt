@@ -1,5 +1,4 @@
-use Rattle.std.proofs.Common.{arith}
-use Rattle.std.proofs.lemmas.Int.{ints}
+use Rattle.ring_rules.proofs.Common.{arith, ints}
 use Rattle.ring_rules.proofs.regions.zone_of.Goals as goal
 
 pub returns : goal.returns

@@ -1,5 +1,4 @@
-use Rattle.std.proofs.Common.{ℕ, ◌+◌, ◌<◌, ◌≤◌}
-use Rattle.ring_rules.specs.Spots.{spot_at}
+use Rattle.ring_rules.proofs.Common.{ℕ, ◌+◌, ◌<◌, ◌≤◌, spot_at}
 use Rattle.ring_rules.proofs.ring_index.least_reach.Given as goal
 
 -- the holes so far ask for no less

@@ -1,8 +1,4 @@
-use Rattle.std.proofs.Common.{◌≡◌, ℕ, Bool, true, false, List, map, get_or, ◌++◌, ◌∷◌, [], ap, sym, ◌∙◌}
-use Rattle.std.proofs.lemmas.List.{get_or-map}
-use Rattle.ring_rules.specs.Findings.{finding_of}
-use Rattle.ring_rules.specs.declared.finding.Drilled.{Drilled}
-use Rattle.ring_rules.specs.declared.finding.Finding.{Finding}
+use Rattle.ring_rules.proofs.Common.{◌≡◌, ℕ, Bool, true, false, List, map, get_or, ◌++◌, ◌∷◌, [], ap, sym, ◌∙◌, get_or-map, finding_of, Drilled, Finding}
 use Rattle.ring_rules.proofs.EnumeratedLists.{listed, listed_more, listed_more_none, enumerated_all}
 use Rattle.ring_rules.proofs.rings.layer_findings.Goals as goal
 use Rattle.ring_rules.proofs.rings.layer_findings.Goals.{then-lacking-hole+in_ok-push, else-lacking-hole}

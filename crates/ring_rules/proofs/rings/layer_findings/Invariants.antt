@@ -1,7 +1,4 @@
-use Rattle.std.proofs.Common.{◌≡◌, Bool, ◌++◌, take, map}
-use Rattle.std.specs.List.{enumerate_from}
-use Rattle.ring_rules.specs.Findings.{finding_of}
-use Rattle.ring_rules.specs.declared.finding.Drilled.{Drilled}
+use Rattle.ring_rules.proofs.Common.{◌≡◌, Bool, ◌++◌, take, map, enumerate_from, finding_of, Drilled}
 use Rattle.ring_rules.proofs.EnumeratedLists.{listed}
 use Rattle.ring_rules.proofs.rings.layer_findings.Given as goal
 

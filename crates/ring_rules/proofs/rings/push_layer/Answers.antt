@@ -1,6 +1,4 @@
-use Rattle.std.proofs.Common.{List, [], map, ◌++◌, ap, ◌∙◌}
-use Rattle.std.proofs.lemmas.Result.{on_ok_weaker}
-use Rattle.ring_rules.specs.declared.finding.Finding.{Finding}
+use Rattle.ring_rules.proofs.Common.{List, [], map, ◌++◌, ap, ◌∙◌, on_ok_weaker, Finding}
 use Rattle.ring_rules.proofs.TriedPads.{layer_by_coverings}
 use Rattle.ring_rules.proofs.rings.push_layer.Goals as goal
 

@@ -1,8 +1,4 @@
-use Rattle.std.proofs.Common.{◌≡◌, ◌<◌, List, length, map, get_or, ◌++◌, Bor, ap, sym, ◌∙◌, arith}
-use Rattle.std.proofs.lemmas.List.{length-map, get_or-map}
-use Rattle.std.specs.List.{flat_map}
-use Rattle.ring_rules.specs.Findings.{layer_findings}
-use Rattle.grid_units.specs.Holes.{GridRules}
+use Rattle.ring_rules.proofs.Common.{◌≡◌, ◌<◌, List, length, map, get_or, ◌++◌, Bor, ap, sym, ◌∙◌, arith, length-map, get_or-map, flat_map, layer_findings, GridRules}
 use Rattle.ring_rules.proofs.EnumeratedLists.{flat_listed_more, enumerated_all}
 use Rattle.ring_rules.proofs.rings.ring_findings.Goals as goal
 

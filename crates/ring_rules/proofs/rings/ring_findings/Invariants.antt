@@ -1,6 +1,4 @@
-use Rattle.std.proofs.Common.{◌≡◌, take, map}
-use Rattle.std.specs.List.{enumerate_from, flat_map}
-use Rattle.ring_rules.specs.Findings.{layer_findings}
+use Rattle.ring_rules.proofs.Common.{◌≡◌, take, map, enumerate_from, flat_map, layer_findings}
 use Rattle.ring_rules.proofs.rings.ring_findings.Given as goal
 
 -- the findings so far are those of the layers so far

@@ -1,4 +1,4 @@
-use Rattle.std.proofs.Common.{◌∙◌}
+use Rattle.ring_rules.proofs.Common.{◌∙◌}
 use Rattle.ring_rules.proofs.FormLemmas.{moved_to}
 use Rattle.ring_rules.proofs.spot_list.moved.Goals as goal
 

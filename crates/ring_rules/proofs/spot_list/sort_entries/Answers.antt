@@ -1,6 +1,4 @@
-use Rattle.std.proofs.Common.{rules}
-use Rattle.std.proofs.lemmas.List.Sorted.{answers_always}
-use Rattle.ring_rules.specs.declared.spot_list.Entry.{Entry}
+use Rattle.ring_rules.proofs.Common.{rules, answers_always, Entry}
 use Rattle.ring_rules.proofs.BordersLemmas.{sorted_keys}
 use Rattle.ring_rules.proofs.spot_list.sort_entries.Goals as goal
 

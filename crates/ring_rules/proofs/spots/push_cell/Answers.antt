@@ -1,7 +1,4 @@
-use Rattle.std.proofs.Common.{ℕ, List, subst}
-use Rattle.ring_rules.specs.Cells.{cell_of}
-use Rattle.ring_rules.specs.Inner.SpotLists.{PutsInOrder}
-use Rattle.ring_rules.specs.declared.spots.Spot.{Spot}
+use Rattle.ring_rules.proofs.Common.{ℕ, List, subst, cell_of, PutsInOrder, Spot}
 use Rattle.ring_rules.proofs.OrderLemmas.{adds_in_order, has_spot_in_order}
 use Rattle.ring_rules.proofs.spots.push_cell.Goals as goal
 

@@ -1,7 +1,4 @@
-use Rattle.std.proofs.Common.{◌≡◌, ℕ, ◌+◌, ◌∷◌, [], ◌++◌, List, length, sym, ap, subst, ◌∙◌}
-use Rattle.ring_rules.specs.Cells.{cell_of}
-use Rattle.ring_rules.specs.Inner.SpotLists.{AreSpotted}
-use Rattle.ring_rules.specs.declared.spots.Spot.{Spot}
+use Rattle.ring_rules.proofs.Common.{◌≡◌, ℕ, ◌+◌, ◌∷◌, [], ◌++◌, List, length, sym, ap, subst, ◌∙◌, cell_of, AreSpotted, Spot}
 use Rattle.ring_rules.proofs.SpotLemmas.{spotted_none, spotted_more}
 use Rattle.ring_rules.proofs.spots.push_cells.Goals as goal
 

@@ -1,5 +1,4 @@
-use Rattle.ring_rules.specs.Cells.{cell_of}
-use Rattle.ring_rules.specs.Inner.SpotLists.{AreSpotted}
+use Rattle.ring_rules.proofs.Common.{cell_of, AreSpotted}
 use Rattle.ring_rules.proofs.spots.push_cells.Given as goal
 
 -- the cells so far have their spots

@@ -1,13 +1,4 @@
-use Rattle.std.proofs.Common.{◌≡◌, ℕ, ◌+◌, ◌-◌, ◌∷◌, [], ◌++◌, List, length, get_or, sym, ap, subst, ◌∙◌, arith}
-use Rattle.std.proofs.lemmas.List.{get_or_default}
-use Rattle.grid_units.specs.Points.{GridPoint}
-use Rattle.grid_units.specs.Holes.{GridHole}
-use Rattle.ring_rules.specs.Places.{default_hole, hole_at}
-use Rattle.ring_rules.specs.Cells.{cell_of, cell_at}
-use Rattle.ring_rules.specs.Spots.{IsSpotOf, HasSpot}
-use Rattle.ring_rules.specs.Inner.SpotLists.{AddsSpots}
-use Rattle.ring_rules.specs.declared.finding.Drilled.{Drilled}
-use Rattle.ring_rules.specs.declared.spots.Spot.{Spot}
+use Rattle.ring_rules.proofs.Common.{◌≡◌, ℕ, ◌+◌, ◌-◌, ◌∷◌, [], ◌++◌, List, length, get_or, sym, ap, subst, ◌∙◌, arith, get_or_default, GridPoint, GridHole, default_hole, hole_at, cell_of, cell_at, IsSpotOf, HasSpot, AddsSpots, Drilled, Spot}
 use Rattle.ring_rules.proofs.ChainLemmas.{chain_falls, chain_passed}
 use Rattle.ring_rules.proofs.SpotLemmas.{adds_no_spots, adds_spot, has_spot_more, has_last_spot}
 use Rattle.ring_rules.proofs.spots.push_chain.Goals as goal

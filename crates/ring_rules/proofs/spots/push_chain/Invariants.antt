@@ -1,7 +1,4 @@
-use Rattle.std.proofs.Common.{◌≡◌, ℕ, ◌+◌, ◌<◌, ◌≤◌, length}
-use Rattle.ring_rules.specs.Cells.{cell_of, cell_at}
-use Rattle.ring_rules.specs.Spots.{HasSpot}
-use Rattle.ring_rules.specs.Inner.SpotLists.{AddsSpots}
+use Rattle.ring_rules.proofs.Common.{◌≡◌, ℕ, ◌+◌, ◌<◌, ◌≤◌, length, cell_of, cell_at, HasSpot, AddsSpots}
 use Rattle.ring_rules.proofs.spots.push_chain.Given as goal
 
 -- the link is one of the cell, and the places passed so far have spots

@@ -1,6 +1,4 @@
-use Rattle.std.proofs.Common.{length}
-use Rattle.ring_rules.specs.Cells.{cell_of, cell_at}
-use Rattle.ring_rules.specs.Inner.SpotLists.{AreSpotted}
+use Rattle.ring_rules.proofs.Common.{length, cell_of, cell_at, AreSpotted}
 use Rattle.ring_rules.proofs.ChainLemmas.{cell_inside}
 use Rattle.ring_rules.proofs.SpotLemmas.{in_cells, spots_of}
 use Rattle.ring_rules.proofs.spots.spotted.Goals as goal

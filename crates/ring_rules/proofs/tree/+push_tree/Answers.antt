@@ -1,6 +1,4 @@
-use Rattle.std.proofs.Common.{◌≡◌, ◌+◌, ◌≤◌, List, length, ap, ◌∙◌, arith}
-use Rattle.std.proofs.lemmas.List.{length_push}
-use Rattle.ring_rules.specs.declared.tree.Node.{Node}
+use Rattle.ring_rules.proofs.Common.{◌≡◌, ◌+◌, ◌≤◌, List, length, ap, ◌∙◌, arith, length_push, Node}
 use Rattle.ring_rules.proofs.TreeLemmas.{with_end, pushed_halves, first_part, second_part}
 use Rattle.ring_rules.proofs.tree.+push_tree.Goals as goal
 

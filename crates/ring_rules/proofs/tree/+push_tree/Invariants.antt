@@ -1,4 +1,4 @@
-use Rattle.ring_rules.specs.Inner.Trees.{rows_and_columns}
+use Rattle.ring_rules.proofs.Common.{rows_and_columns}
 use Rattle.ring_rules.proofs.tree.+push_tree.Given as goal
 
 abbrev pub decreases-push_tree : goal.decreases-push_tree

@@ -1,4 +1,4 @@
-use Rattle.std.proofs.Common.{◌+◌, ◌-◌, ◌/◌, arith}
+use Rattle.ring_rules.proofs.Common.{◌+◌, ◌-◌, ◌/◌, arith}
 use Rattle.ring_rules.proofs.TreeLemmas.{column_halves}
 use Rattle.ring_rules.proofs.tree.halves_by_column.Goals as goal
 

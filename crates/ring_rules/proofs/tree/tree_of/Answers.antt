@@ -1,7 +1,4 @@
-use Rattle.std.proofs.Common.{◌+◌, List, length, subst, arith}
-use Rattle.ring_rules.specs.Inner.Trees.{IsPartOfGrid, AreTreesOf}
-use Rattle.ring_rules.specs.declared.regions.Region.{Region}
-use Rattle.ring_rules.specs.declared.tree.Node.{Node}
+use Rattle.ring_rules.proofs.Common.{◌+◌, List, length, subst, arith, IsPartOfGrid, AreTreesOf, Region, Node}
 use Rattle.ring_rules.proofs.tree.tree_of.Goals as goal
 
 pub returns : goal.returns

@@ -1,8 +1,5 @@
-use Rattle.std.proofs.Common.{Err, List, ℕ, subst, sym, ◌∙◌}
-use Rattle.std.specs.Io.KnownBytes.{Appends}
-use Rattle.package_check.specs.Package.{ReturnsReport}
+use Rattle.ringcheck.proofs.Common.{Err, List, ℕ, subst, sym, ◌∙◌, Appends, ReturnsReport, PackageFault}
 use Rattle.package_check.specs.Texts.{text_of}
-use Rattle.package_check.specs.declared.PackageFault.{PackageFault}
 use Rattle.ringcheck.proofs.Outcomes.{none_left}
 use Rattle.ringcheck.proofs.checks.check.Goals as goal
 

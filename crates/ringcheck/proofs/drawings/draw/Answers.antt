@@ -1,7 +1,5 @@
-use Rattle.std.proofs.Common.{Err, List, ℕ, refl, subst}
+use Rattle.ringcheck.proofs.Common.{Err, List, ℕ, refl, subst, IsBoard, Returns, reported, PackageFault}
 use Rattle.drawing.specs.Pages.{IsDrawn, drawing_text}
-use Rattle.package_check.specs.Boards.{IsBoard, Returns, reported}
-use Rattle.package_check.specs.declared.PackageFault.{PackageFault}
 use Rattle.layer_features.specs.declared.keep.Keep.TheVariants as keep
 use Rattle.package_check.proofs.BoardsLemmas.{reported_on}
 use Rattle.ringcheck.proofs.drawings.draw.Goals as goal

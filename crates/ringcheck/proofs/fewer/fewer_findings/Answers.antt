@@ -1,17 +1,7 @@
-use Rattle.std.proofs.Common.{◌≡◌, ◌∙◌, ◌&&◌, Bool, List, ℕ, false, inl, inr, not, refl, subst, sym, true}
-use Rattle.grid_units.specs.declared.profile.Profile.{Profile}
-use Rattle.grid_units.specs.declared.profile.Profile.TheVariants.{Strict, Wide}
-use Rattle.manifest.specs.Manifest.{manifest, manifest_in}
+use Rattle.ringcheck.proofs.Common.{◌≡◌, ◌∙◌, ◌&&◌, Bool, List, ℕ, false, inl, inr, not, refl, subst, sym, true, Profile, Strict, Wide, manifest, manifest_in, Entry, HasTable, IsPackageRefusal, RefusedFile, refused_file, sources, Halts, refusal, Refusal, of_archive, IsFewer, has_none, says_fewer, ReportFormat, Halt}
 use Rattle.manifest.proofs.StrictManifests.{same_manifest}
-use Rattle.manifest.specs.declared.Entry.{Entry}
-use Rattle.ringcheck.specs.CheckStatus.{HasTable, IsPackageRefusal, RefusedFile, refused_file, sources}
-use Rattle.ringcheck.specs.Inner.Halting.{Halts, refusal}
 use Rattle.ringcheck.specs.Inner.Reporting.{is_unread}
-use Rattle.ringcheck.specs.Refusals.{Refusal, of_archive}
-use Rattle.ringcheck.specs.ReportStatus.{IsFewer, has_none, says_fewer}
-use Rattle.ringcheck.specs.declared.parsed_words.ReportFormat.{ReportFormat}
 use Rattle.ringcheck.specs.declared.parsed_words.ReportFormat.TheVariants as format
-use Rattle.ringcheck.specs.declared.refusals.Halt.{Halt}
 use Rattle.ringcheck.specs.declared.refusals.Halt.TheVariants as halt
 use Rattle.ringcheck.proofs.fewer.fewer_findings.Goals as goal
 

@@ -1,11 +1,6 @@
-use Rattle.std.proofs.Common.{◌≡◌, ◌≢◌, ◌-◌, ℕ, Err, List, inl, inr, length, refl}
-use Rattle.std.proofs.lemmas.Result.{IfOk-weaker}
-use Rattle.grid_units.specs.Holes.{GridRules}
+use Rattle.ringcheck.proofs.Common.{◌≡◌, ◌≢◌, ◌-◌, ℕ, Err, List, inl, inr, length, refl, IfOk-weaker, GridRules, FileView, IsFirstRefused, ReturnsReport, PackageFault, FindsFewer, finding_count, in_wide}
 use Rattle.grid_units.specs.declared.fault.Fault.{Fault}
-use Rattle.package_check.specs.Package.{FileView, IsFirstRefused, ReturnsReport}
-use Rattle.package_check.specs.declared.PackageFault.{PackageFault}
 use Rattle.package_check.specs.declared.PackageFault.TheVariants as stop
-use Rattle.ringcheck.specs.ReportStatus.{FindsFewer, finding_count, in_wide}
 use Rattle.ringcheck.proofs.fewer.fewer_than.Goals as goal
 
 -- a check that fails where memory does not run out refuses a file

@@ -1,11 +1,5 @@
-use Rattle.std.proofs.Common.{◌≡◌, ◌∙◌, ◌&&◌, ◌||◌, ◌+◌, ℕ, ap, arith, length, ltb, refl, subst, sym, true}
+use Rattle.ringcheck.proofs.Common.{◌≡◌, ◌∙◌, ◌&&◌, ◌||◌, ◌+◌, ℕ, ap, arith, length, ltb, refl, subst, sym, true, slice_get_read, Entry, CheckView, setting_of, HasJudged, is_copper, HasLoaded, LoadsCopperTo, is_kind_at, is_kind_of}
 use Rattle.std.proofs.lemmas.List.Sums.{count_by_more_no, count_by_more_yes}
-use Rattle.std.proofs.lemmas.Option.{slice_get_read}
-use Rattle.manifest.specs.declared.Entry.{Entry}
-use Rattle.package_check.specs.CheckViews.{CheckView, setting_of}
-use Rattle.package_check.specs.Checking.{HasJudged}
-use Rattle.package_check.specs.Package.{is_copper}
-use Rattle.ringcheck.specs.Inner.Loading.{HasLoaded, LoadsCopperTo, is_kind_at, is_kind_of}
 use Rattle.ringcheck.proofs.LoadedFiles.{copper_loaded, halts_since, kind_passed, none_yet}
 use Rattle.ringcheck.proofs.load_package.check_copper.Goals as goal
 use Rattle.ringcheck.proofs.load_package.check_copper.Goals.{then-is_copper+in_ok-checked+in-Ok, else-is_copper}

@@ -1,8 +1,4 @@
-use Rattle.std.proofs.Common.{◌≡◌, ◌≤◌, ◌↔◌, ℕ, List, take}
-use Rattle.std.specs.List.{count_by}
-use Rattle.package_check.specs.CheckViews.{setting_of}
-use Rattle.package_check.specs.Package.{is_copper}
-use Rattle.ringcheck.specs.Inner.Loading.{LoadsCopperTo}
+use Rattle.ringcheck.proofs.Common.{◌≡◌, ◌≤◌, ◌↔◌, ℕ, List, take, count_by, setting_of, is_copper, LoadsCopperTo}
 use Rattle.ringcheck.proofs.load_package.check_copper.Given as goal
 
 abbrev pub invariant-loop-index : goal.invariant-loop-index

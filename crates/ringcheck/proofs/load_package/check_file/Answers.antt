@@ -1,10 +1,5 @@
-use Rattle.std.proofs.Common.{[], append-nil, subst, sym, ◌∙◌}
-use Rattle.package_check.specs.Checking.{TakesCopper}
-use Rattle.package_check.specs.OpenFiles.{HasOpenedCopper}
-use Rattle.package_check.specs.CheckViews.{setting_of}
-use Rattle.package_check.specs.Package.{FileView, Setting}
+use Rattle.ringcheck.proofs.Common.{[], append-nil, subst, sym, ◌∙◌, TakesCopper, HasOpenedCopper, setting_of, FileView, Setting, CopperGoesOn}
 use Rattle.package_check.proofs.FileKinds.{role_copper}
-use Rattle.ringcheck.specs.Inner.Loading.{CopperGoesOn}
 use Rattle.ringcheck.specs.declared.load_package.CheckSink.{CheckSink}
 use Rattle.ringcheck.proofs.load_package.check_file.Goals as goal
 

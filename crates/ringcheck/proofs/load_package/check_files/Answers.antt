@@ -1,13 +1,5 @@
-use Rattle.std.proofs.Common.{Some, ap, sym, take, ◌∙◌}
-use Rattle.std.proofs.lemmas.Result.{IfOk-weaker}
-use Rattle.std.specs.Option.{option_or}
+use Rattle.ringcheck.proofs.Common.{Some, ap, sym, take, ◌∙◌, IfOk-weaker, option_or, HasRisen, HasJudgedAll, HasTaken, Setting, OfFiles, OfCheckedCopper}
 use Rattle.layer_features.specs.declared.keep.Keep.TheVariants as keep
-use Rattle.ringcheck_files.specs.Outcomes.{HasRisen}
-use Rattle.package_check.specs.Checking.{HasJudgedAll}
-use Rattle.package_check.specs.Holding.{HasTaken}
-use Rattle.package_check.specs.Package.{Setting}
-use Rattle.ringcheck.specs.Inner.Halting.{OfFiles}
-use Rattle.ringcheck.specs.Inner.Loading.{OfCheckedCopper}
 use Rattle.ringcheck.proofs.LoadedFiles.{all_checked, both_passes, first_of, or_default, passes_halt}
 use Rattle.ringcheck.proofs.load_package.check_files.Goals as goal
 

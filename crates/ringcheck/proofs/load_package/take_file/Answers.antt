@@ -1,7 +1,5 @@
-use Rattle.std.proofs.Common.{[], append-nil, subst, sym}
-use Rattle.package_check.specs.OpenFiles.{HasOpened}
+use Rattle.ringcheck.proofs.Common.{[], append-nil, subst, sym, HasOpened, GoesOn}
 use Rattle.package_check.specs.declared.open_file.OpenFile.{OpenFile}
-use Rattle.ringcheck.specs.Inner.Loading.{GoesOn}
 use Rattle.ringcheck.specs.declared.load_package.FileSink.{FileSink}
 use Rattle.ringcheck.proofs.load_package.take_file.Goals as goal
 

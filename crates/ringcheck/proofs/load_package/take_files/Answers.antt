@@ -1,6 +1,4 @@
-use Rattle.std.proofs.Common.{◌∙◌, ℕ, ap, sym, take}
-use Rattle.package_check.specs.Holding.{HasTaken, HasTakenAll}
-use Rattle.package_check.specs.Package.{Setting}
+use Rattle.ringcheck.proofs.Common.{◌∙◌, ℕ, ap, sym, take, HasTaken, HasTakenAll, Setting}
 use Rattle.package_check.proofs.TakeSteps.{all_taken}
 use Rattle.ringcheck.proofs.LoadedFiles.{both_passes, first_of, passes_all, passes_halt}
 use Rattle.ringcheck.proofs.load_package.take_files.Goals as goal

@@ -1,8 +1,6 @@
-use Rattle.std.proofs.Common.{◌∙◌, ◌&&◌, ◌||◌, ◌+◌, ap, arith, ltb, refl, subst, sym}
-use Rattle.std.proofs.lemmas.Option.{slice_get_read}
-use Rattle.package_check.specs.Holding.{HasTaken, setting_of}
+use Rattle.ringcheck.proofs.Common.{◌∙◌, ◌&&◌, ◌||◌, ◌+◌, ap, arith, ltb, refl, subst, sym, slice_get_read, HasTaken, HasLoaded, is_kind_at, is_kind_of}
+use Rattle.package_check.specs.Holding.{setting_of}
 use Rattle.package_check.specs.declared.package_reader.PackageReader.{PackageReader}
-use Rattle.ringcheck.specs.Inner.Loading.{HasLoaded, is_kind_at, is_kind_of}
 use Rattle.ringcheck.proofs.LoadedFiles.{kind_passed, none_yet, reader_loaded}
 use Rattle.ringcheck.proofs.load_package.take_kind.Goals as goal
 use Rattle.ringcheck.proofs.load_package.take_kind.Goals.{then-is_kind+in_ok-halt+in_default, else-is_kind}

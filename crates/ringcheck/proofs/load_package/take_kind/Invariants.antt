@@ -1,6 +1,5 @@
-use Rattle.std.proofs.Common.{◌≡◌, ◌≤◌, ◌↔◌, ℕ, List}
+use Rattle.ringcheck.proofs.Common.{◌≡◌, ◌≤◌, ◌↔◌, ℕ, List, LoadsKind}
 use Rattle.package_check.specs.Holding.{setting_of}
-use Rattle.ringcheck.specs.Inner.Loading.{LoadsKind}
 use Rattle.ringcheck.proofs.load_package.take_kind.Given as goal
 
 abbrev pub invariant-loop-index : goal.invariant-loop-index

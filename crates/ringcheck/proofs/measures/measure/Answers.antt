@@ -1,9 +1,5 @@
-use Rattle.std.proofs.Common.{Err, List, ℕ, refl, subst}
-use Rattle.std.specs.Io.KnownBytes.{Appends}
-use Rattle.package_check.specs.Boards.{IsBoard, Returns}
-use Rattle.package_check.specs.declared.PackageFault.{PackageFault}
+use Rattle.ringcheck.proofs.Common.{Err, List, ℕ, refl, subst, Appends, IsBoard, Returns, PackageFault, measure_page}
 use Rattle.layer_features.specs.declared.keep.Keep.TheVariants as keep
-use Rattle.ringcheck.specs.MeasureStatus.{measure_page}
 use Rattle.ringcheck.proofs.measures.measure.Goals as goal
 
 pub returns-clause-answers : goal.returns-clause-answers

@@ -1,4 +1,4 @@
-use Rattle.std.proofs.Common.{inr}
+use Rattle.ringcheck.proofs.Common.{inr}
 use Rattle.ringcheck.proofs.outlines.load_outline.Goals as goal
 
 pub returns-in-Ok-clause-loaded : goal.returns-in-Ok-clause-loaded

@@ -1,11 +1,9 @@
 -- What is kept of the layer is what it draws.
-use Rattle.std.proofs.Common.{◌∙◌, ℕ, List, [], Err}
+use Rattle.ringcheck.proofs.Common.{◌∙◌, ℕ, List, [], Err, err_from_is_err_and, Strict}
 use Rattle.std.specs.Global.{Vec}
-use Rattle.std.proofs.lemmas.Result.{err_from_is_err_and}
 use Rattle.grid_units.specs.Results.{Answers, IfFault}
 use Rattle.grid_units.specs.declared.fault.Fail.{Fail}
 use Rattle.grid_units.specs.declared.fault.Fail.TheVariants as fails
-use Rattle.grid_units.specs.declared.profile.Profile.TheVariants.{Strict}
 use Rattle.pad_shapes.specs.declared.wide_pad.WidePad.{WidePad}
 use Rattle.layer_image.specs.Holding.{ShowsLayerFaultIn, left_pads}
 use Rattle.layer_image.specs.Kept.{KeptLayer, ReadsKeptIn}

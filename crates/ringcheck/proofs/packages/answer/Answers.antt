@@ -1,9 +1,6 @@
 use Rattle.layer_features.specs.declared.keep.Keep.TheVariants as keep
-use Rattle.ringcheck_files.specs.Outcomes.{HasRisen}
-use Rattle.package_check.specs.Checking.{HasJudgedAll}
-use Rattle.package_check.specs.Holding.{HasTakenAll}
+use Rattle.ringcheck.proofs.Common.{HasRisen, HasJudgedAll, HasTakenAll, Holds}
 use Rattle.ringcheck.specs.declared.jobs.Job.TheVariants as job
-use Rattle.ringcheck.specs.Inner.Jobs.{Holds}
 use Rattle.ringcheck.proofs.Outcomes.{done_with}
 use Rattle.ringcheck.proofs.packages.answer.Goals as goal
 

@@ -1,4 +1,4 @@
-use Rattle.std.proofs.Common.{◌≡◌, map, take}
+use Rattle.ringcheck.proofs.Common.{◌≡◌, map, take}
 use Rattle.ringcheck.proofs.packages.names_of.Given as goal
 
 abbrev pub invariant-loop-entry : goal.invariant-loop-entry

@@ -1,6 +1,4 @@
-use Rattle.std.proofs.Common.{[], Ok, Some, inr, option_map, sym}
-use Rattle.std.proofs.lemmas.Result.{IfOk-weaker}
-use Rattle.ringcheck.specs.ReportStatus.{IsOutlinedReportStatus, IsParsedReportStatus}
+use Rattle.ringcheck.proofs.Common.{[], true, Ok, Some, inr, option_map, sym, IfOk-weaker, texts, IsOutlinedReportStatus, IsParsedReportStatus}
 use Rattle.ringcheck.proofs.OutlinedReports.{outlined_along}
 use Rattle.ringcheck.proofs.packages.report.Goals as goal
 
@@ -8,8 +6,8 @@ pub returns-in-Ok-2-clause-says : goal.returns-in-Ok-2-clause-says
 returns-in-Ok-2-clause-says g c =
     let has = g.L.Loader.has c.args.loader.now in
     let later = g.L.Loader.has c.load_table.new.loader in
-    let before = g.W.Write.contents c.args.out.now in
-    let after = g.W.Write.contents c.report_outlined-in-Ok-2.new.out in
+    let before = texts g.W.Write.contents g.E.Write.contents c.args.to.now in
+    let after = texts g.W.Write.contents g.E.Write.contents c.report_outlined-in-Ok-2.new.to in
     let name = c.args.name.now in
     let (rules, limit, form) = c.in-Ok.named in
     let waivers = c.in-Ok-2.waivers.items in
@@ -17,6 +15,6 @@ returns-in-Ok-2-clause-says g c =
     let listed = rw c.in-Ok-2.is at c.in_ok-waivers-in-Some.ensures.loaded in
     rw (sym c.in-Ok.ensures, c.in-Some.is)
     (IfOk-weaker c.report_outlined-in-Ok-2.result (IsOutlinedReportStatus later name rules limit form (Some waivers) outline before after)
-    (IsParsedReportStatus has name (Ok c.in-Ok.named) [] (Some c.in-Some.file.now) outline before after)
+    (IsParsedReportStatus has name (Ok c.in-Ok.named) true [] (Some c.in-Some.file.now) outline before after)
     (λ s says. inr (inr (waivers, listed, outlined_along later has c.in_ok-waivers-in-Some.ensures.keeps name rules limit form (Some waivers) outline before after s says)))
     c.report_outlined-in-Ok-2.ensures.says)

@@ -1,9 +1,4 @@
-use Rattle.std.proofs.Common.{List, ℕ, subst, sym}
-use Rattle.ringcheck_files.specs.LoaderRelation.{file_limit, within}
-use Rattle.ringcheck_files.specs.Outcomes.{HasRisen}
-use Rattle.ringcheck.specs.CheckStatus.{RefusedFile, sources}
-use Rattle.ringcheck.specs.Inner.Jobs.{given}
-use Rattle.ringcheck.specs.ReportStatus.{IsFewer, Judges, PrintsReport, asks_wide}
+use Rattle.ringcheck.proofs.Common.{List, ℕ, subst, sym, file_limit, within, HasRisen, RefusedFile, sources, given, IsFewer, Judges, PrintsReport, asks_wide}
 use Rattle.ringcheck.proofs.Outcomes.{listed_along, named, refused_among, unread_since}
 use Rattle.ringcheck.proofs.OutlinedReports.{fewer_along}
 use Rattle.ringcheck.proofs.packages.report_files.Goals as goal

@@ -1,9 +1,5 @@
-use Rattle.manifest.specs.Manifest.{manifest_in}
-use Rattle.ringcheck_files.specs.Outcomes.{HasCause, HasRisen}
+use Rattle.ringcheck.proofs.Common.{refl, Written, texts, manifest_in, HasCause, HasRisen, RefusesTable, Holds, SaysJob, job_profile, job_style, RefusedFile, refused_file, refused_manifest, sources}
 use Rattle.ringcheck.specs.declared.refusals.Subject.TheVariants as subject
-use Rattle.ringcheck.specs.Inner.Halting.{RefusesTable}
-use Rattle.ringcheck.specs.Inner.Jobs.{Holds, SaysJob, job_profile, job_style}
-use Rattle.ringcheck.specs.CheckStatus.{RefusedFile, refused_file, refused_manifest, sources}
 use Rattle.ringcheck.proofs.Outcomes.{file_along, files_along, halted, listed_along, risen_since, table_halted, worked}
 use Rattle.ringcheck.proofs.OutlinedReports.{holds_along}
 use Rattle.ringcheck.proofs.packages.run_job.Goals as goal
@@ -13,8 +9,8 @@ returns-in-Err-clause-says g c =
     let has = g.L.Loader.has c.args.loader.now in
     let failed = g.L.Loader.failed in
     let job = c.args.job.now in
-    let before = g.W.Write.contents c.args.out.now in
-    let after = g.W.Write.contents c.print_no_table.new.out in
+    let before = texts g.W.Write.contents g.E.Write.contents c.args.to.now in
+    let after = texts g.W.Write.contents g.E.Write.contents c.print_no_table.new.to in
     table_halted (RefusesTable (manifest_in (job_profile job)) has c.args.name.now subject.Manifest) (HasRisen (failed c.args.loader.now) (failed c.load_table.new.loader)) (job_style job) c.args.name.now before after
     (SaysJob job has c.args.name.now before after) (λ risen. tt)
     (λ why is printed. record { why = why; refused = refused_manifest is; printed = printed })
@@ -25,15 +21,15 @@ returns-in-Ok-2-clause-says g c =
     let has = g.L.Loader.has c.args.loader.now in
     let later = g.L.Loader.has c.load_table.new.loader in
     let job = c.args.job.now in
-    let before = g.W.Write.contents c.args.out.now in
-    let after = g.W.Write.contents c.answer.new.out in
+    let before = texts g.W.Write.contents g.E.Write.contents c.args.to.now in
+    let after : Written = (g.W.Write.contents c.answer.new.out, before.1) in
     let entries = c.in-Ok.entries.items in
     let listed = rw (c.in-Ok.is, c.profile.ensures) at c.in_ok-entries.ensures.loaded in
     let known = listed_along has later c.in_ok-entries.ensures.kept (job_profile job) c.args.name.now entries listed in
     let (files, held, holds) = rw (c.in-Ok-2.is, c.as_slice.ensures.value) at c.in_ok-passes.ensures.answers known in
     let has_files_along = files_along later has c.in_ok-entries.ensures.keeps entries files held in
-    rw c.status_of.ensures (worked has (job_profile job) c.args.name.now (Holds job has c.args.name.now before after) (job_style job) before after entries files listed has_files_along c.in-Ok-2.passes
-    (holds_along later has c.in_ok-entries.ensures.keeps c.args.name.now job before after c.in-Ok-2.passes (sources (job_profile job) entries files) holds))
+    rw c.status_of.ensures (worked has (job_profile job) c.args.name.now (Holds job has c.args.name.now before.0 after.0) (job_style job) before after entries files listed has_files_along c.in-Ok-2.passes
+    (holds_along later has c.in_ok-entries.ensures.keeps c.args.name.now job before.0 after.0 c.in-Ok-2.passes (sources (job_profile job) entries files) holds) refl)
 
 pub returns-clause-says : goal.returns-clause-says
 returns-clause-says g c =
@@ -41,8 +37,8 @@ returns-clause-says g c =
     let later = g.L.Loader.has c.load_table.new.loader in
     let failed = g.L.Loader.failed in
     let job = c.args.job.now in
-    let before = g.W.Write.contents c.args.out.now in
-    let after = g.W.Write.contents c.print_halt.new.out in
+    let before = texts g.W.Write.contents g.E.Write.contents c.args.to.now in
+    let after = texts g.W.Write.contents g.E.Write.contents c.print_halt.new.to in
     let entries = c.in-Ok.entries.items in
     let listed = rw (c.in-Ok.is, c.profile.ensures) at c.in_ok-entries.ensures.loaded in
     let silent = rw c.in-Err-2.is at c.in_ok-passes.ensures.silent in
@@ -57,8 +53,8 @@ returns-clause-cause g c =
     let later = g.L.Loader.has c.load_table.new.loader in
     let failed = g.L.Loader.failed in
     let job = c.args.job.now in
-    let before = g.W.Write.contents c.args.out.now in
-    let after = g.W.Write.contents c.print_halt.new.out in
+    let before = texts g.W.Write.contents g.E.Write.contents c.args.to.now in
+    let after = texts g.W.Write.contents g.E.Write.contents c.print_halt.new.to in
     let entries = c.in-Ok.entries.items in
     let listed = rw (c.in-Ok.is, c.profile.ensures) at c.in_ok-entries.ensures.loaded in
     let silent = rw c.in-Err-2.is at c.in_ok-passes.ensures.silent in

@@ -1,4 +1,4 @@
-use Rattle.std.proofs.Common.{◌≡◌, ◌∙◌, ap, min, sym, true}
+use Rattle.ringcheck.proofs.Common.{◌≡◌, ◌∙◌, ap, min, sym, true}
 use Rattle.grid_units.specs.Numbers.{is_digits, value}
 use Rattle.ringcheck.proofs.ParseCountLemmas.{count_is}
 use Rattle.ringcheck.proofs.parsed_words.parse_count.Goals as goal

@@ -1,7 +1,5 @@
-use Rattle.std.proofs.Common.{◌≡◌, inl, inr}
-use Rattle.ringcheck.specs.RequestStatus.{word_bytes}
+use Rattle.ringcheck.proofs.Common.{◌≡◌, inl, inr, word_bytes, in_folder}
 use Rattle.ringcheck_files.specs.declared.Status.TheVariants as status
-use Rattle.ringcheck_files.specs.LoaderRelation.{in_folder}
 use Rattle.ringcheck.proofs.Folders.{legal_along, legal_device, request_along, request_device}
 use Rattle.ringcheck.proofs.program.answer.Goals as goal
 

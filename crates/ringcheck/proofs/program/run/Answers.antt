@@ -1,4 +1,4 @@
-use Rattle.std.proofs.Common.{None, Some, sym}
+use Rattle.ringcheck.proofs.Common.{None, Some, sym}
 use Rattle.ringcheck.proofs.RequestLemmas.{check_status, draw_status, explain_status, legal_status, manifest_status, measure_status, report_status, rewrite_status, show_status}
 use Rattle.ringcheck.proofs.program.run.Goals as goal
 

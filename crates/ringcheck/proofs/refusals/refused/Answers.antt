@@ -1,6 +1,4 @@
-use Rattle.std.proofs.Common.{◌∙◌, ap, List, ℕ}
-use Rattle.std.specs.Prelude.{slice_get}
-use Rattle.ringcheck.specs.Refusals.{of_file}
+use Rattle.ringcheck.proofs.Common.{◌∙◌, ap, List, ℕ, slice_get, of_file}
 use Rattle.ringcheck.proofs.Outcomes.{source_at}
 use Rattle.ringcheck.proofs.refusals.refused.Goals as goal
 

@@ -1,6 +1,5 @@
-use Rattle.std.proofs.Common.{◌≡◌, ◌++◌, List, ℕ, map, subst, arith, Bor}
+use Rattle.ringcheck_files.proofs.Common.{◌≡◌, ◌++◌, List, ℕ, map, subst, arith, Bor, length-map}
 use Rattle.std.specs.Prelude.{IfOk}
-use Rattle.std.proofs.lemmas.List.{length-map}
 use Rattle.ringcheck_files.proofs.Plain.{row_is}
 use Rattle.ringcheck_files.proofs.fields.with_row.Goals as goal
 

@@ -1,4 +1,4 @@
-use Rattle.std.proofs.Common.{inl, refl}
+use Rattle.ringcheck_files.proofs.Common.{inl, refl}
 use Rattle.ringcheck_files.specs.LoaderRelation.{too_long}
 use Rattle.ringcheck_files.proofs.file_jobs.print_job.Goals as goal
 

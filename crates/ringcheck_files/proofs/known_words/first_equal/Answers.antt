@@ -1,5 +1,4 @@
-use Rattle.std.proofs.Common.{sym}
-use Rattle.std.specs.Str.{bytes_eq}
+use Rattle.ringcheck_files.proofs.Common.{sym, bytes_eq}
 use Rattle.ringcheck_files.proofs.FirstFound.{find_past, find_here, find_none}
 use Rattle.ringcheck_files.proofs.known_words.first_equal.Goals as goal
 

@@ -1,6 +1,4 @@
-use Rattle.std.proofs.Common.{◌≡◌, drop, map}
-use Rattle.std.specs.List.{find}
-use Rattle.std.specs.Str.{bytes_eq}
+use Rattle.ringcheck_files.proofs.Common.{◌≡◌, drop, map, find, bytes_eq}
 use Rattle.ringcheck_files.proofs.known_words.first_equal.Given as goal
 
 abbrev pub invariant-loop-known : goal.invariant-loop-known

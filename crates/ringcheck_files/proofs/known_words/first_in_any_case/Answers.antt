@@ -1,5 +1,4 @@
-use Rattle.std.proofs.Common.{sym}
-use Rattle.std.specs.Str.{str_eq_ignore_ascii_case}
+use Rattle.ringcheck_files.proofs.Common.{sym, str_eq_ignore_ascii_case}
 use Rattle.std.proofs.lemmas.Bool.Decides.{same_from_decides}
 use Rattle.std.proofs.lemmas.Slice.Eq.{bytes_eq-Decides}
 use Rattle.ringcheck_files.proofs.FirstFound.{find_past, find_here, find_none}

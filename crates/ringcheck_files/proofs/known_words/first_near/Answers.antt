@@ -1,5 +1,4 @@
-use Rattle.std.proofs.Common.{sym}
-use Rattle.ringcheck_files.specs.KnownWords.{is_near}
+use Rattle.ringcheck_files.proofs.Common.{sym, is_near}
 use Rattle.ringcheck_files.proofs.FirstFound.{find_past, find_here, find_none}
 use Rattle.ringcheck_files.proofs.known_words.first_near.Goals as goal
 

@@ -1,6 +1,4 @@
-use Rattle.std.proofs.Common.{◌≡◌, drop, map}
-use Rattle.std.specs.List.{find}
-use Rattle.ringcheck_files.specs.KnownWords.{is_near}
+use Rattle.ringcheck_files.proofs.Common.{◌≡◌, drop, map, find, is_near}
 use Rattle.ringcheck_files.proofs.known_words.first_near.Given as goal
 
 abbrev pub invariant-loop-known : goal.invariant-loop-known

@@ -1,7 +1,4 @@
-use Rattle.std.proofs.Common.{◌∙◌, ap}
-use Rattle.std.specs.Option.{option_or}
-use Rattle.grid_units.specs.Reasons.{reason_name}
-use Rattle.ringcheck_files.specs.KnownWords.{listed_in_any_case}
+use Rattle.ringcheck_files.proofs.Common.{◌∙◌, ap, option_or, reason_name, listed_in_any_case}
 use Rattle.ringcheck_files.proofs.known_words.known_word.Goals as goal
 
 pub returns-in-Some : goal.returns-in-Some

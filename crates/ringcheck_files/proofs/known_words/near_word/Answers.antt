@@ -1,4 +1,4 @@
-use Rattle.grid_units.specs.Reasons.{reason_name}
+use Rattle.ringcheck_files.proofs.Common.{reason_name}
 use Rattle.ringcheck_files.proofs.known_words.near_word.Goals as goal
 
 pub returns : goal.returns

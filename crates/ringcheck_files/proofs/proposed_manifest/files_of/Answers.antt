@@ -1,6 +1,4 @@
-use Rattle.std.proofs.Common.{◌≡◌, ◌∙◌, sym, ap, is_ok, true, rules, map, arith}
-use Rattle.std.proofs.lemmas.List.{map-append}
-use Rattle.ringcheck_files.specs.ManifestStatus.{loaded_file}
+use Rattle.ringcheck_files.proofs.Common.{◌≡◌, ◌∙◌, sym, ap, is_ok, true, rules, map, arith, map-append, loaded_file}
 use Rattle.ringcheck_files.proofs.ManifestStatus.{all_loaded, next_loaded}
 use Rattle.ringcheck_files.proofs.proposed_manifest.files_of.Goals as goal
 

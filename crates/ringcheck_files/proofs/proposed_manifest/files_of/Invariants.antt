@@ -1,5 +1,4 @@
-use Rattle.std.proofs.Common.{◌≡◌, map, take}
-use Rattle.ringcheck_files.specs.ManifestStatus.{loaded_file, loaded_files}
+use Rattle.ringcheck_files.proofs.Common.{◌≡◌, map, take, loaded_file, loaded_files}
 use Rattle.ringcheck_files.proofs.proposed_manifest.files_of.Given as goal
 
 abbrev pub invariant-loop-index : goal.invariant-loop-index

@@ -1,6 +1,5 @@
-use Rattle.std.proofs.Common.{arith, ◌≡◌, ◌≤◌, is_ok, true, rules, ◌∷◌, [], ℕ, List, take, length, get_or, Bor, subst}
-use Rattle.std.proofs.lemmas.List.{length-append, length-take, take_all, take_more}
-use Rattle.ringcheck_files.specs.ManifestStatus.{HasAllLoaded, HasRisenBy, count_unread, loaded_files}
+use Rattle.ringcheck_files.proofs.Common.{arith, ◌≡◌, ◌≤◌, is_ok, true, rules, ◌∷◌, [], ℕ, List, take, length, get_or, Bor, subst, length-take, take_all, take_more, HasAllLoaded, HasRisenBy, count_unread, loaded_files}
+use Rattle.std.proofs.lemmas.List.{length-append}
 use Rattle.ringcheck_files.proofs.ManifestStatus.{loaded_before, nothing, loaded_more, unread_more}
 use Rattle.ringcheck_files.proofs.proposed_manifest.load_files.Goals as goal
 

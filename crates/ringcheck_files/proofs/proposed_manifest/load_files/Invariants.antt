@@ -1,5 +1,4 @@
-use Rattle.std.proofs.Common.{◌≡◌, ◌↔◌, ℕ, List, length, take}
-use Rattle.ringcheck_files.specs.ManifestStatus.{HasAllLoaded, HasRisenBy, count_unread, loaded_files}
+use Rattle.ringcheck_files.proofs.Common.{◌≡◌, ◌↔◌, ℕ, List, length, take, HasAllLoaded, HasRisenBy, count_unread, loaded_files}
 use Rattle.ringcheck_files.proofs.proposed_manifest.load_files.Given as goal
 
 abbrev pub invariant-loop-name : goal.invariant-loop-name

@@ -1,6 +1,4 @@
-use Rattle.std.proofs.Common.{◌∙◌, inl, sym}
-use Rattle.std.proofs.lemmas.Result.{IfOk-weaker}
-use Rattle.ringcheck_files.specs.ManifestStatus.{IsHeldStatus, IsManifestStatus, loaded_files}
+use Rattle.ringcheck_files.proofs.Common.{◌∙◌, inl, sym, IfOk-weaker, IsHeldStatus, IsManifestStatus, loaded_files}
 use Rattle.ringcheck_files.proofs.Appending.{appends_both}
 use Rattle.ringcheck_files.proofs.ManifestStatus.{all_of_map, held_status, texts}
 use Rattle.ringcheck_files.proofs.proposed_manifest.print_manifest.Goals as goal

@@ -1,5 +1,4 @@
-use Rattle.std.proofs.Common.{◌++◌, ℕ, List, Ok, Option, take, arith, subst, append_assoc}
-use Rattle.ringcheck_files.specs.Inner.{IsNextRead}
+use Rattle.ringcheck_files.proofs.Common.{◌++◌, ℕ, List, Ok, Option, take, arith, subst, append_assoc, IsNextRead}
 use Rattle.ringcheck_files.proofs.HandingOn.{handed_more}
 use Rattle.ringcheck_files.proofs.reader_bytes.read_in_blocks.Goals as goal
 

@@ -1,5 +1,4 @@
-use Rattle.std.proofs.Common.{◌≤◌, ◌<◌, ◌+◌, ◌-◌, ◌++◌, ℕ, List, length}
-use Rattle.ringcheck_files.specs.Inner.{HasHandedOn, extra_reads}
+use Rattle.ringcheck_files.proofs.Common.{◌≤◌, ◌<◌, ◌+◌, ◌-◌, ◌++◌, ℕ, List, length, HasHandedOn, extra_reads}
 use Rattle.ringcheck_files.proofs.reader_bytes.read_in_blocks.Given as goal
 
 abbrev pub invariant-loop-read_counter : goal.invariant-loop-read_counter

@@ -1,5 +1,4 @@
-use Rattle.std.proofs.Common.{rules, map}
-use Rattle.grid_units.specs.Reasons.{reason_name}
+use Rattle.ringcheck_files.proofs.Common.{rules, map, reason_name}
 use Rattle.ringcheck_files.specs.declared.reason_pages.TheConstants.{PAGES}
 use Rattle.ringcheck_files.proofs.PageHeadings.{page_headed, text_at}
 use Rattle.ringcheck_files.proofs.reason_pages.reason_page.Goals as goal

@@ -1,12 +1,7 @@
-use Rattle.std.proofs.Common.{◌++◌, ℕ, List, [], ap, rules, subst, sym, ◌∙◌, append_assoc}
-use Rattle.std.proofs.lemmas.Result.{err_from_is_err_and}
-use Rattle.std.specs.Slice.Iter.{chunks_rest}
+use Rattle.ringcheck_files.proofs.Common.{◌++◌, ℕ, List, [], ap, rules, subst, sym, ◌∙◌, append_assoc, err_from_is_err_and, chunks_rest, Strict, LayerStands, left_pads, done_is_all}
 use Rattle.layer_features.specs.declared.keep.Keep.TheVariants as keep
-use Rattle.grid_units.specs.declared.profile.Profile.TheVariants.{Strict}
-use Rattle.layer_image.specs.Holding.{LayerStands, left_pads}
 use Rattle.ringcheck_files.proofs.WriterLemmas.{joined, layer_fault}
 use Rattle.ringcheck_files.proofs.rewrite.check_layer.Goals as goal
-use Rattle.grid_units.proofs.ListLemmas.{done_is_all}
 
 pub loop-piece-init : goal.loop-piece-init
 loop-piece-init c = (search rules, tt, search rules, ([], c.in_profile-reader.ensures, search rules))

@@ -1,8 +1,5 @@
-use Rattle.std.proofs.Common.{◌≡◌, ℕ, List, [], ◌++◌}
-use Rattle.std.specs.Slice.Iter.{chunks_rest, chunks_size}
+use Rattle.ringcheck_files.proofs.Common.{◌≡◌, ℕ, List, [], ◌++◌, chunks_rest, chunks_size, Strict, LayerStands}
 use Rattle.layer_features.specs.declared.keep.Keep.TheVariants as keep
-use Rattle.grid_units.specs.declared.profile.Profile.TheVariants.{Strict}
-use Rattle.layer_image.specs.Holding.{LayerStands}
 use Rattle.ringcheck_files.proofs.rewrite.check_layer.Given as goal
 
 abbrev pub invariant-loop-piece : goal.invariant-loop-piece

@@ -1,7 +1,4 @@
-use Rattle.std.proofs.Common.{[]}
-use Rattle.std.proofs.lemmas.Result.{err_from_is_err_and}
-use Rattle.grid_units.specs.declared.profile.Profile.TheVariants.{Strict}
-use Rattle.drill_text.specs.Profiles.{plain}
+use Rattle.ringcheck_files.proofs.Common.{[], err_from_is_err_and, Strict, plain}
 use Rattle.drill_text.specs.declared.kept.Keep.TheVariants as keep
 use Rattle.ringcheck_files.proofs.WriterLemmas.{drill_shown}
 use Rattle.ringcheck_files.proofs.rewrite.read_drill.Goals as goal

@@ -1,4 +1,4 @@
-use Rattle.std.proofs.lemmas.Result.{err_from_is_err_and}
+use Rattle.ringcheck_files.proofs.Common.{err_from_is_err_and}
 use Rattle.ringcheck_files.proofs.WriterLemmas.{drill_refused, drill_written}
 use Rattle.ringcheck_files.proofs.rewrite.rewrite_drill.Goals as goal
 

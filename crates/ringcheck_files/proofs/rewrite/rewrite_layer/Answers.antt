@@ -1,4 +1,4 @@
-use Rattle.std.proofs.lemmas.Result.{err_from_is_err_and}
+use Rattle.ringcheck_files.proofs.Common.{err_from_is_err_and}
 use Rattle.ringcheck_files.proofs.WriterLemmas.{layer_refused, layer_written}
 use Rattle.ringcheck_files.proofs.rewrite.rewrite_layer.Goals as goal
 

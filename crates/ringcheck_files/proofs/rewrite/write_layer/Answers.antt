@@ -1,13 +1,6 @@
-use Rattle.std.proofs.Common.{◌≡◌, ◌++◌, ℕ, List, Result, [], ap, rules, subst, sym, ◌∙◌, append_assoc}
-use Rattle.std.proofs.lemmas.Result.{err_from_is_err_and}
-use Rattle.std.specs.Global.{Vec}
-use Rattle.std.specs.Slice.Iter.{chunks_rest}
-use Rattle.grid_units.specs.declared.fault.Fault.{Fault}
-use Rattle.gerber_text.specs.Writing.{canonical_text, without_places}
-use Rattle.ringcheck_files.specs.Inner.Writing.{IsWriterAfter}
+use Rattle.ringcheck_files.proofs.Common.{◌≡◌, ◌++◌, ℕ, List, Result, [], ap, rules, subst, sym, ◌∙◌, append_assoc, err_from_is_err_and, Vec, chunks_rest, Fault, canonical_text, without_places, IsWriterAfter, done_is_all}
 use Rattle.ringcheck_files.proofs.WriterLemmas.{legal_goes_on}
 use Rattle.ringcheck_files.proofs.rewrite.write_layer.Goals as goal
-use Rattle.grid_units.proofs.ListLemmas.{done_is_all}
 
 pub loop-piece-init : goal.loop-piece-init
 loop-piece-init c = (search rules, tt, search rules, ([], c.new-writer.ensures, search rules))

@@ -1,6 +1,4 @@
-use Rattle.std.proofs.Common.{◌≡◌, ℕ, List, ◌++◌}
-use Rattle.std.specs.Slice.Iter.{chunks_rest, chunks_size}
-use Rattle.ringcheck_files.specs.Inner.Writing.{IsWriterAfter}
+use Rattle.ringcheck_files.proofs.Common.{◌≡◌, ℕ, List, ◌++◌, chunks_rest, chunks_size, IsWriterAfter}
 use Rattle.ringcheck_files.proofs.rewrite.write_layer.Given as goal
 
 abbrev pub invariant-loop-piece : goal.invariant-loop-piece

@@ -1,6 +1,4 @@
-use Rattle.std.proofs.Common.{◌≡◌, ◌++◌, ◌+◌, drop}
-use Rattle.ringcheck_files.specs.Rows.{rows_from}
-use Rattle.ringcheck_files.specs.Tables.{hole_fields}
+use Rattle.ringcheck_files.proofs.Common.{◌≡◌, ◌++◌, ◌+◌, drop, rows_from, hole_fields}
 use Rattle.ringcheck_files.proofs.show.drill_table.Given as goal
 
 abbrev pub invariant-loop-hole : goal.invariant-loop-hole

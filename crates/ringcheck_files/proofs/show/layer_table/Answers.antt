@@ -1,6 +1,4 @@
-use Rattle.std.proofs.Common.{◌≡◌, ◌∙◌, ◌++◌, IfOk, ap, arith, subst}
-use Rattle.ringcheck_files.specs.Rows.{rows_from}
-use Rattle.ringcheck_files.specs.Tables.{feature_fields}
+use Rattle.ringcheck_files.proofs.Common.{◌≡◌, ◌∙◌, ◌++◌, IfOk, ap, arith, subst, rows_from, feature_fields}
 use Rattle.ringcheck_files.proofs.Numbered.{row_more, rows_end}
 use Rattle.ringcheck_files.proofs.show.layer_table.Goals as goal
 

@@ -1,6 +1,4 @@
-use Rattle.std.proofs.Common.{◌≡◌, ◌++◌, ◌+◌, drop}
-use Rattle.ringcheck_files.specs.Rows.{rows_from}
-use Rattle.ringcheck_files.specs.Tables.{feature_fields}
+use Rattle.ringcheck_files.proofs.Common.{◌≡◌, ◌++◌, ◌+◌, drop, rows_from, feature_fields}
 use Rattle.ringcheck_files.proofs.show.layer_table.Given as goal
 
 abbrev pub invariant-loop-feature : goal.invariant-loop-feature

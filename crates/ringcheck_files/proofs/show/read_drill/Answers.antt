@@ -1,6 +1,4 @@
-use Rattle.std.proofs.Common.{[]}
-use Rattle.std.proofs.lemmas.Result.{err_from_is_err_and}
-use Rattle.drill_text.specs.Profiles.{plain}
+use Rattle.ringcheck_files.proofs.Common.{[], err_from_is_err_and, plain}
 use Rattle.drill_text.specs.declared.kept.Keep.TheVariants as keep
 use Rattle.ringcheck_files.proofs.Pieces.{drill_answered, drill_shown}
 use Rattle.ringcheck_files.proofs.show.read_drill.Goals as goal

@@ -1,15 +1,8 @@
-use Rattle.std.proofs.Common.{◌++◌, ℕ, List, [], ap, rules, subst, sym, ◌∙◌, append_assoc}
-use Rattle.std.proofs.lemmas.Result.{err_from_is_err_and}
-use Rattle.std.specs.Slice.Iter.{chunks_rest}
+use Rattle.ringcheck_files.proofs.Common.{◌++◌, ℕ, List, [], ap, rules, subst, sym, ◌∙◌, append_assoc, err_from_is_err_and, chunks_rest, LayerStands, has_forgotten, Answers, WidePad, KeptLayer, ReadsKeptIn, done_is_all}
 use Rattle.layer_features.specs.declared.keep.Keep.TheVariants as keep
-use Rattle.layer_image.specs.Holding.{LayerStands, has_forgotten}
-use Rattle.grid_units.specs.Results.{Answers}
-use Rattle.pad_shapes.specs.declared.wide_pad.WidePad.{WidePad}
-use Rattle.layer_image.specs.Kept.{KeptLayer, ReadsKeptIn}
 use Rattle.layer_image.proofs.Pieces.{none_left}
 use Rattle.ringcheck_files.proofs.Pieces.{layer_joined}
 use Rattle.ringcheck_files.proofs.show.read_layer.Goals as goal
-use Rattle.grid_units.proofs.ListLemmas.{done_is_all}
 
 pub loop-piece-init : goal.loop-piece-init
 loop-piece-init c = (search rules, tt, search rules, ([], c.in_profile-reader.ensures, search rules))

@@ -1,7 +1,5 @@
-use Rattle.std.proofs.Common.{◌≡◌, ℕ, List, [], ◌++◌}
-use Rattle.std.specs.Slice.Iter.{chunks_rest, chunks_size}
+use Rattle.ringcheck_files.proofs.Common.{◌≡◌, ℕ, List, [], ◌++◌, chunks_rest, chunks_size, LayerStands}
 use Rattle.layer_features.specs.declared.keep.Keep.TheVariants as keep
-use Rattle.layer_image.specs.Holding.{LayerStands}
 use Rattle.ringcheck_files.proofs.show.read_layer.Given as goal
 
 abbrev pub invariant-loop-piece : goal.invariant-loop-piece

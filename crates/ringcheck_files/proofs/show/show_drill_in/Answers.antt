@@ -1,7 +1,5 @@
-use Rattle.std.proofs.Common.{ap, ◌∙◌}
-use Rattle.std.proofs.lemmas.Result.{err_from_is_err_and}
+use Rattle.ringcheck_files.proofs.Common.{ap, ◌∙◌, err_from_is_err_and, drill_table}
 use Rattle.drill_text.specs.declared.kept.Keep.TheVariants as keep
-use Rattle.ringcheck_files.specs.Tables.{drill_table}
 use Rattle.ringcheck_files.proofs.Pieces.{drill_refused, drill_told}
 use Rattle.ringcheck_files.proofs.show.show_drill_in.Goals as goal
 

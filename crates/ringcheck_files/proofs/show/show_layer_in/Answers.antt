@@ -1,7 +1,5 @@
-use Rattle.std.proofs.Common.{[], ap, ◌∙◌}
-use Rattle.std.proofs.lemmas.Result.{err_from_is_err_and}
+use Rattle.ringcheck_files.proofs.Common.{[], ap, ◌∙◌, err_from_is_err_and, layer_table}
 use Rattle.layer_features.specs.declared.keep.Keep.TheVariants as keep
-use Rattle.ringcheck_files.specs.Tables.{layer_table}
 use Rattle.ringcheck_files.proofs.Pieces.{layer_refused}
 use Rattle.ringcheck_files.proofs.show.show_layer_in.Goals as goal
 

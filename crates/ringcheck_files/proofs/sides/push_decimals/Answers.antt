@@ -1,7 +1,6 @@
-use Rattle.std.proofs.Common.{rules, arith, ◌≡◌, ◌∙◌, ◌++◌, ◌∷◌, ℕ, List, length, pos, ap, subst}
+use Rattle.ringcheck_files.proofs.Common.{rules, arith, ◌≡◌, ◌∙◌, ◌++◌, ◌∷◌, ℕ, List, length, pos, ap, subst, millimetres, places}
 use Rattle.std.specs.Prelude.{MatchOption}
 use Rattle.std.proofs.lemmas.Str.Pattern.{strip_prefix_char}
-use Rattle.grid_units.specs.Spellings.{millimetres, places}
 use Rattle.grid_units.proofs.TrailingZeros.{length-places}
 use Rattle.ringcheck_files.proofs.SideLemmas.{behind_zero, below_one}
 use Rattle.ringcheck_files.proofs.sides.push_decimals.Goals as goal

@@ -1,4 +1,4 @@
-use Rattle.std.proofs.Common.{pos, arith}
+use Rattle.ringcheck_files.proofs.Common.{pos, arith}
 use Rattle.ringcheck_files.proofs.Plain.{millimetres_plain, same_plain}
 use Rattle.ringcheck_files.proofs.SideLemmas.{side_is}
 use Rattle.ringcheck_files.proofs.sides.side_field.Goals as goal

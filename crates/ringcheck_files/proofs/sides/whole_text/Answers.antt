@@ -1,5 +1,4 @@
-use Rattle.std.proofs.Common.{◌≤◌, ap, length, subst, sym, arith, lit<}
-use Rattle.std.proofs.lemmas.Fmt.{length-decimal-le}
+use Rattle.ringcheck_files.proofs.Common.{◌≤◌, ap, length, subst, sym, arith, lit<, length-decimal-le}
 use Rattle.ringcheck_files.proofs.sides.whole_text.Goals as goal
 
 pub push_str-requires : goal.push_str-requires

@@ -1,5 +1,4 @@
-use Rattle.grid_units.specs.Reasons.{reason_name}
-use Rattle.ringcheck_files.specs.PageWords.{all_reasons}
+use Rattle.ringcheck_files.proofs.Common.{reason_name, all_reasons}
 use Rattle.ringcheck_files.proofs.LookupLemmas.{reason_is_listed, none_named, others_extend}
 use Rattle.ringcheck_files.proofs.word_list.reason_by_name.Goals as goal
 

@@ -1,6 +1,4 @@
-use Rattle.std.proofs.Common.{◌≢◌, All, take}
-use Rattle.grid_units.specs.Reasons.{reason_name}
-use Rattle.ringcheck_files.specs.PageWords.{all_reasons}
+use Rattle.ringcheck_files.proofs.Common.{◌≢◌, All, take, reason_name, all_reasons}
 use Rattle.ringcheck_files.proofs.word_list.reason_by_name.Given as goal
 
 abbrev pub invariant-loop-reason : goal.invariant-loop-reason

@@ -1,4 +1,4 @@
-use Rattle.ringcheck_files.specs.PageWords.{all_topics, topic_word}
+use Rattle.ringcheck_files.proofs.Common.{all_topics, topic_word}
 use Rattle.ringcheck_files.proofs.LookupLemmas.{topic_is_listed, none_named, others_extend}
 use Rattle.ringcheck_files.proofs.word_list.topic_by_word.Goals as goal
 

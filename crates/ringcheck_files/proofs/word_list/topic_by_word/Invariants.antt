@@ -1,5 +1,4 @@
-use Rattle.std.proofs.Common.{◌≢◌, All, take}
-use Rattle.ringcheck_files.specs.PageWords.{all_topics, topic_word}
+use Rattle.ringcheck_files.proofs.Common.{◌≢◌, All, take, all_topics, topic_word}
 use Rattle.ringcheck_files.proofs.word_list.topic_by_word.Given as goal
 
 abbrev pub invariant-loop-topic : goal.invariant-loop-topic

@@ -1,6 +1,5 @@
-use Rattle.std.proofs.Common.{◌≡◌, false, sym}
+use Rattle.waivers.proofs.Common.{◌≡◌, false, sym, place_at}
 use Rattle.std.specs.Prelude.{is_some}
-use Rattle.waivers.specs.Inner.{place_at}
 use Rattle.waivers.proofs.FirstPlaces.{place_added, first_place_step}
 use Rattle.waivers.proofs.keys.add_first.Goals as goal
 

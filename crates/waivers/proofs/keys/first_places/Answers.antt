@@ -1,7 +1,5 @@
-use Rattle.std.proofs.Common.{◌≡◌, ◌∙◌, Some, None, sym}
-use Rattle.std.specs.Prelude.{if◌then◌else◌}
+use Rattle.waivers.proofs.Common.{◌≡◌, ◌∙◌, Some, None, sym, if◌then◌else◌, bytes_eq}
 use Rattle.std.specs.Option.{option_or}
-use Rattle.std.specs.Str.{bytes_eq}
 use Rattle.waivers.proofs.FirstPlaces.{first_more}
 use Rattle.waivers.proofs.keys.first_places.Goals as goal
 

@@ -1,7 +1,4 @@
-use Rattle.std.proofs.Common.{◌≡◌, ℕ, List, take}
-use Rattle.std.specs.List.{position_from}
-use Rattle.std.specs.Str.{bytes_eq}
-use Rattle.waivers.specs.Inner.{place_at}
+use Rattle.waivers.proofs.Common.{◌≡◌, ℕ, List, take, position_from, bytes_eq, place_at}
 use Rattle.waivers.proofs.keys.first_places.Given as goal
 
 abbrev pub invariant-loop-place : goal.invariant-loop-place

@@ -1,6 +1,4 @@
-use Rattle.std.proofs.Common.{◌≡◌, map, take}
-use Rattle.waivers.specs.Findings.{gap_fields}
-use Rattle.waivers.specs.Inner.{joined}
+use Rattle.waivers.proofs.Common.{◌≡◌, map, take, gap_fields, joined}
 use Rattle.waivers.proofs.keys.gap_keys.Given as goal
 
 abbrev pub invariant-loop-lack : goal.invariant-loop-lack

@@ -1,5 +1,4 @@
-use Rattle.std.proofs.Common.{◌≡◌, map, take}
-use Rattle.waivers.specs.Inner.{place_at}
+use Rattle.waivers.proofs.Common.{◌≡◌, map, take, place_at}
 use Rattle.waivers.proofs.keys.places_of.Given as goal
 
 abbrev pub invariant-loop-key : goal.invariant-loop-key

@@ -1,6 +1,4 @@
-use Rattle.std.proofs.Common.{◌≡◌, map, take}
-use Rattle.waivers.specs.Inner.{joined}
-use Rattle.waivers.specs.Waiving.{compared_fields}
+use Rattle.waivers.proofs.Common.{◌≡◌, map, take, joined, compared_fields}
 use Rattle.waivers.proofs.keys.waiver_keys.Given as goal
 
 abbrev pub invariant-loop-waiver : goal.invariant-loop-waiver

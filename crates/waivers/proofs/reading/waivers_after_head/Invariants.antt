@@ -1,8 +1,7 @@
-use Rattle.std.proofs.Common.{◌≡◌, map, take, []}
+use Rattle.waivers.proofs.Common.{◌≡◌, map, take, [], waiver_of}
 use Rattle.csv.specs.Records.{fields_of}
 use Rattle.grid_units.specs.Lists.{violations}
 use Rattle.waivers.proofs.RecordLemmas.{rule}
-use Rattle.waivers.specs.Reading.{waiver_of}
 use Rattle.waivers.proofs.reading.waivers_after_head.Given as goal
 
 abbrev pub invariant-loop-i : goal.invariant-loop-i

@@ -1,6 +1,4 @@
-use Rattle.std.proofs.Common.{◌≡◌, ◌||◌, ℕ, take}
-use Rattle.std.specs.List.{list_any}
-use Rattle.waivers.specs.Inner.{has_place, is_waived_by}
+use Rattle.waivers.proofs.Common.{◌≡◌, ◌||◌, ℕ, take, list_any, has_place, is_waived_by}
 use Rattle.waivers.proofs.waiving.add_used.Given as goal
 
 abbrev pub invariant-loop-by : goal.invariant-loop-by

@@ -1,8 +1,5 @@
-use Rattle.std.proofs.Common.{◌≡◌, ◌∙◌, ℕ, ap, arith, map}
+use Rattle.waivers.proofs.Common.{◌≡◌, ◌∙◌, ℕ, ap, arith, map, IfOk-weaker, place_at, compared_fields, waived_by}
 use Rattle.std.specs.Global.{Vec}
-use Rattle.std.proofs.lemmas.Result.{IfOk-weaker}
-use Rattle.waivers.specs.Inner.{place_at}
-use Rattle.waivers.specs.Waiving.{compared_fields, waived_by}
 use Rattle.waivers.proofs.Matches.{all_found}
 use Rattle.waivers.proofs.waiving.first_equal_places.Goals as goal
 

@@ -1,9 +1,6 @@
 use Rattle.std.specs.Prelude.{◌≡◌, ℕ, List}
-use Rattle.std.proofs.Common.{◌∙◌}
-use Rattle.std.proofs.lemmas.Result.{IfOk-weaker}
+use Rattle.waivers.proofs.Common.{◌∙◌, IfOk-weaker, unused_numbers, IsWaived, report_fields, idle_numbers}
 use Rattle.report.specs.declared.BoardReport.{BoardReport}
-use Rattle.waivers.specs.Inner.{unused_numbers}
-use Rattle.waivers.specs.Waiving.{IsWaived, report_fields, idle_numbers}
 use Rattle.waivers.proofs.IdlePlaces.{unused_is_idle}
 use Rattle.waivers.proofs.waiving.idle.Goals as goal
 

@@ -1,6 +1,4 @@
-use Rattle.std.proofs.Common.{◌≡◌, map, take}
-use Rattle.std.specs.Prelude.{option_map}
-use Rattle.waivers.specs.Waiving.{reason_at}
+use Rattle.waivers.proofs.Common.{◌≡◌, map, take, option_map, reason_at}
 use Rattle.waivers.proofs.waiving.reasons.Given as goal
 
 abbrev pub invariant-loop-place : goal.invariant-loop-place

@@ -1,5 +1,4 @@
-use Rattle.std.proofs.Common.{◌+◌, arith, not}
-use Rattle.waivers.specs.Inner.{has_first_place}
+use Rattle.waivers.proofs.Common.{◌+◌, arith, not, has_first_place}
 use Rattle.waivers.proofs.IdlePlaces.{numbers_more}
 use Rattle.waivers.proofs.waiving.unused.Goals as goal
 

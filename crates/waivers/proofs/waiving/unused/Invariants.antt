@@ -1,5 +1,4 @@
-use Rattle.std.proofs.Common.{◌≡◌, take}
-use Rattle.waivers.specs.Inner.{unused_numbers}
+use Rattle.waivers.proofs.Common.{◌≡◌, take, unused_numbers}
 use Rattle.waivers.proofs.waiving.unused.Given as goal
 
 abbrev pub invariant-loop-place : goal.invariant-loop-place

@@ -1,7 +1,5 @@
-use Rattle.std.proofs.Common.{◌∙◌, ℕ, ap, arith, map}
+use Rattle.waivers.proofs.Common.{◌∙◌, ℕ, ap, arith, map, gap_fields, ring_fields, joined, place_at}
 use Rattle.std.specs.Global.{Vec}
-use Rattle.waivers.specs.Findings.{gap_fields, ring_fields}
-use Rattle.waivers.specs.Inner.{joined, place_at}
 use Rattle.waivers.proofs.Matches.{all_found}
 use Rattle.waivers.proofs.waiving.waive.Goals as goal
 

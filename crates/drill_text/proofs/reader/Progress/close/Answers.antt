@@ -1,15 +1,5 @@
-use Rattle.std.proofs.Common.{◌≡◌, ◌+◌, ℕ, suc, List, [], ◌∷◌, ◌++◌, Err, length, sym, ap, subst, ◌∙◌, arith}
-use Rattle.std.proofs.lemmas.List.{length-append}
-use Rattle.std.proofs.lemmas.Result.{err_from_is_err_and}
-use Rattle.grid_units.specs.declared.fault.Fail.{Fail}
+use Rattle.drill_text.proofs.Common.{◌≡◌, ◌+◌, ℕ, suc, List, [], ◌∷◌, ◌++◌, Err, length, sym, ap, subst, ◌∙◌, arith, length-append, err_from_is_err_and, Fail, IfFault, Keep, Progress, Splits, bytes_of, Kind, spelled_in, shown_by, HasReadIn, Holds, Refuses}
 use Rattle.grid_units.specs.declared.fault.Fail.TheVariants.{Memory, Refused}
-use Rattle.grid_units.specs.Results.{IfFault}
-use Rattle.drill_text.specs.declared.kept.Keep.{Keep}
-use Rattle.drill_text.specs.declared.reader.Progress.{Progress}
-use Rattle.drill_text.specs.Lines.{Splits, bytes_of}
-use Rattle.drill_text.specs.Profiles.{Kind, spelled_in, shown_by}
-use Rattle.drill_text.specs.Keeping.{HasReadIn}
-use Rattle.drill_text.specs.Holding.{Holds, Refuses}
 use Rattle.drill_text.proofs.SplitsLemmas.{Splits-close, bytes_of-push}
 use Rattle.drill_text.proofs.PieceLemmas.{closed}
 use Rattle.drill_text.proofs.reader.Progress.close.Goals as goal

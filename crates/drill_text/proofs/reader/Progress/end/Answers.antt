@@ -1,8 +1,4 @@
-use Rattle.std.proofs.Common.{◌≡◌, ◌≢◌, ◌+◌, ◌<◌, suc, length, vec_len, List, ℕ, [], sym, ap, subst, arith}
-use Rattle.std.proofs.lemmas.Bool.{eqb-true, eqb-false}
-use Rattle.std.proofs.lemmas.List.{nil_from_length}
-use Rattle.drill_text.specs.Keeping.{ResultsInLine}
-use Rattle.drill_text.specs.Profiles.{spelled_in, with_rest}
+use Rattle.drill_text.proofs.Common.{◌≡◌, ◌≢◌, ◌+◌, ◌<◌, suc, length, vec_len, List, ℕ, [], sym, ap, subst, arith, eqb-true, eqb-false, nil_from_length, ResultsInLine, spelled_in, with_rest}
 use Rattle.drill_text.proofs.SpelledLemmas.{rest_is_line, rest_results}
 use Rattle.drill_text.proofs.reader.Progress.end.Goals as goal
 

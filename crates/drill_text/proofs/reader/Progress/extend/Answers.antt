@@ -1,11 +1,4 @@
-use Rattle.std.proofs.Common.{◌≡◌, ◌≢◌, ◌+◌, suc, ℕ, List, ◌++◌, Err, length, sym, ap, subst, ◌∙◌, arith}
-use Rattle.std.proofs.lemmas.List.{length-append}
-use Rattle.std.proofs.lemmas.List.Elements.{recursion_from_All}
-use Rattle.grid_units.specs.declared.fault.Reason.TheVariants.{TooLong}
-use Rattle.drill_text.specs.Lines.{Splits}
-use Rattle.grid_units.specs.Results.{fault}
-use Rattle.drill_text.specs.Profiles.{shown_by}
-use Rattle.drill_text.specs.Holding.{Refuses}
+use Rattle.drill_text.proofs.Common.{◌≡◌, ◌≢◌, ◌+◌, suc, ℕ, List, ◌++◌, Err, length, sym, ap, subst, ◌∙◌, arith, length-append, recursion_from_All, TooLong, Splits, fault, shown_by, Refuses}
 use Rattle.drill_text.proofs.SplitsLemmas.{Splits-grow}
 use Rattle.drill_text.proofs.ProfileLemmas.{shown_by_ok, show_by_ok, show_by_long}
 use Rattle.drill_text.proofs.reader.Progress.extend.Goals as goal

@@ -1,10 +1,4 @@
-use Rattle.std.proofs.Common.{◌≡◌, false, Err, sym, ap, subst, ◌∙◌}
-use Rattle.std.proofs.lemmas.Result.{err_from_is_err_and}
-use Rattle.std.specs.List.{list_any}
-use Rattle.grid_units.specs.Results.{Answers, fault}
-use Rattle.grid_units.specs.declared.fault.Reason.TheVariants.{Truncated}
-use Rattle.drill_text.specs.Outcome.{DrillFile, file_of}
-use Rattle.drill_text.specs.Profiles.{ReadsAsBy, ReadsBy, is_finish, place_after_count}
+use Rattle.drill_text.proofs.Common.{◌≡◌, false, Err, sym, ap, subst, ◌∙◌, err_from_is_err_and, list_any, Answers, fault, Truncated, DrillFile, file_of, ReadsAsBy, ReadsBy, is_finish, place_after_count}
 use Rattle.drill_text.proofs.FinishLemmas.{reads_fault, reads_ended, reads_truncated}
 use Rattle.drill_text.proofs.reader.Progress.finish.Goals as goal
 

@@ -1,7 +1,4 @@
-use Rattle.std.proofs.Common.{ℕ, List, [], ap, sym, subst, refl}
-use Rattle.drill_text.specs.Lines.{Splits}
-use Rattle.drill_text.specs.Lookback.{settings_after}
-use Rattle.drill_text.specs.Profiles.{shown_by}
+use Rattle.drill_text.proofs.Common.{ℕ, List, [], ap, sym, subst, refl, Splits, settings_after, shown_by}
 use Rattle.drill_text.proofs.reader.Progress.new.Goals as goal
 
 pub returns : goal.returns

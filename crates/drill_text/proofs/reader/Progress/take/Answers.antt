@@ -1,14 +1,6 @@
-use Rattle.std.proofs.Common.{◌≡◌, ◌+◌, ◌-◌, ℕ, List, ◌++◌, Err, take, drop, sym, subst, arith, append_assoc, ◌∙◌, ap}
-use Rattle.std.proofs.lemmas.List.{length-append, length-take, length-drop, take-append-drop}
-use Rattle.std.proofs.lemmas.Result.{err_from_is_err_and, IfErr-weaker}
-use Rattle.grid_units.specs.Results.{fault}
-use Rattle.drill_text.specs.Profiles.{ShowsBy}
-use Rattle.grid_units.specs.declared.fault.Reason.TheVariants.{TooLong}
-use Rattle.drill_text.specs.Holding.{Refuses, RefusesText}
-use Rattle.grid_units.specs.Results.{IfFault}
+use Rattle.drill_text.proofs.Common.{◌≡◌, ◌+◌, ◌-◌, ℕ, List, ◌++◌, Err, take, drop, sym, subst, arith, append_assoc, ◌∙◌, ap, length-append, length-take, length-drop, take-append-drop, err_from_is_err_and, IfErr-weaker, fault, ShowsBy, TooLong, Refuses, RefusesText, IfFault, text_limit}
 use Rattle.drill_text.proofs.WholeTextLemmas.{refuses_within, refuses_beyond, too_long_text}
 use Rattle.drill_text.proofs.reader.Progress.take.Goals as goal
-use Rattle.grid_units.specs.Limits.{text_limit}
 
 pub returns-then-piece-room-clause-err : goal.returns-then-piece-room-clause-err
 returns-then-piece-room-clause-err c =

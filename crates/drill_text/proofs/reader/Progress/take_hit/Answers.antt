@@ -1,23 +1,7 @@
-use Rattle.std.proofs.Common.{◌≡◌, ◌≤◌, ◌+◌, ℕ, suc, false, List, [], ◌∷◌, ◌++◌, length, take, map, Some, Ok, Err, sym, ap, subst, ◌∙◌, refl, arith, append_assoc}
-use Rattle.std.proofs.lemmas.List.{length-append, take_at}
-use Rattle.std.proofs.lemmas.Result.{err_from_is_err_and}
-use Rattle.grid_units.specs.Results.{IfFault, with_place}
-use Rattle.drill_lines.specs.declared.command.Coordinates.{Coordinates}
+use Rattle.drill_text.proofs.Common.{◌≡◌, ◌≤◌, ◌+◌, ℕ, suc, false, List, [], ◌∷◌, ◌++◌, length, take, map, Some, Ok, Err, sym, ap, subst, ◌∙◌, refl, arith, append_assoc, length-append, take_at, err_from_is_err_and, IfFault, with_place, Coordinates, Settings, Hit, trimmed, ReadsLine, Keep, Progress, HasLeadingHit, bytes_of, settings_after, rule_in, Kind, checked_by, spelled_in, Holds, Refuses}
 use Rattle.drill_lines.specs.declared.command.Part.TheVariants as part
-use Rattle.drill_lines.specs.declared.command.Settings.{Settings}
-use Rattle.drill_lines.specs.declared.command.DrillCommand.TheVariants.{Hit}
 use Rattle.drill_lines.specs.declared.route.Route.TheVariants as route
-use Rattle.drill_lines.specs.Lines.{trimmed}
-use Rattle.drill_lines.specs.LineReading.{ReadsLine}
 use Rattle.drill_lines.proofs.RouteLemmas.{drilling_line}
-use Rattle.drill_text.specs.declared.kept.Keep.{Keep}
-use Rattle.drill_text.specs.declared.reader.Progress.{Progress}
-use Rattle.drill_text.specs.Inner.FastPath.{HasLeadingHit}
-use Rattle.drill_text.specs.Lines.{bytes_of}
-use Rattle.drill_text.specs.Lookback.{settings_after}
-use Rattle.drill_text.specs.Plating.{rule_in}
-use Rattle.drill_text.specs.Profiles.{Kind, checked_by, spelled_in}
-use Rattle.drill_text.specs.Holding.{Holds, Refuses}
 use Rattle.drill_text.proofs.ProfileLemmas.{spelled_in_is}
 use Rattle.drill_text.proofs.SpelledLemmas.{settings_are, lines_more}
 use Rattle.drill_text.proofs.PieceLemmas.{Refuses-prefix}

@@ -1,6 +1,4 @@
-use Rattle.std.proofs.Common.{[], ◌∷◌, ◌++◌}
-use Rattle.std.proofs.lemmas.Result.{err_from_is_err_and, IfErr-weaker}
-use Rattle.drill_text.specs.Holding.{Refuses}
+use Rattle.drill_text.proofs.Common.{[], ◌∷◌, ◌++◌, err_from_is_err_and, IfErr-weaker, Refuses}
 use Rattle.drill_text.proofs.PieceLemmas.{Refuses-then, Refuses-longer}
 use Rattle.drill_text.proofs.reader.Progress.take_line.Goals as goal
 

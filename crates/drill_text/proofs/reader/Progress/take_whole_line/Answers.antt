@@ -1,6 +1,4 @@
-use Rattle.std.proofs.Common.{◌≢◌, refl, rules, arith}
-use Rattle.std.proofs.lemmas.List.Elements.{recursion_from_All}
-use Rattle.std.proofs.lemmas.Result.{err_from_is_err_and}
+use Rattle.drill_text.proofs.Common.{◌≢◌, refl, rules, arith, recursion_from_All, err_from_is_err_and}
 use Rattle.drill_text.proofs.WholeLineLemmas.{whole_holds, whole_refused}
 use Rattle.drill_text.proofs.reader.Progress.take_whole_line.Goals as goal
 

@@ -1,7 +1,5 @@
 -- The command breaks no rule, so the state that took it in knows one command more.
-use Rattle.std.proofs.Common.{◌≡◌, length, None}
-use Rattle.drill_text.specs.Rules.{first_broken}
-use Rattle.drill_text.specs.Inner.StateSteps.{state_of, drill_path, own_broken, picked_plating}
+use Rattle.drill_text.proofs.Common.{◌≡◌, length, None, first_broken, state_of, drill_path, own_broken, picked_plating}
 use Rattle.drill_text.proofs.Lookbacks.{breaks_none, knows_more}
 use Rattle.drill_text.proofs.HoleLines.{not_redefined}
 use Rattle.drill_text.proofs.state.DrillState.apply_checked.Goals as goal

@@ -1,5 +1,4 @@
-use Rattle.std.proofs.Common.{length, sym, ◌∙◌}
-use Rattle.drill_text.specs.Inner.StateSteps.{state_of, round_hole}
+use Rattle.drill_text.proofs.Common.{length, sym, ◌∙◌, state_of, round_hole}
 use Rattle.drill_text.proofs.HoleLines.{round_hole_is}
 use Rattle.drill_text.proofs.state.DrillState.hit_hole.Goals as goal
 

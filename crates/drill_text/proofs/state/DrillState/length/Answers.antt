@@ -1,6 +1,4 @@
-use Rattle.std.proofs.Common.{ℤ, Option, sym, ap, ◌∙◌}
-use Rattle.drill_text.specs.Holes.{unit_or}
-use Rattle.drill_text.specs.Inner.StateSteps.{length_in}
+use Rattle.drill_text.proofs.Common.{ℤ, Option, sym, ap, ◌∙◌, unit_or, length_in}
 use Rattle.drill_text.proofs.DiameterLemmas.{no_length}
 use Rattle.drill_text.proofs.state.DrillState.length.Goals as goal
 

@@ -1,7 +1,4 @@
-use Rattle.std.proofs.Common.{◌≡◌, ◌∙◌, w64, to_z, of_z, sym, rules, Ok}
-use Rattle.std.proofs.lemmas.Int.{to_z-of_z}
-use Rattle.grid_units.specs.Numbers.{within_limit}
-use Rattle.drill_text.specs.Holes.{unit_or, coordinate_in}
+use Rattle.drill_text.proofs.Common.{◌≡◌, ◌∙◌, w64, to_z, of_z, sym, rules, Ok, to_z-of_z, within_limit, unit_or, coordinate_in}
 use Rattle.drill_text.proofs.DiameterLemmas.{point_within}
 use Rattle.drill_text.proofs.state.DrillState.point.Goals as goal
 

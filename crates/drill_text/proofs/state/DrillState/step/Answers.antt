@@ -1,7 +1,5 @@
-use Rattle.std.proofs.Common.{length, refl, sym, subst}
-use Rattle.drill_lines.specs.declared.command.DrillCommand.{DrillCommand}
+use Rattle.drill_text.proofs.Common.{length, refl, sym, subst, DrillCommand, state_of, AppliesOrRefuses, no_point, path_between}
 use Rattle.drill_lines.specs.declared.command.DrillCommand.TheVariants as command
-use Rattle.drill_text.specs.Inner.StateSteps.{state_of, AppliesOrRefuses, no_point, path_between}
 use Rattle.drill_text.proofs.Lookbacks.{moved_one, moved_two}
 use Rattle.drill_text.proofs.HoleLines.{hit_rule, slot_rule}
 use Rattle.drill_text.proofs.AppliedHoles.{judges_drilled}

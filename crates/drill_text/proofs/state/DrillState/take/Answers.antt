@@ -1,14 +1,6 @@
-use Rattle.std.proofs.Common.{◌≡◌, ℕ, refl, false, [], ◌∷◌, ◌++◌, Option, None, Some, is_some, nat_eq, rules, sym, ap, ◌∙◌}
-use Rattle.std.specs.Option.{option_map, option_to_list}
-use Rattle.std.proofs.lemmas.List.{map-append}
-use Rattle.indexmap.specs.IndexMap.{get}
+use Rattle.drill_text.proofs.Common.{◌≡◌, ℕ, refl, false, [], ◌∷◌, ◌++◌, Option, None, Some, is_some, nat_eq, rules, sym, ap, ◌∙◌, option_map, option_to_list, map-append, get, DrillCommand, tool_defined, diameter_of_tool, diameters, redefines_tool, state_of}
 use Rattle.indexmap.proofs.CallerLemmas.{insert_entry-new}
-use Rattle.drill_lines.specs.declared.command.DrillCommand.{DrillCommand}
-use Rattle.drill_text.specs.Lookback.{tool_defined}
-use Rattle.drill_text.specs.Outcome.{diameter_of_tool, diameters}
-use Rattle.drill_text.specs.Rules.{redefines_tool}
 use Rattle.drill_text.specs.declared.platings.Tool.{Tool}
-use Rattle.drill_text.specs.Inner.StateSteps.{state_of}
 use Rattle.drill_text.proofs.state.DrillState.take.Goals as goal
 
 none : (o : Option Tool) → is_some (option_map diameter_of_tool o) ≡ false → o ≡ None

@@ -1,5 +1,4 @@
-use Rattle.std.proofs.Common.{pos, ◌≤ℤ◌, arith}
-use Rattle.std.proofs.lemmas.Int.{ints}
+use Rattle.drill_text.proofs.Common.{pos, ◌≤ℤ◌, arith, ints}
 use Rattle.drill_text.proofs.DiameterLemmas.{width_ok}
 use Rattle.drill_text.proofs.state.DrillState.width.Goals as goal
 

@@ -1,10 +1,5 @@
-use Rattle.std.proofs.Common.{◌≡◌, ℕ, List, [], ◌∷◌, ◌++◌, length, refl, sym, ap, subst, ◌∙◌, arith}
-use Rattle.std.proofs.lemmas.Bool.{eqb-false}
-use Rattle.std.proofs.lemmas.List.{length-append, nil_from_length}
-use Rattle.gerber_text.specs.Items.{IsUnfinished}
-use Rattle.gerber_text.specs.Cut.{OffsetByte, Splits, offset_bytes, bytes_of}
+use Rattle.gerber_text.proofs.Common.{◌≡◌, ℕ, List, [], ◌∷◌, ◌++◌, length, refl, sym, ap, subst, ◌∙◌, arith, eqb-false, length-append, nil_from_length, IsUnfinished, OffsetByte, Splits, offset_bytes, bytes_of, err_from_is_err_and}
 use Rattle.gerber_text.proofs.ShowsLemmas.{running_ok, show_ok, out_of_memory}
-use Rattle.std.proofs.lemmas.Result.{err_from_is_err_and}
 use Rattle.gerber_text.proofs.SplitsLemmas.{Splits-grow, IsUnfinished-one}
 use Rattle.gerber_text.proofs.ReaderStepLemmas.{offset_bytes-push, length-bytes_of}
 use Rattle.gerber_text.proofs.reader.Progress.begin.Goals as goal

@@ -1,15 +1,4 @@
-use Rattle.std.proofs.Common.{refl, ◌≡◌, ◌+◌, ◌<◌, false, ℕ, List, [], ◌∷◌, ◌++◌, Err, length, Ok, sym, ap, subst, ◌∙◌, arith}
-use Rattle.std.proofs.lemmas.List.{length-append}
-use Rattle.grid_units.specs.declared.profile.Profile.{Profile}
-use Rattle.gerber_text.specs.declared.reader.Progress.{Progress}
-use Rattle.gerber_text.specs.Items.{end_byte, is_end_item}
-use Rattle.gerber_text.specs.Cut.{OffsetByte, first_offset}
-use Rattle.std.proofs.lemmas.Result.{err_from_is_err_and}
-use Rattle.grid_units.specs.declared.fault.Fault.{Fault}
-use Rattle.grid_units.specs.declared.fault.Fail.{Fail}
-use Rattle.grid_units.specs.declared.fault.Fail.TheVariants.{Memory, Refused}
-use Rattle.gerber_text.specs.Reading.{Entries, spelled_in, ResultsIn}
-use Rattle.gerber_text.specs.Holding.{Refuses, Holds}
+use Rattle.gerber_text.proofs.Common.{refl, ◌≡◌, ◌+◌, ◌<◌, false, ℕ, List, [], ◌∷◌, ◌++◌, Err, length, Ok, sym, ap, subst, ◌∙◌, arith, length-append, Profile, Progress, end_byte, is_end_item, OffsetByte, first_offset, err_from_is_err_and, Fault, Fail, Memory, Refused, Entries, spelled_in, ResultsIn, Refuses, Holds}
 use Rattle.gerber_text.proofs.ShowsLemmas.{too_long, out_of_memory, kept_pushed, take_of_push}
 use Rattle.gerber_text.proofs.ReaderStepLemmas.{Closed, closes, first_is, length-bytes_of, spelled_place}
 use Rattle.gerber_text.proofs.reader.Progress.close.Goals as goal

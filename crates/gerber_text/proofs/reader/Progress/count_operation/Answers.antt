@@ -1,10 +1,4 @@
-use Rattle.std.proofs.Common.{◌≡◌, ◌+◌, ◌≤◌, Ok, ℕ, List, [], ◌∷◌, ◌++◌, length, take, sym, ap, ◌∙◌, arith}
-use Rattle.std.proofs.lemmas.List.{length-append, length-take, nil_from_length}
-use Rattle.gerber_commands.specs.declared.command.Command.{Command}
-use Rattle.gerber_commands.specs.declared.command.Command.TheVariants.{Operate}
-use Rattle.grid_units.specs.Limits.{item_limit}
-use Rattle.gerber_text.specs.FastPath.{operation_commands}
-use Rattle.gerber_text.specs.Reading.{Entries, is_plotting, placed, spelled_in}
+use Rattle.gerber_text.proofs.Common.{◌≡◌, ◌+◌, ◌≤◌, Ok, ℕ, List, [], ◌∷◌, ◌++◌, length, take, sym, ap, ◌∙◌, arith, length-append, length-take, nil_from_length, Command, Operate, item_limit, operation_commands, Entries, is_plotting, placed, spelled_in}
 use Rattle.gerber_text.proofs.ReaderStepLemmas.{length-bytes_of}
 use Rattle.gerber_text.proofs.PlottingLemmas.{counted_gone, plots_on, last_operation}
 use Rattle.gerber_text.proofs.Items.{takes, spelled_ok}

@@ -1,10 +1,5 @@
 -- The command is gone, and the last operation is that before it.
-use Rattle.std.proofs.Common.{◌≡◌, ◌+◌, ◌≤◌, Ok, ℕ, List, [], ◌∷◌, ◌++◌, length, take, drop, unwrap_or, refl, sym, ap, ◌∙◌, arith}
-use Rattle.std.proofs.lemmas.List.{length-append, length-take, nil_from_length}
-use Rattle.gerber_commands.specs.declared.command.Command.{Command}
-use Rattle.grid_units.specs.Limits.{item_limit}
-use Rattle.gerber_text.specs.FastPath.{text_command}
-use Rattle.gerber_text.specs.Reading.{Entries, is_plotting, placed, spelled_in}
+use Rattle.gerber_text.proofs.Common.{◌≡◌, ◌+◌, ◌≤◌, Ok, ℕ, List, [], ◌∷◌, ◌++◌, length, take, drop, unwrap_or, refl, sym, ap, ◌∙◌, arith, length-append, length-take, nil_from_length, Command, item_limit, text_command, Entries, is_plotting, placed, spelled_in}
 use Rattle.gerber_text.proofs.LeadingTextLemmas.{plots_no, text_item}
 use Rattle.gerber_text.proofs.ReaderStepLemmas.{length-bytes_of}
 use Rattle.gerber_text.proofs.PlottingLemmas.{counted_gone, plots_on}

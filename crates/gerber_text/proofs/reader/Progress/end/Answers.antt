@@ -1,8 +1,4 @@
-use Rattle.std.proofs.Common.{◌≡◌, ◌++◌, ◌+◌, ◌≤◌, Err, cond, length, refl, sym, subst, ap, arith, ◌∙◌}
-use Rattle.std.specs.List.{list_all}
-use Rattle.gerber_text.specs.Cut.{bytes_of, first_offset}
-use Rattle.gerber_text.specs.Reading.{is_blank}
-use Rattle.gerber_text.specs.Holding.{Ends}
+use Rattle.gerber_text.proofs.Common.{◌≡◌, ◌++◌, ◌+◌, ◌≤◌, Err, cond, length, refl, sym, subst, ap, arith, ◌∙◌, list_all, bytes_of, first_offset, is_blank, Ends}
 use Rattle.gerber_text.proofs.FinishLemmas.{reads_ok, reads_truncated, stops_at, kept_before}
 use Rattle.gerber_text.proofs.reader.Progress.end.Goals as goal
 

@@ -1,16 +1,6 @@
-use Rattle.std.proofs.Common.{◌≡◌, ◌+◌, ◌<◌, suc, false, ℕ, List, ◌++◌, Err, length, refl, sym, ap, subst, ◌∙◌, arith}
-use Rattle.std.specs.List.{AllByRecursion}
-use Rattle.std.proofs.lemmas.List.{length-append}
-use Rattle.std.proofs.lemmas.List.Elements.{recursion_from_All}
-use Rattle.grid_units.specs.declared.fault.Reason.TheVariants.{TooLong}
-use Rattle.gerber_text.specs.Inner.Bytes.{IsInside}
-use Rattle.gerber_text.specs.Items.{end_byte, IsUnfinished}
-use Rattle.gerber_text.specs.Cut.{OffsetByte, Splits, offset_bytes, bytes_of, has_end}
-use Rattle.grid_units.specs.Results.{fault}
-use Rattle.gerber_text.specs.Holding.{Refuses}
+use Rattle.gerber_text.proofs.Common.{◌≡◌, ◌+◌, ◌<◌, suc, false, ℕ, List, ◌++◌, Err, length, refl, sym, ap, subst, ◌∙◌, arith, AllByRecursion, length-append, recursion_from_All, TooLong, IsInside, end_byte, IsUnfinished, OffsetByte, Splits, offset_bytes, bytes_of, has_end, fault, Refuses, err_from_is_err_and}
 use Rattle.gerber_text.proofs.OffsetByteLemmas.{first_offset-append}
 use Rattle.gerber_text.proofs.ShowsLemmas.{running_ok, show_ok, show_long, kept_all, out_of_memory}
-use Rattle.std.proofs.lemmas.Result.{err_from_is_err_and}
 use Rattle.gerber_text.proofs.ReaderStepLemmas.{FaultsStay, lengthens, run_inside, run_kept, length-bytes_of}
 use Rattle.gerber_text.proofs.reader.Progress.extend.Goals as goal
 

@@ -1,5 +1,4 @@
-use Rattle.std.proofs.lemmas.Result.{err_from_is_err_and}
-use Rattle.std.proofs.Common.{◌++◌}
+use Rattle.gerber_text.proofs.Common.{err_from_is_err_and, ◌++◌}
 use Rattle.gerber_text.proofs.FinishLemmas.{ends_answers, ends_kept}
 use Rattle.gerber_text.proofs.reader.Progress.finish.Goals as goal
 

@@ -1,15 +1,8 @@
-use Rattle.std.proofs.Common.{◌≡◌, ◌+◌, ◌≤◌, Ok, ℕ, List, [], ◌∷◌, ◌++◌, length, take, sym, ap, ◌∙◌, arith, append_assoc}
-use Rattle.std.proofs.lemmas.List.{length-append, length-take, nil_from_length}
-use Rattle.std.proofs.lemmas.Result.{err_from_is_err_and}
-use Rattle.gerber_commands.specs.declared.command.Command.{Command}
-use Rattle.gerber_commands.specs.declared.command.Command.TheVariants.{Operate}
-use Rattle.gerber_commands.specs.Rows.{modes_of}
-use Rattle.gerber_text.specs.Reading.{Entries, is_plotting, placed, spelled_in}
+use Rattle.gerber_text.proofs.Common.{◌≡◌, ◌+◌, ◌≤◌, Ok, ℕ, List, [], ◌∷◌, ◌++◌, length, take, sym, ap, ◌∙◌, arith, append_assoc, length-append, length-take, nil_from_length, err_from_is_err_and, Command, Operate, modes_of, Entries, is_plotting, placed, spelled_in, item_limit}
 use Rattle.gerber_text.proofs.ShowsLemmas.{out_of_memory}
 use Rattle.gerber_text.proofs.ReaderStepLemmas.{length-bytes_of}
 use Rattle.gerber_text.proofs.Items.{takes, spelled_ok}
 use Rattle.gerber_text.proofs.reader.Progress.operate.Goals as goal
-use Rattle.grid_units.specs.Limits.{item_limit}
 
 pub returns-clause-ok : goal.returns-clause-ok
 returns-clause-ok c profile gone text h =

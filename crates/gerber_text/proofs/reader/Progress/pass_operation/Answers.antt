@@ -1,7 +1,4 @@
-use Rattle.std.proofs.Common.{◌+◌, ◌++◌, subst}
-use Rattle.gerber_text.specs.FastPath.{operation_commands}
-use Rattle.gerber_text.specs.Holding.{Holds}
-use Rattle.gerber_text.specs.Reading.{placed}
+use Rattle.gerber_text.proofs.Common.{◌+◌, ◌++◌, subst, operation_commands, Holds, placed}
 use Rattle.gerber_text.proofs.ShowsLemmas.{two_takes}
 use Rattle.gerber_text.proofs.reader.Progress.pass_operation.Goals as goal
 

@@ -1,7 +1,4 @@
-use Rattle.std.proofs.Common.{◌+◌, [], ◌∷◌, ◌++◌, take, drop, subst, arith}
-use Rattle.gerber_text.specs.FastPath.{text_command}
-use Rattle.gerber_text.specs.Holding.{Holds}
-use Rattle.gerber_text.specs.Reading.{placed}
+use Rattle.gerber_text.proofs.Common.{◌+◌, [], ◌∷◌, ◌++◌, take, drop, subst, arith, text_command, Holds, placed}
 use Rattle.gerber_text.proofs.ShowsLemmas.{two_takes}
 use Rattle.gerber_text.proofs.reader.Progress.pass_text.Goals as goal
 

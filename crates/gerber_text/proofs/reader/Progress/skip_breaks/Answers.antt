@@ -1,9 +1,5 @@
-use Rattle.std.proofs.Common.{List, take, sym, subst, arith}
-use Rattle.std.proofs.lemmas.List.{length-append, length-take}
-use Rattle.std.proofs.lemmas.List.Elements.{recursion_from_All}
+use Rattle.gerber_text.proofs.Common.{List, take, sym, subst, arith, length-append, length-take, recursion_from_All, is_line_break, Splits, OffsetByte}
 use Rattle.std.specs.Prelude.{◌≡◌, true}
-use Rattle.gerber_text.specs.Items.{is_line_break}
-use Rattle.gerber_text.specs.Cut.{Splits, OffsetByte}
 use Rattle.gerber_text.proofs.OffsetByteLemmas.{offset_bytes-breaks}
 use Rattle.gerber_text.proofs.reader.Progress.skip_breaks.Goals as goal
 

@@ -1,12 +1,4 @@
-use Rattle.std.proofs.Common.{◌≡◌, ◌+◌, suc, true, List, ◌++◌, Err, length, sym, ap, subst, ◌∙◌, arith}
-use Rattle.std.proofs.lemmas.Bool.{false≢true}
-use Rattle.std.proofs.lemmas.List.{length-append}
-use Rattle.std.proofs.lemmas.List.Elements.{recursion_from_All}
-use Rattle.grid_units.specs.declared.fault.Reason.TheVariants.{AfterEnd}
-use Rattle.gerber_text.specs.Inner.Bytes.{may_follow_end}
-use Rattle.gerber_text.specs.Cut.{OffsetByte, Splits, offset_bytes, offset_bytes_from}
-use Rattle.grid_units.specs.Results.{fault}
-use Rattle.gerber_text.specs.Holding.{Refuses}
+use Rattle.gerber_text.proofs.Common.{◌≡◌, ◌+◌, suc, true, List, ◌++◌, Err, length, sym, ap, subst, ◌∙◌, arith, false≢true, length-append, recursion_from_All, AfterEnd, may_follow_end, OffsetByte, Splits, offset_bytes, offset_bytes_from, fault, Refuses}
 use Rattle.gerber_text.proofs.OffsetByteLemmas.{offset_bytes-append}
 use Rattle.gerber_text.proofs.SplitsLemmas.{Splits-grow}
 use Rattle.gerber_text.proofs.ShowsLemmas.{ended_more, all_follow, stray, kept_all}

@@ -1,11 +1,4 @@
-use Rattle.std.proofs.Common.{◌≡◌, ◌+◌, ◌-◌, ℕ, List, ◌++◌, take, drop, sym, subst, arith, append_assoc, ◌∙◌, ap}
-use Rattle.std.proofs.lemmas.List.{length-append, length-take, length-drop, take-append-drop}
-use Rattle.std.proofs.lemmas.Result.{err_from_is_err_and, IfErr-weaker}
-use Rattle.grid_units.specs.Results.{fault}
-use Rattle.grid_units.specs.Limits.{text_limit}
-use Rattle.grid_units.specs.declared.fault.Reason.TheVariants.{TooLong}
-use Rattle.grid_units.specs.declared.fault.Fail.TheVariants.{Refused}
-use Rattle.gerber_text.specs.Holding.{Refuses, RefusesText, FailsWithIn}
+use Rattle.gerber_text.proofs.Common.{◌≡◌, ◌+◌, ◌-◌, ℕ, List, ◌++◌, take, drop, sym, subst, arith, append_assoc, ◌∙◌, ap, length-append, length-take, length-drop, take-append-drop, err_from_is_err_and, IfErr-weaker, fault, text_limit, TooLong, Refused, Refuses, RefusesText, FailsWithIn}
 use Rattle.gerber_text.proofs.FinishLemmas.{refuses_within, refuses_beyond, too_long_text}
 use Rattle.gerber_text.proofs.reader.Progress.take.Goals as goal
 

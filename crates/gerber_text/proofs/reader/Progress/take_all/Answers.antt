@@ -1,7 +1,4 @@
-use Rattle.std.proofs.Common.{◌-◌, ℕ, List, length, take, drop, subst, arith}
-use Rattle.std.proofs.lemmas.List.{length-drop, length-take, take-append-drop, take_rest}
-use Rattle.std.proofs.lemmas.Result.{err_from_is_err_and}
-use Rattle.gerber_text.specs.Holding.{Refuses}
+use Rattle.gerber_text.proofs.Common.{◌-◌, ℕ, List, length, take, drop, subst, arith, length-drop, length-take, take-append-drop, take_rest, err_from_is_err_and, Refuses}
 use Rattle.gerber_text.proofs.ShowsLemmas.{Advances-both, Refuses-then}
 use Rattle.gerber_text.proofs.reader.Progress.take_all.Goals as goal
 

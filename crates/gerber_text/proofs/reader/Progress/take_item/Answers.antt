@@ -1,19 +1,8 @@
-use Rattle.std.proofs.Common.{◌≡◌, ◌+◌, ◌≤◌, false, Ok, Err, ℕ, List, [], ◌∷◌, ◌++◌, length, take, sym, ap, ◌∙◌, arith}
-use Rattle.std.proofs.lemmas.List.{length-append, length-take, nil_from_length}
-use Rattle.std.proofs.lemmas.Result.{err_from_is_err_and}
-use Rattle.grid_units.specs.declared.fault.Fault.{Fault}
-use Rattle.grid_units.specs.declared.fault.Fail.{Fail}
-use Rattle.grid_units.specs.declared.fault.Fail.TheVariants.{Memory, Refused}
-use Rattle.grid_units.specs.declared.profile.Profile.{Profile}
-use Rattle.gerber_text.specs.declared.reader.Progress.{Progress}
-use Rattle.gerber_text.specs.Inner.Bytes.{HasLeadingItem}
-use Rattle.gerber_text.specs.Reading.{Entries, spelled_in, ResultsIn}
-use Rattle.gerber_text.specs.Holding.{Refuses, Holds}
+use Rattle.gerber_text.proofs.Common.{◌≡◌, ◌+◌, ◌≤◌, false, Ok, Err, ℕ, List, [], ◌∷◌, ◌++◌, length, take, sym, ap, ◌∙◌, arith, length-append, length-take, nil_from_length, err_from_is_err_and, Fault, Fail, Memory, Refused, Profile, Progress, HasLeadingItem, Entries, spelled_in, ResultsIn, Refuses, Holds, item_limit}
 use Rattle.gerber_text.proofs.ShowsLemmas.{out_of_memory, kept_pushed, take_of_push}
 use Rattle.gerber_text.proofs.ReaderStepLemmas.{length-bytes_of, spelled_place}
 use Rattle.gerber_text.proofs.Items.{Taken, takes}
 use Rattle.gerber_text.proofs.reader.Progress.take_item.Goals as goal
-use Rattle.grid_units.specs.Limits.{item_limit}
 
 -- the item at the start of these bytes, for a reader that holds this text and no unfinished item
 taken : (old : Progress) (bytes : List ℕ) (len : ℕ) (profile : Profile) (gone : Entries) (text : List ℕ) (h : Holds old profile gone text) → old.ended ≡ false → old.item.items ≡ [] → HasLeadingItem bytes len → Taken profile text (take len bytes) h.items (old.items + 1) (gone ++ old.commands.items)

@@ -1,11 +1,4 @@
-use Rattle.std.proofs.Common.{◌≤◌, ◌+◌, ℕ, List, length, Result, Ok, Err, sym, subst, arith}
-use Rattle.std.specs.Prelude.{IfErr}
-use Rattle.std.proofs.Math.Seq.{take-length}
-use Rattle.grid_units.specs.Limits.{text_limit}
-use Rattle.grid_units.specs.declared.fault.Fail.{Fail}
-use Rattle.gerber_text.specs.declared.reader.Progress.{Progress}
-use Rattle.gerber_text.specs.Reading.{Entries}
-use Rattle.gerber_text.specs.Holding.{Advances, Refuses, RefusesText}
+use Rattle.gerber_text.proofs.Common.{◌≤◌, ◌+◌, ℕ, List, length, Result, Ok, Err, sym, subst, arith, IfErr, take-length, text_limit, Fail, Progress, Entries, Advances, Refuses, RefusesText}
 use Rattle.gerber_text.proofs.FinishLemmas.{refuses_within}
 use Rattle.gerber_text.proofs.reader.Progress.take_part.Goals as goal
 

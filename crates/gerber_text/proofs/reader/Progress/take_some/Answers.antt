@@ -1,4 +1,4 @@
-use Rattle.std.proofs.lemmas.Result.{err_from_is_err_and}
+use Rattle.gerber_text.proofs.Common.{err_from_is_err_and}
 use Rattle.gerber_text.proofs.ShowsLemmas.{Refuses-first, Refuses-prefix}
 use Rattle.gerber_text.proofs.reader.Progress.take_some.Goals as goal
 

@@ -1,10 +1,9 @@
-use Rattle.std.proofs.Common.{◌≡◌, ◌++◌, sym, ap, ◌∙◌, append-nil, Ok}
-use Rattle.grid_units.specs.declared.profile.Profile.TheVariants.{Strict}
-use Rattle.gerber_text.specs.Reading.{Entries, is_plotting}
+use Rattle.gerber_text.proofs.Common.{◌≡◌, ◌++◌, sym, ap, ◌∙◌, Ok, Entries, is_plotting}
+use Rattle.std.proofs.Common.{append-nil}
 use Rattle.gerber_text.proofs.reader.WordReader.clear_commands.Goals as goal
 
-pub returns-clause-gone_in : goal.returns-clause-gone_in
-returns-clause-gone_in c profile gone text h =
+pub returns-clause-gone : goal.returns-clause-gone
+returns-clause-gone c profile gone text h =
     let all = gone ++ c.args.self.now.progress.commands.items in
     let same : all ≡ all ++ c.clear.new.self.items = sym (append-nil all) ∙ ap (λ (x : Entries). all ++ x) (sym c.clear.ensures.items) in
     record {
@@ -23,6 +22,3 @@ returns-clause-gone_in c profile gone text h =
         ended = h.holds.ended;
       };
     }
-
-pub returns-clause-gone : goal.returns-clause-gone
-returns-clause-gone c gone text h = returns-clause-gone_in c Strict gone text h

@@ -1,8 +1,5 @@
 -- The flashes are added, and then the contours.
-use Rattle.std.proofs.Common.{◌++◌, map, subst}
-use Rattle.layer_features.specs.FurtherPads.{CopperState, contours_in}
-use Rattle.layer_features.specs.Features.{contour_feature, flash_feature}
-use Rattle.layer_features.specs.Inner.States.{copper_state}
+use Rattle.layer_features.proofs.Common.{◌++◌, map, contours_in, contour_feature, flash_feature, copper_state}
 use Rattle.layer_features.proofs.CopperLemmas.{both_added, contours_of_same}
 use Rattle.layer_features.proofs.copper.Copper.add.Goals as goal
 

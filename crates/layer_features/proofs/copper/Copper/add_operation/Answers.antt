@@ -1,7 +1,6 @@
 -- The flashes of the operation are added, and the region and the pencil go on.
-use Rattle.std.proofs.Common.{refl, ◌∙◌}
+use Rattle.layer_features.proofs.Common.{refl, ◌∙◌, after_command, draw_state}
 use Rattle.gerber_commands.specs.declared.command.Command.TheVariants as command
-use Rattle.layer_features.specs.Inner.Pencils.{after_command, draw_state}
 use Rattle.layer_features.proofs.CopperLemmas.{operation_more}
 use Rattle.layer_features.proofs.copper.Copper.add_operation.Goals as goal
 

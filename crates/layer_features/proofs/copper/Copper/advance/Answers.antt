@@ -1,6 +1,5 @@
 -- Each field is that of the state after the command, and the parts make the same contour.
-use Rattle.layer_features.specs.Inner.Pencils.{draw_state}
-use Rattle.layer_features.specs.Inner.States.{parts_after}
+use Rattle.layer_features.proofs.Common.{draw_state, parts_after}
 use Rattle.layer_features.proofs.copper.Copper.advance.Goals as goal
 
 pub returns-clause-state : goal.returns-clause-state

@@ -1,9 +1,4 @@
-use Rattle.std.proofs.Common.{◌≡◌, ◌∙◌, ◌&&◌, Bool, true, subst, sym}
-use Rattle.std.specs.Prelude.{if◌then◌else◌}
-use Rattle.std.specs.List.{filter_map}
-use Rattle.layer_features.specs.Features.{taken_away}
-use Rattle.layer_features.specs.Kept.{KeepsFeatures}
-use Rattle.layer_features.specs.Blocks.{is_repeated}
+use Rattle.layer_features.proofs.Common.{◌≡◌, ◌∙◌, ◌&&◌, Bool, true, subst, sym, if◌then◌else◌, filter_map, taken_away, KeepsFeatures, is_repeated}
 use Rattle.layer_features.proofs.copper.Copper.clear_by_copies.Goals as goal
 
 pub returns-in_ok-take_away-clause-kept : goal.returns-in_ok-take_away-clause-kept

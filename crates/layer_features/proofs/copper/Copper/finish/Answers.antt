@@ -1,10 +1,5 @@
 -- The flashes and contours are cut where the last ones were taken away.
-use Rattle.std.proofs.Common.{◌≡◌, ◌∙◌, List, [], arith, ap, subst, Bool}
-use Rattle.std.specs.Prelude.{if◌then◌else◌}
-use Rattle.layer_features.specs.declared.feature.Feature.{Feature}
-use Rattle.pad_shapes.specs.declared.wide_pad.WidePad.{WidePad}
-use Rattle.layer_features.specs.Features.{pads_of, wide_features_of}
-use Rattle.layer_features.specs.Kept.{first_taken_away}
+use Rattle.layer_features.proofs.Common.{◌≡◌, ◌∙◌, List, [], arith, ap, Bool, if◌then◌else◌, Feature, pads_of, wide_features_of, first_taken_away}
 use Rattle.layer_features.proofs.copper.Copper.finish.Goals as goal
 
 pub returns : goal.returns

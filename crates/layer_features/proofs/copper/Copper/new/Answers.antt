@@ -1,5 +1,5 @@
 -- Each field is that of no commands.
-use Rattle.std.proofs.Common.{◌∙◌}
+use Rattle.layer_features.proofs.Common.{◌∙◌}
 use Rattle.layer_features.proofs.CopperLemmas.{none_met}
 use Rattle.layer_features.proofs.copper.Copper.new.Goals as goal
 

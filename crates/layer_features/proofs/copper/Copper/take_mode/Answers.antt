@@ -1,5 +1,5 @@
 -- A mode makes no flash.
-use Rattle.std.proofs.Common.{◌++◌, Option, OnOk, append-nil, refl, subst, sym}
+use Rattle.layer_features.proofs.Common.{◌++◌, Option, OnOk, append-nil, refl, subst, sym}
 use Rattle.gerber_commands.specs.Rows.{modes_of}
 use Rattle.gerber_commands.specs.declared.command.Interpolation.{Interpolation}
 use Rattle.layer_features.specs.CopperHolding.{HasMet}

@@ -1,4 +1,4 @@
-use Rattle.std.proofs.Common.{refl}
+use Rattle.layer_features.proofs.Common.{refl}
 use Rattle.layer_features.proofs.KeptFeaturesLemmas.{counts_gone}
 use Rattle.layer_features.proofs.counts.FeatureCounts.taken_away.Goals as goal
 

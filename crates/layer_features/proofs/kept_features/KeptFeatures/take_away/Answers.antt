@@ -1,5 +1,5 @@
 -- All that is held is taken away, and counted as no pads.
-use Rattle.std.proofs.Common.{arith, refl}
+use Rattle.layer_features.proofs.Common.{arith, refl}
 use Rattle.layer_features.proofs.KeptFeaturesLemmas.{kept_gone}
 use Rattle.layer_features.proofs.kept_features.KeptFeatures.take_away.Goals as goal
 

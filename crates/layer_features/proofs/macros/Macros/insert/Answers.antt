@@ -1,9 +1,7 @@
 -- The table has what it had, and the pieces of one more name.
-use Rattle.std.proofs.Common.{◌≡◌, ◌∙◌, ℕ, cond, List, Some, None, ap, nat_eq}
-use Rattle.std.specs.Option.{option_or}
+use Rattle.layer_features.proofs.Common.{◌≡◌, ◌∙◌, ℕ, cond, List, Some, None, ap, nat_eq, option_or, macro_at}
 use Rattle.std.specs.Map.{lookup}
 use Rattle.std.specs.Cmp.Lexicographic.{pointwise}
-use Rattle.layer_features.specs.Inner.Pencils.{macro_at}
 use Rattle.layer_state.proofs.NamesLemmas.{has_bytes, has_bytes_of, lookup_inserted}
 use Rattle.layer_features.proofs.macros.Macros.insert.Goals as goal
 

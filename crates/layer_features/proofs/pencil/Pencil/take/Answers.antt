@@ -1,8 +1,6 @@
 -- The coordinates of an operation are those of its command.
-use Rattle.std.proofs.Common.{◌≡◌, ◌∙◌, sym, subst}
-use Rattle.gerber_commands.specs.declared.command.Command.{Command}
+use Rattle.layer_features.proofs.Common.{◌≡◌, ◌∙◌, sym, subst, Command, after_command, draw_state}
 use Rattle.gerber_commands.specs.declared.command.Command.TheVariants.{Operate}
-use Rattle.layer_features.specs.Inner.Pencils.{after_command, draw_state}
 use Rattle.layer_features.proofs.pencil.Pencil.take.Goals as goal
 
 pub returns-in-Operate : goal.returns-in-Operate

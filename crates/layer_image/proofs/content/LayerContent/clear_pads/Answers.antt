@@ -1,6 +1,4 @@
-use Rattle.std.proofs.Common.{subst, sym}
-use Rattle.layer_image.specs.Holding.{HasContent, HasMetLegal, HasScannedFor, standing_in}
-use Rattle.layer_image.specs.declared.content.LayerContent.{LayerContent}
+use Rattle.layer_image.proofs.Common.{subst, sym, HasContent, HasMetLegal, HasScannedFor, standing_in, LayerContent}
 use Rattle.layer_image.proofs.ContentLemmas.{flashes_taken}
 use Rattle.layer_image.proofs.content.LayerContent.clear_pads.Goals as goal
 

@@ -1,4 +1,4 @@
-use Rattle.std.proofs.Common.{[], refl, sym, ◌∙◌}
+use Rattle.layer_image.proofs.Common.{[], refl, sym, ◌∙◌}
 use Rattle.layer_image.proofs.content.LayerContent.new.Goals as goal
 
 pub returns-in-Some : goal.returns-in-Some

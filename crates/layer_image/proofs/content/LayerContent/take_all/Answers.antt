@@ -1,8 +1,4 @@
-use Rattle.std.proofs.Common.{◌++◌, subst}
-use Rattle.gerber_text.specs.Holding.{passed_entries}
-use Rattle.layer_state.specs.KeptFlashes.{without_pads}
-use Rattle.layer_image.specs.Holding.{HasContent}
-use Rattle.layer_image.specs.declared.content.LayerContent.{LayerContent}
+use Rattle.layer_image.proofs.Common.{◌++◌, subst, passed_entries, without_pads, HasContent, LayerContent}
 use Rattle.layer_image.proofs.ContentLemmas.{and_on, flashes_on}
 use Rattle.layer_image.proofs.content.LayerContent.take_all.Goals as goal
 

@@ -1,8 +1,4 @@
-use Rattle.std.proofs.Common.{◌++◌, ◌∷◌, [], subst}
-use Rattle.gerber_text.specs.FastPath.{text_command}
-use Rattle.gerber_text.specs.Reading.{placed}
-use Rattle.layer_image.specs.Holding.{HasContent}
-use Rattle.layer_image.specs.declared.content.LayerContent.{LayerContent}
+use Rattle.layer_image.proofs.Common.{◌++◌, ◌∷◌, [], subst, text_command, placed, HasContent, LayerContent}
 use Rattle.layer_image.proofs.ContentLemmas.{and_on, flashes_on}
 use Rattle.layer_image.proofs.content.LayerContent.text.Goals as goal
 

@@ -1,6 +1,4 @@
-use Rattle.gerber_text.specs.Writing.{without_places}
-use Rattle.layer_state.specs.Flashes.{flashes_of}
-use Rattle.layer_state.specs.KeptFlashes.{without_flashes}
+use Rattle.layer_image.proofs.Common.{without_places, flashes_of, without_flashes}
 use Rattle.layer_image.proofs.met.Met.finish.Goals as goal
 
 pub returns-clause-copper : goal.returns-clause-copper

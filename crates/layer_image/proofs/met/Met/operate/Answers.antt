@@ -1,14 +1,7 @@
 -- The operation is judged, and its flashes are those that the judge has added.
-use Rattle.std.proofs.Common.{◌++◌, ◌∙◌, List, subst, sym}
-use Rattle.std.proofs.lemmas.Result.{err_from_is_err_and}
+use Rattle.layer_image.proofs.Common.{◌++◌, ◌∙◌, List, subst, sym, err_from_is_err_and, Command, passed_entries, without_places, flashes_of, without_flashes, HasMet}
 use Rattle.gerber_commands.specs.Rows.{modes_of}
-use Rattle.gerber_commands.specs.declared.command.Command.{Command}
 use Rattle.gerber_commands.specs.declared.command.Command.TheVariants.{Operate}
-use Rattle.gerber_text.specs.Holding.{passed_entries}
-use Rattle.gerber_text.specs.Writing.{without_places}
-use Rattle.layer_state.specs.Flashes.{flashes_of}
-use Rattle.layer_state.specs.KeptFlashes.{without_flashes}
-use Rattle.layer_features.specs.CopperHolding.{HasMet}
 use Rattle.layer_image.proofs.MetLemmas.{after_operation, all_dropped, flashes_with_mode, own_flashes}
 use Rattle.layer_image.proofs.met.Met.operate.Goals as goal
 

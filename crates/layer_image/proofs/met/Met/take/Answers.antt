@@ -1,11 +1,5 @@
 -- The command is judged, and its flashes are those that the judge has added.
-use Rattle.std.proofs.Common.{List, [], ◌∷◌, ◌++◌, ◌∙◌, refl, subst, sym}
-use Rattle.std.proofs.lemmas.Result.{err_from_is_err_and}
-use Rattle.gerber_commands.specs.declared.command.Command.{Command}
-use Rattle.gerber_text.specs.Writing.{without_places}
-use Rattle.layer_state.specs.Flashes.{flashes_of}
-use Rattle.layer_state.specs.KeptFlashes.{without_flashes}
-use Rattle.layer_features.specs.CopperHolding.{HasMet}
+use Rattle.layer_image.proofs.Common.{List, [], ◌∷◌, ◌++◌, ◌∙◌, refl, subst, sym, err_from_is_err_and, Command, without_places, flashes_of, without_flashes, HasMet}
 use Rattle.layer_image.proofs.MetLemmas.{all_dropped, next_entry, own_flashes}
 use Rattle.layer_image.proofs.met.Met.take.Goals as goal
 

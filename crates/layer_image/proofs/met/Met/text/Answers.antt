@@ -1,11 +1,5 @@
 -- The text is met, and it makes no flash.
-use Rattle.std.proofs.Common.{List, subst, sym}
-use Rattle.gerber_commands.specs.declared.command.Command.{Command}
-use Rattle.gerber_text.specs.FastPath.{text_command}
-use Rattle.gerber_text.specs.Writing.{without_places}
-use Rattle.layer_state.specs.Flashes.{flashes_of}
-use Rattle.layer_state.specs.KeptFlashes.{without_flashes}
-use Rattle.layer_features.specs.CopperHolding.{HasMet}
+use Rattle.layer_image.proofs.Common.{List, subst, sym, Command, text_command, without_places, flashes_of, without_flashes, HasMet}
 use Rattle.layer_image.proofs.MetLemmas.{after_text, text_dropped}
 use Rattle.layer_image.proofs.met.Met.text.Goals as goal
 

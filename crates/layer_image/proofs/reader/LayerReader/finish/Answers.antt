@@ -1,12 +1,6 @@
 -- The words are all met, so what is kept is that of the layer of the commands that are gone.
-use Rattle.std.proofs.Common.{◌≡◌, ◌++◌, Ok, refl, ap, sym, subst, ◌∙◌, append-nil}
-use Rattle.std.proofs.lemmas.Result.{err_from_is_err_and}
-use Rattle.grid_units.specs.declared.profile.Profile.{Profile}
-use Rattle.gerber_text.specs.Reading.{Entries, ReadsIn, SpellsBeforeFaultIn}
-use Rattle.gerber_text.specs.Holding.{held}
-use Rattle.layer_image.specs.Kept.{IsKeptOf}
-use Rattle.layer_image.specs.Holding.{HasContent, left_pads}
-use Rattle.layer_image.specs.Layers.{image_of}
+use Rattle.layer_image.proofs.Common.{◌≡◌, ◌++◌, Ok, refl, ap, sym, subst, ◌∙◌, append-nil, err_from_is_err_and, Profile, Entries, ReadsIn, SpellsBeforeFaultIn, held, IsKeptOf, HasContent, image_of}
+use Rattle.layer_image.specs.Holding.{left_pads}
 use Rattle.layer_image.proofs.Reading.{legal_layer}
 use Rattle.layer_image.proofs.Pieces.{end_err, legal_content}
 use Rattle.layer_image.proofs.reader.LayerReader.finish.Goals as goal
@@ -16,12 +10,12 @@ returns-in_err-finish-clause-exact c profile keep taken text h =
     let p = err_from_is_err_and c.from_residual.result c.from_residual.ensures.1 in
     let e = c.in_err-finish.field-0.0 in
     let none : h.gone ++ held c.args.self.words ≡ h.gone = ap (λ (x : Entries). h.gone ++ x) h.none ∙ append-nil h.gone in
-    rw (p.1, p.2) (end_err profile text h.gone keep (left_pads c.args.self taken) e (c.in_err-finish.ensures.exact_in profile h.gone text h.words) (subst (SpellsBeforeFaultIn profile text e) none (c.in_err-finish.ensures.kept_in profile h.gone text h.words)) (legal_content profile keep taken c.args.self.content h.gone h.content))
+    rw (p.1, p.2) (end_err profile text h.gone keep (left_pads c.args.self taken) e (c.in_err-finish.ensures.exact profile h.gone text h.words) (subst (SpellsBeforeFaultIn profile text e) none (c.in_err-finish.ensures.kept profile h.gone text h.words)) (legal_content profile keep taken c.args.self.content h.gone h.content))
 
 pub returns-clause-exact : goal.returns-clause-exact
 returns-clause-exact c profile keep taken text h =
     let none : h.gone ++ c.in_ok-finish.field-0.items ≡ h.gone = ap (λ (x : Entries). h.gone ++ x) (c.in_ok-finish.ensures.held ∙ h.none) ∙ append-nil h.gone in
-    let reads = subst (λ (x : Entries). ReadsIn profile text (Ok x)) none (c.in_ok-finish.ensures.exact_in profile h.gone text h.words) in (
+    let reads = subst (λ (x : Entries). ReadsIn profile text (Ok x)) none (c.in_ok-finish.ensures.exact profile h.gone text h.words) in (
       image_of h.gone,
       legal_layer profile text h.gone (image_of h.gone) reads (legal_content profile keep taken c.args.self.content h.gone h.content) refl,
       subst (λ (q : Profile). IsKeptOf q keep (left_pads c.args.self taken) h.gone c.in_ok-finish-2.field-0) h.same_profile

@@ -1,11 +1,5 @@
 -- The text is met, and its command is gone.
-use Rattle.std.proofs.Common.{◌≡◌, ℕ, List, [], ◌∷◌, ◌++◌, sym, ap, subst, ◌∙◌}
-use Rattle.gerber_text.specs.declared.reader.WordReader.{WordReader}
-use Rattle.gerber_text.specs.Holding.{StandsIn, held, passed_text, text_entries}
-use Rattle.layer_features.specs.Kept.{keeps_commands}
-use Rattle.gerber_text.specs.FastPath.{text_command}
-use Rattle.gerber_text.specs.Reading.{placed}
-use Rattle.layer_image.specs.Holding.{HasContent}
+use Rattle.layer_image.proofs.Common.{◌≡◌, ℕ, List, [], ◌∷◌, ◌++◌, sym, ap, subst, ◌∙◌, WordReader, StandsIn, held, passed_text, text_entries, keeps_commands, text_command, placed, HasContent}
 use Rattle.layer_image.proofs.Pieces.{none_kept}
 use Rattle.layer_image.proofs.reader.LayerReader.take_other.Goals as goal
 
@@ -18,7 +12,7 @@ returns-in_ok-text-in-Some-clause-ok c profile keep taken text h =
       same = h.same;
       same_profile = h.same_profile;
       gone = gone;
-      words = c.in-Some.ensures.some_in h.none profile h.gone text h.words;
+      words = c.in-Some.ensures.some h.none profile h.gone text h.words;
       none = c.pass_text.ensures.held ∙ h.none;
       content = subst (λ (t : List ℕ). HasContent profile keep taken c.text.new.self (h.gone ++ placed passed.place passed.byte (text_command passed.item.kind t ∷ []))) c.text_in.ensures (c.in_ok-text-in-Some.ensures profile keep taken h.gone passed.place passed.byte h.content);
       kept = h.kept ∙ none_kept (keeps_commands keep) h.gone gone (ap keeps_commands (sym h.same) ∙ c.requires.dropped);

@@ -1,11 +1,5 @@
 -- The rule's fault comes before the fault of the item that these bytes end, and where there is none the commands are met and gone.
-use Rattle.std.proofs.Common.{◌++◌, [], cond, sym, subst, ◌∙◌, take}
-use Rattle.std.proofs.lemmas.Result.{err_from_is_err_and}
-use Rattle.gerber_text.specs.Reading.{Entries}
-use Rattle.gerber_text.specs.Holding.{held}
-use Rattle.layer_image.specs.declared.content.LayerContent.{LayerContent}
-use Rattle.layer_image.specs.Holding.{HasContent}
-use Rattle.layer_features.specs.Kept.{keeps_commands}
+use Rattle.layer_image.proofs.Common.{◌++◌, [], cond, sym, subst, ◌∙◌, take, err_from_is_err_and, Entries, held, LayerContent, HasContent, keeps_commands}
 use Rattle.layer_state.proofs.KeptFlashesLemmas.{kept_append}
 use Rattle.layer_image.proofs.Pieces.{legal_content, part_shown, words_shown}
 use Rattle.layer_image.proofs.reader.LayerReader.take_part.Goals as goal
@@ -13,16 +7,16 @@ use Rattle.layer_image.proofs.reader.LayerReader.take_part.Goals as goal
 pub returns-in_err-take_all-clause-err : goal.returns-in_err-take_all-clause-err
 returns-in_err-take_all-clause-err c profile keep taken text h =
     let p = err_from_is_err_and c.from_residual.result c.from_residual.ensures.1 in
-    rw (p.1, p.2) (part_shown profile text c.args.bytes.now c.feed_part-outcome.new.self h.gone c.commands.result.now c.feed_part-outcome.result c.in_err-take_all.field-0.0 (c.feed_part-outcome.ensures.ok_in profile h.gone text h.words) (c.feed_part-outcome.ensures.err_in profile h.gone text h.words)
-    (c.commands.ensures.shown_in profile h.gone) (c.commands.ensures.kept_in profile h.gone) (c.in_err-take_all.ensures.refused profile keep taken h.gone h.content))
+    rw (p.1, p.2) (part_shown profile text c.args.bytes.now c.feed_part-outcome.new.self h.gone c.commands.result.now c.feed_part-outcome.result c.in_err-take_all.field-0.0 (c.feed_part-outcome.ensures.ok profile h.gone text h.words) (c.feed_part-outcome.ensures.err profile h.gone text h.words)
+    (c.commands.ensures.shown profile h.gone) (c.commands.ensures.kept profile h.gone) (c.in_err-take_all.ensures.refused profile keep taken h.gone h.content))
 
 pub returns-in_err-len-clause-err : goal.returns-in_err-len-clause-err
 returns-in_err-len-clause-err c profile keep taken text h =
     let p = err_from_is_err_and c.from_residual-in_err-len.result c.from_residual-in_err-len.ensures.1 in
     let all = text ++ c.args.bytes.now in
     let e = c.in_err-len.field-0.0 in
-    let failed = c.in_err-len.ensures.err_in profile h.gone text h.words in
-    rw (p.1, p.2) (words_shown profile all c.feed_part-outcome.new.self h.gone c.commands.result.now e failed (c.commands.ensures.kept_in profile h.gone all e failed) (legal_content profile keep taken c.take_all.new.self (h.gone ++ c.commands.result.now) (c.in_ok-take_all.ensures.ok profile keep taken h.gone h.content)))
+    let failed = c.in_err-len.ensures.err profile h.gone text h.words in
+    rw (p.1, p.2) (words_shown profile all c.feed_part-outcome.new.self h.gone c.commands.result.now e failed (c.commands.ensures.kept profile h.gone all e failed) (legal_content profile keep taken c.take_all.new.self (h.gone ++ c.commands.result.now) (c.in_ok-take_all.ensures.ok profile keep taken h.gone h.content)))
 
 pub returns-clause-ok : goal.returns-clause-ok
 returns-clause-ok c profile keep taken text h =
@@ -33,7 +27,7 @@ returns-clause-ok c profile keep taken text h =
       same = c.in_ok-keep_commands.ensures.keep ∙ h.same;
       same_profile = c.in_ok-keep_commands.ensures.profile ∙ h.same_profile;
       gone = h.gone ++ now;
-      words = c.in_ok-keep_commands.ensures.words profile h.gone (text ++ take c.in_ok-len.len c.args.bytes.now) (c.in_ok-len.ensures.ok_in profile h.gone text h.words);
+      words = c.in_ok-keep_commands.ensures.words profile h.gone (text ++ take c.in_ok-len.len c.args.bytes.now) (c.in_ok-len.ensures.ok profile h.gone text h.words);
       none = c.in_ok-keep_commands.ensures.none;
       content = subst (λ (s : LayerContent). HasContent profile keep taken s (h.gone ++ now)) (sym c.in_ok-keep_commands.ensures.content) content;
       kept = c.in_ok-keep_commands.ensures.kept ∙ (λ i. h.kept i ++ cond (keeps_commands (h.same i)) now []) ∙ sym (kept_append (keeps_commands keep) h.gone now);

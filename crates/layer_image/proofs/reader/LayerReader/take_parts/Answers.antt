@@ -1,11 +1,5 @@
 -- Some bytes more; a fault of what follows them is one of the whole piece.
-use Rattle.std.proofs.Common.{◌≡◌, ◌-◌, ◌++◌, ℕ, List, length, take, drop, ap, subst, ◌∙◌, arith, append_assoc}
-use Rattle.std.proofs.lemmas.List.{length-drop, length-take, take-append-drop, take_rest, take_all}
-use Rattle.std.proofs.lemmas.Result.{err_from_is_err_and}
-use Rattle.grid_units.specs.Results.{IfFault}
-use Rattle.gerber_text.proofs.ShowsLemmas.{two_takes}
-use Rattle.layer_image.specs.Holding.{LayerStands, ShowsLayerFaultIn}
-use Rattle.layer_features.specs.Kept.{keeps_commands}
+use Rattle.layer_image.proofs.Common.{◌≡◌, ◌-◌, ◌++◌, ℕ, List, length, take, drop, ap, subst, ◌∙◌, arith, append_assoc, length-drop, length-take, take-append-drop, take_rest, take_all, err_from_is_err_and, IfFault, two_takes, LayerStands, ShowsLayerFaultIn, keeps_commands}
 use Rattle.layer_image.proofs.reader.LayerReader.take_parts.Goals as goal
 
 pub returns-in_err-taken-clause-err : goal.returns-in_err-taken-clause-err

@@ -1,9 +1,4 @@
-use Rattle.std.proofs.Common.{◌≡◌, ◌≤◌, ◌-◌, ◌++◌, ℕ, List, length, take, false}
-use Rattle.grid_units.specs.declared.profile.Profile.{Profile}
-use Rattle.pad_shapes.specs.declared.wide_pad.WidePad.{WidePad}
-use Rattle.layer_features.specs.declared.keep.Keep.{Keep}
-use Rattle.layer_image.specs.Holding.{LayerStands}
-use Rattle.layer_features.specs.Kept.{keeps_commands}
+use Rattle.layer_image.proofs.Common.{◌≡◌, ◌≤◌, ◌-◌, ◌++◌, ℕ, List, length, take, false, Profile, WidePad, Keep, LayerStands, keeps_commands}
 use Rattle.layer_image.proofs.reader.LayerReader.take_parts.Given as goal
 
 abbrev pub invariant-loop-taken : goal.invariant-loop-taken

@@ -1,4 +1,4 @@
-use Rattle.layer_state.specs.Flashes.{flashes_of}
+use Rattle.layer_state.proofs.Common.{flashes_of}
 use Rattle.layer_state.proofs.cached.CachedState.clear_pads.Goals as goal
 
 pub returns-clause-gone : goal.returns-clause-gone

@@ -1,12 +1,5 @@
 -- The fast path shows that no rule applies, and what the flash leaves.
-use Rattle.std.proofs.Common.{arith, rules, ◌≡◌, ℤ, Option, unwrap_or, FitsSigned, to_z, of_z, nat_le, unsigned_abs, ap, sym, ◌∙◌}
-use Rattle.std.proofs.lemmas.Int.{to_z-of_z}
-use mir.Syntax.{w64}
-use Rattle.grid_units.specs.Points.{GridPoint}
-use Rattle.layer_state.specs.Inner.FastOperations.{point_of}
-use Rattle.layer_state.specs.KeptFlashes.{flash_count}
-use Rattle.layer_state.specs.Inner.IsStateAfter.{state_of}
-use Rattle.layer_state.specs.Inner.MovedPads.{moved}
+use Rattle.layer_state.proofs.Common.{arith, rules, ◌≡◌, ℤ, Option, unwrap_or, FitsSigned, to_z, of_z, nat_le, unsigned_abs, ap, sym, ◌∙◌, to_z-of_z, w64, GridPoint, point_of, flash_count, state_of, moved}
 use Rattle.layer_state.proofs.FastOperations.{flash_is_legal}
 use Rattle.layer_state.proofs.cached.CachedState.flash.Goals as goal
 

@@ -1,7 +1,5 @@
 -- The fast path shows that no rule applies.
-use Rattle.std.proofs.Common.{sym, ◌∙◌}
-use Rattle.layer_state.specs.KeptFlashes.{flash_count}
-use Rattle.layer_state.specs.Inner.IsStateAfter.{state_of}
+use Rattle.layer_state.proofs.Common.{sym, ◌∙◌, flash_count, state_of}
 use Rattle.layer_state.proofs.FastOperations.{move_is_legal}
 use Rattle.layer_state.proofs.cached.CachedState.is_plain_move.Goals as goal
 

@@ -1,10 +1,6 @@
 -- An operation on the fast path breaks no rule, and leaves the fast path as it is.
-use Rattle.std.proofs.Common.{◌≡◌, Ok, sym, subst}
-use Rattle.gerber_commands.specs.declared.command.Command.{Command}
+use Rattle.layer_state.proofs.Common.{◌≡◌, Ok, sym, subst, Command, AreCachedValues, IsFlashOf, flash_count, AppliesOrRefuses, state_of}
 use Rattle.gerber_commands.specs.declared.command.Command.TheVariants as command
-use Rattle.layer_state.specs.Inner.FastOperations.{AreCachedValues, IsFlashOf}
-use Rattle.layer_state.specs.KeptFlashes.{flash_count}
-use Rattle.layer_state.specs.Inner.IsStateAfter.{AppliesOrRefuses, state_of}
 use Rattle.layer_state.proofs.FastOperations.{step_result, move_applies, flash_applies}
 use Rattle.layer_state.proofs.cached.CachedState.operate.Goals as goal
 

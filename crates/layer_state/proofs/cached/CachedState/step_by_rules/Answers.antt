@@ -1,9 +1,6 @@
 -- A command that was taken in and changes nothing of the fast path leaves it true.
-use Rattle.std.proofs.Common.{◌≡◌, false, Result, Ok, Err, OnOk, sym, subst, ◌∙◌}
+use Rattle.layer_state.proofs.Common.{◌≡◌, false, Result, Ok, Err, OnOk, sym, subst, ◌∙◌, AreCachedValues, ItemFail, Applies, state_of}
 use Rattle.std.specs.Result.{is_err}
-use Rattle.layer_state.specs.Inner.FastOperations.{AreCachedValues}
-use Rattle.grid_units.specs.declared.item_fail.ItemFail.{ItemFail}
-use Rattle.layer_state.specs.Inner.IsStateAfter.{Applies, state_of}
 use Rattle.layer_state.proofs.FastOperations.{cached_stays_valid}
 use Rattle.layer_state.proofs.cached.CachedState.step_by_rules.Goals as goal
 

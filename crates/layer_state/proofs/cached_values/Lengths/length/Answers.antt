@@ -1,7 +1,5 @@
 -- The length of a number that is in range fits.
-use Rattle.std.proofs.Common.{arith, ◌≡◌, ◌≤◌, ◌<◌, ◌*◌, ◌^◌, ◌*ℤ◌, ℕ, ℤ, pos, unsigned_abs, FitsSigned, to_z, of_z, ap, subst, sym, ◌∙◌}
-use Rattle.std.proofs.lemmas.Int.{to_z-of_z, to_z_pos}
-use mir.Syntax.{w64}
+use Rattle.layer_state.proofs.Common.{arith, ◌≡◌, ◌≤◌, ◌<◌, ◌*◌, ◌^◌, ◌*ℤ◌, ℕ, ℤ, pos, unsigned_abs, FitsSigned, to_z, of_z, ap, subst, sym, ◌∙◌, to_z-of_z, to_z_pos, w64}
 use Rattle.layer_state.proofs.CopyGrids.{fits_i64}
 use Rattle.layer_state.proofs.FastOperations.{near_length}
 use Rattle.layer_state.proofs.cached_values.Lengths.length.Goals as goal

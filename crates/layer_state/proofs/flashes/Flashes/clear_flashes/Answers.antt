@@ -1,6 +1,5 @@
 -- The flashes that were held count among those that were taken.
-use Rattle.std.proofs.Common.{◌++◌, List, ap, ◌∙◌, append-nil}
-use Rattle.layer_state.specs.declared.flash.Flash.{Flash}
+use Rattle.layer_state.proofs.Common.{◌++◌, List, ap, ◌∙◌, append-nil, Flash}
 use Rattle.layer_state.proofs.flashes.Flashes.clear_flashes.Goals as goal
 
 pub returns-clause-gone : goal.returns-clause-gone

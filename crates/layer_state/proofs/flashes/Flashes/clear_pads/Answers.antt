@@ -1,5 +1,5 @@
 -- The pads that were held count among those that were taken.
-use Rattle.std.proofs.Common.{◌++◌, List, ap, ◌∙◌, append-nil}
+use Rattle.layer_state.proofs.Common.{◌++◌, List, ap, ◌∙◌, append-nil}
 use Rattle.pad_shapes.specs.declared.pad.Pad.{Pad}
 use Rattle.layer_state.proofs.flashes.Flashes.clear_pads.Goals as goal
 

@@ -1,11 +1,5 @@
 -- One row more, and one column more.
-use Rattle.std.proofs.Common.{◌≡◌, ◌∙◌, ◌++◌, List, [], ◌∷◌, map, ap, subst, arith}
-use Rattle.std.specs.List.{flat_map}
-use Rattle.grid_units.specs.Points.{GridPoint}
-use Rattle.layer_state.specs.declared.flash.Flash.{Flash}
-use Rattle.layer_state.specs.Flashes.{numbers_below, copy_at}
-use Rattle.layer_state.specs.Inner.MovedPads.{flash_moved, moved}
-use Rattle.layer_state.specs.KeptFlashes.{Adds}
+use Rattle.layer_state.proofs.Common.{◌≡◌, ◌∙◌, ◌++◌, List, [], ◌∷◌, map, ap, subst, arith, flat_map, GridPoint, Flash, numbers_below, copy_at, flash_moved, moved, Adds}
 use Rattle.layer_state.proofs.KeptFlashesLemmas.{adds_more}
 use Rattle.layer_state.proofs.CopyGrids.{fewer_copies, next_column, next_row}
 use Rattle.layer_state.proofs.flashes.Flashes.lay.Goals as goal

@@ -1,8 +1,4 @@
-use Rattle.std.proofs.Common.{◌++◌, map}
-use Rattle.std.specs.List.{flat_map}
-use Rattle.layer_state.specs.Flashes.{numbers_below, copy_at}
-use Rattle.layer_state.specs.Inner.MovedPads.{flash_moved}
-use Rattle.layer_state.specs.KeptFlashes.{Adds}
+use Rattle.layer_state.proofs.Common.{◌++◌, map, flat_map, numbers_below, copy_at, flash_moved, Adds}
 use Rattle.layer_state.proofs.flashes.Flashes.lay.Given as goal
 
 abbrev pub invariant-loop-u : goal.invariant-loop-u

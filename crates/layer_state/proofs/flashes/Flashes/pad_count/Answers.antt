@@ -1,4 +1,4 @@
-use Rattle.std.proofs.Common.{arith}
+use Rattle.layer_state.proofs.Common.{arith}
 use Rattle.layer_state.proofs.KeptFlashesLemmas.{pads_and_others}
 use Rattle.layer_state.proofs.flashes.Flashes.pad_count.Goals as goal
 

@@ -1,7 +1,5 @@
 -- No copy is far, so each coordinate is in range.
-use Rattle.std.proofs.Common.{arith, ◌≡◌, ◌≤◌, ◌∙◌, sym, subst, to_z, of_z, unsigned_abs, ◌+ℤ◌, ◌*ℤ◌, pos, ℤ}
-use mir.Syntax.{w128}
-use Rattle.grid_units.specs.Points.{max_coordinate}
+use Rattle.layer_state.proofs.Common.{arith, ◌≡◌, ◌≤◌, ◌∙◌, sym, subst, to_z, of_z, unsigned_abs, ◌+ℤ◌, ◌*ℤ◌, pos, ℤ, w128, max_coordinate}
 use Rattle.layer_state.proofs.CopyGrids.{near_copy, back_steps}
 use Rattle.layer_state.proofs.grid.CopyGrid.copy.Goals as goal
 

@@ -1,4 +1,4 @@
-use Rattle.std.proofs.Common.{◌*◌, sym, ◌∙◌}
+use Rattle.layer_state.proofs.Common.{◌*◌, sym, ◌∙◌}
 use Rattle.layer_state.proofs.CopyGrids.{count_copies}
 use Rattle.layer_state.proofs.grid.CopyGrid.count.Goals as goal
 

@@ -1,8 +1,6 @@
 -- A copy is far just where one at the ends is.
-use Rattle.std.proofs.Common.{◌∙◌, ◌||◌, sym, arith, ◌-◌}
-use Rattle.grid_units.specs.Numbers.{is_too_far}
+use Rattle.layer_state.proofs.Common.{◌∙◌, ◌||◌, sym, arith, ◌-◌, is_too_far, back_128}
 use Rattle.layer_state.proofs.CopyGrids.{far_copies, no_columns, no_rows, back_steps}
-use Rattle.grid_units.proofs.LengthLemmas.{back_128}
 use Rattle.layer_state.proofs.grid.CopyGrid.is_too_far.Goals as goal
 use Rattle.layer_state.proofs.grid.CopyGrid.is_too_far.Goals.{then-self-eq0-via-then-self-eq0, then-self-eq0-via-else-self-eq0+then-self-eq0-2}
 

@@ -1,4 +1,4 @@
-use Rattle.gerber_text.specs.Writing.{without_places}
+use Rattle.layer_state.proofs.Common.{without_places}
 use Rattle.layer_state.proofs.scan.Scan.clear_pads.Goals as goal
 
 pub returns-clause-gone : goal.returns-clause-gone

@@ -1,15 +1,6 @@
 -- The interpolation changes nothing, and the operation is one command more.
-use Rattle.std.proofs.Common.{[], ◌∷◌, ◌++◌, Ok, Err, refl, sym, subst}
-use Rattle.grid_units.specs.Results.{IfFault}
-use Rattle.gerber_commands.specs.declared.command.Command.TheVariants.{Operate}
+use Rattle.layer_state.proofs.Common.{[], ◌∷◌, ◌++◌, Ok, Err, refl, sym, subst, IfFault, Operate, Entries, placed, Placed, Command, without_places, Scan, HasScannedLegal, fail_at, IsFirstFault}
 use Rattle.gerber_commands.specs.Rows.{modes_of}
-use Rattle.gerber_text.specs.Reading.{Entries, placed}
-use Rattle.gerber_text.specs.declared.placed.Placed.{Placed}
-use Rattle.gerber_commands.specs.declared.command.Command.{Command}
-use Rattle.gerber_text.specs.Writing.{without_places}
-use Rattle.layer_state.specs.declared.scan.Scan.{Scan}
-use Rattle.layer_state.specs.Holding.{HasScannedLegal}
-use Rattle.layer_state.specs.Faults.{fail_at, IsFirstFault}
 use Rattle.layer_state.proofs.FirstFaultLemmas.{stop_is_first_fault}
 use Rattle.layer_state.proofs.OperationScans.{mode_scanned, operation_result, scanned_more, operation_last}
 use Rattle.layer_state.proofs.LegalLists.{sound}

@@ -1,9 +1,6 @@
 -- One command more; the fault of one is that of all.
-use Rattle.std.proofs.Common.{arith, ◌≡◌, ◌+◌, [], ◌∷◌, ◌++◌, take, ap, sym, subst, ◌∙◌, append_assoc}
-use Rattle.std.proofs.lemmas.List.{take_all}
+use Rattle.layer_state.proofs.Common.{arith, ◌≡◌, ◌+◌, [], ◌∷◌, ◌++◌, take, ap, sym, subst, ◌∙◌, append_assoc, take_all, Entries, HasScannedLegal}
 use Rattle.std.proofs.lemmas.Result.{err_from_is_err_and}
-use Rattle.gerber_text.specs.Reading.{Entries}
-use Rattle.layer_state.specs.Holding.{HasScannedLegal}
 use Rattle.layer_state.proofs.SplitAtCommand.{take_next}
 use Rattle.layer_state.proofs.LongerFaults.{fault_of_all}
 use Rattle.layer_state.proofs.scan.Scan.scan.Goals as goal

@@ -1,7 +1,4 @@
-use Rattle.std.proofs.Common.{◌++◌, take}
-use Rattle.gerber_text.specs.Reading.{Entries}
-use Rattle.layer_state.specs.Holding.{HasScannedLegal}
-use Rattle.layer_state.specs.KeptFlashes.{KeptParts}
+use Rattle.layer_state.proofs.Common.{◌++◌, take, Entries, HasScannedLegal, KeptParts}
 use Rattle.layer_state.proofs.scan.Scan.scan.Given as goal
 
 abbrev pub invariant-loop-entry : goal.invariant-loop-entry

@@ -1,9 +1,6 @@
 -- Where the judge stops, the scan stops. The command names the last file function, or those before it do.
-use Rattle.std.proofs.Common.{ℕ, ◌≡◌, List, Some, sym, ap, ◌∙◌}
-use Rattle.std.specs.Option.{option_or, option_copied}
+use Rattle.layer_state.proofs.Common.{ℕ, ◌≡◌, List, Some, sym, ap, ◌∙◌, option_or, option_copied, last_set-more, function_set, file_function_of}
 use Rattle.std.proofs.lemmas.Result.{err_from_is_err_and}
-use Rattle.grid_units.proofs.LookbackLemmas.{last_set-more}
-use Rattle.layer_state.specs.FileFunction.{function_set, file_function_of}
 use Rattle.layer_state.proofs.FirstFaultLemmas.{scan_stops}
 use Rattle.layer_state.proofs.scan.Scan.scan_one.Goals as goal
 

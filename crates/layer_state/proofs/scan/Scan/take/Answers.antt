@@ -1,8 +1,5 @@
 -- One command more, or the fault of a command that breaks a rule.
-use Rattle.std.proofs.Common.{[], ◌∷◌, ◌++◌, sym, subst}
-use Rattle.grid_units.specs.Results.{IfFault}
-use Rattle.gerber_text.specs.Writing.{without_places}
-use Rattle.layer_state.specs.Faults.{IsFirstFault}
+use Rattle.layer_state.proofs.Common.{[], ◌∷◌, ◌++◌, sym, subst, IfFault, without_places, IsFirstFault}
 use Rattle.layer_state.proofs.FirstFaultLemmas.{stop_is_first_fault}
 use Rattle.layer_state.proofs.OperationScans.{scanned_more}
 use Rattle.layer_state.proofs.LegalLists.{sound}

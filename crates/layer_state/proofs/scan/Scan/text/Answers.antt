@@ -1,8 +1,6 @@
 -- The text names the last file function, or those before it do.
-use Rattle.std.proofs.Common.{ℕ, ◌≡◌, List, Some, refl, sym, ap, ◌∙◌}
-use Rattle.std.specs.Option.{option_or, option_copied}
+use Rattle.layer_state.proofs.Common.{ℕ, ◌≡◌, List, Some, refl, sym, ap, ◌∙◌, option_or, option_copied, function_set}
 use Rattle.gerber_text.specs.FastPath.{text_command}
-use Rattle.layer_state.specs.FileFunction.{function_set}
 use Rattle.layer_state.proofs.TextScans.{text_scanned}
 use Rattle.layer_state.proofs.scan.Scan.text.Goals as goal
 

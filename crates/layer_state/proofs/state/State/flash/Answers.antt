@@ -1,12 +1,5 @@
 -- What is flashed at the origin, moved to each copy.
-use Rattle.std.proofs.Common.{◌≡◌, ◌∙◌, [], List, map, ap, subst, OnOk}
-use Rattle.std.specs.Option.{option_map_or}
-use Rattle.layer_state.specs.declared.flash.Flash.{Flash}
-use Rattle.layer_state.specs.Lookback.{current_aperture}
-use Rattle.layer_state.specs.Flashes.{copies, copies_at, aperture_flashes}
-use Rattle.layer_state.specs.Inner.MovedPads.{flash_moved}
-use Rattle.layer_state.specs.KeptFlashes.{Adds}
-use Rattle.layer_state.specs.Inner.IsStateAfter.{state_of}
+use Rattle.layer_state.proofs.Common.{◌≡◌, ◌∙◌, [], List, map, ap, subst, OnOk, option_map_or, Flash, current_aperture, copies, copies_at, aperture_flashes, flash_moved, Adds, state_of}
 use Rattle.layer_state.proofs.MovedFlashes.{flashes_moved}
 use Rattle.layer_state.proofs.state.State.flash.Goals as goal
 

@@ -1,11 +1,7 @@
 -- Each coordinate is the one that is named, else the last one.
-use Rattle.std.proofs.Common.{rules, arith, ◌≡◌, ◌≤◌, ◌^◌, unsigned_abs, ℤ, ℕ, FitsSigned, to_z, of_z, ◌∙◌, ap, unwrap_or, Option}
-use Rattle.std.proofs.lemmas.Int.{to_z-of_z}
-use mir.Syntax.{w128, w64}
+use Rattle.layer_state.proofs.Common.{rules, arith, ◌≡◌, ◌≤◌, ◌^◌, unsigned_abs, ℤ, ℕ, FitsSigned, to_z, of_z, ◌∙◌, ap, unwrap_or, Option, to_z-of_z, w128, w64, picometres, back_128}
 use Rattle.grid_units.specs.declared.lengths.Unit.{Unit as Units}
-use Rattle.grid_units.specs.Numbers.{picometres}
 use Rattle.layer_state.specs.Numbers.{dec_length}
-use Rattle.grid_units.proofs.LengthLemmas.{back_128}
 use Rattle.layer_state.proofs.state.State.grid.Goals as goal
 
 -- a length that was computed of a number in 64 bits

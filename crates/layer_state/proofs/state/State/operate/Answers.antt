@@ -1,17 +1,6 @@
 -- The flashes come first, and then the point is the current one.
-use Rattle.std.proofs.Common.{◌≡◌, ◌∙◌, [], ap, sym, subst, if◌then◌else◌}
-use Rattle.std.proofs.lemmas.Bool.{ltb-false}
-use Rattle.std.specs.List.{list_any}
-use Rattle.std.specs.Option.{option_map_or}
+use Rattle.layer_state.proofs.Common.{◌≡◌, ◌∙◌, [], ap, sym, subst, if◌then◌else◌, ltb-false, list_any, option_map_or, current_aperture, aperture_flashes, added_flashes, copies_at, is_far_point, state_of, after, Adds, State, Flashes, or_is_false}
 use Rattle.gerber_commands.specs.declared.command.Command.TheVariants as command
-use Rattle.layer_state.specs.Lookback.{current_aperture}
-use Rattle.layer_state.specs.Flashes.{aperture_flashes, added_flashes, copies_at}
-use Rattle.layer_state.specs.Rules.{is_far_point}
-use Rattle.layer_state.specs.Inner.IsStateAfter.{state_of, after}
-use Rattle.layer_state.specs.KeptFlashes.{Adds}
-use Rattle.layer_state.specs.declared.state.State.{State}
-use Rattle.layer_state.specs.declared.flashes.Flashes.{Flashes}
-use Rattle.grid_units.proofs.BoolLemmas.{or_is_false}
 use Rattle.layer_state.proofs.KeptFlashesLemmas.{adds_none}
 use Rattle.layer_state.proofs.state.State.operate.Goals as goal
 use Rattle.layer_state.proofs.state.State.operate.Goals.{then-is_flash+in_ok-flash, else-is_flash}

@@ -1,8 +1,5 @@
 -- The command breaks no rule, so the judge that took it in knows one command more.
-use Rattle.std.proofs.Common.{◌≡◌, sym, ◌∙◌, None, Some}
-use Rattle.layer_state.specs.Rules.{first_broken}
-use Rattle.layer_state.specs.KeptFlashes.{flash_count}
-use Rattle.layer_state.specs.Inner.IsStateAfter.{state_of}
+use Rattle.layer_state.proofs.Common.{◌≡◌, sym, ◌∙◌, None, Some, first_broken, flash_count, state_of}
 use Rattle.layer_state.proofs.StateLemmas.{state_after_one_more, same_rule}
 use Rattle.layer_state.proofs.state.State.step.Goals as goal
 

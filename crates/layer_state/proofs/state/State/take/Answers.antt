@@ -1,10 +1,5 @@
 -- What breaks no rule does not reach too far, and has no size out of its range.
-use Rattle.std.proofs.Common.{◌≡◌, ◌∙◌, sym, subst, false}
-use Rattle.gerber_commands.specs.declared.command.Command.{Command}
-use Rattle.gerber_commands.specs.declared.command.Command.TheVariants.{Operate}
-use Rattle.layer_state.specs.Rules.{reaches_too_far, sets_bad_size, makes_too_many_flashes}
-use Rattle.layer_state.specs.KeptFlashes.{flash_count}
-use Rattle.layer_state.specs.Inner.IsStateAfter.{state_of, Applies}
+use Rattle.layer_state.proofs.Common.{◌≡◌, ◌∙◌, sym, subst, false, Command, Operate, reaches_too_far, sets_bad_size, makes_too_many_flashes, flash_count, state_of, Applies}
 use Rattle.layer_state.proofs.RulesLemmas.{not_too_far, not_too_many, sizes_in_range, near_flash, few_flashes}
 use Rattle.layer_state.proofs.state.State.take.Goals as goal
 

@@ -1,6 +1,5 @@
 -- The table has the names that it had, and one more.
-use Rattle.std.proofs.Common.{◌≡◌, ◌∙◌, ◌||◌, ℕ, List, ap, nat_eq}
-use Rattle.std.specs.List.{list_any}
+use Rattle.layer_state.proofs.Common.{◌≡◌, ◌∙◌, ◌||◌, ℕ, List, ap, nat_eq, list_any}
 use Rattle.std.specs.Cmp.Lexicographic.{pointwise}
 use Rattle.layer_state.specs.Tables.{has_name}
 use Rattle.layer_state.proofs.NamesLemmas.{has_bytes, has_bytes_of, any_inserted}

@@ -1,5 +1,4 @@
-use Rattle.std.proofs.Common.{◌≢◌, ◌≡◌, ◌++◌, ◌∙◌, map}
-use Rattle.csv.specs.Writing.{default_writer, fields_written, has_written, row_text, writer_pending, writer_setup, writer_under}
+use Rattle.manifest.proofs.Common.{◌≢◌, ◌≡◌, ◌++◌, ◌∙◌, map, default_writer, fields_written, has_written, row_text, writer_pending, writer_setup, writer_under}
 use Rattle.csv.specs.declared.writer.QuoteStyle.TheVariants as style
 use Rattle.manifest.proofs.table.Table.with_row.Goals as goal
 

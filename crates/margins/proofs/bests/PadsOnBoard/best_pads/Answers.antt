@@ -1,7 +1,4 @@
-use Rattle.std.proofs.Common.{◌≡◌, Option, List, length, drop, sym, subst, ◌∙◌}
-use Rattle.std.proofs.lemmas.List.{take_at}
-use Rattle.margins.specs.BestPads.{AreBestPads}
-use Rattle.margins.specs.declared.best.BestPad.{BestPad}
+use Rattle.margins.proofs.Common.{◌≡◌, Option, List, length, drop, sym, subst, ◌∙◌, take_at, AreBestPads, BestPad}
 use Rattle.margins.proofs.bests.PadsOnBoard.best_pads.Goals as goal
 
 pub returns : goal.returns

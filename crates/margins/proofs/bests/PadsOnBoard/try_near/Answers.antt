@@ -1,10 +1,4 @@
-use Rattle.std.proofs.Common.{◌≡◌, ℕ, ◌<◌, Option, None, length, get_or, refl, subst, ◌∙◌, arith}
-use Rattle.std.proofs.lemmas.List.{get_or_default}
-use Rattle.std.proofs.lemmas.List.Elements.{All-get_or}
-use Rattle.ring_rules.specs.Places.{default_hole, hole_at}
-use Rattle.ring_rules.specs.declared.finding.Drilled.{Drilled}
-use Rattle.margins.specs.Inner.BestPads.{IsTriedAt}
-use Rattle.margins.specs.declared.best.BestPad.{BestPad}
+use Rattle.margins.proofs.Common.{◌≡◌, ℕ, ◌<◌, Option, None, length, get_or, refl, subst, ◌∙◌, arith, get_or_default, All-get_or, default_hole, hole_at, Drilled, IsTriedAt, BestPad}
 use Rattle.margins.proofs.BestPadsLemmas.{all_improve_none, all_improve_twice, all_improve_at, no_better_at_more}
 use Rattle.margins.proofs.bests.PadsOnBoard.try_near.Goals as goal
 

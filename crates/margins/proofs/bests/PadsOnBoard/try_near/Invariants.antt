@@ -1,4 +1,4 @@
-use Rattle.margins.specs.Inner.BestPads.{AllImprove, IsNoBetterAt}
+use Rattle.margins.proofs.Common.{AllImprove, IsNoBetterAt}
 use Rattle.margins.proofs.bests.PadsOnBoard.try_near.Given as goal
 
 -- the pad was tried at the holes so far

@@ -1,7 +1,4 @@
-use Rattle.std.proofs.Common.{ℕ, inl, inr, List, get_or, sym, subst}
-use Rattle.std.specs.List.{Contains}
-use Rattle.std.proofs.lemmas.List.{get_or_default}
-use Rattle.margins.specs.Inner.BestPads.{AreAllCovered}
+use Rattle.margins.proofs.Common.{ℕ, inl, inr, List, get_or, sym, subst, Contains, get_or_default, AreAllCovered}
 use Rattle.margins.proofs.BestPadsLemmas.{all_improve_none, no_better_elsewhere, no_better_outside, one_more, contains_more, contains_last}
 use Rattle.margins.proofs.bests.PadsOnBoard.try_or_list.Goals as goal
 

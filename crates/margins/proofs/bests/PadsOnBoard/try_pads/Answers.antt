@@ -1,4 +1,4 @@
-use Rattle.std.proofs.Common.{inl, inr}
+use Rattle.margins.proofs.Common.{inl, inr}
 use Rattle.margins.proofs.BestPadsLemmas.{all_improve_twice, all_still_no_better, best_pads_of_all}
 use Rattle.margins.proofs.bests.PadsOnBoard.try_pads.Goals as goal
 

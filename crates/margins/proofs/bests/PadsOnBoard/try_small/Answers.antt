@@ -1,4 +1,4 @@
-use Rattle.std.proofs.Common.{arith}
+use Rattle.margins.proofs.Common.{arith}
 use Rattle.margins.proofs.BestPadsLemmas.{all_improve_twice}
 use Rattle.margins.proofs.bests.PadsOnBoard.try_small.Goals as goal
 

@@ -1,6 +1,4 @@
-use Rattle.std.proofs.Common.{◌<◌, length}
-use Rattle.std.specs.List.{All}
-use Rattle.margins.specs.Inner.BestPads.{AllImprove, AreTriedOrLarge}
+use Rattle.margins.proofs.Common.{◌<◌, length, All, AllImprove, AreTriedOrLarge}
 use Rattle.margins.proofs.bests.PadsOnBoard.try_small.Given as goal
 
 -- each pad so far was tried or is listed

@@ -1,4 +1,4 @@
-use Rattle.std.proofs.Common.{refl, arith}
+use Rattle.margins.proofs.Common.{refl, arith}
 use Rattle.margins.proofs.HullLemmas.{wider, moved}
 use Rattle.margins.proofs.hull.Hull.around.Goals as goal
 

@@ -1,9 +1,4 @@
-use Rattle.std.proofs.Common.{◌≡◌, ◌<◌, None, Option, length, get_or, subst, ◌∙◌, arith}
-use Rattle.std.proofs.lemmas.List.{get_or_default}
-use Rattle.ring_rules.specs.Places.{hole_at, default_hole}
-use Rattle.ring_rules.specs.declared.finding.Drilled.{Drilled}
-use Rattle.margins.specs.Inner.BestPads.{Improves, AreNoBetter}
-use Rattle.margins.specs.declared.best.BestPad.{BestPad}
+use Rattle.margins.proofs.Common.{◌≡◌, ◌<◌, None, Option, length, get_or, subst, ◌∙◌, arith, get_or_default, hole_at, default_hole, Drilled, Improves, AreNoBetter, BestPad}
 use Rattle.margins.proofs.BestPadsLemmas.{all_improve_none, all_improve_twice, all_improve_at}
 use Rattle.margins.proofs.GroupLemmas.{tried_at_more}
 use Rattle.margins.proofs.large.LargePads.try_all.Goals as goal

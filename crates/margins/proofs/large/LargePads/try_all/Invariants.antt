@@ -1,6 +1,4 @@
-use Rattle.std.proofs.Common.{ℕ, ◌<◌, None, length, get_or}
-use Rattle.ring_rules.specs.Places.{hole_at}
-use Rattle.margins.specs.Inner.BestPads.{AllImprove, AreNoBetter}
+use Rattle.margins.proofs.Common.{ℕ, ◌<◌, None, length, get_or, hole_at, AllImprove, AreNoBetter}
 use Rattle.margins.proofs.large.LargePads.try_all.Given as goal
 
 -- the pads were tried at the holes so far

@@ -1,4 +1,4 @@
-use Rattle.std.proofs.Common.{arith}
+use Rattle.margins.proofs.Common.{arith}
 use Rattle.margins.proofs.BestPadsLemmas.{improves_none, improves_twice}
 use Rattle.margins.proofs.GroupLemmas.{none_yet, no_better_on}
 use Rattle.margins.proofs.large.LargePads.try_order.Goals as goal

@@ -1,5 +1,4 @@
-use Rattle.std.proofs.Common.{◌-◌, ◌≤◌, length}
-use Rattle.margins.specs.Inner.BestPads.{Improves, AreNoBetter}
+use Rattle.margins.proofs.Common.{◌-◌, ◌≤◌, length, Improves, AreNoBetter}
 use Rattle.margins.proofs.large.LargePads.try_order.Given as goal
 
 -- the pads of the order so far were tried or passed over

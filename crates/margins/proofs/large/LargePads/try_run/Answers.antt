@@ -1,4 +1,4 @@
-use Rattle.std.proofs.Common.{arith}
+use Rattle.margins.proofs.Common.{arith}
 use Rattle.margins.proofs.BestPadsLemmas.{improves_none, improves_twice}
 use Rattle.margins.proofs.GroupLemmas.{none_yet, no_better_on, one_no_better}
 use Rattle.margins.proofs.large.LargePads.try_run.Goals as goal

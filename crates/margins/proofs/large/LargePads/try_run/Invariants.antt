@@ -1,4 +1,4 @@
-use Rattle.margins.specs.Inner.BestPads.{Improves, AreNoBetter}
+use Rattle.margins.proofs.Common.{Improves, AreNoBetter}
 use Rattle.margins.proofs.large.LargePads.try_run.Given as goal
 
 -- the pads so far were tried

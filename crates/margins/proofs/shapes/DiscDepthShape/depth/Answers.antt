@@ -1,7 +1,4 @@
-use Rattle.std.proofs.Common.{ap, ◌∙◌}
-use Rattle.grid_units.specs.Points.{GridPoint, abs_diff}
-use Rattle.pad_shapes.specs.Shapes.{disc_covers}
-use Rattle.margins.specs.Depths.{IsDepth}
+use Rattle.margins.proofs.Common.{ap, ◌∙◌, GridPoint, abs_diff, disc_covers, IsDepth}
 use Rattle.margins.proofs.DepthsLemmas.{disc_depth}
 use Rattle.margins.proofs.PassedIntegers.{on, natural}
 use Rattle.margins.proofs.shapes.DiscDepthShape.depth.Goals as goal

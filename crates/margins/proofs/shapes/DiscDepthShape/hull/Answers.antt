@@ -1,4 +1,4 @@
-use Rattle.std.proofs.Common.{◌≡◌, refl}
+use Rattle.margins.proofs.Common.{◌≡◌, refl}
 use Rattle.margins.proofs.HullLemmas.{disc_hull}
 use Rattle.margins.proofs.PassedIntegers.{natural}
 use Rattle.margins.proofs.shapes.DiscDepthShape.hull.Goals as goal

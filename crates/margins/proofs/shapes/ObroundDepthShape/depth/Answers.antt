@@ -1,7 +1,4 @@
-use Rattle.std.proofs.Common.{◌≡◌, ℕ, ◌-◌, min, ap, ◌∙◌}
-use Rattle.grid_units.specs.Points.{GridPoint, abs_diff}
-use Rattle.pad_shapes.specs.Shapes.{end_radius, obround_covers}
-use Rattle.margins.specs.Depths.{IsDepth}
+use Rattle.margins.proofs.Common.{◌≡◌, ℕ, ◌-◌, min, ap, ◌∙◌, GridPoint, abs_diff, end_radius, obround_covers, IsDepth}
 use Rattle.margins.proofs.DepthsLemmas.{obround_depth}
 use Rattle.margins.proofs.PassedIntegers.{on, natural}
 use Rattle.margins.proofs.shapes.ObroundDepthShape.depth.Goals as goal

@@ -1,5 +1,4 @@
-use Rattle.std.proofs.Common.{◌≡◌, ℕ, ◌-◌, min, ap, ◌∙◌}
-use Rattle.pad_shapes.specs.Shapes.{end_radius}
+use Rattle.margins.proofs.Common.{◌≡◌, ℕ, ◌-◌, min, ap, ◌∙◌, end_radius}
 use Rattle.margins.proofs.HullLemmas.{obround_hull}
 use Rattle.margins.proofs.PassedIntegers.{natural}
 use Rattle.margins.proofs.shapes.ObroundDepthShape.hull.Goals as goal

@@ -1,8 +1,4 @@
-use Rattle.std.proofs.Common.{◌≡◌, ℕ, ℤ, pos, ◌-ℤ◌, ap, ◌∙◌}
-use Rattle.std.specs.Int.{int_min}
-use Rattle.grid_units.specs.Points.{GridPoint, abs_diff}
-use Rattle.pad_shapes.specs.Shapes.{rect_covers}
-use Rattle.margins.specs.Depths.{IsDepth}
+use Rattle.margins.proofs.Common.{◌≡◌, ℕ, ℤ, pos, ◌-ℤ◌, ap, ◌∙◌, int_min, GridPoint, abs_diff, rect_covers, IsDepth}
 use Rattle.margins.proofs.DepthsLemmas.{straight_depth}
 use Rattle.margins.proofs.PassedIntegers.{on, natural, lesser}
 use Rattle.margins.proofs.shapes.RectDepthShape.depth.Goals as goal

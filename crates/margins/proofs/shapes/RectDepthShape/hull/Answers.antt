@@ -1,4 +1,4 @@
-use Rattle.std.proofs.Common.{◌≡◌, ℕ, min, ap, ◌∙◌}
+use Rattle.margins.proofs.Common.{◌≡◌, ℕ, min, ap, ◌∙◌}
 use Rattle.margins.proofs.HullLemmas.{rect_hull}
 use Rattle.margins.proofs.PassedIntegers.{natural}
 use Rattle.margins.proofs.shapes.RectDepthShape.hull.Goals as goal

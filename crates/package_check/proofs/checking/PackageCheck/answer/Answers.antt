@@ -1,6 +1,4 @@
-use Rattle.std.proofs.Common.{ap, sym, ◌∙◌}
-use Rattle.package_check.specs.CheckViews.{CheckView}
-use Rattle.package_check.specs.Inner.Leftovers.{left_report}
+use Rattle.package_check.proofs.Common.{ap, sym, ◌∙◌, CheckView, left_report}
 use Rattle.package_check.proofs.JudgedLayers.{judged_report, judged_stop}
 use Rattle.package_check.proofs.checking.PackageCheck.answer.Goals as goal
 

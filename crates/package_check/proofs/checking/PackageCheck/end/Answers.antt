@@ -1,11 +1,6 @@
-use Rattle.std.proofs.Common.{Ok, Option, ap, subst, sym, ◌∙◌}
+use Rattle.package_check.proofs.Common.{Ok, Option, ap, subst, sym, ◌∙◌, CheckView, TakesCopper, ReadsInto, is_wanted, next_stop, Judges, FileView, unnamed_file, PackageFault}
 use Rattle.manifest.specs.declared.Role.TheVariants as role
-use Rattle.package_check.specs.CheckViews.{CheckView, setting_of}
-use Rattle.package_check.specs.Checking.{TakesCopper}
-use Rattle.package_check.specs.Holding.{ReadsInto, is_wanted, next_stop}
-use Rattle.package_check.specs.Judging.{Judges}
-use Rattle.package_check.specs.Package.{FileView, unnamed_file}
-use Rattle.package_check.specs.declared.PackageFault.{PackageFault}
+use Rattle.package_check.specs.CheckViews.{setting_of}
 use Rattle.package_check.proofs.CheckSteps.{judged_more, judged_passed}
 use Rattle.package_check.proofs.FlashReadingLemmas.{held}
 use Rattle.package_check.proofs.CopperPieces.{ended, own_copper}

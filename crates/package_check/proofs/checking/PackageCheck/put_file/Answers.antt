@@ -1,14 +1,6 @@
-use Rattle.std.proofs.Common.{◌∙◌, List, Option, Ok, Err, ap, length, subst, sym}
-use Rattle.std.proofs.lemmas.Result.{err_from_is_err_and}
-use Rattle.grid_units.specs.Results.{Answers}
+use Rattle.package_check.proofs.Common.{◌∙◌, List, Option, Ok, Err, ap, length, subst, sym, err_from_is_err_and, Answers, Drilled, CheckView, is_drill_in, IsPutAt, ReadsInto, kept_at, Judges, HasReadCopper, unnamed_file, Judged}
 use Rattle.manifest.specs.declared.Role.TheVariants as role
-use Rattle.ring_rules.specs.declared.finding.Drilled.{Drilled}
-use Rattle.package_check.specs.CheckViews.{CheckView, holes_of, is_drill_in, setting_of}
-use Rattle.package_check.specs.Holding.{IsPutAt, ReadsInto, kept_at}
-use Rattle.package_check.specs.Judging.{Judges}
-use Rattle.package_check.specs.OpenFiles.{HasReadCopper}
-use Rattle.package_check.specs.Package.{unnamed_file}
-use Rattle.package_check.specs.declared.checking.Judged.{Judged}
+use Rattle.package_check.specs.CheckViews.{holes_of, setting_of}
 use Rattle.package_check.proofs.CheckSteps.{layer_put, puts_none, same_slots}
 use Rattle.package_check.proofs.checking.PackageCheck.put_file.Goals as goal
 

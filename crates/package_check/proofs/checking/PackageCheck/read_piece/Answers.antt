@@ -1,7 +1,5 @@
-use Rattle.std.proofs.Common.{◌++◌, ℕ, ap, subst, sym, ◌∙◌}
-use Rattle.package_check.specs.CheckViews.{CheckView, holes_of}
-use Rattle.package_check.specs.Holding.{is_wanted}
-use Rattle.package_check.specs.OpenFiles.{HasReadCopper}
+use Rattle.package_check.proofs.Common.{◌++◌, ℕ, ap, subst, sym, ◌∙◌, CheckView, is_wanted, HasReadCopper}
+use Rattle.package_check.specs.CheckViews.{holes_of}
 use Rattle.package_check.proofs.checking.PackageCheck.read_piece.Goals as goal
 
 pub returns : goal.returns

@@ -1,6 +1,5 @@
-use Rattle.std.proofs.Common.{◌++◌, ap, get_or, subst, sym, take, ◌∙◌, append_assoc, append-nil, Bor, List, ℕ}
-use Rattle.std.proofs.lemmas.List.{take_all}
-use Rattle.package_check.specs.OpenFiles.{HasOpenedCopper}
+use Rattle.package_check.proofs.Common.{◌++◌, ap, get_or, subst, sym, take, ◌∙◌, append_assoc, Bor, List, ℕ, take_all, HasOpenedCopper}
+use Rattle.std.proofs.Common.{append-nil}
 use Rattle.package_check.proofs.PiecesLemmas.{joined, joined_more, no_piece}
 use Rattle.package_check.proofs.checking.PackageCheck.read_pieces.Goals as goal
 

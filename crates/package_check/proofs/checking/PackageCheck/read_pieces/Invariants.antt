@@ -1,8 +1,4 @@
-use Rattle.std.proofs.Common.{◌++◌, ℕ, List, Option, map, take}
-use Rattle.std.specs.List.{concat}
-use Rattle.grid_units.specs.Spans.{LayerSpan}
-use Rattle.package_check.specs.CheckViews.{CheckView}
-use Rattle.package_check.specs.OpenFiles.{HasOpenedCopper}
+use Rattle.package_check.proofs.Common.{◌++◌, ℕ, List, Option, map, take, concat, LayerSpan, CheckView, HasOpenedCopper}
 use Rattle.package_check.proofs.checking.PackageCheck.read_pieces.Given as goal
 
 abbrev pub invariant-loop-piece : goal.invariant-loop-piece

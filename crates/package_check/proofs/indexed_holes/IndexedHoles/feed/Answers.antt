@@ -1,10 +1,5 @@
-use Rattle.std.proofs.Common.{◌≡◌, ◌++◌, ℕ, List, [], ap, refl, rules, subst, sym, ◌∙◌, append_assoc, append-nil}
-use Rattle.std.proofs.lemmas.Result.{err_from_is_err_and}
-use Rattle.std.specs.Slice.Iter.{chunks_rest}
-use Rattle.grid_units.specs.Holes.{GridRules}
-use Rattle.grid_units.specs.Results.{IfFault}
-use Rattle.layer_image.specs.Holding.{ShowsLayerFaultIn}
-use Rattle.package_check.specs.Judging.{HasTriedPadsOf}
+use Rattle.package_check.proofs.Common.{◌≡◌, ◌++◌, ℕ, List, [], ap, refl, rules, subst, sym, ◌∙◌, append_assoc, err_from_is_err_and, chunks_rest, GridRules, IfFault, ShowsLayerFaultIn, HasTriedPadsOf}
+use Rattle.std.proofs.Common.{append-nil}
 use Rattle.package_check.proofs.PiecesLemmas.{fault_stays_in_longer}
 use Rattle.package_check.proofs.indexed_holes.IndexedHoles.feed.Goals as goal
 

@@ -1,6 +1,4 @@
-use Rattle.std.proofs.Common.{◌≡◌, ℕ, List, ◌++◌}
-use Rattle.std.specs.Slice.Iter.{chunks_rest, chunks_size}
-use Rattle.package_check.specs.Judging.{HasTriedPadsOf}
+use Rattle.package_check.proofs.Common.{◌≡◌, ℕ, List, ◌++◌, chunks_rest, chunks_size, HasTriedPadsOf}
 use Rattle.package_check.proofs.indexed_holes.IndexedHoles.feed.Given as goal
 
 abbrev pub invariant-loop-chunk : goal.invariant-loop-chunk

@@ -1,13 +1,5 @@
-use Rattle.std.proofs.Common.{◌≡◌, ◌∙◌, ◌++◌, List, Bool, [], map, ap, subst, sym}
-use Rattle.std.specs.Prelude.{if◌then◌else◌}
-use Rattle.std.proofs.lemmas.Result.{err_from_is_err_and}
-use Rattle.grid_units.specs.Holes.{GridRules}
-use Rattle.grid_units.specs.declared.profile.Profile.{Profile}
-use Rattle.pad_shapes.specs.declared.wide_pad.WidePad.{WidePad}
+use Rattle.package_check.proofs.Common.{◌≡◌, ◌∙◌, ◌++◌, List, Bool, [], map, ap, subst, sym, if◌then◌else◌, err_from_is_err_and, GridRules, Profile, WidePad, LayerStands, standing_pads, plain, HasTriedIn}
 use Rattle.layer_features.specs.declared.keep.Keep.TheVariants as keep
-use Rattle.layer_image.specs.Holding.{LayerStands, standing_pads}
-use Rattle.layer_image.specs.Kept.{plain}
-use Rattle.package_check.specs.Judging.{HasTriedIn}
 use Rattle.package_check.proofs.indexed_holes.IndexedHoles.feed_chunk.Goals as goal
 
 pub returns-in_err-feed-clause-err : goal.returns-in_err-feed-clause-err

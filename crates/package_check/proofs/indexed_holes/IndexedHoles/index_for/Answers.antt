@@ -1,7 +1,4 @@
-use Rattle.std.proofs.Common.{List, ap, subst, sym, ◌∙◌}
-use Rattle.package_check.specs.HoleViews.{HolesView}
-use Rattle.package_check.specs.Judging.{HasTriedIn}
-use Rattle.ring_rules.specs.declared.finding.Drilled.{Drilled}
+use Rattle.package_check.proofs.Common.{List, ap, subst, sym, ◌∙◌, HolesView, HasTriedIn, Drilled}
 use Rattle.package_check.proofs.indexed_holes.IndexedHoles.index_for.Goals as goal
 
 pub returns-clause-tried : goal.returns-clause-tried

@@ -1,15 +1,5 @@
-use Rattle.std.proofs.Common.{◌≡◌, ◌∙◌, Bool, List, [], Ok, ap, subst, sym}
-use Rattle.std.specs.Prelude.{if◌then◌else◌}
-use Rattle.std.proofs.lemmas.Result.{err_from_is_err_and}
-use Rattle.grid_units.specs.Holes.{GridRules}
-use Rattle.grid_units.specs.Results.{Answers}
-use Rattle.grid_units.specs.declared.profile.Profile.{Profile}
+use Rattle.package_check.proofs.Common.{◌≡◌, ◌∙◌, Bool, List, [], Ok, ap, subst, sym, if◌then◌else◌, err_from_is_err_and, GridRules, Answers, Profile, left_pads, ReadsKeptIn, Drilled, HasTriedIn, JudgesCopper, Judged}
 use Rattle.layer_features.specs.declared.keep.Keep.TheVariants as keep
-use Rattle.layer_image.specs.Holding.{left_pads}
-use Rattle.layer_image.specs.Kept.{ReadsKeptIn}
-use Rattle.ring_rules.specs.declared.finding.Drilled.{Drilled}
-use Rattle.package_check.specs.Judging.{HasTriedIn, JudgesCopper}
-use Rattle.package_check.specs.declared.checking.Judged.{Judged}
 use Rattle.package_check.proofs.JudgedCopper.{rest_fault}
 use Rattle.package_check.proofs.indexed_holes.IndexedHoles.judge.Goals as goal
 

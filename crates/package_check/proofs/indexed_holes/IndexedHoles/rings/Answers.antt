@@ -1,12 +1,4 @@
-use Rattle.std.proofs.Common.{◌++◌, List, map, ap, subst, sym, ◌∙◌}
-use Rattle.pad_shapes.specs.WidePads.{wide_pad_covers}
-use Rattle.ring_rules.specs.Findings.{layer_findings}
-use Rattle.ring_rules.specs.Search.{Covering, HasTried}
-use Rattle.ring_rules.proofs.TriedPads.{layer_by_coverings}
-use Rattle.ring_rules.specs.declared.finding.Drilled.{Drilled}
-use Rattle.ring_rules.specs.declared.finding.Finding.{Finding}
-use Rattle.ring_rules.specs.declared.ring_index.RingIndex.{RingIndex}
-use Rattle.package_check.specs.HoleViews.{HolesView}
+use Rattle.package_check.proofs.Common.{◌++◌, List, map, ap, subst, sym, ◌∙◌, wide_pad_covers, layer_findings, Covering, HasTried, layer_by_coverings, Drilled, Finding, RingIndex, HolesView}
 use Rattle.package_check.proofs.indexed_holes.IndexedHoles.rings.Goals as goal
 
 pub returns-clause-rings : goal.returns-clause-rings

@@ -1,11 +1,5 @@
-use Rattle.std.proofs.Common.{◌≡◌, ◌∙◌, List, Option, map, ap, subst, sym}
-use Rattle.pad_shapes.specs.WidePads.{wide_pad_covers}
-use Rattle.package_check.specs.HoleViews.{HolesView}
-use Rattle.package_check.specs.Judging.{HasTriedIn}
-use Rattle.ring_rules.specs.Search.{HasTried}
-use Rattle.ring_rules.specs.declared.finding.Drilled.{Drilled}
+use Rattle.package_check.proofs.Common.{◌≡◌, ◌∙◌, List, Option, map, ap, subst, sym, wide_pad_covers, HolesView, HasTriedIn, HasTried, Drilled, RingIndex}
 use Rattle.ring_rules.specs.declared.layer_search.LayerSearch.{LayerSearch}
-use Rattle.ring_rules.specs.declared.ring_index.RingIndex.{RingIndex}
 use Rattle.package_check.proofs.indexed_holes.IndexedHoles.take_search_over.Goals as goal
 use Rattle.package_check.proofs.indexed_holes.IndexedHoles.take_search_over.Goals.{in-Some+in_ok-over-in-Some, in-None}
 

@@ -1,7 +1,4 @@
-use Rattle.std.proofs.Common.{◌++◌, List, OnOk, map, subst, append_assoc}
-use Rattle.pad_shapes.specs.declared.wide_pad.WidePad.{WidePad}
-use Rattle.layer_image.specs.Kept.{plain}
-use Rattle.package_check.specs.Judging.{HasTriedIn}
+use Rattle.package_check.proofs.Common.{◌++◌, List, OnOk, map, subst, append_assoc, WidePad, plain, HasTriedIn}
 use Rattle.package_check.proofs.indexed_holes.IndexedHoles.try_all.Goals as goal
 
 pub returns-clause-tried : goal.returns-clause-tried

@@ -1,12 +1,5 @@
-use Rattle.std.proofs.Common.{List, map, refl, ap, subst, sym, ◌∙◌}
-use Rattle.pad_shapes.specs.WidePads.{wide_pad_covers}
+use Rattle.package_check.proofs.Common.{List, map, refl, ap, subst, sym, ◌∙◌, wide_pad_covers, tried_more_by_map, plain, HasTried, Drilled, RingIndex, HolesView}
 use Rattle.pad_shapes.specs.Pads.{pad_covers}
-use Rattle.ring_rules.proofs.TriedPads.{tried_more_by_map}
-use Rattle.layer_image.specs.Kept.{plain}
-use Rattle.ring_rules.specs.Search.{HasTried}
-use Rattle.ring_rules.specs.declared.finding.Drilled.{Drilled}
-use Rattle.ring_rules.specs.declared.ring_index.RingIndex.{RingIndex}
-use Rattle.package_check.specs.HoleViews.{HolesView}
 use Rattle.package_check.proofs.indexed_holes.IndexedHoles.try_pads.Goals as goal
 
 pub returns-clause-tried : goal.returns-clause-tried

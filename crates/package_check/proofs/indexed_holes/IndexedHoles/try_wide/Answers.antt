@@ -1,11 +1,5 @@
 -- The next pads are tried after those before them.
-use Rattle.std.proofs.Common.{map, ap, subst, sym, ◌∙◌, List}
-use Rattle.pad_shapes.specs.WidePads.{wide_pad_covers}
-use Rattle.ring_rules.proofs.TriedPads.{tried_more}
-use Rattle.ring_rules.specs.Search.{HasTried}
-use Rattle.ring_rules.specs.declared.finding.Drilled.{Drilled}
-use Rattle.ring_rules.specs.declared.ring_index.RingIndex.{RingIndex}
-use Rattle.package_check.specs.HoleViews.{HolesView}
+use Rattle.package_check.proofs.Common.{map, ap, subst, sym, ◌∙◌, List, wide_pad_covers, tried_more, HasTried, Drilled, RingIndex, HolesView}
 use Rattle.package_check.proofs.indexed_holes.IndexedHoles.try_wide.Goals as goal
 
 pub returns-clause-tried : goal.returns-clause-tried

@@ -1,6 +1,4 @@
-use Rattle.std.proofs.Common.{◌∙◌, ◌++◌, List, ℕ, ap, append_assoc, refl, sym}
-use Rattle.std.proofs.Output.{has_written_append, has_written_of_eq}
-use Rattle.package_check.specs.Texts.{drill_words, file_line, layer_words, name_words, span_words}
+use Rattle.package_check.proofs.Common.{◌∙◌, ◌++◌, List, ℕ, ap, append_assoc, refl, sym, has_written_append, has_written_of_eq, drill_words, file_line, layer_words, name_words, span_words}
 use Rattle.package_check.proofs.lines.FileLineDisplay.fmt.Goals as goal
 
 pub returns-in_ok-write-in-Layer-clause-writes : goal.returns-in_ok-write-in-Layer-clause-writes

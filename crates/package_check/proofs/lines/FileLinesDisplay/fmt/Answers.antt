@@ -1,6 +1,4 @@
-use Rattle.std.proofs.Common.{◌++◌, ◌+◌, get_or, refl}
-use Rattle.std.proofs.Output.{has_written_append, has_written_of_eq}
-use Rattle.package_check.specs.Texts.{file_line}
+use Rattle.package_check.proofs.Common.{◌++◌, ◌+◌, get_or, refl, has_written_append, has_written_of_eq, file_line}
 use Rattle.package_check.proofs.ReportTextLemmas.{line_more, lines_end, sums_end}
 use Rattle.package_check.proofs.PiecesLemmas.{no_piece}
 use Rattle.package_check.proofs.lines.FileLinesDisplay.fmt.Goals as goal

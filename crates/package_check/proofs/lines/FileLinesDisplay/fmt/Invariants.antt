@@ -1,6 +1,5 @@
-use Rattle.std.proofs.Common.{◌≡◌, ◌++◌, ◌+◌, ℕ, List, drop, map}
+use Rattle.package_check.proofs.Common.{◌≡◌, ◌++◌, ◌+◌, ℕ, List, drop, map, file_lines}
 use Rattle.std.specs.Fmt.{HasWritten, IsPlainFormatter}
-use Rattle.package_check.specs.Texts.{file_lines}
 use Rattle.package_check.proofs.lines.FileLinesDisplay.fmt.Given as goal
 
 abbrev pub invariant-loop-index : goal.invariant-loop-index

@@ -1,8 +1,5 @@
-use Rattle.std.proofs.Common.{rules, ◌≡◌, ◌*◌, pos, true, false}
-use Rattle.std.proofs.Output.{has_written_of_eq}
-use Rattle.grid_units.specs.Holes.{is_round}
+use Rattle.package_check.proofs.Common.{rules, ◌≡◌, ◌*◌, pos, true, false, has_written_of_eq, is_round, length_words, slot_words}
 use Rattle.grid_units.specs.Spellings.{millimetres}
-use Rattle.package_check.specs.Texts.{length_words, slot_words}
 use Rattle.package_check.proofs.lines.HoleLengthsDisplay.fmt.Goals as goal
 
 pub returns-then-is_round-clause-writes : goal.returns-then-is_round-clause-writes

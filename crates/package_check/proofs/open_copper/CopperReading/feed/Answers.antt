@@ -1,7 +1,5 @@
-use Rattle.std.proofs.Common.{◌++◌, ap, refl, subst, sym}
-use Rattle.grid_units.specs.Holes.{GridRules}
+use Rattle.package_check.proofs.Common.{◌++◌, ap, refl, subst, sym, GridRules, HasReadCopper}
 use Rattle.manifest.specs.declared.Role.TheVariants as role
-use Rattle.package_check.specs.OpenFiles.{HasReadCopper}
 use Rattle.package_check.specs.declared.open_copper.CopperReading.{CopperReading}
 use Rattle.package_check.proofs.CopperPieces.{no_span}
 use Rattle.package_check.proofs.OpenFiles.{also_on, layer_errs}

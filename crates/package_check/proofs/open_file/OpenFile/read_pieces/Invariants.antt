@@ -1,9 +1,4 @@
-use Rattle.std.proofs.Common.{◌++◌, ℕ, List, Option, map, take}
-use Rattle.std.specs.List.{concat}
-use Rattle.grid_units.specs.Spans.{LayerSpan}
-use Rattle.manifest.specs.declared.Role.{Role}
-use Rattle.package_check.specs.OpenFiles.{HasOpened}
-use Rattle.package_check.specs.declared.package_reader.PackageReader.{PackageReader}
+use Rattle.package_check.proofs.Common.{◌++◌, ℕ, List, Option, map, take, concat, LayerSpan, Role, HasOpened, PackageReader}
 use Rattle.package_check.proofs.open_file.OpenFile.read_pieces.Given as goal
 
 abbrev pub invariant-loop-piece : goal.invariant-loop-piece

@@ -1,7 +1,4 @@
-use Rattle.std.proofs.Common.{◌++◌, [], subst}
-use Rattle.package_check.specs.FileTexts.{drill_kind}
-use Rattle.package_check.specs.OpenFiles.{HasReadText, copper_keep}
-use Rattle.drill_text.specs.Profiles.{mixed_in}
+use Rattle.package_check.proofs.Common.{◌++◌, [], subst, drill_kind, HasReadText, copper_keep, mixed_in}
 use Rattle.package_check.specs.declared.open_file.Reading.{Reading}
 use Rattle.package_check.proofs.OpenFiles.{and_on, drill_errs, layer_errs, mixed_errs}
 use Rattle.package_check.proofs.open_file.Reading.feed.Goals as goal

@@ -1,6 +1,4 @@
-use Rattle.std.proofs.Common.{subst}
-use Rattle.package_check.specs.OpenFiles.{HasReadText}
-use Rattle.package_check.specs.Package.{Setting}
+use Rattle.package_check.proofs.Common.{subst, HasReadText, Setting}
 use Rattle.package_check.specs.declared.open_file.Reading.{Reading}
 use Rattle.package_check.proofs.OpenFiles.{failed_read, read_as_copper, read_as_drill, read_as_mixed}
 use Rattle.package_check.proofs.open_file.Reading.finish.Goals as goal

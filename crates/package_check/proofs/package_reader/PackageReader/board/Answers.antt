@@ -1,4 +1,4 @@
-use Rattle.package_check.specs.Boards.{IsBoard, IsDrawnBoard, IsFlashedBoard}
+use Rattle.package_check.proofs.Common.{IsBoard, IsDrawnBoard, IsFlashedBoard}
 use Rattle.package_check.proofs.TakeSteps.{board_read, drawn_board_read, flashed_board_read, stop_returned}
 use Rattle.package_check.proofs.package_reader.PackageReader.board.Goals as goal
 

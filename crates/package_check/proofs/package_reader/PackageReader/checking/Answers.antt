@@ -1,8 +1,4 @@
-use Rattle.std.proofs.Common.{◌++◌, List, Option, ap, length, map, refl, sym, ◌∙◌}
-use Rattle.std.specs.List.{flat_map}
-use Rattle.ring_rules.specs.declared.finding.Drilled.{Drilled}
-use Rattle.package_check.specs.Inner.Leftovers.{count_in, holes_in, left_in}
-use Rattle.package_check.specs.declared.checking.Judged.{Judged}
+use Rattle.package_check.proofs.Common.{◌++◌, List, Option, ap, length, map, refl, sym, ◌∙◌, flat_map, Drilled, count_in, holes_in, left_in, Judged}
 use Rattle.package_check.proofs.DrillSlots.{goes_on, slots_counted}
 use Rattle.package_check.proofs.package_reader.PackageReader.checking.Goals as goal
 

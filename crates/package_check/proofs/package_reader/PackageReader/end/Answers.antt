@@ -1,7 +1,4 @@
-use Rattle.std.proofs.Common.{Option, ap, sym, ◌∙◌}
-use Rattle.package_check.specs.Package.{FileView}
-use Rattle.package_check.specs.Holding.{TakesFile, next_stop, setting_of}
-use Rattle.package_check.specs.declared.PackageFault.{PackageFault}
+use Rattle.package_check.proofs.Common.{Option, ap, sym, ◌∙◌, FileView, TakesFile, next_stop, setting_of, PackageFault}
 use Rattle.package_check.proofs.FlashReadingLemmas.{held}
 use Rattle.package_check.proofs.OpenFiles.{opened_takes, own_reads}
 use Rattle.package_check.proofs.TakeSteps.{not_wanted, read_named, wanted}

@@ -1,4 +1,4 @@
-use Rattle.package_check.specs.declared.slots.Kept.{Kept}
+use Rattle.package_check.proofs.Common.{Kept}
 use Rattle.package_check.proofs.package_reader.PackageReader.put_file.Goals as goal
 
 pub returns-clause-read : goal.returns-clause-read

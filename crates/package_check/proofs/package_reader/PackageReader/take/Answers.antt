@@ -1,4 +1,4 @@
-use Rattle.std.proofs.Common.{[]}
+use Rattle.package_check.proofs.Common.{[]}
 use Rattle.package_check.proofs.PiecesLemmas.{joined}
 use Rattle.package_check.proofs.package_reader.PackageReader.take.Goals as goal
 

@@ -1,8 +1,4 @@
-use Rattle.std.proofs.Common.{◌∙◌, ◌++◌, ap, append_assoc, length, map, sym}
-use Rattle.std.specs.List.{flat_map}
-use Rattle.std.proofs.Output.{has_written_of_eq}
-use Rattle.grid_units.specs.Holes.{GridRules}
-use Rattle.package_check.specs.Texts.{file_lines, finding_line, last_line, rules_line}
+use Rattle.package_check.proofs.Common.{◌∙◌, ◌++◌, ap, append_assoc, length, map, sym, flat_map, has_written_of_eq, GridRules, file_lines, finding_line, last_line, rules_line}
 use Rattle.package_check.proofs.text.CheckTextDisplay.fmt.Goals as goal
 
 pub returns-clause-writes : goal.returns-clause-writes

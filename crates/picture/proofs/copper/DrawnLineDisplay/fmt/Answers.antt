@@ -1,8 +1,4 @@
-use Rattle.std.proofs.Common.{◌≡◌, rules, w64}
-use mir.Val.{to_z, of_z}
-use Rattle.std.proofs.lemmas.Int.{to_z-of_z}
-use Rattle.std.proofs.Output.{has_written_of_eq}
-use Rattle.picture.specs.Copper.{drawn_line}
+use Rattle.picture.proofs.Common.{◌≡◌, rules, w64, to_z, of_z, to_z-of_z, has_written_of_eq, drawn_line}
 use Rattle.picture.proofs.copper.DrawnLineDisplay.fmt.Goals as goal
 
 pub returns-clause-writes : goal.returns-clause-writes

@@ -1,7 +1,4 @@
-use Rattle.std.proofs.Common.{take}
-use Rattle.std.specs.Fmt.{HasWritten, IsPlainFormatter}
-use Rattle.std.specs.List.{enumerate_from, flat_map}
-use Rattle.picture.specs.Elements.{placed_hole}
+use Rattle.picture.proofs.Common.{take, HasWritten, IsPlainFormatter, enumerate_from, flat_map, placed_hole}
 use Rattle.picture.proofs.holes.HolePathsDisplay.fmt.Given as goal
 
 -- the holes so far

@@ -1,9 +1,7 @@
-use Rattle.std.proofs.Common.{◌∙◌, ◌++◌, [], refl, sym, ap}
+use Rattle.picture.proofs.Common.{◌∙◌, ◌++◌, [], refl, sym, ap, has_written_append, has_written_of_eq, writes_in_calls_nil, escaped, escaped_after}
 use mathlib.Core.List.{append_assoc}
 use Rattle.std.specs.Char.{encode_utf8}
 use Rattle.std.specs.Str.Iter.{chars_rest}
-use Rattle.std.proofs.Output.{has_written_append, has_written_of_eq, writes_in_calls_nil}
-use Rattle.picture.specs.Escapes.{escaped, escaped_after}
 use Rattle.picture.proofs.EscapesLemmas.{no_more_characters, one_more_character}
 use Rattle.picture.proofs.names.EscapedDisplay.fmt.Goals as goal
 

@@ -1,7 +1,5 @@
-use Rattle.std.proofs.Common.{◌≡◌, ◌++◌, ℕ, List}
-use Rattle.std.specs.Fmt.{HasWritten, IsPlainFormatter}
+use Rattle.picture.proofs.Common.{◌≡◌, ◌++◌, ℕ, List, HasWritten, IsPlainFormatter, escaped, escaped_after}
 use Rattle.std.specs.Str.Iter.{chars_rest}
-use Rattle.picture.specs.Escapes.{escaped, escaped_after}
 use Rattle.picture.proofs.names.EscapedDisplay.fmt.Given as goal
 
 -- the characters so far, and the rest as it is printed after some two bytes, are the whole name

@@ -1,8 +1,4 @@
-use Rattle.std.proofs.Common.{ap, refl}
-use Rattle.std.specs.List.{flat_map}
-use Rattle.std.proofs.Output.{has_written_append, has_written_of_eq}
-use Rattle.ring_rules.proofs.EnumeratedLists.{enumerated_all}
-use Rattle.picture.specs.Elements.{placed_pad}
+use Rattle.picture.proofs.Common.{ap, refl, flat_map, has_written_append, has_written_of_eq, enumerated_all, placed_pad}
 use Rattle.picture.proofs.Gathered.{placed_next}
 use Rattle.picture.proofs.pads.PathsDisplay.fmt.Goals as goal
 

@@ -1,7 +1,4 @@
-use Rattle.std.proofs.Common.{◌≡◌, rules, w64, ◌++◌, codes, decimal}
-use mir.Val.{to_z, of_z}
-use Rattle.std.proofs.lemmas.Int.{to_z-of_z}
-use Rattle.std.proofs.Output.{has_written_of_eq}
+use Rattle.picture.proofs.Common.{◌≡◌, rules, w64, ◌++◌, codes, decimal, to_z, of_z, to_z-of_z, has_written_of_eq}
 use Rattle.picture.specs.Panels.{panel_start, translated}
 use Rattle.picture.proofs.panel.PanelStartDisplay.fmt.Goals as goal
 

@@ -1,8 +1,4 @@
-use Rattle.std.proofs.Common.{◌++◌, ◌∷◌, ◌∙◌, [], ℕ, List, ap, arith, get_or, refl, take}
-use Rattle.std.proofs.Output.{has_written_append, has_written_of_eq}
-use Rattle.std.proofs.lemmas.List.{take_all}
-use Rattle.json.specs.Json.{Json, null}
-use Rattle.print_json.specs.Inner.Texts.{value_text}
+use Rattle.print_json.proofs.Common.{◌++◌, ◌∷◌, ◌∙◌, [], ℕ, List, ap, arith, get_or, refl, take, has_written_append, has_written_of_eq, take_all, Json, null, value_text}
 use Rattle.print_json.proofs.Lists.{array_text, joined, joined_more}
 use Rattle.print_json.proofs.arrays.ArrayDisplay.fmt.Goals as goal
 

@@ -1,5 +1,4 @@
-use Rattle.std.proofs.Common.{take}
-use Rattle.std.specs.Fmt.{HasWritten, IsPlainFormatter}
+use Rattle.print_json.proofs.Common.{take, HasWritten, IsPlainFormatter}
 use Rattle.print_json.proofs.Lists.{joined}
 use Rattle.print_json.proofs.arrays.ArrayDisplay.fmt.Given as goal
 

@@ -1,5 +1,4 @@
-use Rattle.std.proofs.Common.{◌+◌, ◌∙◌, ap, get_or, List, ℕ}
-use Rattle.print_json.specs.Values.{file_value}
+use Rattle.print_json.proofs.Common.{◌+◌, ◌∙◌, ap, get_or, List, ℕ, file_value}
 use Rattle.print_json.proofs.Lists.{file_at}
 use Rattle.print_json.proofs.arrays.Files.file_at.Goals as goal
 

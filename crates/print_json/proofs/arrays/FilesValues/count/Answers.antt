@@ -1,4 +1,4 @@
-use Rattle.std.proofs.Common.{sym}
+use Rattle.print_json.proofs.Common.{sym}
 use Rattle.print_json.proofs.Lists.{length_files}
 use Rattle.print_json.proofs.arrays.FilesValues.count.Goals as goal
 

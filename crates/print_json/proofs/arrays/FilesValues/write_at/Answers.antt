@@ -1,4 +1,4 @@
-use Rattle.std.proofs.Common.{arith}
+use Rattle.print_json.proofs.Common.{arith}
 use Rattle.print_json.proofs.Lists.{length_files}
 use Rattle.print_json.proofs.arrays.FilesValues.write_at.Goals as goal
 

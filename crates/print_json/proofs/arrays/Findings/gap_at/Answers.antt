@@ -1,5 +1,4 @@
-use Rattle.std.proofs.Common.{◌≡◌, ◌+◌, ◌∙◌, ap, get_or, length, List, ℕ}
-use Rattle.report.specs.declared.GapLack.{GapLack}
+use Rattle.print_json.proofs.Common.{◌≡◌, ◌+◌, ◌∙◌, ap, get_or, length, List, ℕ, GapLack}
 use Rattle.print_json.proofs.Lists.{gap_at}
 use Rattle.print_json.proofs.arrays.Findings.gap_at.Goals as goal
 

@@ -1,5 +1,4 @@
-use Rattle.std.proofs.Common.{◌≡◌, ◌∙◌, ap, get_or, List}
-use Rattle.report.specs.declared.RingLack.{RingLack}
+use Rattle.print_json.proofs.Common.{◌≡◌, ◌∙◌, ap, get_or, List, RingLack}
 use Rattle.print_json.proofs.Lists.{ring_at}
 use Rattle.print_json.proofs.arrays.Findings.ring_at.Goals as goal
 

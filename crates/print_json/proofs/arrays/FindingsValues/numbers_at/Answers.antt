@@ -1,5 +1,4 @@
-use Rattle.std.proofs.Common.{◌∙◌, arith, subst}
-use Rattle.json.specs.Tree.{HasNumbers}
+use Rattle.print_json.proofs.Common.{◌∙◌, arith, subst, HasNumbers}
 use Rattle.print_json.proofs.Lists.{found_gap, found_ring, length_found}
 use Rattle.print_json.proofs.arrays.FindingsValues.numbers_at.Goals as goal
 

@@ -1,6 +1,4 @@
-use Rattle.std.proofs.Common.{◌∙◌, ap, arith}
-use Rattle.std.proofs.Output.{has_written_of_eq}
-use Rattle.print_json.specs.Inner.Texts.{value_text}
+use Rattle.print_json.proofs.Common.{◌∙◌, ap, arith, has_written_of_eq, value_text}
 use Rattle.print_json.proofs.Lists.{found_gap, found_ring, length_found}
 use Rattle.print_json.proofs.arrays.FindingsValues.write_at.Goals as goal
 

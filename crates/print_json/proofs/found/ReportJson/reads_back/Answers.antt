@@ -1,4 +1,4 @@
-use Rattle.json.proofs.Printed.Trees.{document-print}
+use Rattle.print_json.proofs.Common.{document-print}
 use Rattle.print_json.proofs.Depths.{report_within}
 use Rattle.print_json.proofs.found.ReportJson.reads_back.Goals as goal
 

@@ -1,7 +1,4 @@
-use Rattle.std.proofs.Common.{◌++◌, ◌∙◌, ◌∷◌, [], ap, map}
-use Rattle.std.proofs.Output.{has_written_of_eq}
-use Rattle.print_json.specs.Inner.Texts.{value_text}
-use Rattle.print_json.specs.Packages.{report_value, waived_report_value}
+use Rattle.print_json.proofs.Common.{◌++◌, ◌∙◌, ◌∷◌, [], ap, map, has_written_of_eq, value_text, report_value, waived_report_value}
 use Rattle.print_json.proofs.Texts.{line_text}
 use Rattle.print_json.proofs.found.ReportJsonDisplay.fmt.Goals as goal
 

@@ -1,4 +1,4 @@
-use Rattle.json.proofs.Printed.Trees.{document-print}
+use Rattle.print_json.proofs.Common.{document-print}
 use Rattle.print_json.proofs.Depths.{measure_within}
 use Rattle.print_json.proofs.measured.MeasureJson.reads_back.Goals as goal
 

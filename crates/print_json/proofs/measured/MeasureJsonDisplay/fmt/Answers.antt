@@ -1,6 +1,4 @@
-use Rattle.std.proofs.Common.{map}
-use Rattle.std.proofs.Output.{has_written_of_eq}
-use Rattle.print_json.specs.Packages.{measure_value}
+use Rattle.print_json.proofs.Common.{map, has_written_of_eq, measure_value}
 use Rattle.print_json.proofs.Texts.{line_text}
 use Rattle.print_json.proofs.measured.MeasureJsonDisplay.fmt.Goals as goal
 

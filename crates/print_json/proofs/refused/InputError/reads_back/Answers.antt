@@ -1,5 +1,4 @@
-use Rattle.json.proofs.Printed.Trees.{document-print}
-use Rattle.print_json.specs.Packages.{input_error_value}
+use Rattle.print_json.proofs.Common.{document-print, input_error_value}
 use Rattle.print_json.proofs.Depths.{stop_within}
 use Rattle.print_json.proofs.refused.InputError.reads_back.Goals as goal
 

@@ -1,5 +1,4 @@
-use Rattle.std.proofs.Output.{has_written_of_eq}
-use Rattle.print_json.specs.Packages.{input_error_value}
+use Rattle.print_json.proofs.Common.{has_written_of_eq, input_error_value}
 use Rattle.print_json.proofs.Texts.{line_text}
 use Rattle.print_json.proofs.refused.InputErrorDisplay.fmt.Goals as goal
 

@@ -1,10 +1,6 @@
 -- The quotation mark after the name stands with what follows it.
-use Rattle.std.proofs.Common.{◌++◌, ◌∷◌, [], List, ℕ, append_assoc, codes, sym}
-use Rattle.std.proofs.Output.{has_written_of_eq}
+use Rattle.print_json.proofs.Common.{◌++◌, ◌∷◌, [], List, ℕ, append_assoc, codes, sym, has_written_of_eq, escape, escape_byte, value_text, mixed_value, span_value}
 use Rattle.std.specs.Fmt.{decimal}
-use Rattle.json.specs.Print.{escape, escape_byte}
-use Rattle.print_json.specs.Inner.Texts.{value_text}
-use Rattle.print_json.specs.Values.{mixed_value, span_value}
 use Rattle.print_json.proofs.values.MixedJsonDisplay.fmt.Goals as goal
 
 pub returns-clause-writes : goal.returns-clause-writes

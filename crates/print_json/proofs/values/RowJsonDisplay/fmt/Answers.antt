@@ -1,7 +1,4 @@
-use Rattle.std.proofs.Common.{append_assoc}
-use Rattle.std.proofs.Output.{has_written_of_eq}
-use Rattle.json.specs.Print.{escape_byte}
-use Rattle.print_json.specs.Values.{row_value}
+use Rattle.print_json.proofs.Common.{append_assoc, has_written_of_eq, escape_byte, row_value}
 use Rattle.print_json.proofs.values.RowJsonDisplay.fmt.Goals as goal
 
 pub returns-clause-writes : goal.returns-clause-writes

@@ -1,5 +1,4 @@
-use Rattle.std.proofs.Common.{refl}
-use Rattle.std.proofs.Output.{has_written_append}
+use Rattle.print_text.proofs.Common.{refl, has_written_append}
 use Rattle.print_text.proofs.lines.LayerLineDisplay.fmt.Goals as goal
 
 pub returns-clause-writes : goal.returns-clause-writes

@@ -1,7 +1,5 @@
-use Rattle.std.proofs.Common.{◌∙◌, ℕ, List, ap, ap₂, map}
-use Rattle.std.proofs.Output.{has_written_of_eq}
+use Rattle.print_text.proofs.Common.{◌∙◌, ℕ, List, ap, ap₂, map, has_written_of_eq, scale_words, size_words}
 use Rattle.grid_units.specs.HoleWords.{name_of}
-use Rattle.print_text.specs.Texts.{scale_words, size_words}
 use Rattle.print_text.proofs.lines.UnitMistakeLineFileNames.fmt_on.Goals as goal
 
 pub returns : goal.returns

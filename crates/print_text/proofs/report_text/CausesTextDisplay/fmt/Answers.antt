@@ -1,8 +1,5 @@
-use Rattle.std.proofs.Common.{◌++◌}
-use Rattle.std.specs.List.{flat_map}
-use Rattle.std.proofs.Output.{has_written_of_eq}
+use Rattle.print_text.proofs.Common.{◌++◌, flat_map, has_written_of_eq, kind_line, smallest_lines}
 use Rattle.print_text.specs.Causes.{all_kinds}
-use Rattle.print_text.specs.Texts.{kind_line, smallest_lines}
 use Rattle.print_text.proofs.report_text.CausesTextDisplay.fmt.Goals as goal
 
 pub returns-clause-writes : goal.returns-clause-writes

@@ -1,9 +1,6 @@
-use Rattle.std.proofs.Common.{◌++◌, ℕ, List, ap₂, map}
-use Rattle.std.specs.List.{flat_map}
-use Rattle.std.proofs.Output.{has_written_of_eq}
+use Rattle.print_text.proofs.Common.{◌++◌, ℕ, List, ap₂, map, flat_map, has_written_of_eq, conflict_line, head_text, rules_line, scale_line}
 use Rattle.report.specs.declared.RoleConflict.{RoleConflict}
 use Rattle.report.specs.declared.UnitMistake.{UnitMistake}
-use Rattle.print_text.specs.Texts.{conflict_line, head_text, rules_line, scale_line}
 use Rattle.print_text.proofs.report_text.HeadTextDisplay.fmt.Goals as goal
 
 pub returns-clause-writes : goal.returns-clause-writes

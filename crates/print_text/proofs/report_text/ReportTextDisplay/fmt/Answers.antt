@@ -1,10 +1,4 @@
-use Rattle.std.proofs.Common.{◌≡◌, ◌∙◌, ◌+◌, ◌++◌, ℕ, List, ap₂, arith, length, map, refl}
-use Rattle.std.specs.List.{enumerate_from, flat_map}
-use Rattle.std.proofs.Output.{has_written_append, has_written_of_eq}
-use Rattle.report.specs.declared.GapLack.{GapLack}
-use Rattle.report.specs.declared.LayerHead.{LayerHead}
-use Rattle.report.specs.declared.RingLack.{RingLack}
-use Rattle.print_text.specs.Texts.{causes_text, gaps_text, head_text, last_lines, layer_text, summary_text, waived_report_text}
+use Rattle.print_text.proofs.Common.{◌≡◌, ◌∙◌, ◌+◌, ◌++◌, ℕ, List, ap₂, arith, length, map, refl, enumerate_from, flat_map, has_written_append, has_written_of_eq, GapLack, LayerHead, RingLack, causes_text, gaps_text, head_text, last_lines, layer_text, summary_text, waived_report_text}
 use Rattle.print_text.proofs.report_text.ReportTextDisplay.fmt.Goals as goal
 
 pub returns-clause-writes : goal.returns-clause-writes

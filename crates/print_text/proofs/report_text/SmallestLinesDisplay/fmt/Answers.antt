@@ -1,9 +1,6 @@
-use Rattle.std.proofs.Common.{◌≡◌, ◌∙◌, ◌++◌, ℕ, List, ap₂, rules, w64}
+use Rattle.print_text.proofs.Common.{◌≡◌, ◌∙◌, ◌++◌, ℕ, List, ap₂, rules, w64, codes, has_written_of_eq, smallest_line}
 use mir.Val.{to_z, of_z}
-use Rattle.std.specs.Prelude.{codes}
-use Rattle.std.proofs.Output.{has_written_of_eq}
 use Rattle.std.proofs.lemmas.Int.{to_z-of_z}
-use Rattle.print_text.specs.Texts.{smallest_line}
 use Rattle.print_text.proofs.report_text.SmallestLinesDisplay.fmt.Goals as goal
 
 pub returns-clause-writes : goal.returns-clause-writes

@@ -1,7 +1,4 @@
-use Rattle.std.proofs.Common.{sym, ap, ◌∙◌}
-use Rattle.grid_units.specs.Points.{GridPoint}
-use Rattle.pad_shapes.specs.Rounded.{rounded_covers}
-use Rattle.pad_shapes.specs.Shapes.{covers_both_ends}
+use Rattle.report.proofs.Common.{sym, ap, ◌∙◌, GridPoint, rounded_covers, covers_both_ends}
 use Rattle.report.proofs.FirstInHole.{inside_in}
 use Rattle.report.proofs.bounds.Bounds.is_inside.Goals as goal
 

@@ -1,8 +1,5 @@
-use Rattle.std.proofs.Common.{subst}
-use Rattle.std.specs.List.{All}
-use Rattle.std.proofs.lemmas.List.{take_all}
+use Rattle.report.proofs.Common.{subst, All, take_all, IsWithin}
 use Rattle.report.proofs.FirstInHole.{one_first, one_more}
-use Rattle.report.specs.Causes.{IsWithin}
 use Rattle.report.proofs.bounds.Bounds.of.Goals as goal
 
 pub loop-other-preserved : goal.loop-other-preserved

@@ -1,6 +1,4 @@
-use Rattle.std.proofs.Common.{take}
-use Rattle.std.specs.List.{All, Contains}
-use Rattle.report.specs.Causes.{IsWithin}
+use Rattle.report.proofs.Common.{take, All, Contains, IsWithin}
 use Rattle.report.proofs.bounds.Bounds.of.Given as goal
 
 abbrev pub invariant-loop-other : goal.invariant-loop-other

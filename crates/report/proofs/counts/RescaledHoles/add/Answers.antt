@@ -1,5 +1,4 @@
-use Rattle.std.proofs.Common.{◌++◌, ◌∷◌, [], ℕ, List, ap, ◌∙◌}
-use Rattle.ring_rules.specs.declared.finding.Drilled.{Drilled}
+use Rattle.report.proofs.Common.{◌++◌, ◌∷◌, [], ℕ, List, ap, ◌∙◌, Drilled}
 use Rattle.report.proofs.counts.RescaledHoles.add.Goals as goal
 
 pub returns : goal.returns

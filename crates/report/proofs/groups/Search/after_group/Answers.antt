@@ -1,10 +1,4 @@
-use Rattle.std.proofs.Common.{List, Some, subst, sym, take}
-use Rattle.report.specs.Inner.CauseParts.{IsFirstIn}
-use Rattle.report.specs.declared.other.Other.{Other}
-use Rattle.std.specs.List.{slice_range}
-use Rattle.std.proofs.lemmas.List.Elements.{All-weaker}
-use Rattle.report.specs.Causes.{IsWithin, is_in_shape}
-use Rattle.std.proofs.Common.{◌≡◌, false}
+use Rattle.report.proofs.Common.{List, Some, subst, sym, take, IsFirstIn, Other, slice_range, All-weaker, IsWithin, is_in_shape, ◌≡◌, false}
 use Rattle.report.proofs.FirstInHole.{has_passed, joined_to, passed_inside, passed_later, passed_out}
 use Rattle.report.proofs.groups.Search.after_group.Goals as goal
 

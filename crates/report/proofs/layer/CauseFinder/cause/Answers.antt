@@ -1,13 +1,4 @@
-use Rattle.std.proofs.Common.{◌≡◌, None, Option, get_or, length, ap, sym, subst, ◌∙◌, arith}
-use Rattle.std.specs.Prelude.{IfOk}
-use Rattle.std.proofs.lemmas.List.{get_or_default}
-use Rattle.pad_shapes.specs.WidePads.{wide_pad_covers}
-use Rattle.ring_rules.specs.Places.{default_hole}
-use Rattle.ring_rules.specs.declared.finding.Drilled.{Drilled}
-use Rattle.margins.specs.BestPads.{IsBestPad}
-use Rattle.margins.specs.declared.best.BestPad.{BestPad}
-use Rattle.report.specs.Causes.{IsCause, uncounted_pads}
-use Rattle.report.specs.Inner.CauseParts.{uncounted_cause}
+use Rattle.report.proofs.Common.{◌≡◌, None, Option, get_or, length, ap, sym, subst, ◌∙◌, arith, IfOk, get_or_default, wide_pad_covers, default_hole, Drilled, IsBestPad, BestPad, IsCause, uncounted_pads, uncounted_cause}
 use Rattle.report.proofs.layer.CauseFinder.cause.Goals as goal
 
 pub cause_of-requires-clause-best : goal.cause_of-requires-clause-best

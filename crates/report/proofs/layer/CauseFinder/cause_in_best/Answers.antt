@@ -1,9 +1,5 @@
-use Rattle.std.proofs.Common.{◌≡◌, sym, subst, ◌∙◌, rules, w64}
+use Rattle.report.proofs.Common.{◌≡◌, sym, subst, ◌∙◌, rules, w64, to_z-of_z, get_or_default, IsCause, RingCause}
 use mir.Val.{to_z, of_z}
-use Rattle.std.proofs.lemmas.Int.{to_z-of_z}
-use Rattle.std.proofs.lemmas.List.{get_or_default}
-use Rattle.report.specs.Causes.{IsCause}
-use Rattle.report.specs.declared.RingCause.{RingCause}
 use Rattle.report.proofs.CauseLemmas.{plain_is_cause}
 use Rattle.report.proofs.layer.CauseFinder.cause_in_best.Goals as goal
 

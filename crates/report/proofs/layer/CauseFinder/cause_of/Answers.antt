@@ -1,13 +1,5 @@
-use Rattle.std.proofs.Common.{◌≡◌, Option, false, sym, subst, ◌∙◌}
-use Rattle.std.proofs.lemmas.Result.{IfOk-weaker}
+use Rattle.report.proofs.Common.{◌≡◌, Option, false, sym, subst, ◌∙◌, IfOk-weaker, wide_pad_covers, is_refused_slot, IsBestPad, BestPad, IsCause, other_in, cause_without_pad, RingCause}
 use Rattle.grid_units.specs.declared.profile.Profile.{Profile}
-use Rattle.pad_shapes.specs.WidePads.{wide_pad_covers}
-use Rattle.ring_rules.specs.Findings.{is_refused_slot}
-use Rattle.margins.specs.BestPads.{IsBestPad}
-use Rattle.margins.specs.declared.best.BestPad.{BestPad}
-use Rattle.report.specs.Causes.{IsCause, other_in}
-use Rattle.report.specs.Inner.CauseParts.{cause_without_pad}
-use Rattle.report.specs.declared.RingCause.{RingCause}
 use Rattle.report.proofs.CauseLemmas.{without_pad_is_cause}
 use Rattle.report.proofs.layer.CauseFinder.cause_of.Goals as goal
 

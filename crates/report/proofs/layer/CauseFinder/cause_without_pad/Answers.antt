@@ -1,4 +1,4 @@
-use Rattle.std.proofs.Common.{arith, sym, ◌∙◌}
+use Rattle.report.proofs.Common.{arith, sym, ◌∙◌}
 use Rattle.report.proofs.CauseLemmas.{other_before}
 use Rattle.report.proofs.layer.CauseFinder.cause_without_pad.Goals as goal
 

@@ -1,8 +1,4 @@
-use Rattle.std.proofs.Common.{◌≡◌, ◌<◌, ◌+◌, length, get_or, arith, ap, ◌∙◌}
-use Rattle.std.proofs.lemmas.Bool.Decides.{nat_tests}
-use Rattle.std.proofs.lemmas.List.{get_or_default}
-use Rattle.std.proofs.lemmas.List.Elements.{All-get_or}
-use Rattle.report.specs.Causes.{pad_places}
+use Rattle.report.proofs.Common.{◌≡◌, ◌<◌, ◌+◌, length, get_or, arith, ap, ◌∙◌, nat_tests, get_or_default, All-get_or, pad_places}
 use Rattle.report.proofs.PlacesLemmas.{places_below}
 use Rattle.report.proofs.layer.CauseFinder.flash_of.Goals as goal
 

@@ -1,9 +1,5 @@
-use Rattle.std.proofs.Common.{◌≡◌, ap, subst, sym, true, ◌∙◌}
-use Rattle.std.specs.List.{find}
+use Rattle.report.proofs.Common.{◌≡◌, ap, subst, sym, true, ◌∙◌, find, GridRounded, is_outline, is_in_shape, others, Other}
 use Rattle.std.specs.List.Sorted.{IsPermutation}
-use Rattle.pad_shapes.specs.Rounded.{GridRounded, is_outline}
-use Rattle.report.specs.Causes.{is_in_shape, others}
-use Rattle.report.specs.declared.other.Other.{Other}
 use Rattle.report.proofs.HolePoints.{outline_of}
 use Rattle.report.proofs.layer.CauseFinder.other_in.Goals as goal
 

@@ -1,9 +1,5 @@
-use Rattle.std.proofs.Common.{List, ap, map, subst}
-use Rattle.grid_units.specs.declared.profile.Profile.{Profile}
+use Rattle.report_page.proofs.Common.{List, ap, map, subst, Profile, svg_text, FileSum, html_text}
 use Rattle.board_report.specs.Measures.{IsMeasure}
-use Rattle.drawing.specs.Pages.{svg_text}
-use Rattle.package_check.specs.declared.FileSum.{FileSum}
-use Rattle.report_page.specs.Pages.{html_text}
 use Rattle.report_page.proofs.page.HtmlReport.new.Goals as goal
 
 -- the files of the page are those of the board

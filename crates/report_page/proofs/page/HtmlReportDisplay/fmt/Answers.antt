@@ -1,9 +1,5 @@
-use Rattle.std.proofs.Common.{◌∙◌, ◌++◌, ℕ, List, ap₂, map, refl}
-use Rattle.std.proofs.Output.{has_written_append, has_written_of_eq}
-use Rattle.report.specs.declared.LayerHead.{LayerHead}
+use Rattle.report_page.proofs.Common.{◌∙◌, ◌++◌, ℕ, List, ap₂, map, refl, has_written_append, has_written_of_eq, LayerHead, svg_text, head_text, picture_text, tables_text}
 use Rattle.report.specs.declared.RingLine.{RingLine}
-use Rattle.drawing.specs.Pages.{svg_text}
-use Rattle.report_page.specs.Pages.{head_text, picture_text, tables_text}
 use Rattle.report_page.proofs.page.HtmlReportDisplay.fmt.Goals as goal
 
 pub returns-clause-writes : goal.returns-clause-writes

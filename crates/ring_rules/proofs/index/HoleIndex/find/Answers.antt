@@ -1,11 +1,5 @@
-use Rattle.std.proofs.Common.{◌≡◌, ℕ, ◌<◌, List, length, get_or, drop, sym, ap, subst, ◌∙◌}
-use Rattle.std.specs.List.{All, Contains}
-use Rattle.std.proofs.lemmas.List.{take_at}
-use Rattle.pad_shapes.specs.Zones.{IsInZone}
-use Rattle.ring_rules.specs.Spots.{spot_at}
-use Rattle.ring_rules.specs.Places.{entry_at}
+use Rattle.ring_rules.proofs.Common.{◌≡◌, ℕ, ◌<◌, List, length, get_or, drop, sym, ap, subst, ◌∙◌, All, Contains, take_at, IsInZone, spot_at, entry_at, Spot}
 use Rattle.ring_rules.specs.Index.{IsEntryInZone}
-use Rattle.ring_rules.specs.declared.spots.Spot.{Spot}
 use Rattle.ring_rules.proofs.FoundPlaces.{all_named, all_within}
 use Rattle.ring_rules.proofs.index.HoleIndex.find.Goals as goal
 

@@ -1,9 +1,4 @@
-use Rattle.std.proofs.Common.{◌≡◌, Bool, List, map, sym, subst, ◌∙◌}
-use Rattle.std.specs.Prelude.{Result, Ok, Err, IfOk}
-use Rattle.grid_units.specs.Holes.{GridRules}
-use Rattle.ring_rules.specs.Findings.{is_ring_finding}
-use Rattle.ring_rules.specs.Search.{AreMarkedBy, HasTriedCoverings, IsSearchOver}
-use Rattle.ring_rules.specs.declared.finding.Drilled.{Drilled}
+use Rattle.ring_rules.proofs.Common.{◌≡◌, Bool, List, map, sym, subst, ◌∙◌, Result, Ok, Err, IfOk, GridRules, is_ring_finding, AreMarkedBy, HasTriedCoverings, IsSearchOver, Drilled}
 use Rattle.ring_rules.proofs.layer_search.LayerSearch.over.Goals as goal
 
 -- what follows from three facts of a value

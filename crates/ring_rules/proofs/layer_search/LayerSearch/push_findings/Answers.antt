@@ -1,9 +1,4 @@
-use Rattle.std.proofs.Common.{Bool, List, map, ◌++◌, sym, subst, ◌∙◌}
-use Rattle.std.specs.List.{filter, enumerate_from}
-use Rattle.std.proofs.lemmas.Result.{on_ok_weaker}
-use Rattle.ring_rules.specs.Findings.{finding_of, is_ring_finding}
-use Rattle.ring_rules.specs.Search.{AreMarkedBy}
-use Rattle.ring_rules.specs.declared.finding.Drilled.{Drilled}
+use Rattle.ring_rules.proofs.Common.{Bool, List, map, ◌++◌, sym, subst, ◌∙◌, filter, enumerate_from, on_ok_weaker, finding_of, is_ring_finding, AreMarkedBy, Drilled}
 use Rattle.ring_rules.proofs.layer_search.LayerSearch.push_findings.Goals as goal
 
 pub returns : goal.returns

@@ -1,15 +1,5 @@
-use Rattle.std.proofs.Common.{◌≡◌, ℕ, ◌<◌, Bool, List, ◌++◌, map, length, sym, ap, subst, ◌∙◌}
-use Rattle.std.specs.Prelude.{◌&&◌, not}
-use Rattle.std.specs.List.{list_any}
+use Rattle.ring_rules.proofs.Common.{◌≡◌, ℕ, ◌<◌, Bool, List, ◌++◌, map, length, sym, ap, subst, ◌∙◌, ◌&&◌, not, list_any, with_items_is, is_ring_finding, spot_at, GridRules, AreMarkedBy, Covering, is_marked, gives_ring, AreClosedUnmarked, Spot}
 use Rattle.std.specs.Vec.{with_items}
-use Rattle.std.proofs.lemmas.List.{with_items_is}
-use Rattle.ring_rules.specs.Findings.{is_ring_finding}
-use Rattle.ring_rules.specs.Spots.{spot_at}
-use Rattle.grid_units.specs.Holes.{GridRules}
-use Rattle.ring_rules.specs.Search.{AreMarkedBy, Covering}
-use Rattle.ring_rules.specs.Inner.Marks.{is_marked, gives_ring}
-use Rattle.ring_rules.specs.Inner.Trees.{AreClosedUnmarked}
-use Rattle.ring_rules.specs.declared.spots.Spot.{Spot}
 use Rattle.ring_rules.proofs.MarksAfterPads.{marked_more}
 use Rattle.ring_rules.proofs.TriedPads.{marked_by_coverings}
 use Rattle.ring_rules.proofs.layer_search.LayerSearch.try_pads.Goals as goal

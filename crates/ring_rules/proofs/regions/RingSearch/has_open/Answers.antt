@@ -1,7 +1,4 @@
-use Rattle.std.proofs.Common.{ℕ, ◌<◌, List, length, sym, subst, arith}
-use Rattle.ring_rules.specs.Spots.{point_at}
-use Rattle.ring_rules.specs.Inner.Trees.{HasNoMarkInLeaves}
-use Rattle.ring_rules.specs.declared.spots.Spot.{Spot}
+use Rattle.ring_rules.proofs.Common.{ℕ, ◌<◌, List, length, sym, subst, arith, point_at, HasNoMarkInLeaves, Spot}
 use Rattle.ring_rules.proofs.TreeLemmas.{in_wider}
 use Rattle.ring_rules.proofs.TreeMarks.{none_in_more}
 use Rattle.ring_rules.proofs.regions.RingSearch.has_open.Goals as goal

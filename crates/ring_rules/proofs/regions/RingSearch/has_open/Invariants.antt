@@ -1,5 +1,4 @@
-use Rattle.std.proofs.Common.{◌-◌, Bool, List, length}
-use Rattle.ring_rules.specs.Inner.Trees.{AreClosedUnmarked, HasNoMarkInLeaves}
+use Rattle.ring_rules.proofs.Common.{◌-◌, Bool, List, length, AreClosedUnmarked, HasNoMarkInLeaves}
 use Rattle.ring_rules.proofs.regions.RingSearch.has_open.Given as goal
 
 -- the trees so far are closed

@@ -1,9 +1,4 @@
-use Rattle.std.proofs.Common.{◌+◌, List, sym, subst, arith}
-use Rattle.ring_rules.specs.Spots.{spot_at, point_at}
-use Rattle.ring_rules.specs.Inner.Marks.{gives_ring_at}
-use Rattle.ring_rules.specs.Inner.Trees.{IsIn, IsPartOfGrid}
-use Rattle.ring_rules.specs.declared.regions.Region.{Region}
-use Rattle.ring_rules.specs.declared.spots.Spot.{Spot}
+use Rattle.ring_rules.proofs.Common.{◌+◌, List, sym, subst, arith, spot_at, point_at, gives_ring_at, IsIn, IsPartOfGrid, Region, Spot}
 use Rattle.ring_rules.proofs.GivesRingLemmas.{gives_none}
 use Rattle.ring_rules.proofs.TreeMarks.{none_passes, not_is_true}
 use Rattle.ring_rules.proofs.regions.RingSearch.passes_over.Goals as goal

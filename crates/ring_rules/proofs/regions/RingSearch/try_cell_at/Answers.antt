@@ -1,5 +1,4 @@
-use Rattle.std.proofs.Common.{◌+◌}
-use Rattle.ring_rules.specs.Spots.{spot_at, point_at}
+use Rattle.ring_rules.proofs.Common.{◌+◌, spot_at, point_at}
 use Rattle.ring_rules.proofs.GivesRingLemmas.{gives_none}
 use Rattle.ring_rules.proofs.regions.RingSearch.try_cell_at.Goals as goal
 

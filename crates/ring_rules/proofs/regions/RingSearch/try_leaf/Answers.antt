@@ -1,9 +1,4 @@
-use Rattle.std.proofs.Common.{◌≡◌, ◌<◌, ℕ, Bool, List, false, length, sym, subst, arith}
-use Rattle.ring_rules.specs.Inner.Marks.{gives_ring_at}
-use Rattle.ring_rules.specs.Inner.Regions.{HasNoMarkIn, NoMarkPassesIn}
-use Rattle.ring_rules.specs.Inner.Trees.{IsPartOfGrid}
-use Rattle.ring_rules.specs.declared.regions.Region.{Region}
-use Rattle.ring_rules.specs.declared.spots.Spot.{Spot}
+use Rattle.ring_rules.proofs.Common.{◌≡◌, ◌<◌, ℕ, Bool, List, false, length, sym, subst, arith, gives_ring_at, HasNoMarkIn, NoMarkPassesIn, IsPartOfGrid, Region, Spot}
 use Rattle.ring_rules.proofs.TreeMarks.{closed_still, closed_more}
 use Rattle.ring_rules.proofs.regions.RingSearch.try_leaf.Goals as goal
 

@@ -1,7 +1,4 @@
-use Rattle.std.proofs.Common.{◌≢◌, ◌+◌, ◌<◌, ℕ, Bool, List, length, sym, subst, arith}
-use Rattle.ring_rules.specs.Inner.Marks.{gives_ring_at}
-use Rattle.ring_rules.specs.Inner.Trees.{node_at, HasNoMarkInLeaves, NoMarkPassesInLeaves}
-use Rattle.ring_rules.specs.declared.spots.Spot.{Spot}
+use Rattle.ring_rules.proofs.Common.{◌≢◌, ◌+◌, ◌<◌, ℕ, Bool, List, length, sym, subst, arith, gives_ring_at, node_at, HasNoMarkInLeaves, NoMarkPassesInLeaves, Spot}
 use Rattle.ring_rules.proofs.TreeMarks.{closed_more, passes_in_leaves, passes_in_no_leaf, none_in_parts}
 use Rattle.ring_rules.proofs.regions.RingSearch.try_node.Goals as goal
 

@@ -1,6 +1,4 @@
-use Rattle.std.proofs.Common.{◌≡◌, false}
-use Rattle.ring_rules.specs.Inner.Marks.{gives_ring_at, RemovesMarks}
-use Rattle.ring_rules.specs.Inner.Regions.{NoMarkPassesIn, HasNoMarkIn}
+use Rattle.ring_rules.proofs.Common.{◌≡◌, false, gives_ring_at, RemovesMarks, NoMarkPassesIn, HasNoMarkIn}
 use Rattle.ring_rules.proofs.regions.RingSearch.try_rows.Given as goal
 
 -- the rows so far are tried

@@ -1,6 +1,4 @@
-use Rattle.std.proofs.Common.{Bool, ℕ, List}
-use Rattle.ring_rules.specs.Inner.Marks.{gives_ring_at}
-use Rattle.ring_rules.specs.declared.spots.Spot.{Spot}
+use Rattle.ring_rules.proofs.Common.{Bool, ℕ, List, gives_ring_at, Spot}
 use Rattle.ring_rules.proofs.MarksLemmas.{removes_both}
 use Rattle.ring_rules.proofs.TreeMarks.{passes_in_more}
 use Rattle.ring_rules.proofs.regions.RingSearch.try_tree.Goals as goal

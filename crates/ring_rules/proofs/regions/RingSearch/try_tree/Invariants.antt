@@ -1,6 +1,4 @@
-use Rattle.std.proofs.Common.{◌≤◌, ◌-◌, length}
-use Rattle.ring_rules.specs.Inner.Marks.{gives_ring_at, RemovesMarks}
-use Rattle.ring_rules.specs.Inner.Trees.{AreClosedUnmarked, NoMarkPassesInLeaves}
+use Rattle.ring_rules.proofs.Common.{◌≤◌, ◌-◌, length, gives_ring_at, RemovesMarks, AreClosedUnmarked, NoMarkPassesInLeaves}
 use Rattle.ring_rules.proofs.regions.RingSearch.try_tree.Given as goal
 
 -- the leaves so far are tried

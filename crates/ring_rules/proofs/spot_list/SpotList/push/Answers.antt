@@ -1,8 +1,4 @@
-use Rattle.std.proofs.Common.{List, [], ◌∷◌, ◌++◌, map, ap, ◌∙◌}
-use Rattle.grid_units.specs.Holes.{GridHole}
-use Rattle.ring_rules.specs.Inner.Forms.{moved, form_at, spot_of}
-use Rattle.ring_rules.specs.declared.spots.Spot.{Spot}
-use Rattle.ring_rules.specs.declared.spot_list.Entry.{Entry}
+use Rattle.ring_rules.proofs.Common.{List, [], ◌∷◌, ◌++◌, map, ap, ◌∙◌, GridHole, moved, form_at, spot_of, Spot, Entry}
 use Rattle.ring_rules.proofs.FormLemmas.{entry_is, spots_more}
 use Rattle.ring_rules.proofs.spot_list.SpotList.push.Goals as goal
 

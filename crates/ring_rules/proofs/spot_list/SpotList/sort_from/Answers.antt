@@ -1,11 +1,5 @@
-use Rattle.std.proofs.Common.{◌≡◌, ◌+◌, ◌-◌, ◌≤◌, List, length, map, sym, ap, subst, ◌∙◌, arith}
+use Rattle.ring_rules.proofs.Common.{◌≡◌, ◌+◌, ◌-◌, ◌≤◌, List, length, map, sym, ap, subst, ◌∙◌, arith, length-map, with_items_is, GridHole, spot_of, HaveForms, PutsInOrder, Spot, Entry}
 use borrow.Rule.Slice.PartMut.{put_mid}
-use Rattle.std.proofs.lemmas.List.{length-map, with_items_is}
-use Rattle.grid_units.specs.Holes.{GridHole}
-use Rattle.ring_rules.specs.Inner.Forms.{spot_of, HaveForms}
-use Rattle.ring_rules.specs.Inner.SpotLists.{PutsInOrder}
-use Rattle.ring_rules.specs.declared.spots.Spot.{Spot}
-use Rattle.ring_rules.specs.declared.spot_list.Entry.{Entry}
 use Rattle.ring_rules.proofs.OrderLemmas.{size, still_have_forms, spots_in_order}
 use Rattle.ring_rules.proofs.spot_list.SpotList.sort_from.Goals as goal
 

@@ -1,5 +1,4 @@
-use Rattle.std.proofs.Common.{ℕ, List, subst}
-use Rattle.ring_rules.specs.Inner.FoundPlaces.{AddsFound}
+use Rattle.ring_rules.proofs.Common.{ℕ, List, subst, AddsFound}
 use Rattle.ring_rules.proofs.FoundPlaces.{all_found}
 use Rattle.ring_rules.proofs.spots.Cells.find.Goals as goal
 

@@ -1,5 +1,4 @@
-use Rattle.std.proofs.Common.{◌≡◌, ◌+◌, ◌*◌, ◌<◌, length, get_or, ◌∙◌, arith}
-use Rattle.std.proofs.lemmas.List.{get_or_default}
+use Rattle.ring_rules.proofs.Common.{◌≡◌, ◌+◌, ◌*◌, ◌<◌, length, get_or, ◌∙◌, arith, get_or_default}
 use Rattle.ring_rules.proofs.SpotLemmas.{in_last_row, run_begins, run_ends}
 use Rattle.ring_rules.proofs.spots.Cells.run.Goals as goal
 

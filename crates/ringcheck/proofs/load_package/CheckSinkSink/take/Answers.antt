@@ -1,7 +1,5 @@
-use Rattle.std.proofs.Common.{◌++◌, Ok, Err, OnOk, Result, append_assoc, subst}
+use Rattle.ringcheck.proofs.Common.{◌++◌, Ok, Err, OnOk, Result, append_assoc, subst, HasOpenedCopper, CopperGoesOn}
 use Rattle.std.specs.declared.alloc.AllocError.{AllocError}
-use Rattle.package_check.specs.OpenFiles.{HasOpenedCopper}
-use Rattle.ringcheck.specs.Inner.Loading.{CopperGoesOn}
 use Rattle.ringcheck.specs.declared.load_package.CheckSink.{CheckSink}
 use Rattle.ringcheck.proofs.load_package.CheckSinkSink.take.Goals as goal
 

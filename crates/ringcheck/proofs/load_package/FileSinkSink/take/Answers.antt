@@ -1,7 +1,5 @@
-use Rattle.std.proofs.Common.{◌++◌, Ok, Err, OnOk, Result, append_assoc, subst}
+use Rattle.ringcheck.proofs.Common.{◌++◌, Ok, Err, OnOk, Result, append_assoc, subst, HasOpened, GoesOn}
 use Rattle.std.specs.declared.alloc.AllocError.{AllocError}
-use Rattle.package_check.specs.OpenFiles.{HasOpened}
-use Rattle.ringcheck.specs.Inner.Loading.{GoesOn}
 use Rattle.ringcheck.proofs.load_package.FileSinkSink.take.Goals as goal
 
 -- what holds anyway holds of a success

@@ -1,11 +1,8 @@
-use Rattle.std.proofs.Common.{◌≡◌, ◌∙◌, ◌++◌, ◌∷◌, [], ap, refl, map, List, ℕ}
+use Rattle.ringcheck.proofs.Common.{◌≡◌, ◌∙◌, ◌++◌, ◌∷◌, [], ap, refl, map, List, ℕ, flat_map, flat_map_more, indented_row}
 use Rattle.std.specs.Borrow.{Bor}
-use Rattle.std.specs.List.{flat_map}
 use Rattle.std.proofs.Output.{has_written_append, has_written_of_eq}
 use Rattle.std.proofs.lemmas.Iterator.Consumers.{YieldsList-end}
 use Rattle.std.proofs.lemmas.Iterator.Splits.{YieldsList-from_lines}
-use Rattle.std.proofs.lemmas.List.{flat_map_more}
-use Rattle.ringcheck.specs.Refusals.{indented_row}
 use Rattle.ringcheck.proofs.refusals.IndentedDisplay.fmt.Goals as goal
 
 -- the rows of texts that are lent

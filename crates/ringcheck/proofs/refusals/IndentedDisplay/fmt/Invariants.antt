@@ -1,6 +1,5 @@
 use Rattle.std.specs.Fmt.{HasWritten, IsPlainFormatter}
-use Rattle.std.specs.List.{flat_map}
-use Rattle.ringcheck.specs.Refusals.{indented_row}
+use Rattle.ringcheck.proofs.Common.{flat_map, indented_row}
 use Rattle.ringcheck.proofs.refusals.IndentedDisplay.fmt.Given as goal
 
 abbrev pub invariant-loop-row : goal.invariant-loop-row

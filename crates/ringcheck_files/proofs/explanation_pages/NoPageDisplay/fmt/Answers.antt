@@ -1,4 +1,5 @@
-use Rattle.std.proofs.Common.{◌++◌, ap, codes}
+use Rattle.ringcheck_files.proofs.Common.{◌++◌, ap}
+use Rattle.std.proofs.Common.{codes}
 use Rattle.std.proofs.Output.{has_written_of_eq}
 use Rattle.ringcheck_files.specs.Sentences.{guess}
 use Rattle.ringcheck_files.proofs.explanation_pages.NoPageDisplay.fmt.Goals as goal

@@ -1,7 +1,5 @@
-use Rattle.std.proofs.Common.{◌∙◌, ◌++◌, ◌∷◌, [], Some, ap, arith, refl, rules, sym}
+use Rattle.waivers.proofs.Common.{◌∙◌, ◌++◌, ◌∷◌, [], Some, ap, arith, refl, rules, sym, has_written_append, has_written_of_eq, default_writer, escaped}
 use Rattle.std.proofs.lemmas.Str.Pattern.{split_parts}
-use Rattle.std.proofs.Output.{has_written_append, has_written_of_eq}
-use Rattle.csv.specs.Writing.{default_writer, escaped}
 use Rattle.waivers.proofs.Quoted.{escaped_more, escaped_same}
 use Rattle.waivers.proofs.findings.EscapedDisplay.fmt.Goals as goal
 

@@ -1,6 +1,5 @@
-use Rattle.std.proofs.Common.{◌≡◌, ◌++◌, ℕ, List, IsUtf8, length}
+use Rattle.waivers.proofs.Common.{◌≡◌, ◌++◌, ℕ, List, IsUtf8, length, default_writer, escaped}
 use Rattle.std.specs.Fmt.{HasWritten, IsPlainFormatter}
-use Rattle.csv.specs.Writing.{default_writer, escaped}
 use Rattle.waivers.proofs.findings.EscapedDisplay.fmt.Given as goal
 
 abbrev pub invariant-quotes : goal.invariant-quotes

@@ -1,6 +1,4 @@
-use Rattle.std.proofs.Common.{◌∙◌, ◌++◌, ◌∷◌, [], List, ℕ, ap, codes, map, sym}
-use Rattle.std.proofs.Output.{has_written_of_eq}
-use Rattle.csv.specs.Writing.{default_writer, escaped}
+use Rattle.waivers.proofs.Common.{◌∙◌, ◌++◌, ◌∷◌, [], List, ℕ, ap, codes, map, sym, has_written_of_eq, default_writer, escaped}
 use Rattle.grid_units.specs.HoleWords.{drilled_words, name_of}
 use Rattle.waivers.proofs.Quoted.{hole_quoted}
 use Rattle.waivers.proofs.findings.HoleFieldDisplay.fmt.Goals as goal

@@ -1,7 +1,6 @@
-use Rattle.std.proofs.Common.{◌≡◌, ◌∙◌, ap, rules, sym, w64}
+use Rattle.waivers.proofs.Common.{◌≡◌, ◌∙◌, ap, rules, sym, w64, has_written_of_eq}
 use mir.Val.{of_z, to_z}
 use Rattle.std.proofs.lemmas.Int.{to_z-of_z}
-use Rattle.std.proofs.Output.{has_written_of_eq}
 use Rattle.grid_units.specs.LengthWords.{short_millimetres}
 use Rattle.waivers.proofs.Quoted.{length_field}
 use Rattle.waivers.proofs.findings.LengthFieldDisplay.fmt.Goals as goal

@@ -1,6 +1,4 @@
-use Rattle.std.proofs.Common.{arith, map, sym}
-use Rattle.std.proofs.Output.{has_written_of_eq}
-use Rattle.waivers.specs.Findings.{gap_fields}
+use Rattle.waivers.proofs.Common.{arith, map, sym, has_written_of_eq, gap_fields}
 use Rattle.waivers.proofs.Quoted.{record_joined}
 use Rattle.waivers.proofs.printed.GapLackLinePage.fmt_on.Goals as goal
 

@@ -1,7 +1,4 @@
-use Rattle.std.proofs.Common.{◌++◌, map}
-use Rattle.std.specs.List.{flat_map}
-use Rattle.std.proofs.Output.{has_written_of_eq}
-use Rattle.waivers.specs.Findings.{finding_record, gap_fields, ring_fields}
+use Rattle.waivers.proofs.Common.{◌++◌, map, flat_map, has_written_of_eq, finding_record, gap_fields, ring_fields}
 use Rattle.waivers.proofs.Quoted.{head_is}
 use Rattle.waivers.proofs.printed.WaiverTextDisplay.fmt.Goals as goal
 

@@ -1,0 +1,135 @@
+-- The pads among the flashes and contours of one command are those that it makes.
+use Rattle.layer_features.proofs.Common.{◌≡◌, ◌∙◌, ◌&&◌, ◌%◌, ◌==◌, not, ℤ, unsigned_abs, Bool, true, false, cond, List, [], ◌∷◌, ◌++◌, map, length, Option, None, Some, unwrap_or, refl, ap, arith, append-nil, if◌then◌else◌, option_map, option_map_or, int_eq, cons_option, filter_map, GridPoint, Millimetre, GridRounded, WidePad, Command, Format, unit_scale, Flash, added_flashes, aperture_flashes, copies_at, current_unit, disc_at, flash_at, flashes_of, obround_at, quarter, rect_at, swaps_sides, what_at, state_after, MayFlash, copies_in, shapes_at, broken_rule, Part, block_after, is_clear_after, contour_of, region_parts, contour_feature, dark_kind, features_at, flash_feature, pad_in, pads_of, CopperState, contours_in, copper_state_after, ended_regions, has_room, is_room, macro_shape, macro_why, AreDarkPads, AreWidePadsOf, contour_after, contours_at, plot_state_after, wide_pad_at}
+use Rattle.std.specs.Bool.{MatchBool}
+use Rattle.grid_units.specs.declared.lengths.Unit.{Unit as Units}
+use Rattle.pad_shapes.specs.declared.pad.Pad.{Pad}
+use Rattle.pad_shapes.specs.declared.pad.Pad.TheVariants as pads
+use Rattle.pad_shapes.specs.declared.row.Why.TheVariants as why
+use Rattle.pad_shapes.specs.declared.wide_pad.WidePad.TheVariants.{Plain, Rounded}
+use Rattle.gerber_commands.specs.declared.command.Action.TheVariants as action
+use Rattle.gerber_commands.specs.declared.command.Command.TheVariants as command
+use Rattle.gerber_commands.specs.declared.command.StepRepeat.{StepRepeat}
+use Rattle.layer_state.specs.declared.aperture.Aperture.{Aperture}
+use Rattle.layer_state.specs.declared.aperture.Aperture.TheVariants as aperture
+use Rattle.layer_state.specs.declared.flash.What.TheVariants as what
+use Rattle.layer_features.specs.declared.feature.FeatureKind.TheVariants as kind
+use Rattle.layer_features.proofs.LegalFlashes.{IsDefined, copies_are, keeps_rule, may_flash, some_of, unit_is}
+use Rattle.layer_features.proofs.PlotLemmas.{PartsAgree}
+use Rattle.layer_features.proofs.SelectedShapes.{selected_shape}
+
+-- ---- one flash
+
+-- an aperture that makes a pad: scale and turn decide
+by_scale_and_turn : (s : CopperState) (p : GridPoint) (scaled turned : Bool) (pad : Pad)
+    → pad_in (dark_kind s p (option_map_or what.Other (cond (not scaled) (Some why.Scaled) (cond (not turned) (Some why.Turned) None)) (what.Pad pad))) ≡ option_map Plain (cond (scaled && turned) (Some pad) None)
+by_scale_and_turn s p true true pad = refl
+by_scale_and_turn s p true false pad = refl
+by_scale_and_turn s p false turned pad = refl
+
+no_pad : (b : Bool) → None ≡ option_map Plain (cond b None None)
+no_pad true = refl
+no_pad false = refl
+
+shape_pad : (s : CopperState) (o : Option GridRounded) → pad_in (option_map_or (λ pad. kind.Pad (Rounded pad)) o (kind.Macro (macro_why s))) ≡ option_map Rounded o
+shape_pad s None = refl
+shape_pad s (Some pad) = refl
+
+-- the flash of an aperture leaves the pad of the relation
+pad_is : (before : List Command) (unit : Units) (selected : Aperture) (p : GridPoint)
+    → pad_in (dark_kind (copper_state_after before) p (what_at p unit (state_after before).scale (state_after before).turn selected)) ≡ wide_pad_at unit before selected (macro_shape (copper_state_after before)) p
+pad_is before unit aperture.Macro p = shape_pad (copper_state_after before) _
+pad_is before unit (aperture.Circle diameter false) p =
+    by_scale_and_turn (copper_state_after before) p (int_eq (state_after before).scale unit_scale) (unsigned_abs (state_after before).turn % quarter == 0) (pads.Disc (disc_at p unit diameter))
+pad_is before unit (aperture.Rectangle width height false) p =
+    by_scale_and_turn (copper_state_after before) p (int_eq (state_after before).scale unit_scale) (unsigned_abs (state_after before).turn % quarter == 0)
+    (pads.Rect (cond (swaps_sides (state_after before).turn) (rect_at p unit height width) (rect_at p unit width height)))
+pad_is before unit (aperture.Obround width height false) p =
+    by_scale_and_turn (copper_state_after before) p (int_eq (state_after before).scale unit_scale) (unsigned_abs (state_after before).turn % quarter == 0)
+    (pads.Obround (cond (swaps_sides (state_after before).turn) (obround_at p unit height width) (obround_at p unit width height)))
+pad_is before unit other p = no_pad (int_eq (state_after before).scale unit_scale && (unsigned_abs (state_after before).turn % quarter == 0))
+
+-- ---- the flashes of a command
+
+none_in_clear : (s : CopperState) → s.clearing.clear ≡ true → (flashes : List Flash) → pads_of (map (flash_feature s) flashes) ≡ []
+none_in_clear s clear [] = refl
+none_in_clear s clear (f ∷ fs) = λ i. cons_option (pad_in (if clear i then kind.Clear else dark_kind s f.at f.what)) (none_in_clear s clear fs i)
+
+in_dark : (before : List Command) (selected : Aperture) → is_clear_after before ≡ false → (ps : List GridPoint)
+    → pads_of (map (flash_feature (copper_state_after before)) (map (flash_at (state_after before) selected) ps)) ≡ filter_map (wide_pad_at (current_unit (state_after before)) before selected (macro_shape (copper_state_after before))) ps
+in_dark before selected dark [] = refl
+in_dark before selected dark (p ∷ ps) =
+    let w = what_at p (current_unit (state_after before)) (state_after before).scale (state_after before).turn selected in
+    let one = ap (λ (b : Bool). pad_in (if b then kind.Clear else dark_kind (copper_state_after before) p w)) dark ∙ pad_is before (current_unit (state_after before)) selected p in
+    λ i. cons_option (one i) (in_dark before selected dark ps i)
+
+flash_pads : (before : List Command) (x y i j : Option ℤ) (unit : Units) (format : Format) (selected : Aperture) → is_clear_after before ≡ false → MayFlash (state_after before) unit format selected
+    → pads_of (features_at (before, command.Operate action.Flash x y i j)) ≡ filter_map (wide_pad_at unit before selected (macro_shape (copper_state_after before))) (copies_in unit format (state_after before) x y)
+flash_pads before x y i j unit format selected dark may =
+    let s = state_after before in
+    ap pads_of (append-nil (map (flash_feature (copper_state_after before)) (added_flashes s (command.Operate action.Flash x y i j))))
+    ∙ ap (λ (o : Option Aperture). pads_of (map (flash_feature (copper_state_after before)) (option_map_or (aperture_flashes s x y) o []))) may.selected
+    ∙ in_dark before selected dark (copies_at s x y)
+    ∙ (λ k. filter_map (wide_pad_at (unit_is s unit format selected may k) before selected (macro_shape (copper_state_after before))) (copies_are s x y unit format selected may k))
+
+-- ---- the contours of a command
+
+contour_pads : (shapes : List GridRounded) → pads_of (map contour_feature shapes) ≡ map Rounded shapes
+contour_pads [] = refl
+contour_pads (shape ∷ shapes) = ap (λ (l : List WidePad). Rounded shape ∷ l) (contour_pads shapes)
+
+no_contours : (s : CopperState) (c : Command) → s.clearing.clear ≡ true → contours_in s c ≡ []
+no_contours s command.RegionEnd clear = (λ i. contours_where s (s.draw.in_region && (not (clear i) && has_room s))) ∙ by s.draw.in_region
+  where
+    contours_where : CopperState → Bool → List GridRounded
+    contours_where t b = option_map_or (shapes_at (unwrap_or t.draw.unit Millimetre) t.block) (if b then contour_of t.parts else None) []
+
+    by : (b : Bool) → contours_where s (b && false) ≡ []
+    by true = refl
+    by false = refl
+no_contours s c clear = refl
+
+-- before a unit a region has no parts, and so no contour
+copied : (unit : Option Units) (block : StepRepeat) (b : Bool) (parts : List Part) → (unit ≡ None → parts ≡ [])
+    → option_map_or (shapes_at (unwrap_or unit Millimetre) block) (if b then contour_of parts else None) [] ≡ contours_at unit block (if b then contour_of parts else None)
+copied (Some unit) block b parts none = by (if b then contour_of parts else None)
+  where
+    by : (o : Option GridRounded) → option_map_or (shapes_at unit block) o [] ≡ contours_at (Some unit) block o
+    by None = refl
+    by (Some contour) = refl
+copied None block true parts none = ap (λ (l : List Part). option_map_or (shapes_at Millimetre block) (contour_of l) []) (none refl)
+copied None block false parts none = refl
+
+region_pads : (before : List Command) → is_clear_after before ≡ false → PartsAgree before → contours_in (copper_state_after before) command.RegionEnd ≡ contours_at (state_after before).unit (block_after before) (contour_after before)
+region_pads before dark agree =
+    let s = state_after before in
+    let room = is_room (ended_regions before) (block_after before) in
+    (λ i. option_map_or (shapes_at (unwrap_or s.unit Millimetre) (block_after before)) (if s.in_region && (not (dark i) && room) then contour_of (agree.same i) else None) [])
+    ∙ copied s.unit (block_after before) (s.in_region && room) (region_parts plot_state_after before) agree.none
+
+-- ---- all pads of a command
+
+dark_pads : (before : List Command) (c : Command) → IsDefined (state_after before) → PartsAgree before → broken_rule before c ≡ None → is_clear_after before ≡ false → AreDarkPads before c (pads_of (features_at (before, c)))
+dark_pads before (command.Operate action.Flash x y i j) defined agree legal dark =
+    let s = state_after before in
+    let c : Command = command.Operate action.Flash x y i j in
+    let count = length (flashes_of before) in
+    let may = may_flash s count x y i j defined legal in
+    let number = some_of s.selected (keeps_rule s count c 9 legal (omega arith)) in
+    (may.0, may.1, may.2, macro_shape (copper_state_after before), may.3, selected_shape before number.0 number.1, flash_pads before x y i j may.0 may.1 may.2 dark may.3)
+dark_pads before command.RegionEnd defined agree legal dark = contour_pads (contours_in (copper_state_after before) command.RegionEnd) ∙ ap (map Rounded) (region_pads before dark agree)
+dark_pads before c defined agree legal dark = refl
+
+clear_pads : (before : List Command) (c : Command) → is_clear_after before ≡ true → pads_of (features_at (before, c)) ≡ []
+clear_pads before c clear =
+    let s = copper_state_after before in
+    ap (λ (l : List GridRounded). pads_of (map (flash_feature s) (added_flashes (state_after before) c) ++ map contour_feature l)) (no_contours s c clear)
+    ∙ ap pads_of (append-nil (map (flash_feature s) (added_flashes (state_after before) c)))
+    ∙ none_in_clear s clear (added_flashes (state_after before) c)
+
+-- a command that breaks no rule makes the pads among its flashes and contours
+pub pads_at : (before : List Command) (c : Command) → IsDefined (state_after before) → PartsAgree before → broken_rule before c ≡ None → AreWidePadsOf before c (pads_of (features_at (before, c)))
+pads_at before c defined agree legal = by (is_clear_after before) refl
+  where
+    by : (b : Bool) → is_clear_after before ≡ b → MatchBool b (pads_of (features_at (before, c)) ≡ []) (AreDarkPads before c (pads_of (features_at (before, c))))
+    by true clear = clear_pads before c clear
+    by false dark = dark_pads before c defined agree legal dark

@@ -1,0 +1,231 @@
+-- The primitives that are read are just those that the pieces spell.
+use Rattle.std.proofs.Common.{◌≡◌, ◌↔◌, ℕ, suc, ◌≤◌, ℤ, Bool, true, false, cond, leb, List, [], ◌∷◌, ◌++◌, length, map, Option, Some, None, refl, sym, ap, subst, ◌∙◌, arith, append_assoc}
+use Rattle.std.specs.Prelude.{option_map, option_and_then, Result, Ok, Err, MatchOption, IsSomeAnd}
+use Rattle.std.specs.Bool.{MatchBool}
+use Rattle.std.specs.Result.{result_ok}
+use Rattle.std.specs.List.{AllZip}
+use Rattle.std.proofs.lemmas.Bool.{leb-true, leb-false, le-leb}
+use Rattle.std.proofs.lemmas.Option.{same_Some}
+use Rattle.grid_units.specs.Numbers.{parse_decimal}
+use Rattle.grid_units.specs.declared.fault.Reason.{Reason}
+use Rattle.grid_units.specs.Ascii as ascii
+use Rattle.macro_shapes.specs.Values.{Environment, lookup, assigned, IsValue}
+use Rattle.macro_shapes.specs.Pieces.{split_by, AreParameters, is_comment, definition, code_of, SpellsFields, SpellPrimitives, IsMacro}
+use Rattle.macro_shapes.specs.Inner.Reading.{start, run}
+use Rattle.macro_shapes.specs.Inner.Pieces.{value_of, all_values, parts_fields, piece_fields, on_definition, on_piece, fields_from, all_decimals, if_few, parameters_of}
+use Rattle.macro_shapes.specs.declared.fields.Fields.{Fields}
+use Rattle.macro_shapes.proofs.ReadingLemmas.{bind_some, map_some, read_exactly}
+
+-- ---- values
+
+pub value_exactly : (variables : Environment) (text : List ℕ) (v : ℤ) → (value_of variables text ≡ Some v) ↔ IsValue variables text v
+unfolding value_of
+value_exactly variables text v = by (leb (length text) 1000) refl
+  where
+    by : (t : Bool) → leb (length text) 1000 ≡ t → (cond t (run variables start [] text) None ≡ Some v) ↔ IsValue variables text v
+    by true e = read_exactly variables text v (leb-true (length text) 1000 e)
+    by false e = (λ h. absurd cc, λ h. absurd (omega (arith, h.short, leb-false (length text) 1000 e)))
+
+pub values_found : (variables : Environment) (texts : List (List ℕ)) (vs : List ℤ) → all_values variables texts ≡ Some vs → AllZip (IsValue variables) texts vs
+values_found variables [] [] e = tt
+values_found variables [] (v ∷ vs) e = absurd cc
+values_found variables (text ∷ texts) vs e =
+    let w = bind_some (λ v. option_map (λ us. v ∷ us) (all_values variables texts)) (value_of variables text) vs e in
+    let u = map_some (λ us. w.0 ∷ us) (all_values variables texts) vs w.2 in
+    subst (λ l. AllZip (IsValue variables) (text ∷ texts) l) u.2 ((value_exactly variables text w.0).0 w.1, values_found variables texts u.0 u.1)
+
+pub values_given : (variables : Environment) (texts : List (List ℕ)) (vs : List ℤ) → AllZip (IsValue variables) texts vs → all_values variables texts ≡ Some vs
+values_given variables [] [] h = refl
+values_given variables [] (v ∷ vs) h = absurd h
+values_given variables (text ∷ texts) [] h = absurd h
+values_given variables (text ∷ texts) (v ∷ vs) h =
+    ap (option_and_then (λ w. option_map (λ us. w ∷ us) (all_values variables texts))) ((value_exactly variables text v).1 h.0)
+    ∙ ap (option_map (λ us. v ∷ us)) (values_given variables texts vs h.1)
+
+-- ---- primitives
+
+pub fields_found : (variables : Environment) (piece : List ℕ) (f : Fields) → piece_fields variables piece ≡ Some f → SpellsFields variables piece f
+unfolding piece_fields
+fields_found variables piece f e = by (split_by ascii.comma piece) refl e
+  where
+    by : (parts : List (List ℕ)) → split_by ascii.comma piece ≡ parts → parts_fields variables parts ≡ Some f → SpellsFields variables piece f
+    by [] p h = absurd cc
+    by (c ∷ texts) p h =
+        let w = bind_some (λ k. option_map (λ vs. record { code = k; values = vs }) (all_values variables texts)) (code_of c) f h in
+        let u = map_some (λ vs. record { code = w.0; values = vs }) (all_values variables texts) f w.2 in
+        subst (λ g. SpellsFields variables piece g) u.2 (record { code_text = c; texts = texts; parts = p; judged = w.1; valued = values_found variables texts u.0 u.1 })
+
+pub fields_given : (variables : Environment) (piece : List ℕ) (f : Fields) → SpellsFields variables piece f → piece_fields variables piece ≡ Some f
+unfolding piece_fields
+fields_given variables piece f h =
+    ap (parts_fields variables) h.parts
+    ∙ (ap (option_and_then (λ k. option_map (λ vs. record { code = k; values = vs }) (all_values variables h.texts))) h.judged
+    ∙ ap (option_map (λ vs. record { code = f.code; values = vs })) (values_given variables h.texts f.values h.valued))
+
+-- ---- pieces
+
+pub pieces_found : (pieces : List (List ℕ)) (variables : Environment) (found : List Fields) → fields_from variables pieces ≡ Some found → SpellPrimitives variables pieces found
+pieces_found [] variables found e = sym (same_Some [] found e)
+pieces_found (piece ∷ pieces) variables found e = by (is_comment piece) (definition piece) e (pieces_found pieces)
+  where
+    by : (t : Bool) (d : Option (ℕ × List ℕ)) → cond t (fields_from variables pieces) (on_definition d variables piece (λ later. fields_from later pieces)) ≡ Some found
+        → ((later : Environment) (others : List Fields) → fields_from later pieces ≡ Some others → SpellPrimitives later pieces others)
+        → MatchBool t (SpellPrimitives variables pieces found) (MatchOption d
+        ((fields : Fields) × (others : List Fields) × SpellsFields variables piece fields × SpellPrimitives variables pieces others × (found ≡ fields ∷ others))
+        (λ d. (v : ℤ) × IsValue variables d.1 v × SpellPrimitives (assigned variables d.0 v) pieces found))
+    by true d h again = again variables found h
+    by false None h again =
+        let w = bind_some (λ f. option_map (λ fs. f ∷ fs) (fields_from variables pieces)) (piece_fields variables piece) found h in
+        let u = map_some (λ fs. w.0 ∷ fs) (fields_from variables pieces) found w.2 in
+        (w.0, u.0, fields_found variables piece w.0 w.1, again variables u.0 u.1, sym u.2)
+    by false (Some d) h again =
+        let w = bind_some (λ v. fields_from (assigned variables d.0 v) pieces) (value_of variables d.1) found h in
+        (w.0, (value_exactly variables d.1 w.0).0 w.1, again (assigned variables d.0 w.0) found w.2)
+
+pub pieces_given : (pieces : List (List ℕ)) (variables : Environment) (found : List Fields) → SpellPrimitives variables pieces found → fields_from variables pieces ≡ Some found
+pieces_given [] variables found h = ap Some (sym h)
+pieces_given (piece ∷ pieces) variables found h = by (is_comment piece) (definition piece) h (pieces_given pieces)
+  where
+    by : (t : Bool) (d : Option (ℕ × List ℕ)) → MatchBool t (SpellPrimitives variables pieces found) (MatchOption d
+        ((fields : Fields) × (others : List Fields) × SpellsFields variables piece fields × SpellPrimitives variables pieces others × (found ≡ fields ∷ others))
+        (λ d. (v : ℤ) × IsValue variables d.1 v × SpellPrimitives (assigned variables d.0 v) pieces found))
+        → ((later : Environment) (others : List Fields) → SpellPrimitives later pieces others → fields_from later pieces ≡ Some others)
+        → cond t (fields_from variables pieces) (on_definition d variables piece (λ later. fields_from later pieces)) ≡ Some found
+    by true d h again = again variables found h
+    by false None h again =
+        ap (option_and_then (λ f. option_map (λ fs. f ∷ fs) (fields_from variables pieces))) (fields_given variables piece h.0 h.2)
+        ∙ (ap (option_map (λ fs. h.0 ∷ fs)) (again variables h.1 h.3) ∙ ap Some (sym h.4))
+    by false (Some d) h again =
+        ap (option_and_then (λ v. fields_from (assigned variables d.0 v) pieces)) ((value_exactly variables d.1 h.0).1 h.1)
+        ∙ again (assigned variables d.0 h.0) found h.2
+
+-- ---- parameters
+
+ok_is : (r : Result ℤ Reason) (v : ℤ) → result_ok r ≡ Some v → r ≡ Ok v
+ok_is (Ok w) v e = ap Ok (same_Some w v e)
+ok_is (Err r) v e = absurd cc
+
+decimals_found : (texts : List (List ℕ)) (values : List (Option ℤ)) → all_decimals texts ≡ Some values → (decimals : List ℤ) × (map parse_decimal texts ≡ map Ok decimals) × (values ≡ map Some decimals)
+decimals_found [] values e = ([], refl, sym (same_Some [] values e))
+decimals_found (text ∷ texts) values e =
+    let w = bind_some (λ v. option_map (λ vs. Some v ∷ vs) (all_decimals texts)) (result_ok (parse_decimal text)) values e in
+    let u = map_some (λ vs. Some w.0 ∷ vs) (all_decimals texts) values w.2 in
+    let d = decimals_found texts u.0 u.1 in
+    (w.0 ∷ d.0, (λ i. ok_is (parse_decimal text) w.0 w.1 i ∷ d.1 i), sym u.2 ∙ ap (λ l. Some w.0 ∷ l) d.2)
+
+decimals_given : (texts : List (List ℕ)) (decimals : List ℤ) → map parse_decimal texts ≡ map Ok decimals → all_decimals texts ≡ Some (map Some decimals)
+decimals_given [] [] e = refl
+decimals_given [] (d ∷ ds) e = absurd cc
+decimals_given (text ∷ texts) [] e = absurd cc
+decimals_given (text ∷ texts) (d ∷ ds) e =
+    let first : parse_decimal text ≡ Ok d = cc in
+    let others : map parse_decimal texts ≡ map Ok ds = cc in
+    ap (λ r. option_and_then (λ v. option_map (λ vs. Some v ∷ vs) (all_decimals texts)) (result_ok r)) first ∙ ap (option_map (λ vs. Some d ∷ vs)) (decimals_given texts ds others)
+
+few_is : (values w : List (Option ℤ)) → if_few values ≡ Some w → (length values ≤ 999) × (values ≡ w)
+few_is values w e = by (leb (length values) 999) refl e
+  where
+    by : (t : Bool) → leb (length values) 999 ≡ t → cond t (Some values) None ≡ Some w → (length values ≤ 999) × (values ≡ w)
+    by true p h = (leb-true (length values) 999 p, same_Some values w h)
+    by false p h = absurd cc
+
+length-somes : (ds : List ℤ) → length (map Some ds) ≡ length ds
+length-somes [] = refl
+length-somes (d ∷ ds) = ap suc (length-somes ds)
+
+pub parameters_found : (parameters : Option (List ℕ)) (values : List (Option ℤ)) → parameters_of parameters ≡ Some values → AreParameters parameters values
+unfolding parameters_of
+parameters_found None values e = sym (same_Some [] values e)
+parameters_found (Some text) values e =
+    let w = bind_some if_few (all_decimals (split_by ascii.upper_x text)) values e in
+    let few = few_is w.0 values w.2 in
+    let d = decimals_found (split_by ascii.upper_x text) w.0 w.1 in
+    let same : length w.0 ≡ length d.0 = ap length d.2 ∙ length-somes d.0 in
+    (d.0, omega (arith, same, few.0), d.1, sym few.1 ∙ d.2)
+
+pub parameters_given : (parameters : Option (List ℕ)) (values : List (Option ℤ)) → AreParameters parameters values → parameters_of parameters ≡ Some values
+unfolding parameters_of
+parameters_given None values h = ap Some (sym h)
+parameters_given (Some text) values h =
+    ap (option_and_then if_few) (decimals_given (split_by ascii.upper_x text) h.0 h.2)
+    ∙ (ap (λ t. cond t (Some (map Some h.0)) None) (le-leb (length (map Some h.0)) 999 (omega (arith, h.1, length-somes h.0))) ∙ ap Some (sym h.3))
+
+-- ---- macros
+
+pub macro_exactly : (pieces : List (List ℕ)) (parameters : Option (List ℕ)) (values : List (Option ℤ)) (found : List Fields) → parameters_of parameters ≡ Some values → (fields_from (lookup values) pieces ≡ Some found) ↔ IsMacro pieces parameters found
+macro_exactly pieces parameters values found e = (
+  λ h. (values, parameters_found parameters values e, pieces_found pieces (lookup values) found h),
+  λ h. ap (λ vs. fields_from (lookup vs) pieces) (same_Some values h.0 (sym e ∙ parameters_given parameters h.0 h.1)) ∙ pieces_given pieces (lookup h.0) found h.2,
+)
+
+pub no_macro : (pieces : List (List ℕ)) (parameters : Option (List ℕ)) (found : List Fields) → parameters_of parameters ≡ None → IsMacro pieces parameters found → ⊥
+no_macro pieces parameters found e h = none_some (sym e ∙ parameters_given parameters h.0 h.1)
+  where
+    none_some : None ≡ Some h.0 → ⊥
+    none_some p = cc
+
+-- ---- piece by piece
+
+pub match_weaker : {A : Type 0} (o : Option A) (P P' : Type 0) (Q Q' : A → Type 0) → (P → P') → ((x : A) → Q x → Q' x) → MatchOption o P Q → MatchOption o P' Q'
+match_weaker None P P' Q Q' f g h = f h
+match_weaker (Some x) P P' Q Q' f g h = g x h
+
+some_with : {A : Type 0} (o : Option A) (P : A → Type 0) → IsSomeAnd o P → (x : A) × (o ≡ Some x) × P x
+some_with None P h = absurd h
+some_with (Some x) P h = (x, refl, h)
+
+pub one_more : {A : Type 0} (done : List A) (x : A) (o : Option (List A)) → option_map (λ xs. (done ++ x ∷ []) ++ xs) o ≡ option_map (λ xs. done ++ xs) (option_map (λ xs. x ∷ xs) o)
+one_more done x None = refl
+one_more done x (Some xs) = ap Some (append_assoc done (x ∷ []) xs)
+
+module _ (variables : Environment) (piece : List ℕ) (done : List Fields) where
+  pub at_comment : is_comment piece ≡ true → (go : Environment → Option (List Fields)) → option_map (λ fs. done ++ fs) (on_piece variables piece go) ≡ option_map (λ fs. done ++ fs) (go variables)
+  at_comment e go = ap (λ t. option_map (λ fs. done ++ fs) (cond t (go variables) (on_definition (definition piece) variables piece go))) e
+
+  on_other : (d : Option (ℕ × List ℕ)) → is_comment piece ≡ false → definition piece ≡ d → (go : Environment → Option (List Fields)) → on_piece variables piece go ≡ on_definition d variables piece go
+  on_other d e h go = ap (λ t. cond t (go variables) (on_definition (definition piece) variables piece go)) e ∙ ap (λ k. on_definition k variables piece go) h
+
+  pub at_definition : (later : Environment) (d : ℕ × List ℕ) → is_comment piece ≡ false → definition piece ≡ Some d → IsSomeAnd (value_of variables d.1) (λ v. (n : ℕ) → later n ≡ assigned variables d.0 v n)
+      → (go : Environment → Option (List Fields)) → option_map (λ fs. done ++ fs) (on_piece variables piece go) ≡ option_map (λ fs. done ++ fs) (go later)
+  at_definition later d e h k go =
+      let x = some_with (value_of variables d.1) (λ v. (n : ℕ) → later n ≡ assigned variables d.0 v n) k in
+      ap (option_map (λ fs. done ++ fs)) (on_other (Some d) e h go ∙ (ap (option_and_then (λ v. go (assigned variables d.0 v))) x.1 ∙ (λ i. go (λ n. sym (x.2 n) i))))
+
+  pub no_definition : (d : ℕ × List ℕ) → is_comment piece ≡ false → definition piece ≡ Some d → value_of variables d.1 ≡ None → (go : Environment → Option (List Fields)) → on_piece variables piece go ≡ None
+  no_definition d e h k go = on_other (Some d) e h go ∙ ap (option_and_then (λ v. go (assigned variables d.0 v))) k
+
+  pub at_primitive : (new : List Fields) → is_comment piece ≡ false → definition piece ≡ None → IsSomeAnd (piece_fields variables piece) (λ f. new ≡ done ++ f ∷ [])
+      → (go : Environment → Option (List Fields)) → option_map (λ fs. done ++ fs) (on_piece variables piece go) ≡ option_map (λ fs. new ++ fs) (go variables)
+  at_primitive new e h k go =
+      let x = some_with (piece_fields variables piece) (λ f. new ≡ done ++ f ∷ []) k in
+      ap (option_map (λ fs. done ++ fs)) (on_other None e h go ∙ ap (option_and_then (λ f. option_map (λ fs. f ∷ fs) (go variables))) x.1)
+      ∙ (sym (one_more done x.0 (go variables)) ∙ ap (λ (l : List Fields). option_map (λ fs. l ++ fs) (go variables)) (sym x.2))
+
+  pub no_primitive : is_comment piece ≡ false → definition piece ≡ None → piece_fields variables piece ≡ None → (go : Environment → Option (List Fields)) → on_piece variables piece go ≡ None
+  no_primitive e h k go = on_other None e h go ∙ ap (option_and_then (λ f. option_map (λ fs. f ∷ fs) (go variables))) k
+
+-- ---- loops
+
+pub nothing_before : {A : Type 0} (o : Option (List A)) → option_map (λ xs. [] ++ xs) o ≡ o
+nothing_before None = refl
+nothing_before (Some xs) = refl
+
+pub values_next : (variables : Environment) (done : List ℤ) (parts more : List (List ℕ)) (field : List ℕ) (v : ℤ) → parts ≡ field ∷ more → value_of variables field ≡ Some v
+    → option_map (λ vs. (done ++ v ∷ []) ++ vs) (all_values variables more) ≡ option_map (λ vs. done ++ vs) (all_values variables parts)
+values_next variables done parts more field v e h =
+    one_more done v (all_values variables more)
+    ∙ sym (ap (λ l. option_map (λ vs. done ++ vs) (all_values variables l)) e ∙ ap (λ o. option_map (λ vs. done ++ vs) (option_and_then (λ w. option_map (λ vs. w ∷ vs) (all_values variables more)) o)) h)
+
+pub values_stop : (variables : Environment) (done : List ℤ) (parts more : List (List ℕ)) (field : List ℕ) → parts ≡ field ∷ more → value_of variables field ≡ None → option_map (λ vs. done ++ vs) (all_values variables parts) ≡ None
+values_stop variables done parts more field e h =
+    ap (λ l. option_map (λ vs. done ++ vs) (all_values variables l)) e ∙ ap (λ o. option_map (λ vs. done ++ vs) (option_and_then (λ w. option_map (λ vs. w ∷ vs) (all_values variables more)) o)) h
+
+pub decimals_next : (done : List (Option ℤ)) (parts more : List (List ℕ)) (part : List ℕ) (v : ℤ) → parts ≡ part ∷ more → parse_decimal part ≡ Ok v
+    → option_map (λ vs. (done ++ Some v ∷ []) ++ vs) (all_decimals more) ≡ option_map (λ vs. done ++ vs) (all_decimals parts)
+decimals_next done parts more part v e h =
+    one_more done (Some v) (all_decimals more)
+    ∙ sym (ap (λ l. option_map (λ vs. done ++ vs) (all_decimals l)) e ∙ ap (λ r. option_map (λ vs. done ++ vs) (option_and_then (λ w. option_map (λ vs. Some w ∷ vs) (all_decimals more)) (result_ok r))) h)
+
+pub decimals_stop : (done : List (Option ℤ)) (parts more : List (List ℕ)) (part : List ℕ) (r : Reason) → parts ≡ part ∷ more → parse_decimal part ≡ Err r → option_map (λ vs. done ++ vs) (all_decimals parts) ≡ None
+decimals_stop done parts more part r e h =
+    ap (λ l. option_map (λ vs. done ++ vs) (all_decimals l)) e ∙ ap (λ r. option_map (λ vs. done ++ vs) (option_and_then (λ w. option_map (λ vs. Some w ∷ vs) (all_decimals more)) (result_ok r))) h

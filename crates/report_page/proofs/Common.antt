@@ -1,0 +1,14 @@
+-- The names that most proofs of this crate cite, passed on from one place. Declares nothing.
+pub use Rattle.std.proofs.Common.{Bool, List, Option, Some, [], ap, append_assoc, ap₂, arith, codes, decimal, false, get_or, inl, inr, length, map, not, refl, subst, suc, sym, take, true, zero, ℕ, ◌++◌, ◌+◌, ◌-◌, ◌<◌, ◌==◌, ◌∙◌, ◌∷◌, ◌≡◌, ◌≤◌}
+pub use Rattle.drawing.specs.Pages.{IsPage, IsPanel, after_panels, before_panels, declaration, svg_text, text_of_panel}
+pub use Rattle.grid_units.specs.declared.profile.Profile.{Profile}
+pub use Rattle.package_check.specs.declared.FileSum.{FileSum}
+pub use Rattle.print_text.proofs.Showing.{marks_all, marks_more}
+pub use Rattle.report.specs.declared.LayerHead.{LayerHead}
+pub use Rattle.report.specs.declared.RingLack.{RingLack}
+pub use Rattle.report_page.specs.Pages.{EachRowHasItsMarker, NumbersEachOnce, conflict_warning, count_words, file_items, file_words, files_text, gap_row, gap_rows, head_text, html_text, marker_start, particulars_text, picture_text, ring_row, ring_rows, row_numbers, table_rows, tables_text, tool_rows, verdict}
+pub use Rattle.std.proofs.Output.{has_written_append, has_written_of_eq}
+pub use Rattle.std.proofs.lemmas.List.{append-nil, get_or-append_right, get_or_append_left, get_or_default, length-append, length-map}
+pub use Rattle.std.specs.Borrow.{Bor}
+pub use Rattle.std.specs.Fmt.{HasWritten, IsPlainFormatter}
+pub use Rattle.std.specs.List.{All, AllZip, Contains, enumerate_from, filter, flat_map}
