@@ -140,6 +140,8 @@ class FirstRoom:
     def __init__(self, names, shelf):
         self.names, self.shelf, self.top = names, shelf, f"{FOLDER}/first"
         shutil.rmtree(self.top, ignore_errors=True)
+        # rt ci refuses a crates.txt that stands below the top of a checkout. So the room is the top of one.
+        os.makedirs(f"{self.top}/.git")
         for it in names:
             copy_sources(it, self.top)
         with contextlib.suppress(FileNotFoundError):

@@ -1,6 +1,6 @@
 -- The names that most proofs of this crate cite, passed on from one place. Declares nothing.
 pub use Rattle.std.proofs.Common.{Bool, Bor, Equal, Err, Greater, IfOk, Less, List, None, Option, Some, [], ap, ap₂, arith, cond, drop, eqb, false, get_or, inl, inr, length, ltb, map, min, of_z, pos, refl, rules, subst, suc, sym, take, to_z, true, w64, zero, ℕ, ℤ, ◌&&◌, ◌*◌, ◌++◌, ◌+◌, ◌-◌, ◌<◌, ◌||◌, ◌∙◌, ◌∷◌, ◌≡◌, ◌≤◌, ◌⊎◌}
-pub use Rattle.board_report.specs.BoardReport.{IsGapEntry, IsRingEntry, IsRingEntryAt, MatchesGap, MatchesRing, ReportAgreesWithCheck, is_gap, layer_pads, layer_uncounted}
+pub use Rattle.board_report.specs.BoardReport.{IsGapEntry, IsRingEntry, IsRingEntryAt, MatchesGap, MatchesRing, ReportAgreesWithCheck, layer_pads, layer_uncounted}
 pub use Rattle.board_report.specs.Inner.EntriesSoFar.{AddsEntry, AreBoardBests, IsCurrentLayer}
 pub use Rattle.board_report.specs.Inner.Tables.{AreFoundMistakes, AreSearched, IsLayerFileHoles, IsNumberedLeast, IsRowOf, IsSearched, IsTableOf, IsUnitMistakeOfOrNone, has_radius, is_not_empty, items_at, listed, row_of}
 pub use Rattle.board_report.specs.Measures.{AnswersMeasure, AreLayerBests, BoardPasses, IsMeasure, MeasuredPasses, PackagePasses, RefusesAlike}
@@ -14,6 +14,7 @@ pub use Rattle.margins.specs.Meets.{GapsPass, GapsPassExactly, MeetsOnLayers, Ri
 pub use Rattle.margins.specs.declared.best.BestPad.{BestPad}
 pub use Rattle.package_check.specs.Boards.{BoardView, CountsAddUp, board_findings, hole_count, holes_before, reported}
 pub use Rattle.package_check.specs.Package.{FileView, IsAnswer, IsReport, file_views_in}
+pub use Rattle.package_check.specs.WiderProfile.{is_gap}
 pub use Rattle.package_check.specs.declared.FileSum.{FileSum}
 pub use Rattle.pad_shapes.specs.WidePads.{wide_pad_covers}
 pub use Rattle.pad_shapes.specs.declared.wide_pad.WidePad.{WidePad}

@@ -1,8 +1,8 @@
 -- The drill files that have holes.
-use Rattle.board_report.proofs.Common.{◌≡◌, ℕ, ◌+◌, ◌-◌, ◌<◌, ◌≤◌, inl, inr, true, false, zero, suc, List, [], ◌∷◌, ◌++◌, length, get_or, refl, sym, subst, ap, ◌∙◌, arith, Contains, sum_by, cases_lt, nat_tests, get_or_append_left, get_or-append_right, get_or_default, length-append, take_all, Contains-append_left, Contains-push, All-contains, BoardView, hole_count, FileSum, AreFileHoles, AreFilesWithHoles, IsFileHoles, IsPlace, holes_before, IsLayerFileHoles, FileHoles}
+use Rattle.board_report.proofs.Common.{◌≡◌, ℕ, ◌+◌, ◌-◌, ◌<◌, ◌≤◌, inl, inr, true, false, zero, suc, List, [], ◌∷◌, ◌++◌, length, get_or, refl, sym, subst, ap, ◌∙◌, arith, Contains, sum_by, cases_lt, nat_tests, get_or_append_left, get_or-append_right, get_or_default, length-append, take_all, Contains-append_left, Contains-push, All-contains, BoardView, hole_count, FileSum, AreFileHoles, AreFilesWithHoles, IsFileHoles, IsPlace, holes_before, FileHoles}
 use Rattle.std.specs.List.Sorted.{IsNonDecreasingBy, IsPartitionPoint, IsPartitionedBy}
 use Rattle.std.proofs.lemmas.List.Sorted.{IsPartitionedBy-leb}
-use Rattle.std.proofs.lemmas.List.Sums.{sum_by-take-le, sum_by_more}
+use Rattle.std.proofs.lemmas.List.Sums.{sum_by_more}
 use lib.Dec.{leb}
 use Rattle.package_check.specs.declared.FileSum.TheVariants as sum
 use Rattle.board_report.proofs.JoinedRows.{pairs_join}
@@ -49,13 +49,6 @@ module _ (files : List FileSum) where
       let start : a.start ≡ b.start = x.starts ∙ (ap (holes_before files) at ∙ sym y.starts) in
       let end : a.end ≡ b.end = x.ends ∙ (ap (λ (n : ℕ). holes_before files (n + 1)) at ∙ sym y.ends) in
       λ i. record { drill = at i; start = start i; end = end i }
-
-  pub none_with_holes : AreFileHoles files 0 []
-  none_with_holes = record {
-    each = λ i d l. absurd (omega (arith, l));
-    sorted = λ i j d l m. absurd (omega (arith, m));
-    all = λ file l is. absurd (omega (arith, l));
-  }
 
   -- one more file, without holes
   pub empty_more : (count start end : ℕ) (old all : List FileHoles) → start ≡ holes_before files count → end ≡ holes_before files (count + 1) → end ≤ start → all ≡ old → AreFileHoles files count old → AreFileHoles files (count + 1) all
@@ -167,22 +160,6 @@ module _ (board : BoardView) (with_holes : List FileHoles) (are : AreFilesWithHo
           let fewer = no_fewer board.files (get_or with_holes i d).drill file (no_later d) in
           let above = its.1 in
           omega (arith, start, fewer, above)
-
--- the holes of a file, as a stretch on a layer
-pub layer_file_holes : (board : BoardView) (with_holes : List FileHoles) (i layer : ℕ) (file : FileHoles) → AreFilesWithHoles board with_holes → i < length with_holes → file ≡ get_or with_holes i file → IsLayerFileHoles board (record { layer = layer; drill = file.drill; start = file.start; end = file.end })
-layer_file_holes board with_holes i layer file are inside at =
-    let its : IsFileHoles board.files file = subst (IsFileHoles board.files) (sym at) (are.are.each i file inside).1 in
-    let starts = its.starts in
-    let ends = its.ends in
-    let some = its.some in
-    let counted = are.counted in
-    let most = sum_by-take-le hole_count board.files (file.drill + 1) in
-    record {
-      ordered = omega (arith, some);
-      inside = omega (arith, ends, counted, most);
-      starts = starts;
-      ends = ends;
-    }
 
 -- the number of a hole in its file
 pub placed_in : (board : BoardView) (with_holes : List FileHoles) (file : FileHoles) (hole : ℕ) → AreFilesWithHoles board with_holes → Contains with_holes file → file.start ≤ hole → hole < file.end → IsPlace board.files hole (record { drill = file.drill; number = hole - file.start + 1 })

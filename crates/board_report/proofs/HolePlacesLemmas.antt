@@ -1,5 +1,5 @@
 -- The drill files of holes.
-use Rattle.board_report.proofs.Common.{◌≡◌, ℕ, ◌+◌, ◌-◌, ◌<◌, ◌≤◌, min, inl, inr, List, length, get_or, ap, ◌∙◌, arith, sum_by, take_all, cases_lt, Drilled, CountsAddUp, hole_count, FileSum, IsPlace, holes_before}
+use Rattle.board_report.proofs.Common.{◌≡◌, ℕ, ◌+◌, ◌-◌, ◌<◌, ◌≤◌, min, inl, inr, List, length, get_or, ap, ◌∙◌, arith, cases_lt, Drilled, CountsAddUp, hole_count, FileSum, IsPlace, holes_before}
 use Rattle.std.proofs.lemmas.List.Sums.{sum_by-take-le, sum_by_more}
 use Rattle.margins.specs.NearestHoles.{IsPair}
 
@@ -26,12 +26,6 @@ placed files file hole start end starts ends low less = record {
   from_one = omega arith;
   inside = omega (arith, ends, less);
 }
-
--- no hole comes after those of the last file
-pub none_after_last : (files : List FileSum) (holes : List Drilled) (file hole start : ℕ) → CountsAddUp files holes → length files ≤ file → start ≡ holes_before files file → start ≤ hole → hole < length holes → ⊥
-none_after_last files holes file hole start told past starts low inside =
-    let all : holes_before files file ≡ sum_by hole_count files = ap (sum_by hole_count) (take_all file files past) in
-    omega (arith, all, told, starts, low, inside)
 
 -- fewer than two holes make no pair
 pub no_pair : (holes : List Drilled) → ((i j : ℕ) → IsPair holes i j → ⊥) → length holes < 2

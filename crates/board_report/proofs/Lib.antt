@@ -8,6 +8,7 @@ pub mod UnitMistakeLinesLemmas
 pub mod LayerBestsLemmas
 pub mod FilesWithHolesLemmas
 pub mod LayerLinesLemmas
+pub mod MatchedRows
 pub mod AddedEntries
 pub mod AgreementLemmas
 pub mod BestPads

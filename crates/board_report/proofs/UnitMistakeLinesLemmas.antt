@@ -92,13 +92,6 @@ module _ (board : BoardView) where
     all = λ line l scale. is.all line (omega (arith, l, past)) scale;
   }
 
-  pub no_file_yet : AreUnitMistakes board 0 []
-  no_file_yet = record {
-    each = λ i d l. absurd (omega (arith, l));
-    sorted = λ i j d l m. absurd (omega (arith, m));
-    all = λ line l is. absurd (omega (arith, l));
-  }
-
   -- one more file
   pub file_more : (file : ℕ) (old all : List UnitMistake) (line : Option UnitMistake) → all ≡ old ++ listed line → IsUnitMistakeOfOrNone board file line → AreUnitMistakes board file old → AreUnitMistakes board (file + 1) all
   file_more file old all None is none was = subst (AreUnitMistakes board (file + 1)) (sym (is ∙ append-nil old)) (record {

@@ -5,7 +5,8 @@ ghost use Rattle.std.specs.List.{All, AllZip, filter};
 ghost use Rattle.ring_rules.specs.WithoutFindings.{NamesPlaces};
 ghost use Rattle.board_report.specs.Rows.{AreFilesWithHoles};
 ghost use Rattle.board_report.specs.Inner.EntriesSoFar.{AddsEntry};
-ghost use Rattle.board_report.specs.BoardReport.{IsGapEntry, IsGapEntryOf, is_gap};
+ghost use Rattle.board_report.specs.BoardReport.{IsGapEntry, IsGapEntryOf};
+ghost use Rattle.package_check.specs.WiderProfile.{is_gap};
 
 use crate::FileHoles;
 use crate::places::hole_at;

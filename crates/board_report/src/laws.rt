@@ -1,7 +1,7 @@
 //! Laws that follow from the definitions alone. A call of a law does nothing, and gives its clause.
 
 ghost use Rattle.board_report.specs.Measures.{MeasuredPasses};
-ghost use Rattle.board_report.specs.BoardReport.{ReportAgreesWithCheck};
+ghost use Rattle.board_report.specs.BoardReport.{ReportAgreesWithCheck, RowsAreMatched};
 
 use margins::laws::{gaps_pass, rings_pass};
 use package_check::laws::{passing_is_sound, unique_answer};
@@ -23,3 +23,8 @@ pub fn report_agrees_with_check()
     unique_answer();
     passing_is_sound();
 }
+
+/// As many rows of a layer are pads as it has pads, in both profiles.
+pub fn rows_are_matched()
+    ensures { RowsAreMatched }
+{}

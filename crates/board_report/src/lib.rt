@@ -5,6 +5,7 @@
 #![tactic(auto)]
 
 mod board_report;
+mod fewer;
 mod gaps;
 mod heads;
 pub mod laws;
@@ -15,6 +16,7 @@ mod rows;
 mod units;
 
 pub use board_report::report_on;
+pub use fewer::fewer_in_wide;
 pub use measure::{measure_board, measure_bytes};
 pub use places::{FileHoles, files_with_holes, place_among, place_of};
 pub use report::{BoardReport, Measure};

@@ -1,12 +1,12 @@
 //! The entries of holes that lack their rings.
 
-ghost use Rattle.std.specs.Prelude.{◌≡◌, ◌<◌, ◌++◌, ◌∷◌, [], IfOk, IfSome, OnOk, Ok, get_or, length, not};
+ghost use Rattle.std.specs.Prelude.{◌≡◌, ◌<◌, ◌++◌, ◌∷◌, [], IfOk, IfSome, OnOk, Ok, get_or, length};
 ghost use Rattle.std.specs.List.{All, AllZip, filter};
 ghost use Rattle.ring_rules.specs.WithoutFindings.{NamesPlaces};
 ghost use Rattle.board_report.specs.Rows.{AreFilesWithHoles};
 ghost use Rattle.report.specs.Causes.{uncounted_pads};
 ghost use Rattle.board_report.specs.Inner.EntriesSoFar.{AddsEntry, AreBoardBests, HoldsLayer, IsCurrentLayer, IsBoardData};
-ghost use Rattle.board_report.specs.BoardReport.{IsRingEntry, IsRingEntryAt, is_gap, layer_rows, layer_uncounted};
+ghost use Rattle.board_report.specs.BoardReport.{IsRingEntry, IsRingEntryAt, is_of_ring, layer_rows, layer_uncounted};
 
 use crate::FileHoles;
 use crate::places::hole_at;
@@ -208,7 +208,7 @@ fn push(
     requires current { IfSome current (IsCurrentLayer board.now) }
     requires places { NamesPlaces (length board.now.layers) (length board.now.holes) finding }
     ensures current { IfOk result (λ some. IfSome some (IsCurrentLayer board.now)) }
-    ensures adds { OnOk result (AddsEntry (not (is_gap finding)) (IsRingEntry board.now board_data.now.rules) finding output.old.items output.new.items) }
+    ensures adds { OnOk result (AddsEntry (is_of_ring finding) (IsRingEntry board.now board_data.now.rules) finding output.old.items output.new.items) }
 {
     match finding {
         Finding::Ring { layer, hole } | Finding::Oblique { layer, hole } => {
@@ -227,7 +227,7 @@ fn ring_lacks_of(
 ) -> Result<Vec<RingLack>, AllocError>
     requires board_data { IsBoardData board.now board_data.now }
     requires places { All (NamesPlaces (length board.now.layers) (length board.now.holes)) findings.now }
-    ensures { IfOk result (λ output. AllZip (IsRingEntry board.now board_data.now.rules) (filter (λ finding. not (is_gap finding)) findings.now) output.items) }
+    ensures { IfOk result (λ output. AllZip (IsRingEntry board.now board_data.now.rules) (filter is_of_ring findings.now) output.items) }
 {
     let mut output = Vec::new(alloc);
     let mut current = None;
@@ -249,7 +249,7 @@ pub(crate) fn ring_lacks(
     requires bests { AreBoardBests board.now bests.now }
     requires files { AreFilesWithHoles board.now files.now }
     requires places { All (NamesPlaces (length board.now.layers) (length board.now.holes)) findings.now }
-    ensures { IfOk result (λ output. AllZip (IsRingEntry board.now rules) (filter (λ finding. not (is_gap finding)) findings.now) output.items) }
+    ensures { IfOk result (λ output. AllZip (IsRingEntry board.now rules) (filter is_of_ring findings.now) output.items) }
 {
     let layers = board.layers(alloc)?;
     let board_data = BoardData {

@@ -1,10 +1,8 @@
 -- What the program makes of the words of each command without flags: they are taken, and give the rows of their values.
-use Rattle.std.proofs.Common.{◌≡◌, true, refl, [], ◌∷◌, Option, Some, None, codes, option_map}
-use Rattle.clap.proofs.OnLiterals.{clap_on_literals}
-use Rattle.clap.proofs.WalkLemmas.{both}
-use Rattle.clap.specs.Words.{Text, fault_of, is_simple, is_simple_and_free}
+use Rattle.command_line.proofs.Common.{◌≡◌, true, refl, [], ◌∷◌, Option, Some, None, codes, option_map, clap_on_literals, both, Text, fault_of, is_plain_if_some, is_plain_word, ringcheck_app}
+use Rattle.clap.specs.Words.{is_simple, is_simple_and_free}
 use Rattle.clap.specs.declared.error.kind.ErrorKind.TheVariants.{DisplayVersion}
-use Rattle.command_line.specs.ProgramArgs.{are_plain_rules, check_words, draw_words, explain_words, is_plain_if_some, is_plain_word, measure_words, rewrite_words, ringcheck_app, show_words}
+use Rattle.command_line.specs.ProgramArgs.{are_plain_rules, check_words, draw_words, explain_words, measure_words, rewrite_words, show_words}
 use Rattle.command_line.proofs.GivenOptions.{Options, rows_of}
 use Rattle.command_line.proofs.NamedCommand.{IsCommand, answer, command_answer}
 

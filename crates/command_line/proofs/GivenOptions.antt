@@ -1,19 +1,12 @@
 -- Options in a row, each with its value where it is given: their words, and the rows that they give.
-use Rattle.std.proofs.Common.{◌≡◌, ◌∙◌, ◌||◌, ◌++◌, ap, refl, sym, true, false, cond, Bool, List, [], ◌∷◌, Option, Some, None, codes, option_map, append-nil, append_assoc}
+use Rattle.command_line.proofs.Common.{◌≡◌, ◌∙◌, ◌++◌, ap, refl, sym, true, false, cond, Bool, List, [], ◌∷◌, Option, Some, None, codes, option_map, append-nil, append_assoc, find, list_any, option_map_or, unwrap_or, bytes_eq, bytes_eq-Decides, explicit_source, is_given, has_row, Row, Text, first_of, is_plain_if_some, option_words}
+use Rattle.std.proofs.Common.{◌||◌}
 use Rattle.std.specs.Prelude.{is_some, option_and_then, slice_get}
-use Rattle.std.specs.List.{find, list_any}
-use Rattle.std.specs.Option.{option_map_or, unwrap_or}
-use Rattle.std.specs.Str.{bytes_eq}
 use Rattle.std.proofs.lemmas.Bool.{or_parts}
-use Rattle.std.proofs.lemmas.Slice.Eq.{bytes_eq-Decides}
-use Rattle.clap.specs.Facts.{explicit_source}
-use Rattle.clap.specs.Takes.{is_given}
 use Rattle.clap.specs.Values.{reading_of}
-use Rattle.clap.specs.Walk.{at_row, has_row, more_values, with_values, without}
-use Rattle.clap.specs.Words.{Row, Text, first_of}
+use Rattle.clap.specs.Walk.{at_row, more_values, with_values, without}
 use Rattle.clap.specs.declared.builder.value_parser.ValueParser.TheVariants as parser
 use Rattle.clap.specs.declared.parser.matches.ValueSource.TheVariants as source
-use Rattle.command_line.specs.ProgramArgs.{is_plain_if_some, option_words}
 
 -- options and arguments by their ids, each with its value where it is given
 abbrev pub Options : Type 0

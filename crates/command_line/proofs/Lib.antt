@@ -1,3 +1,4 @@
+pub mod Common
 pub mod ParseResult
 pub mod GivenOptions
 pub mod OptionWords

@@ -1,16 +1,14 @@
 -- What the program makes of the words of `manifest`: a flag, a profile and a folder, each of which may be left out, and then a file or more of them.
-use Rattle.std.proofs.Common.{◌≡◌, ◌∙◌, ◌==◌, ◌++◌, ◌≤◌, true, false, refl, List, [], ◌∷◌, Option, Some, None, codes, not, Bool, get_or, length, append-nil, append_assoc, arith}
+use Rattle.command_line.proofs.Common.{◌≡◌, ◌∙◌, ◌++◌, true, false, refl, List, [], ◌∷◌, Option, Some, None, codes, Bool, append-nil, append_assoc, fold, false≢true, clap_on_literals, both, Shape, Walk, idle, with_default, Row, Text, flag_words, is_plain_if_some, is_plain_word, option_words}
+use Rattle.std.proofs.Common.{◌==◌, ◌≤◌, not, get_or, length, arith}
 use Rattle.std.specs.Prelude.{nat_le}
-use Rattle.std.specs.List.{fold, list_all}
-use Rattle.std.proofs.lemmas.Bool.{false≢true, le-leb}
-use Rattle.clap.proofs.OnLiterals.{clap_on_literals}
-use Rattle.clap.proofs.WalkLemmas.{both}
+use Rattle.std.specs.List.{list_all}
+use Rattle.std.proofs.lemmas.Bool.{le-leb}
 use Rattle.clap.specs.Lexer.{usize_max}
-use Rattle.clap.specs.Simple.{Shape, help_rule}
+use Rattle.clap.specs.Simple.{help_rule}
 use Rattle.clap.specs.Takes.{is_valid, settle_passes, value_passes}
-use Rattle.clap.specs.Walk.{Walk, idle, option as waits_for, positional, settled_rows, with_default}
-use Rattle.clap.specs.Words.{Row, Text}
-use Rattle.command_line.specs.ProgramArgs.{are_plain_words, flag_words, is_plain_if_some, is_plain_word, manifest_words, option_words}
+use Rattle.clap.specs.Walk.{option as waits_for, positional, settled_rows}
+use Rattle.command_line.specs.ProgramArgs.{are_plain_words, manifest_words}
 use Rattle.command_line.proofs.GivenOptions.{Options, given_all, rows_of, unswitched}
 use Rattle.command_line.proofs.NamedCommand.{answer, command_of, is_answer}
 use Rattle.command_line.proofs.OptionWords.{WalksWord, WalksWords, bare, walk_word, pending, plain_turn, reading, reads, turns, walk_at, walk_nothing}

@@ -1,13 +1,11 @@
 -- What the program makes of a command's name and the words after it, from what the command makes of these words.
-use Rattle.std.proofs.Common.{◌≡◌, ◌∙◌, ◌&&◌, ◌++◌, true, false, ap, sym, List, [], ◌∷◌, Option, Some, Bool, append-nil, append_assoc}
+use Rattle.command_line.proofs.Common.{◌≡◌, ◌∙◌, ◌++◌, true, false, ap, sym, List, [], ◌∷◌, Option, Some, Bool, append-nil, append_assoc, find, unwrap_or, Shape, Walk, idle, nothing_held, App, Row, Text, subcommand_of, is_plain_word, ringcheck_app}
+use Rattle.std.proofs.Common.{◌&&◌}
 use Rattle.std.specs.Prelude.{is_some}
-use Rattle.std.specs.List.{find}
-use Rattle.std.specs.Option.{unwrap_or}
-use Rattle.clap.specs.Simple.{Shape, built, entered, label_of, names_of}
+use Rattle.clap.specs.Simple.{built, entered, label_of, names_of}
 use Rattle.clap.specs.Takes.{entered_passes, walk_passes}
-use Rattle.clap.specs.Walk.{Walk, answers_to, idle, nothing_held, walked}
-use Rattle.clap.specs.Words.{App, Row, Text, subcommand_of, takes}
-use Rattle.command_line.specs.ProgramArgs.{is_plain_word, ringcheck_app}
+use Rattle.clap.specs.Walk.{answers_to, walked}
+use Rattle.clap.specs.Words.{takes}
 use Rattle.command_line.proofs.GivenOptions.{ArePlain, Options, rows_of, words_of}
 use Rattle.command_line.proofs.OptionWords.{HasEnd, HasNoDefaults, HasOptions, end_passes, options_read, reading, turns}
 

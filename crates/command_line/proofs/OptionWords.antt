@@ -1,19 +1,14 @@
 -- What a command makes of options in a row and then a plain word, for any command: the words pass, and give just the rows of the values.
-use Rattle.std.proofs.Common.{◌≡◌, ◌∙◌, ◌==◌, ◌&&◌, ◌||◌, ◌++◌, ℕ, true, false, refl, ap, not, cond, List, [], ◌∷◌, Option, Some, None, Bool, option_map, append-nil, append_assoc}
-use Rattle.std.specs.List.{list_all, list_any, filter, fold}
-use Rattle.std.specs.Option.{option_map_or, unwrap_or}
-use Rattle.std.specs.Str.{bytes_eq}
-use Rattle.std.proofs.lemmas.Bool.{cond_both, false≢true, not-true}
-use Rattle.std.proofs.lemmas.Slice.Eq.{bytes_eq-Decides}
+use Rattle.command_line.proofs.Common.{◌≡◌, ◌∙◌, ◌++◌, ℕ, true, false, refl, ap, cond, List, [], ◌∷◌, Option, Some, None, Bool, option_map, append-nil, append_assoc, list_any, fold, option_map_or, unwrap_or, bytes_eq, false≢true, bytes_eq-Decides, both, explicit_source, Shape, is_given, Walk, has_row, idle, nothing_held, with_default, Row, Rule, Text, is_plain_word}
+use Rattle.std.proofs.Common.{◌==◌, ◌&&◌, ◌||◌, not}
+use Rattle.std.specs.List.{list_all, filter}
+use Rattle.std.proofs.lemmas.Bool.{cond_both, not-true}
 use Rattle.clap.proofs.SimpleLemmas.{is_nil}
-use Rattle.clap.proofs.WalkLemmas.{both}
-use Rattle.clap.specs.Facts.{explicit_source}
 use Rattle.clap.specs.Lexer.{long_of, name_and_value}
-use Rattle.clap.specs.Simple.{Shape, filled}
-use Rattle.clap.specs.Takes.{default_passes, is_given, is_valid, level_passes, settle_passes, step_passes, turn_passes, walk_passes}
-use Rattle.clap.specs.Walk.{Held, Names, Waiting, Walk, after_step, arg_by_id, arg_by_index, arg_by_long, finished, has_row, idle, is_empty, is_pending, nothing_held, plain_word, rows_after, settled_rows, walk_from, walked, with_default, option as waits_for}
-use Rattle.clap.specs.Words.{Row, Rule, Text}
-use Rattle.command_line.specs.ProgramArgs.{is_plain_word, positional}
+use Rattle.clap.specs.Simple.{filled}
+use Rattle.clap.specs.Takes.{default_passes, is_valid, level_passes, settle_passes, step_passes, turn_passes, walk_passes}
+use Rattle.clap.specs.Walk.{Held, Names, Waiting, after_step, arg_by_id, arg_by_index, arg_by_long, finished, is_empty, is_pending, plain_word, rows_after, settled_rows, walk_from, walked, option as waits_for}
+use Rattle.command_line.specs.ProgramArgs.{positional}
 use Rattle.command_line.proofs.GivenOptions.{ArePlain, Options, row_of_value, given_is, has_none, joins, rows_of, rows_of-append, required_arg, words_of}
 
 -- ---- what a command has

@@ -1,13 +1,13 @@
 -- The answer to a line, from what `clap` answers.
-use Rattle.std.proofs.Common.{◌≡◌, ◌∙◌, ◌⊎◌, inl, inr, ap, sym, subst, [], ◌∷◌, List, Option, Ok, Err}
-use Rattle.clap.specs.Words.{App, Row, Text, fault_of, subcommand_of}
+use Rattle.command_line.proofs.Common.{◌≡◌, ◌∙◌, ap, sym, [], ◌∷◌, List, Option, App, Row, Text, fault_of, subcommand_of, IsLineOf, ringcheck_app}
+use Rattle.std.proofs.Common.{◌⊎◌, inl, inr, subst, Ok, Err}
 use Rattle.clap.specs.Kinds.{IsAmong, Kinds}
 use Rattle.clap.specs.declared.error.kind.ErrorKind.{ErrorKind}
 use Rattle.clap.specs.declared.error.kind.ErrorKind.TheVariants.{DisplayHelp, DisplayVersion, OutOfMemory}
 use Rattle.command_line.specs.declared.CommandLine.{CommandLine}
 use Rattle.command_line.specs.declared.Refusal.{Refusal}
 use Rattle.command_line.specs.declared.Refusal.TheVariants.{Help, Version, Usage, Memory}
-use Rattle.command_line.specs.ProgramArgs.{ParsesLine, ParsesAsVersion, IsLineOf, ringcheck_app}
+use Rattle.command_line.specs.ProgramArgs.{ParsesLine, ParsesAsVersion}
 use Rattle.command_line.specs.RefusalTexts.{EndsUsageWith, TellsFault, below_text}
 use Rattle.command_line.specs.Inner.RequestSteps.{IsRefusalFor}
 

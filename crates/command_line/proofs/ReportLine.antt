@@ -1,20 +1,14 @@
 -- What the program makes of the words of `report`: a flag, which may be left out, and then options and a manifest.
-use Rattle.std.proofs.Common.{◌≡◌, ◌∙◌, ◌++◌, true, false, refl, ap, cond, Bool, List, [], ◌∷◌, Option, Some, None, codes}
+use Rattle.command_line.proofs.Common.{◌≡◌, ◌∙◌, ◌++◌, true, false, refl, ap, cond, Bool, List, [], ◌∷◌, Option, Some, None, codes, find, fold, option_map_or, bytes_eq, clap_on_literals, explicit_source, Shape, is_given, has_row, idle, nothing_held, with_default, Row, Text, first_of, flag_words, is_plain_if_some, is_plain_word}
 use Rattle.std.specs.Prelude.{option_and_then, option_map, slice_get, if◌then◌else◌}
-use Rattle.std.specs.List.{find, fold}
-use Rattle.std.specs.Option.{option_map_or, option_or}
-use Rattle.std.specs.Str.{bytes_eq}
+use Rattle.std.specs.Option.{option_or}
 use Rattle.std.proofs.lemmas.List.Folds.{find-append}
-use Rattle.clap.proofs.OnLiterals.{clap_on_literals}
-use Rattle.clap.specs.Facts.{explicit_source}
-use Rattle.clap.specs.Simple.{Shape}
-use Rattle.clap.specs.Takes.{is_given}
 use Rattle.clap.specs.Values.{reading_of}
-use Rattle.clap.specs.Walk.{default_rows, has_row, idle, more_values, nothing_held, row_text, with_default}
-use Rattle.clap.specs.Words.{Row, Text, first_of, one_of}
+use Rattle.clap.specs.Walk.{default_rows, more_values, row_text}
+use Rattle.clap.specs.Words.{one_of}
 use Rattle.clap.specs.declared.builder.value_parser.ValueParser.TheVariants as parser
 use Rattle.clap.specs.declared.parser.matches.ValueSource.TheVariants as source
-use Rattle.command_line.specs.ProgramArgs.{flag_words, is_plain_if_some, is_plain_word, report_words}
+use Rattle.command_line.specs.ProgramArgs.{report_words}
 use Rattle.command_line.proofs.GivenOptions.{ArePlain, Options, at_no_row, find_given, first_is, has_none, required_arg, row_of_value, rows_of, unswitched, words_of}
 use Rattle.command_line.proofs.NamedCommand.{answer, command_of, is_answer}
 use Rattle.command_line.proofs.OptionWords.{WalksWord, bare, only_defaults, read_after, reading, walk_at, walk_word}

@@ -1,13 +1,9 @@
 -- The request of a line, from the command that the program finds and the rows of its values.
-use Rattle.std.proofs.Common.{◌≡◌, ◌∙◌, sym, refl, List, Option, Some, None, Bool, true, false, codes, option_map}
-use Rattle.std.specs.Str.{bytes_eq}
-use Rattle.std.proofs.lemmas.Bool.{false≢true}
-use Rattle.std.proofs.lemmas.Slice.Eq.{bytes_eq-Decides}
-use Rattle.clap.specs.Words.{Row, Text, first_of}
+use Rattle.command_line.proofs.Common.{◌≡◌, ◌∙◌, sym, refl, List, Option, Some, None, Bool, true, false, codes, option_map, bytes_eq, false≢true, bytes_eq-Decides, Row, Text, first_of, IsLineOf}
 use Rattle.command_line.specs.declared.CommandLine.{CommandLine}
 use Rattle.command_line.specs.declared.Request.{Request}
 use Rattle.command_line.specs.declared.Request.TheVariants.{Check, Measure, Report, Draw, Show, Rewrite, Manifest, Explain}
-use Rattle.command_line.specs.ProgramArgs.{IsFlagValue, IsLineOf, IsRequestOf, IsCheck, IsDraw, IsExplain, IsManifest, IsMeasure, IsReport, IsRewrite, IsShow}
+use Rattle.command_line.specs.ProgramArgs.{IsFlagValue, IsRequestOf, IsCheck, IsDraw, IsExplain, IsManifest, IsMeasure, IsReport, IsRewrite, IsShow}
 use Rattle.command_line.proofs.CommandWords.{check_options, draw_options, measure_options, rewrite_options, show_options, word_options}
 use Rattle.command_line.proofs.GivenOptions.{first_is, rows_of}
 use Rattle.command_line.proofs.ManifestWords.{rows_of_manifest}

@@ -1,17 +1,10 @@
 -- The board of a package, and its holes with their places.
-use Rattle.package_check.proofs.Common.{◌≡◌, ◌+◌, ◌++◌, ℕ, List, [], ◌∷◌, length, map, take, drop, arith, refl, sym, ap, ap₂, ◌∙◌, Bool, true, false, cond, not, append_assoc, flat_map, enumerate_from, count_by, sum_by, append-nil, length-append, length-map, flat_map-append, flat_map-cons, sum_by-cons, GridHole, GridRules, is_round, LayerSpan, Drawn, Drilled, Numbered, Content, wide_pad_covers, WidePad, gap_findings, ring_findings, FileCountsAddUp, BoardView, IsBoard, board_findings, board_of, hole_count, numbered_from, numbered_in, reported, FileView, IsReport, drilled, findings, holes_of, layer_indexes, layers, report_on, sum_of, ReportView, drilled_in}
+use Rattle.package_check.proofs.Common.{◌≡◌, ◌+◌, ◌++◌, ℕ, List, [], ◌∷◌, length, map, take, drop, arith, refl, sym, ap, ap₂, ◌∙◌, Bool, true, false, cond, not, flat_map, enumerate_from, count_by, sum_by, length-append, length-map, flat_map-cons, sum_by-cons, GridHole, GridRules, is_round, LayerSpan, Drawn, Drilled, Numbered, Content, wide_pad_covers, WidePad, gap_findings, ring_findings, FileCountsAddUp, BoardView, IsBoard, board_findings, board_of, hole_count, numbered_from, numbered_in, reported, FileView, IsReport, drilled, findings, holes_of, layer_indexes, layers, report_on, sum_of, ReportView, drilled_in}
 use Rattle.std.proofs.Math.Seq.{take-append_seam, drop-append_seam}
 use Rattle.std.specs.Prelude.{Option}
 use Rattle.pad_shapes.specs.declared.row.FeatureRow.{FeatureRow}
 use Rattle.package_check.specs.declared.contents.Content.TheVariants as content
 use Rattle.package_check.proofs.Passing.{all_drilled}
-
--- what is listed so far, and what one more element gives
-pub flat_map_grows : {X Y : Type 0} (f : X → List Y) (before now after : List Y) (xs : List X) (x : X) → now ≡ before ++ flat_map f xs → after ≡ now ++ f x → after ≡ before ++ flat_map f (xs ++ x ∷ [])
-flat_map_grows f before now after xs x was is =
-    is ∙ (ap (λ ys. ys ++ f x) was
-    ∙ (append_assoc before (flat_map f xs) (f x)
-    ∙ (ap (λ ys. before ++ (flat_map f xs ++ ys)) (sym (append-nil (f x))) ∙ ap (λ ys. before ++ ys) (sym (flat_map-append f xs (x ∷ []))))))
 
 -- what passes a test and what does not is all, as the round holes and the slots are all holes
 counted : {X : Type 0} (test : X → Bool) (xs : List X) → count_by test xs + count_by (λ x. not (test x)) xs ≡ length xs

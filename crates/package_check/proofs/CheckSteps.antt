@@ -1,5 +1,5 @@
 -- A check of a package takes copper files.
-use Rattle.package_check.proofs.Common.{◌≡◌, ◌<◌, ◌≤◌, ◌+◌, ◌||◌, ◌&&◌, eqb, ltb, ℕ, suc, List, [], ◌∷◌, Ok, Err, Result, Option, Some, None, OnOk, Bool, true, false, length, map, get_or, slice_get, inl, inr, arith, refl, sym, ap, ap₂, subst, ◌∙◌, alloc_error, option_map, sum_by, AllocError, both_ways, cases_eq, false≢true, get_or-map, length-map, count_by_more_no, count_by_more_yes, sum_by-cons, none-some, slice_get-map, slice_get_read, GridRules, Answers, LayerSpan, Fail, Drilled, hole_count, CheckView, holes_in_slot, is_drill_in, is_drill_sum, AreHolesOf, HasJudged, HasJudgedAll, IsJudgedOf, JudgesThose, TakesCopper, drill_files, layer_number, HoldsThose, IsPutAt, ReadsInto, is_kind_at, is_kind_of, is_wanted, kept_at, next_stop, IsLeftOf, Judges, JudgesCopper, Setting, FileView, HasContent, HaveContents, bad_span, is_copper, sum_of, unnamed_file, FileSum, PackageFault, Content, Judged}
+use Rattle.package_check.proofs.Common.{◌≡◌, ◌<◌, ◌≤◌, ◌+◌, ◌||◌, ◌&&◌, eqb, ltb, ℕ, suc, List, [], ◌∷◌, Ok, Err, Result, Option, Some, None, OnOk, Bool, true, false, length, map, get_or, slice_get, inl, inr, arith, refl, sym, ap, ap₂, subst, ◌∙◌, alloc_error, option_map, sum_by, AllocError, both_ways, cases_eq, false≢true, get_or-map, length-map, count_by_more_no, count_by_more_yes, sum_by-cons, none-some, slice_get-map, slice_get_read, GridRules, Answers, LayerSpan, Fail, Drilled, hole_count, CheckView, holes_in_slot, is_drill_in, is_drill_sum, AreHolesOf, HasJudged, HasJudgedAll, IsJudgedOf, JudgesThose, TakesCopper, drill_files, layer_number, HoldsThose, IsPutAt, ReadsInto, is_kind_at, is_kind_of, is_wanted, kept_at, next_stop, IsLeftOf, Judges, JudgesCopper, Setting, FileView, HasContent, HaveContents, is_copper, sum_of, unnamed_file, FileSum, PackageFault, Content, Judged}
 use Rattle.grid_units.specs.declared.fault.Fail.TheVariants as fails
 use Rattle.manifest.specs.declared.Role.TheVariants as role
 use Rattle.package_check.specs.CheckViews.{setting_of}
@@ -67,13 +67,6 @@ judged_bytes rules holes layer layers None bytes (Ok one) none h = h
 judged_bytes rules holes layer layers None bytes (Err fails.Memory) none h = tt
 judged_bytes rules holes layer layers None bytes (Err (fails.Refused f)) none h = h
 judged_bytes rules holes layer layers (Some s) bytes r none h = absurd (none-some s (sym none))
-
--- and one with a span is refused
-pub judged_span : (rules : GridRules) (holes : List Drilled) (layer layers : ℕ) (span : Option LayerSpan) (s : LayerSpan) (bytes : List ℕ) (e : Fail) → span ≡ Some s → e ≡ fails.Refused bad_span
-    → Answers {T = Judged} (λ one. one) (Judges rules holes layer (unnamed_file role.Copper span (record { layers = layers; profile = rules.profile }) bytes)) (Err e)
-judged_span rules holes layer layers None s bytes e some is = absurd (none-some s some)
-judged_span rules holes layer layers (Some t) s bytes e some is =
-    subst (λ (x : Fail). Answers {T = Judged} (λ one. one) (Judges rules holes layer (unnamed_file role.Copper (Some t) (record { layers = layers; profile = rules.profile }) bytes)) (Err x)) (sym is) refl
 
 -- ---- a file is judged, and put into its slot
 

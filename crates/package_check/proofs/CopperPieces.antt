@@ -1,5 +1,5 @@
 -- A check that reads a copper file piece by piece.
-use Rattle.package_check.proofs.Common.{◌≡◌, ℕ, Bool, true, false, List, [], Ok, Err, Option, None, Some, Result, OnOk, ap, subst, sym, ◌∙◌, AllocError, GridRules, Answers, LayerSpan, Fail, Drilled, CheckView, AreHolesOf, HasJudged, IsJudgedOf, TakesCopper, HoldsThose, is_wanted, HasTriedPadsOf, Judges, HasFailed, HasOpenedCopper, HasReadCopper, Setting, FileView, is_bad_span, unnamed_file, PackageFault, Judged, Profile, LayerStands, HolesView}
+use Rattle.package_check.proofs.Common.{◌≡◌, ℕ, Bool, true, false, List, [], Ok, Err, Option, None, Result, OnOk, ap, subst, sym, ◌∙◌, AllocError, GridRules, Answers, LayerSpan, Fail, Drilled, CheckView, AreHolesOf, HasJudged, IsJudgedOf, TakesCopper, HoldsThose, is_wanted, HasTriedPadsOf, Judges, HasFailed, HasOpenedCopper, HasReadCopper, Setting, FileView, is_bad_span, unnamed_file, PackageFault, Judged, Profile, LayerStands, HolesView}
 use Rattle.grid_units.specs.declared.fault.Fail.TheVariants as fails
 use Rattle.manifest.specs.declared.Role.TheVariants as role
 use Rattle.package_check.specs.CheckViews.{holes_of, setting_of}
@@ -12,10 +12,6 @@ use Rattle.package_check.proofs.OpenFiles.{failed_read}
 -- a span that there is not is not bad
 pub no_span : (span : Option LayerSpan) (n : ℕ) → span ≡ None → is_bad_span role.Copper span n ≡ false
 no_span span n none = ap (λ (s : Option LayerSpan). is_bad_span role.Copper s n) none
-
--- a span of a copper file is bad
-pub some_span : (span : Option LayerSpan) (one : LayerSpan) (n : ℕ) → span ≡ Some one → is_bad_span role.Copper span n ≡ true
-some_span span one n some = ap (λ (s : Option LayerSpan). is_bad_span role.Copper s n) some
 
 -- a file that has failed is refused in the end
 pub failed_judged : (rules : GridRules) (holes : List Drilled) (layer : ℕ) (span : Option LayerSpan) (n : Setting) (text : List ℕ) (e : Fail) → HasFailed role.Copper span n e text

@@ -1,7 +1,6 @@
 -- A copper file whose pads are tried as they are read.
-use Rattle.package_check.proofs.Common.{◌≡◌, ◌++◌, ℕ, Bool, List, [], None, Ok, Err, false, true, ap, inl, subst, sym, inr, refl, ◌∙◌, map, GridRules, Answers, IfFault, Fault, Fail, without_places, LayerStands, KeptLayer, ReadsKeptIn, plain, FeatureCounts, wide_pad_covers, WidePad, layer_findings, Drilled, Finding, HasLayerView, is_copper_function, layer_view, HolesView, HasTriedIn, HasTriedPadsOf, JudgesCopper, not_copper, Judged}
+use Rattle.package_check.proofs.Common.{◌≡◌, ◌++◌, ℕ, List, [], None, Ok, Err, false, true, ap, inl, subst, sym, inr, refl, ◌∙◌, map, GridRules, Answers, Fail, without_places, LayerStands, KeptLayer, ReadsKeptIn, plain, FeatureCounts, wide_pad_covers, WidePad, layer_findings, Drilled, Finding, HasLayerView, is_copper_function, layer_view, HolesView, HasTriedIn, HasTriedPadsOf, JudgesCopper, not_copper, Judged}
 use Rattle.grid_units.specs.declared.fault.Fail.TheVariants as fails
-use Rattle.layer_image.specs.Layers as layers
 use Rattle.layer_features.specs.declared.keep.Keep.TheVariants as keep
 use Rattle.layer_image.specs.declared.reader.LayerReader.{LayerReader}
 use Rattle.std.specs.Global.{Vec}
@@ -36,11 +35,6 @@ pub rest_fault : (rules : GridRules) (holes : List Drilled) (layer : ℕ) (text 
     → Answers {T = Judged} (λ one. one) (JudgesCopper rules holes layer text) (Err e)
 rest_fault rules holes layer text left fails.Memory h = tt
 rest_fault rules holes layer text left (fails.Refused f) h = inl h
-
--- and so is one that is met before
-pub fault_of_file : (rules : GridRules) (holes : List Drilled) (layer : ℕ) (text : List ℕ) (e : Fail) → IfFault (λ f. layers.ReadsLayerIn rules.profile text (Err f)) e → Answers {T = Judged} (λ one. one) (JudgesCopper rules holes layer text) (Err e)
-fault_of_file rules holes layer text fails.Memory h = tt
-fault_of_file rules holes layer text (fails.Refused f) h = inl h
 
 -- no pad was taken so far, and none tried
 pub none_tried : (holes : HolesView) (layer : ℕ) (reader : LayerReader) (text : List ℕ) → LayerStands reader holes.rules.profile keep.Pads [] text → holes.search ≡ None → HasTriedPadsOf holes layer reader text

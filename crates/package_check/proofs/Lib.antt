@@ -28,6 +28,7 @@ pub mod SameAnswerLemmas
 pub mod SlotLemmas
 pub mod TakeSteps
 pub mod WrittenPackages
-mod WiderFindings
+pub mod WiderFindings
 mod WiderContents
+mod WideBoards
 pub mod Uncontradicted

@@ -1,5 +1,5 @@
 -- Files of a package that are read piece by piece.
-use Rattle.package_check.proofs.Common.{◌≡◌, ◌++◌, ℕ, Bool, true, false, List, [], Ok, Err, Option, Result, OnOk, IfErr, ap, inl, refl, subst, sym, ◌∙◌, append_assoc, append-nil, false≢true, Answers, IfFault, LayerSpan, Fault, Fail, DrillCommand, says_otherwise, Kind, ReadsAsBy, ReadsBy, ShowsBy, mixed_in, Profile, Strict, Wide, ShowsLayerFaultIn, KeptLayer, ReadsKeptIn, WidePad, Keep, Role, Drilled, DrillView, LayerView, ReadsDrill, ReadsLayer, ReadsMixed, drill_kind, drill_view, marked, plating_in, TakesFile, is_wanted, setting_of, HasFailed, HasOpened, HasReadText, drill_role, FileView, Setting, Reads, ReadsBytes, ReadsCopper, ReadsHoles, ReadsMixedHoles, ReadsUnlessBadSpan, bad_span, is_bad_span, is_copper, unnamed_file, Content, PackageReader, AllocError}
+use Rattle.package_check.proofs.Common.{◌≡◌, ◌++◌, ℕ, Bool, true, false, List, [], Ok, Err, Option, Result, OnOk, IfErr, ap, inl, subst, sym, ◌∙◌, append-nil, false≢true, Answers, IfFault, LayerSpan, Fault, Fail, DrillCommand, says_otherwise, Kind, ReadsAsBy, ReadsBy, ShowsBy, mixed_in, Profile, Strict, Wide, ShowsLayerFaultIn, KeptLayer, ReadsKeptIn, WidePad, Keep, Role, Drilled, DrillView, LayerView, ReadsDrill, ReadsLayer, ReadsMixed, drill_kind, drill_view, marked, plating_in, TakesFile, is_wanted, setting_of, HasFailed, HasOpened, HasReadText, drill_role, FileView, Setting, Reads, ReadsBytes, ReadsCopper, ReadsHoles, ReadsMixedHoles, ReadsUnlessBadSpan, is_bad_span, is_copper, unnamed_file, Content, PackageReader, AllocError}
 use Rattle.grid_units.specs.declared.fault.Fail.TheVariants as fails
 use Rattle.drill_text.specs.Outcome.{DrillFile, file_of}
 use Rattle.drill_text.proofs.SpellsTextLemmas.{reads_drill_text}
@@ -42,21 +42,7 @@ read_as_mixed of span setting bytes r is good h =
     subst (λ (q : Role). Answers {T = Content} (λ x. x) (Reads (unnamed_file q span setting bytes)) r) (sym is)
     (by_bytes (is_bad_span role.Mixed span setting.layers) (unnamed_file role.Mixed span setting bytes) r (ap (λ (q : Role). is_bad_span q span setting.layers) (sym is) ∙ good) h)
 
--- a drill file is not copper
-pub drill_no_copper : (of : Role) (plated : Bool) → of ≡ drill_role plated → is_copper of ≡ false
-drill_no_copper of true is = ap is_copper is
-drill_no_copper of false is = ap is_copper is
-
 -- ---- faults
-
-refused_span : (t : Bool) (s : FileView) (f : Fault) → t ≡ true → f ≡ bad_span → ReadsUnlessBadSpan t s (Err f)
-refused_span true s f is same = λ j. Err (same j)
-refused_span false s f is same = absurd (false≢true is)
-
--- a bad span is a fault, whatever the text is
-pub span_failed : (of : Role) (span : Option LayerSpan) (setting : Setting) (text : List ℕ) (e : Fail) → is_bad_span of span setting.layers ≡ true → e ≡ fails.Refused bad_span → HasFailed of span setting e text
-span_failed of span setting text e bad is =
-    subst (λ (x : Fail). HasFailed of span setting x text) (sym is) (λ more. refused_span (is_bad_span of span setting.layers) (unnamed_file of span setting (text ++ more)) bad_span bad refl)
 
 -- the fault of a drill text is that of its file
 drill_refused : (profile : Profile) (plated : Bool) (span : Option LayerSpan) (text : List ℕ) (f : Fault) → ReadsBy (drill_kind profile plated) text (Err f) → ReadsHoles profile plated span text (Err f)
@@ -80,11 +66,6 @@ pub mixed_failed : ((kind : Kind) (text more : List ℕ) (f : Fault) → ShowsBy
     → of ≡ role.Mixed → is_bad_span of span setting.layers ≡ false → IfFault (λ f. ShowsBy (mixed_in setting.profile) text (Err f)) e → HasFailed of span setting e text
 mixed_failed law of span setting text fails.Memory is good h = tt
 mixed_failed law of span setting text (fails.Refused f) is good h = λ more. read_as_mixed of span setting (text ++ more) (Err (fails.Refused f)) is good (law (mixed_in setting.profile) text more f h)
-
--- a file that has failed has failed after the next piece too
-pub failed_on : (of : Role) (span : Option LayerSpan) (setting : Setting) (text piece : List ℕ) (e : Fail) → HasFailed of span setting e text → HasFailed of span setting e (text ++ piece)
-failed_on of span setting text piece fails.Memory h = tt
-failed_on of span setting text piece (fails.Refused f) h = λ more. subst (λ (t : List ℕ). Reads (unnamed_file of span setting t) (Err f)) (sym (append_assoc text piece more)) (h (piece ++ more))
 
 -- and so it is refused in the end
 pub failed_read : (of : Role) (span : Option LayerSpan) (setting : Setting) (text : List ℕ) (e : Fail) → HasFailed of span setting e text → Answers {T = Content} (λ x. x) (Reads (unnamed_file of span setting text)) (Err e)

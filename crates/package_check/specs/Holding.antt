@@ -8,9 +8,6 @@ use Rattle.gerber_text.specs.Writing.{without_places}
 use Rattle.layer_image.specs.Layers.{IsLayerIn, LayerImage}
 use Rattle.layer_features.specs.Features.{features_of, rows_of, uncounted_contours, uncounted_macros, wide_features_of}
 use Rattle.layer_features.specs.Kept.{keeps_drawn, keeps_rows}
-use Rattle.pad_shapes.specs.declared.drawn.Drawn.{Drawn}
-use Rattle.pad_shapes.specs.declared.row.FeatureRow.{FeatureRow}
-use Rattle.pad_shapes.specs.declared.wide_pad.WidePad.{WidePad}
 use Rattle.layer_features.specs.declared.keep.Keep.{Keep}
 use Rattle.manifest.specs.declared.Role.{Role}
 use Rattle.package_check.specs.declared.PackageFault.{PackageFault}

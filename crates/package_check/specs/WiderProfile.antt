@@ -1,16 +1,24 @@
 -- What the wide profile says of a package that the strict one reads: it reads it too, unless a file calls holes plated that its role calls unplated.
-use Rattle.std.specs.Prelude.{◌≡◌, ◌⊎◌, ℕ, Bool, true, false, List, map}
-use Rattle.std.specs.List.{AllByRecursion, Contains, filter, list_any}
+use Rattle.std.specs.Prelude.{◌≡◌, ◌⊎◌, ◌++◌, ◌&&◌, ℕ, Bool, true, false, not, List, [], get_or, map}
+use Rattle.std.specs.List.{AllByRecursion, Contains, enumerate_from, filter, flat_map, list_any}
 use Rattle.drill_lines.specs.declared.command.DrillCommand.{DrillCommand}
 use Rattle.drill_text.specs.Plating.{calls_plated}
 use Rattle.drill_text.specs.Texts.{IsDrillText}
+use Rattle.grid_units.specs.Holes.{GridRules}
+use Rattle.grid_units.specs.declared.fault.Fault.{Fault}
 use Rattle.grid_units.specs.declared.profile.Profile.{Profile}
 use Rattle.grid_units.specs.declared.profile.Profile.TheVariants.{Strict, Wide}
+use Rattle.pad_shapes.specs.WidePads.{wide_pad_covers}
+use Rattle.pad_shapes.specs.declared.wide_pad.WidePad.{WidePad}
+use Rattle.ring_rules.specs.Findings.{gap_findings, layer_findings}
 use Rattle.ring_rules.specs.declared.finding.Finding.{Finding}
 use Rattle.ring_rules.specs.declared.finding.Finding.TheVariants.{Ring, Oblique, Gap}
 use Rattle.manifest.specs.declared.Role.TheVariants as role
-use Rattle.package_check.specs.Package.{FileView, HasContent, IsReport}
+use Rattle.package_check.specs.Boards.{BoardView, IsFlashedBoard}
+use Rattle.package_check.specs.Package.{FileView, HasContent, IsFirstRefused, IsReport}
 use Rattle.package_check.specs.Reports.{ReportView}
+use Rattle.package_check.specs.declared.FileSum.{FileSum}
+use Rattle.package_check.specs.declared.FileSum.TheVariants as sum
 use Rattle.package_check.specs.declared.contents.Content.{Content}
 
 -- the same file, read in a profile
@@ -29,12 +37,14 @@ pub record FindsNoMore (wide strict : ReportView) : Type 0 where
   pub layers : wide.layers ≡ strict.layers
   pub holes : wide.holes ≡ strict.holes
   pub gaps : filter is_gap wide.findings ≡ filter is_gap strict.findings
-  pub rings : (layer hole : ℕ) → Contains wide.findings (Ring layer hole) → Contains strict.findings (Ring layer hole) ⊎ Contains strict.findings (Oblique layer hole)
+  pub rings : (layer hole : ℕ) → Contains wide.findings (Ring layer hole)
+      → Contains strict.findings (Ring layer hole) ⊎ Contains strict.findings (Oblique layer hole)
   pub angles : (layer hole : ℕ) → ¬ Contains wide.findings (Oblique layer hole)
 
 -- a file does not contradict its role: where that says that no hole is plated, no comment of its drill text says that holes are
 abbrev pub IsUncontradicted : FileView → Type 0
-IsUncontradicted source = source.role ≡ role.Unplated → (commands : List DrillCommand) → IsDrillText source.bytes commands → list_any calls_plated commands ≡ false
+IsUncontradicted source =
+    source.role ≡ role.Unplated → (commands : List DrillCommand) → IsDrillText source.bytes commands → list_any calls_plated commands ≡ false
 
 -- a package that the strict profile reads, and of which no file contradicts its role, the wide one reads too, and finds no more
 abbrev pub WideFindsNoMore : Type 0
@@ -44,3 +54,39 @@ WideFindsNoMore = (sources : List FileView) (ring gap : ℕ) (strict : ReportVie
 -- a file that the wide profile reads does not contradict its role
 abbrev pub ReadIsUncontradicted : Type 0
 ReadIsUncontradicted = (source : FileView) (content : Content) → HasContent (read_in Wide source) content → IsUncontradicted source
+
+-- ---- by the board of the strict profile
+
+-- the same ring and gap in the wide profile
+abbrev pub in_wide : GridRules → GridRules
+in_wide rules = record { ring = rules.ring; gap = rules.gap; profile = Wide }
+
+-- a drill file contradicts its role: that says that no hole is plated, and a comment says that holes are
+abbrev pub contradicts_role : FileSum → Bool
+contradicts_role (sum.Drill plated span contradicted round slots) = not plated && contradicted
+contradicts_role _ = false
+
+-- all pads of a layer, by its place among the copper files and the index of its file: those that the profile counts, the shapes of macros, and the contours
+abbrev pub all_pads : BoardView → ℕ × ℕ → List WidePad
+all_pads board layer = (get_or board.layers layer.0 [] ++ get_or board.macros layer.1 []) ++ get_or board.contours layer.1 []
+
+-- the rings that lack on a layer where all of its pads count
+abbrev pub layer_rings : GridRules → BoardView → ℕ × ℕ → List Finding
+layer_rings rules board layer = layer_findings wide_pad_covers rules.profile rules.ring board.holes layer.0 (all_pads board layer)
+
+-- the rings that lack on a board where all of its pads count, and a slot may lie at any angle
+abbrev pub wide_rings : GridRules → BoardView → List Finding
+wide_rings rules board = flat_map (layer_rings (in_wide rules) board) (enumerate_from 0 board.layer_indexes)
+
+-- What the wide profile says of the files of a board that was read in the strict one: it refuses one of them where a drill file contradicts its role. Else it finds
+-- the rings that lack where all pads of the board count, and the same gaps.
+pub record AnswersInWide (sources : List FileView) (rules : GridRules) (board : BoardView) : Type 0 where
+  pub refuses : list_any contradicts_role board.files ≡ true → (index : ℕ) × (fault : Fault) × IsFirstRefused (map (read_in Wide) sources) index fault
+  pub reads : list_any contradicts_role board.files ≡ false
+      → (wide : ReportView) × IsReport (map (read_in Wide) sources) (in_wide rules) wide
+      × (wide.findings ≡ wide_rings rules board ++ gap_findings rules.gap board.holes)
+
+-- it says so of each board of the strict profile
+abbrev pub WideAnswersByBoard : Type 0
+WideAnswersByBoard =
+    (sources : List FileView) (rules : GridRules) (board : BoardView) → IsFlashedBoard (map (read_in Strict) sources) board → AnswersInWide sources rules board

@@ -1,6 +1,6 @@
 //! The board of a package: what all of its files say together.
 
-ghost use Rattle.std.specs.Prelude.{◌≡◌, ◌++◌, ◌∷◌, [], IfOk, OnOk, get_or, map, min, not, count_by};
+ghost use Rattle.std.specs.Prelude.{◌≡◌, ◌++◌, [], IfOk, OnOk, get_or, map, min, not, count_by};
 ghost use Rattle.std.specs.List.{flat_map};
 ghost use Rattle.grid_units.specs.Holes.{is_round};
 ghost use Rattle.package_check.specs.Boards.{CountsAddUp, board_findings, hole_count};

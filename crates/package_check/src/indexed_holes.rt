@@ -170,8 +170,13 @@ impl IndexedHoles {
     }
 
     /// Tries the next pads of a layer of this number, by an index that suits them.
-    fn try_pads(&mut self, alloc: Global, layer: usize, pads: &[Pad]) -> Result<(), AllocError>
-        ensures tried { (tried : List ThePad) → HasTriedIn self.old.holes self.old.index layer tried self.old.search → OnOk result (HasTriedIn self.new.holes self.new.index layer (tried ++ map plain pads.now) self.new.search) }
+    fn try_pads<S: PadShape>(
+        &mut self,
+        alloc: Global,
+        layer: usize,
+        pads: &[S],
+    ) -> Result<(), AllocError>
+        ensures tried { (tried more : List ThePad) → map S.covers pads.now ≡ map wide_pad_covers more → HasTriedIn self.old.holes self.old.index layer tried self.old.search → OnOk result (HasTriedIn self.new.holes self.new.index layer (tried ++ more) self.new.search) }
         ensures holes { self.new.holes ≡ self.old.holes }
         ensures rules { self.new.rules ≡ self.old.rules }
     {
@@ -211,7 +216,7 @@ impl IndexedHoles {
         ensures rules { self.new.rules ≡ self.old.rules }
     {
         self.try_pads(alloc, layer, pads)?;
-        self.try_wide(alloc, layer, wide_pads)
+        self.try_pads(alloc, layer, wide_pads)
     }
 
     /// Feeds a chunk of a layer to the reader, tries the pads that it ends, and drops them.
@@ -251,24 +256,6 @@ impl IndexedHoles {
         for chunk in piece.chunks(PIECE) {
             self.feed_chunk(alloc, layer, reader, chunk)?;
         }
-        Ok(())
-    }
-
-    /// Tries the next pads of a layer of this number in the wide profile, by an index that suits them.
-    fn try_wide(&mut self, alloc: Global, layer: usize, pads: &[WidePad]) -> Result<(), AllocError>
-        ensures tried { (tried : List ThePad) → HasTriedIn self.old.holes self.old.index layer tried self.old.search → OnOk result (HasTriedIn self.new.holes self.new.index layer (tried ++ pads.now) self.new.search) }
-        ensures holes { self.new.holes ≡ self.old.holes }
-        ensures rules { self.new.rules ≡ self.old.rules }
-    {
-        if pads.is_empty() {
-            return Ok(());
-        }
-        self.suit(alloc, pads)?;
-        let mut search = self.take_search(alloc, layer)?;
-        search.try_pads(&self.index, pads);
-        self.search = Some(search);
-        self.is_fresh = false;
-        self.tried = self.tried.saturating_add(pads.len());
         Ok(())
     }
 

@@ -4,7 +4,7 @@ ghost use Rattle.package_check.specs.Boards.{FileCountsAddUp};
 ghost use Rattle.package_check.specs.Package.{FindingsNameTheirPlaces};
 ghost use Rattle.package_check.specs.Soundness.{HolesAreSaidOnce, PadsAreSaidOnce, PassingIsSound};
 ghost use Rattle.package_check.specs.SoundnessAsRead.{PassingIsSoundAsRead, SoundAsReadIsSound};
-ghost use Rattle.package_check.specs.WiderProfile.{ReadIsUncontradicted, WideFindsNoMore};
+ghost use Rattle.package_check.specs.WiderProfile.{ReadIsUncontradicted, WideAnswersByBoard, WideFindsNoMore};
 
 use pad_shapes::WidePad;
 use ring_rules::laws::{findings_name_places, gaps_hold, holes_hold, rings_hold};
@@ -121,4 +121,17 @@ pub fn wide_finds_no_more()
     drill_text::laws::readings_of_kinds();
     drill_text::laws::unplated_files();
     ring_rules::laws::wide_finds_no_more::<WidePad, WidePad>();
+}
+
+/// The board of a package that was read in the strict profile has what the wide profile says of the same files: which rings lack there, or
+/// that it refuses a file.
+pub fn wide_answers_by_board()
+    ensures { WideAnswersByBoard }
+{
+    wide_finds_no_more();
+    answer_exists();
+    layer_image::strict_layers();
+    layer_image::readings_in_profiles();
+    drill_text::laws::drill_texts();
+    drill_text::laws::unique_reading();
 }

@@ -1,16 +1,12 @@
--- What a panel draws of a layer of the strict profile.
-use Rattle.picture.proofs.Common.{◌≡◌, ◌<◌, ◌+◌, ◌++◌, List, [], ◌∷◌, map, length, nat_lt, if◌then◌else◌, refl, ap, filter, length-map, pad_paths, crosses_of, is_crowded, plain_pads, rounded_pads}
+-- What a panel draws of a layer of the strict profile, and where its crosses stand.
+use Rattle.picture.proofs.Common.{◌≡◌, ◌++◌, List, [], ◌∷◌, Bool, true, false, cond, map, refl, ap, filter, pad_paths, crosses_of, plain_pads, rounded_pads}
 use Rattle.std.proofs.lemmas.List.{append-nil}
+use Rattle.std.specs.Prelude.{not}
 use Rattle.grid_units.specs.Points.{GridPoint}
-use Rattle.pad_shapes.specs.declared.pad.Pad.{Pad}
-use Rattle.pad_shapes.specs.declared.wide_pad.WidePad.TheVariants.{Plain}
-use Rattle.layer_state.specs.Flashes.{is_other}
-use Rattle.layer_state.specs.declared.flash.Flash.{Flash}
-use Rattle.layer_state.specs.declared.flash.What.{What}
-use Rattle.layer_state.specs.declared.flash.What.TheVariants as what
-use Rattle.layer_features.specs.Features.{strict_row, strict_row_kind}
 use Rattle.pad_shapes.specs.Rows.{is_pad_row}
-use Rattle.ring_rules.specs.declared.finding.Drilled.{Drilled}
+use Rattle.pad_shapes.specs.declared.pad.Pad.{Pad}
+use Rattle.pad_shapes.specs.declared.row.FeatureRow.{FeatureRow}
+use Rattle.pad_shapes.specs.declared.wide_pad.WidePad.TheVariants.{Plain}
 use Rattle.picture.specs.RoundedPads.{pads_text}
 
 pub strict_plain : (pads : List Pad) → plain_pads (map Plain pads) ≡ pads
@@ -21,18 +17,15 @@ pub strict_rounded : (pads : List Pad) → rounded_pads (map Plain pads) ≡ []
 strict_rounded [] = refl
 strict_rounded (p ∷ ps) = strict_rounded ps
 
--- one more flash, by what it is
-one_more : (f : Flash) (w : What) (points : List GridPoint) (others : List Flash) → points ≡ map (λ flash. flash.at) others
-    → (if is_pad_row (strict_row_kind w) then [] else f.at ∷ []) ++ points ≡ map (λ flash. flash.at) (if is_other w then f ∷ others else others)
-one_more f (what.Pad pad) points others e = e
-one_more f (what.Other why) points others e = ap (λ ps. f.at ∷ ps) e
+-- one more row, by whether it is a pad
+one_more : (r : FeatureRow) (is_pad : Bool) (points : List GridPoint) (others : List FeatureRow) → points ≡ map (λ row. row.at) others
+    → cond is_pad [] (r.at ∷ []) ++ points ≡ map (λ row. row.at) (cond (not is_pad) (r ∷ others) others)
+one_more r true points others e = e
+one_more r false points others e = ap (λ ps. r.at ∷ ps) e
 
-pub strict_crosses : (flashes : List Flash) → crosses_of (map strict_row flashes) ≡ map (λ flash. flash.at) (filter (λ flash. is_other flash.what) flashes)
-strict_crosses [] = refl
-strict_crosses (f ∷ fs) = one_more f f.what (crosses_of (map strict_row fs)) (filter (λ flash. is_other flash.what) fs) (strict_crosses fs)
-
-pub strict_crowded : (flashes : List Flash) (holes : List Drilled) → is_crowded (map strict_row flashes) holes ≡ nat_lt 100000 (length flashes + length holes)
-strict_crowded flashes holes = ap (λ n. nat_lt 100000 (n + length holes)) (length-map flashes strict_row)
+pub points_of_crosses : (rows : List FeatureRow) → crosses_of rows ≡ map (λ row. row.at) (filter (λ row. not (is_pad_row row.what)) rows)
+points_of_crosses [] = refl
+points_of_crosses (r ∷ rs) = one_more r (is_pad_row r.what) (crosses_of rs) (filter (λ (row : FeatureRow). not (is_pad_row row.what)) rs) (points_of_crosses rs)
 
 pub strict_text : (pads : List Pad) → pads_text pads [] ≡ pad_paths pads
 unfolding pads_text

@@ -1,11 +1,10 @@
 //! What holds of all pictures.
 
-ghost use Rattle.std.specs.Prelude.{◌≡◌, ℕ, ◌+◌, List, [], length, map, nat_lt};
+ghost use Rattle.std.specs.Prelude.{◌≡◌, ℕ, ◌+◌, List, [], length, map, nat_lt, not};
 ghost use Rattle.std.specs.List.{filter};
-ghost use Rattle.layer_features.specs.Features.{strict_row};
-ghost use Rattle.layer_state.specs.Flashes.{is_other};
-ghost use Rattle.layer_state.specs.declared.flash.Flash.{Flash};
+ghost use Rattle.pad_shapes.specs.Rows.{is_pad_row};
 ghost use Rattle.pad_shapes.specs.declared.pad.Pad.{Pad};
+ghost use Rattle.pad_shapes.specs.declared.row.FeatureRow.{FeatureRow};
 ghost use Rattle.picture.specs.Elements.{pad_paths};
 ghost use Rattle.picture.specs.Escapes.{IsEscaped, escaped};
 ghost use Rattle.picture.specs.RoundedPads.{pads_text};
@@ -23,12 +22,12 @@ pub fn one_path_per_size()
     ensures { (pads : List Pad) → AreSortedBySize pads → IsOnePathPerSize pads }
 {}
 
-/// Of a layer of the strict profile, whose rows are those of its flashes and whose pads are all plain: the plain pads are its pads, none is
-/// rounded, the crosses stand at its flashes that are no pads, its flashes are counted, and the text of its pads is that of their paths.
+/// Of a layer of the strict profile, whose pads are all plain, the plain pads are its pads, none is rounded, and the text of its pads is that of
+/// their paths. The crosses of any layer stand at its rows that are no pads, and its rows are counted.
 pub fn strict_layers()
     ensures pads { (pads : List Pad) → plain_pads (map Plain pads) ≡ pads }
     ensures rounded { (pads : List Pad) → rounded_pads (map Plain pads) ≡ [] }
-    ensures crosses { (flashes : List Flash) → crosses_of (map strict_row flashes) ≡ map (λ flash. flash.at) (filter (λ flash. is_other flash.what) flashes) }
-    ensures crowded { (flashes : List Flash) (holes : List Drilled) → is_crowded (map strict_row flashes) holes ≡ nat_lt 100000 (length flashes + length holes) }
+    ensures crosses { (rows : List FeatureRow) → crosses_of rows ≡ map (λ row. row.at) (filter (λ row. not (is_pad_row row.what)) rows) }
+    ensures crowded { (rows : List FeatureRow) (holes : List Drilled) → is_crowded rows holes ≡ nat_lt 100000 (length rows + length holes) }
     ensures text { (pads : List Pad) → pads_text pads [] ≡ pad_paths pads }
 {}

@@ -1,6 +1,6 @@
 -- The text of a report for people (docs/FORMATS.md, Report for people). Lengths are whole picometres, printed in millimetres.
 -- Positions count all findings of a report from 0: the rings first, then the gaps. Their numbers count them from 1.
-use Rattle.std.specs.Prelude.{ℕ, ℤ, pos, ◌+◌, ◌-◌, ◌*◌, ◌==◌, ◌+ℤ◌, ◌-ℤ◌, ◌++◌, ◌&&◌, Bool, true, false, not, nat_lt, List, [], ◌∷◌, length, map, take, codes, decimal, Option, Some, None, int_div, if◌then◌else◌, is_none}
+use Rattle.std.specs.Prelude.{ℕ, ℤ, pos, ◌+◌, ◌-◌, ◌*◌, ◌==◌, ◌+ℤ◌, ◌-ℤ◌, ◌++◌, ◌&&◌, Bool, true, not, nat_lt, List, [], ◌∷◌, length, map, take, codes, decimal, Option, Some, None, int_div, if◌then◌else◌, is_none}
 use Rattle.std.specs.Borrow.{Bor}
 use Rattle.std.specs.Int.{int_min}
 use Rattle.std.specs.List.{count_by, enumerate_from, filter, filter_map, flat_map, fold, list_any}

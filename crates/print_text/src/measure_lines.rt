@@ -1,6 +1,6 @@
 //! The lines of a measure.
 
-ghost use Rattle.std.specs.Prelude.{◌≡◌, Some};
+ghost use Rattle.std.specs.Prelude.{Some};
 ghost use Rattle.print_text.specs.MeasureLines.{gap_line, hole_words, least_ring_words, meets_line, met_words, ring_line, scale_line};
 
 use grid_units::{Line, Millimetres};

@@ -2,7 +2,6 @@ pub mod Common
 pub mod PlacesLemmas
 pub mod FirstInHole
 pub mod HolePoints
-pub mod MatchedRows
 pub mod CauseLemmas
 pub mod PadSymmetry
 pub mod RoundedDownLemma

@@ -1,5 +1,5 @@
 -- Two lists where each element of one belongs to the element of the other at its place.
-use Rattle.report.proofs.Common.{◌≡◌, ℕ, ◌+◌, ◌<◌, ◌≤◌, ◌++◌, ◌∷◌, [], ◌⊎◌, inl, inr, List, length, take, get_or, refl, sym, subst, ap, ◌∙◌, arith, cases_lt, get_or-take, get_or_append_left, get_or_default, length-append, length-take-le, take_all, get_or-append_seam}
+use Rattle.report.proofs.Common.{◌≡◌, ℕ, ◌+◌, ◌<◌, ◌≤◌, ◌++◌, ◌∷◌, [], ◌⊎◌, inl, inr, List, length, take, get_or, sym, subst, ap, ◌∙◌, arith, cases_lt, get_or-take, get_or_append_left, get_or_default, length-append, length-take-le, take_all, get_or-append_seam}
 
 module _ {X Y : Type 0} (R : X → Y → Type 0) where
   pub record PairedLists (xs : List X) (ys : List Y) : Type 0 where
@@ -7,9 +7,6 @@ module _ {X Y : Type 0} (R : X → Y → Type 0) where
     pub each : (k : ℕ) (x : X) (y : Y) → k < length xs → R (get_or xs k x) (get_or ys k y)
 
 module _ {X Y : Type 0} (R : X → Y → Type 0) (xs : List X) where
-  pub paired_none : PairedLists R (take 0 xs) []
-  paired_none = record { size = refl; each = λ k x y less. absurd (omega (arith, less)) }
-
   pub paired_all : (i : ℕ) (ys : List Y) → length xs ≤ i → PairedLists R (take i xs) ys → PairedLists R xs ys
   paired_all i ys past is = subst (λ (zs : List X). PairedLists R zs ys) (take_all i xs past) is
 

@@ -1,5 +1,5 @@
 -- Holes that are moved one by one, and the factor with the fewest of them bare.
-use Rattle.report.proofs.Common.{◌≡◌, ◌↔◌, ℕ, ℤ, ◌+◌, ◌-◌, ◌<◌, ◌≤◌, ◌&&◌, ◌||◌, not, Bool, true, false, cond, Option, Some, None, List, [], ◌∷◌, ◌++◌, length, take, get_or, refl, sym, subst, ap, ◌∙◌, arith, IsSome, IfSome, unsigned_abs, int_eq, count_by, sum_by, Decides-int_eq, length-append, take_all, GridPoint, IsCoordinate, max_coordinate, both_le, le_both, GridHole, is_round, WidePad, Drilled, UnitFactor, bare_count, bare_count_with, is_bare, is_bare_with, is_on_grid, is_uncovered, round_count, scaled, scaled_point, AreRescaled, IsRescaled, IsScaledPoint}
+use Rattle.report.proofs.Common.{◌≡◌, ◌↔◌, ℕ, ℤ, ◌+◌, ◌-◌, ◌<◌, ◌&&◌, ◌||◌, not, Bool, true, false, cond, Option, Some, None, List, [], ◌∷◌, ◌++◌, length, take, get_or, refl, sym, subst, ap, ◌∙◌, arith, IsSome, IfSome, unsigned_abs, int_eq, count_by, sum_by, Decides-int_eq, length-append, GridPoint, IsCoordinate, max_coordinate, both_le, le_both, GridHole, is_round, WidePad, Drilled, UnitFactor, bare_count, bare_count_with, is_bare, is_bare_with, is_on_grid, is_uncovered, round_count, scaled, scaled_point, AreRescaled, IsRescaled, IsScaledPoint}
 use Rattle.std.proofs.lemmas.List.Sums.{sum_by-append, sum_by-cons, sum_by_more}
 
 -- how many of a list there are with one more at its end
@@ -75,9 +75,6 @@ module _ (factor : UnitFactor) (holes : List Drilled) (i : ℕ) (d : Drilled) (i
 
 pub none_yet : (factor : UnitFactor) (holes : List Drilled) → AreRescaled factor (take 0 holes) []
 none_yet factor holes = record { bare = λ pads. refl; few = omega arith }
-
-pub rescaled_all : (factor : UnitFactor) (holes : List Drilled) (i : ℕ) (rescaled : List Drilled) → length holes ≤ i → AreRescaled factor (take i holes) rescaled → AreRescaled factor holes rescaled
-rescaled_all factor holes i rescaled past is = subst (λ (hs : List Drilled). AreRescaled factor hs rescaled) (take_all i holes past) is
 
 -- the bare holes are those that are bare at their new places, and the round ones without a place
 pub all_bare : (factor : UnitFactor) (pads : List WidePad) (holes rescaled : List Drilled) (round few bare : ℕ) → AreRescaled factor holes rescaled → round ≡ round_count holes → few ≡ length rescaled → bare ≡ bare_count pads rescaled

@@ -1,5 +1,5 @@
 -- Whether a hole lies in a pad of a list, by whether it is bare.
-use Rattle.report.proofs.Common.{◌≡◌, ◌↔◌, ◌∙◌, ℕ, ap, not, Bool, true, false, List, get_or, refl, sym, arith, false≢true, get_or_default, GridHole, wide_pad_covers, covers_both_ends, WidePad, hole_at, Drilled, AreBare, IsBare, wide_pad_covers_less, TellsBare, lies_in_pad}
+use Rattle.report.proofs.Common.{◌≡◌, ◌↔◌, ◌∙◌, ℕ, ap, not, Bool, true, false, List, get_or, refl, sym, arith, false≢true, get_or_default, GridHole, wide_pad_covers, covers_both_ends, WidePad, hole_at, Drilled, AreBare, IsBare, wide_pad_covers_less, MarksBare, lies_in_pad}
 use Rattle.std.proofs.lemmas.List.Folds.{list_any_at, list_any_none}
 use Rattle.grid_units.proofs.BoolLemmas.{and_true, both_true}
 use Rattle.report.proofs.BareLemmas.{refused}
@@ -20,16 +20,16 @@ module _ (pads : List WidePad) (h : GridHole) where
   outside e pad k reach inside =
       refused (spans reach (get_or pads k pad)) (λ t. false≢true (sym e ∙ list_any_at (spans 0) pads k pad inside (shallow (get_or pads k pad) reach t)))
 
-  told : (bare : Bool) → (bare ≡ true) ↔ IsBare wide_pad_covers pads h → not bare ≡ lies_in_pad pads h
-  told true is = sym (list_any_none (spans 0) pads (λ k pad inside. is.0 refl pad k 0 inside))
-  told false is = by (lies_in_pad pads h) refl
+  unmarked : (bare : Bool) → (bare ≡ true) ↔ IsBare wide_pad_covers pads h → not bare ≡ lies_in_pad pads h
+  unmarked true is = sym (list_any_none (spans 0) pads (λ k pad inside. is.0 refl pad k 0 inside))
+  unmarked false is = by (lies_in_pad pads h) refl
     where
       by : (lies : Bool) → lies_in_pad pads h ≡ lies → true ≡ lies
       by true e = refl
       by false e = absurd (false≢true (is.1 (outside e)))
 
--- a list that says of each hole whether it is bare tells it
-pub tells : (pads : List WidePad) (holes : List Drilled) (bare : List Bool) → AreBare wide_pad_covers pads holes bare → TellsBare pads holes bare
-tells pads holes bare all place inside =
+-- a list that says of each hole whether it is bare marks it
+pub marks : (pads : List WidePad) (holes : List Drilled) (bare : List Bool) → AreBare wide_pad_covers pads holes bare → MarksBare pads holes bare
+marks pads holes bare all place inside =
     let size = all.size in
-    ap not (get_or_default bare place true false (omega (arith, inside, size))) ∙ told pads (hole_at holes place) (get_or bare place false) (all.each place inside)
+    ap not (get_or_default bare place true false (omega (arith, inside, size))) ∙ unmarked pads (hole_at holes place) (get_or bare place false) (all.each place inside)

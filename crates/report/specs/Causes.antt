@@ -21,8 +21,6 @@ use Rattle.pad_shapes.specs.Rows.{is_pad_row}
 use Rattle.pad_shapes.specs.declared.row.FeatureRow.{FeatureRow}
 use Rattle.pad_shapes.specs.declared.row.RowKind.{RowKind}
 use Rattle.pad_shapes.specs.declared.row.RowKind.TheVariants as row_kind
-use Rattle.layer_features.specs.Features.{pads_of, rows_of}
-use Rattle.layer_features.specs.declared.feature.Feature.{Feature}
 use Rattle.report.specs.declared.FurtherCopper.{FurtherCopper}
 use Rattle.report.specs.declared.bounds.Bounds.{Bounds}
 use Rattle.report.specs.declared.groups.Group.{Group}
@@ -48,10 +46,6 @@ pad_places rows = filter_map pad_place (enumerate_from 0 rows)
 -- rows and pads belong together: as many rows are pads as there are pads
 abbrev pub AreMatched : List FeatureRow → List WidePad → Type 0
 AreMatched rows pads = length (pad_places rows) ≡ length pads
-
--- the rows of flashes and contours belong together with their pads
-abbrev pub RowsAreMatched : Type 0
-RowsAreMatched = (features : List Feature) → AreMatched (rows_of features) (pads_of features)
 
 -- a row that is no pad: its place, its point, and what it is; `None` for a pad
 abbrev pub other_row : ℕ × FeatureRow → Option Other
@@ -191,20 +185,20 @@ pub record HoldsRows (rows : List FeatureRow) (layer : CauseFinder) : Type 0 whe
   pub others : IsPermutation (others rows) layer.others.items
   pub groups : AreGroups layer.others.items layer.groups.items
 
--- a list tells of each hole whether it is bare: it lies in no pad of another list; past the end of the list it is
-abbrev pub TellsBare : List WidePad → List Drilled → List Bool → Type 0
-TellsBare pads holes bare = (place : ℕ) → place < length holes → not (get_or bare place true) ≡ lies_in_pad pads (hole_at holes place)
+-- a list marks the holes that are bare: each lies in no pad of another list; past its end every hole is bare
+abbrev pub MarksBare : List WidePad → List Drilled → List Bool → Type 0
+MarksBare pads holes bare = (place : ℕ) → place < length holes → not (get_or bare place true) ≡ lies_in_pad pads (hole_at holes place)
 
--- two lists tell which holes are bare among the pads that the profile does not count: the shapes of flashes of macros, and contours
-pub record TellsUncounted (uncounted : UncountedPads) (holes : List Drilled) (cover : UncountedCover) : Type 0 where
-  pub macros : TellsBare uncounted.macros holes cover.macros.items
-  pub contours : TellsBare uncounted.contours holes cover.contours.items
+-- two lists mark the holes that are bare among the pads that the profile does not count: the shapes of flashes of macros, and contours
+pub record MarkUncounted (uncounted : UncountedPads) (holes : List Drilled) (cover : UncountedCover) : Type 0 where
+  pub macros : MarksBare uncounted.macros holes cover.macros.items
+  pub contours : MarksBare uncounted.contours holes cover.contours.items
 
 -- the same data with the best pad of each hole, if it has one, and with which holes lie in pads that the profile does not count
 pub record HoldsRowsAndBests (rows : List FeatureRow) (pads : List WidePad) (uncounted : UncountedPads) (holes : List Drilled) (layer : CauseFinder) : Type 0 where
   pub known : HoldsRows rows layer
   pub bests : AreBestPads wide_pad_covers pads holes layer.bests.items
-  pub cover : TellsUncounted uncounted holes layer.cover
+  pub cover : MarkUncounted uncounted holes layer.cover
 
 -- the ring of a hole in its best pad; nothing where it lies in no pad that counts or is a slot that is refused
 abbrev pub ring_of : RingCause → Option ℤ

@@ -2,7 +2,7 @@
 
 ghost use Rattle.std.specs.Prelude.{◌≡◌, ◌<◌, IfOk, get_or, length, not, true};
 ghost use Rattle.ring_rules.specs.Places.{hole_at};
-ghost use Rattle.report.specs.Causes.{TellsBare, TellsUncounted, uncounted_pads};
+ghost use Rattle.report.specs.Causes.{MarksBare, MarkUncounted, uncounted_pads};
 ghost use Rattle.report.specs.Inner.CauseParts.{uncounted_cause};
 
 use crate::{FurtherCopper, RingCause};
@@ -21,7 +21,7 @@ pub(crate) struct UncountedCover {
 
 /// Of each hole whether it lies in no pad. Nothing is searched, and the list is empty, where there are no pads.
 fn bare_in(alloc: Global, pads: &[WidePad], holes: &[Drilled]) -> Result<Vec<bool>, AllocError>
-    ensures { IfOk result (λ bare. TellsBare pads.now holes.now bare.items) }
+    ensures { IfOk result (λ bare. MarksBare pads.now holes.now bare.items) }
 {
     if pads.is_empty() {
         return Ok(Vec::new(alloc));
@@ -29,7 +29,7 @@ fn bare_in(alloc: Global, pads: &[WidePad], holes: &[Drilled]) -> Result<Vec<boo
     bare_holes(alloc, pads, holes)
 }
 
-/// Whether the hole at a place lies in a pad, by a list that tells which do not.
+/// Whether the hole at a place lies in a pad, by the marks of the holes that do not.
 fn lies_in_pad(bare: &[bool], place: usize) -> bool
     ensures { result ≡ not (get_or bare.now place true) }
 {
@@ -40,13 +40,13 @@ fn lies_in_pad(bare: &[bool], place: usize) -> bool
 }
 
 impl UncountedCover {
-    /// What is told of some holes.
+    /// The marks of some holes.
     pub(crate) fn of(
         alloc: Global,
         uncounted: FurtherCopper,
         holes: &[Drilled],
     ) -> Result<UncountedCover, AllocError>
-        ensures { IfOk result (TellsUncounted (uncounted_pads uncounted.entry) holes.now) }
+        ensures { IfOk result (MarkUncounted (uncounted_pads uncounted.entry) holes.now) }
     {
         Ok(UncountedCover {
             macros: bare_in(alloc, uncounted.macros, holes)?,
@@ -55,14 +55,14 @@ impl UncountedCover {
     }
 
     /// Why the hole at a place lacks its ring, where it lies in no pad that the profile counts and no other flash has its point in it. The pads and
-    /// the holes must be those of which this tells.
+    /// the holes must be those that this marks.
     pub(crate) fn cause_at(
         &self,
         uncounted: FurtherCopper,
         holes: &[Drilled],
         place: usize,
     ) -> RingCause
-        requires told { TellsUncounted (uncounted_pads uncounted) holes.now self.now }
+        requires marks { MarkUncounted (uncounted_pads uncounted) holes.now self.now }
         requires place { place < length holes.now }
         ensures { result ≡ uncounted_cause (uncounted_pads uncounted.entry) (hole_at holes.now place) }
     {

@@ -6,7 +6,6 @@ ghost use Rattle.pad_shapes.specs.declared.wide_pad.WidePad.{WidePad as TheWideP
 ghost use Rattle.ring_rules.specs.Findings.{is_refused_slot};
 ghost use Rattle.ring_rules.specs.Places.{hole_at};
 ghost use Rattle.pad_shapes.specs.Rows.{is_pad_row};
-ghost use Rattle.pad_shapes.specs.declared.row.FeatureRow.{FeatureRow as TheRow};
 ghost use Rattle.margins.specs.BestPads.{AreBestPads, IsBestPad, IsDeepest};
 ghost use Rattle.report.specs.Causes.{HoldsRows, HoldsRowsAndBests, IsCause, UncountedPads, other_in, pad_place, pad_places, uncounted_pads};
 ghost use Rattle.report.specs.Inner.CauseParts.{cause_without_pad, other_cause, plain_cause, uncounted_cause};

@@ -22,7 +22,7 @@ use Rattle.package_check.specs.Boards.{BoardView, IsBoard, board_findings}
 use Rattle.package_check.specs.Package.{FileView, index_of, pads_of}
 use Rattle.package_check.specs.declared.contents.Content.{Content}
 use Rattle.package_check.specs.declared.contents.Content.TheVariants as content
-use Rattle.board_report.specs.BoardReport.{is_gap}
+use Rattle.package_check.specs.WiderProfile.{is_gap}
 use Rattle.picture.specs.Elements.{finding_start, finding_text, finding_words, group_end, lack, naming}
 use Rattle.picture.specs.Outlines.{shown_outline}
 use Rattle.picture.specs.Panels.{lacks_text, panel_text}

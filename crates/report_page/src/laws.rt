@@ -1,6 +1,5 @@
 //! What holds of all pages.
 
-ghost use Rattle.std.specs.Prelude.{ℕ};
 ghost use Rattle.report.specs.declared.BoardReport.{BoardReport};
 ghost use Rattle.report_page.specs.Pages.{EachRowHasItsMarker, NumbersEachOnce};
 

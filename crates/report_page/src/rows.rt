@@ -1,6 +1,6 @@
 //! The rows of the table: one for each finding.
 
-ghost use Rattle.std.specs.Prelude.{◌≡◌, pos, length, map, slice_get, Some};
+ghost use Rattle.std.specs.Prelude.{pos, length, map, slice_get, Some};
 ghost use Rattle.std.specs.Fmt.{DisplaysOnOk};
 ghost use Rattle.std.specs.List.{enumerate_from};
 ghost use Rattle.grid_units.specs.HoleWords.{two_lengths};

@@ -1,6 +1,6 @@
 //! The rows of the tool table: one for each layer, drill file and diameter at which holes need a ring.
 
-ghost use Rattle.std.specs.Prelude.{◌≡◌, pos, map, Some};
+ghost use Rattle.std.specs.Prelude.{◌≡◌, map, Some};
 ghost use Rattle.picture.specs.Escapes.{escaped};
 ghost use Rattle.grid_units.specs.HoleWords.{name_of};
 ghost use Rattle.report_page.specs.Pages.{lacks_ring, least_words, mark_words, tool_counts, tool_end, tool_row, tool_start};

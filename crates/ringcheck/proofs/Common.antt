@@ -13,7 +13,7 @@ pub use Rattle.package_check.specs.Holding.{HasTaken, HasTakenAll}
 pub use Rattle.package_check.specs.OpenFiles.{HasOpened, HasOpenedCopper}
 pub use Rattle.package_check.specs.Package.{FileView, IsFirstRefused, ReadsBytes, ReadsCopper, ReadsHoles, ReadsUnlessBadSpan, ReturnsReport, Setting, is_bad_span, is_copper}
 pub use Rattle.package_check.specs.declared.PackageFault.{PackageFault}
-pub use Rattle.ringcheck.specs.CheckStatus.{Checks, HasFiles, HasTable, HoldsForPackage, IsCheckStatus, IsLegalStatus, IsPackageRefusal, IsParsedCheckStatus, IsParsedLegalStatus, RefusedAmong, RefusedFile, SaysPackage, bad_file, file_views_among, long_file, refused_file, refused_manifest, setting_in, sources, status_of}
+pub use Rattle.ringcheck.specs.CheckStatus.{Checks, HasFiles, HasTable, HoldsForPackage, IsCheckStatus, IsPackageRefusal, IsParsedCheckStatus, RefusedAmong, RefusedFile, SaysPackage, bad_file, file_views_among, long_file, refused_file, refused_manifest, setting_in, sources, status_of}
 pub use Rattle.ringcheck.specs.DrawStatus.{IsOutlinedDrawStatus, IsParsedDrawStatus, PrintsPicture}
 pub use Rattle.ringcheck.specs.Inner.Halting.{AfterHalt, AfterNoTable, Halts, HaltsTable, OfFiles, OfTaken, RefusesTable, refusal, refusal_of, refusal_of_table}
 pub use Rattle.ringcheck.specs.Inner.Jobs.{Holds, SaysJob, given, job_profile, job_style}
@@ -22,8 +22,8 @@ pub use Rattle.ringcheck.specs.MeasureStatus.{IsParsedMeasureStatus, PrintsMeasu
 pub use Rattle.ringcheck.specs.ParsedWords.{in_profile, parse_check, parse_draw, parse_measure, parse_report, parse_rules, profile_of}
 unfoldable pub use Rattle.ringcheck.specs.ParsedWords.{parse_count, rules_in}
 pub use Rattle.ringcheck.specs.Refusals.{PrintsRefusal, Refusal, indented_row, of_archive, of_file, of_role}
-pub use Rattle.ringcheck.specs.ReportStatus.{FindsFewer, IsFewer, IsOutlinedReportStatus, IsParsedReportStatus, IsReportStatus, IsWaivingReportStatus, Judges, PrintsReport, Reports, asks_wide, finding_count, has_none, in_wide, kept_for, report_style, says_fewer}
-pub use Rattle.ringcheck.specs.RequestStatus.{IsExitOf, IsLegalRequest, IsRequestStatus, word_bytes}
+pub use Rattle.ringcheck.specs.ReportStatus.{IsFewer, IsOutlinedReportStatus, IsParsedReportStatus, IsReportStatus, IsWaivingReportStatus, Judges, PrintsReport, Reports, asks_wide, has_none, kept_for, report_style, says_fewer}
+pub use Rattle.ringcheck.specs.RequestStatus.{IsExitOf, IsRequestStatus, word_bytes}
 pub use Rattle.ringcheck.specs.declared.parsed_words.ReportFormat.{ReportFormat}
 pub use Rattle.ringcheck.specs.declared.refusals.Halt.{Halt}
 pub use Rattle.ringcheck_files.specs.LoaderRelation.{Relation, file_limit, in_folder, within}

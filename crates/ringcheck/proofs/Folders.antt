@@ -1,8 +1,7 @@
 -- What a status says of a request, of a loader whose names are taken from a folder, and where no folder could be entered.
-use Rattle.ringcheck.proofs.Common.{Bool, true, false, ℕ, List, [], ◌∷◌, Option, Some, None, Result, Ok, Err, inl, inr, refl, GridRules, Reason, Profile, Status, Relation, Written, parse_check, parse_draw, parse_measure, profile_of, Checks, IsParsedCheckStatus, IsParsedLegalStatus, IsParsedDrawStatus, PrintsPicture, IsParsedMeasureStatus, PrintsMeasure, measure_style, IsParsedReportStatus, IsWaivingReportStatus, IsExitOf, IsLegalRequest, IsRequestStatus, word_bytes, ReportFormat}
+use Rattle.ringcheck.proofs.Common.{Bool, true, false, ℕ, List, [], ◌∷◌, Option, Some, None, Result, Ok, Err, inl, inr, refl, GridRules, Reason, Profile, Status, Relation, Written, parse_check, parse_draw, parse_measure, profile_of, Checks, IsParsedCheckStatus, IsParsedDrawStatus, PrintsPicture, IsParsedMeasureStatus, PrintsMeasure, measure_style, IsParsedReportStatus, IsWaivingReportStatus, IsExitOf, IsRequestStatus, word_bytes, ReportFormat}
 use Rattle.command_line.specs.declared.Request.{Request}
 use Rattle.command_line.specs.declared.Request.TheVariants.{Check, Measure, Report, Draw, Show, Rewrite, Manifest, Explain}
-use Rattle.package_check.specs.SoundnessAsRead.{AreLegal}
 use Rattle.ringcheck_files.specs.declared.Status.TheVariants as status
 use Rattle.ringcheck_files.specs.declared.file_jobs.FileJob.{FileJob}
 use Rattle.ringcheck_files.specs.declared.file_jobs.FileJob.TheVariants as file_job
@@ -14,8 +13,7 @@ use Rattle.ringcheck.specs.Sentences.{measure_sentence, profile_sentence}
 use Rattle.ringcheck.specs.ShowStatus.{IsParsedShowStatus}
 use Rattle.ringcheck.specs.declared.parsed_words.MeasureOrder.{MeasureOrder}
 use Rattle.ringcheck.specs.declared.refusals.RefusalStyle.TheVariants as style
-use Rattle.ringcheck.proofs.Outcomes.{package_along, says_along}
-use Rattle.ringcheck.proofs.OutlinedReports.{outlined_along}
+use Rattle.ringcheck.proofs.Outcomes.{outlined_along, says_along}
 
 -- ---- a loader that has no more, and one that has more
 
@@ -124,25 +122,6 @@ module _ (later has : List ℕ → List ℕ → Type 0) (to : (n b : List ℕ) �
   request_along (Manifest why profile files) failed_before failed_after s h = manifest_along (profile_of (word_bytes profile)) (profile_sentence (word_bytes profile)) why failed_before failed_after _ s h
   request_along (Explain word) failed_before failed_after s h = h
 
-module _ (later has : List ℕ → List ℕ → Type 0) (to : (n b : List ℕ) → later n b → has n b) where
-  files_legal_along : (name : List ℕ) (profile : Option Profile) (s : Status) → IsParsedLegalStatus later name profile s → IsParsedLegalStatus has name profile s
-  files_legal_along name (Some profile) status.Pass h = package_along later has to profile name AreLegal h
-  files_legal_along name (Some profile) status.Findings h = package_along later has to profile name AreLegal h
-  files_legal_along name (Some profile) status.Refused h = tt
-  files_legal_along name (Some profile) status.Usage h = tt
-  files_legal_along name (Some profile) status.Device h = tt
-  files_legal_along name None s h = h
-
-  pub legal_along : (request : Request) (s : Status) → IsLegalRequest request later s → IsLegalRequest request has s
-  legal_along (Check ring gap profile manifest) s h = files_legal_along manifest.now (profile_of (word_bytes profile)) s h
-  legal_along (Measure profile format manifest) s h = tt
-  legal_along (Report options manifest) s h = tt
-  legal_along (Draw options manifest) s h = tt
-  legal_along (Show kind profile file) s h = tt
-  legal_along (Rewrite kind file) s h = tt
-  legal_along (Manifest why profile files) s h = tt
-  legal_along (Explain word) s h = tt
-
 -- ---- Device says nothing of any request
 
 module _ (has : Relation) (before after : Written) where
@@ -194,18 +173,3 @@ module _ (has : Relation) (before after : Written) where
   request_device (Rewrite kind file) failed_before failed_after = file_device file_job.Rewrite (parse_kind kind.now) file.now
   request_device (Manifest why profile files) failed_before failed_after = manifest_device (profile_of (word_bytes profile)) _ why failed_before failed_after _
   request_device (Explain word) failed_before failed_after = (explain_device (word_bytes word), tt)
-
-module _ (has : Relation) where
-  legal_files_device : (name : List ℕ) (profile : Option Profile) → IsParsedLegalStatus has name profile status.Device
-  legal_files_device name (Some profile) = tt
-  legal_files_device name None = inr refl
-
-  pub legal_device : (request : Request) → IsLegalRequest request has status.Device
-  legal_device (Check ring gap profile manifest) = legal_files_device manifest.now (profile_of (word_bytes profile))
-  legal_device (Measure profile format manifest) = tt
-  legal_device (Report options manifest) = tt
-  legal_device (Draw options manifest) = tt
-  legal_device (Show kind profile file) = tt
-  legal_device (Rewrite kind file) = tt
-  legal_device (Manifest why profile files) = tt
-  legal_device (Explain word) = tt

@@ -2,9 +2,7 @@ pub mod Common
 pub mod Folders
 pub mod LoadSteps
 pub mod LoadedFiles
-pub mod NamedProfiles
 pub mod Outcomes
-pub mod OutlinedReports
 pub mod ParseCountLemmas
 pub mod RequestLemmas
 pub mod RewrittenPackages

@@ -4,7 +4,7 @@ use Rattle.std.proofs.Common.{slice_get}
 use Rattle.std.proofs.lemmas.List.Sums.{sum_by-cons}
 use Rattle.layer_features.specs.declared.keep.Keep.{Keep}
 use Rattle.package_check.specs.Holding as taking
-use Rattle.package_check.specs.Holding.{HasTaken, HasTakenAll, is_kind, setting_of as reader_setting}
+use Rattle.package_check.specs.Holding.{HasTaken, is_kind, setting_of as reader_setting}
 use Rattle.package_check.specs.declared.package_reader.PackageReader.{PackageReader}
 use Rattle.package_check.proofs.CheckSteps.{judged_alike, judged_all}
 use Rattle.package_check.proofs.TakeSteps.{all_below, none_below, none_more, one_more, or_none, or_together, taken_alike}

@@ -1,9 +1,9 @@
 -- What follows for a package from what is said of its manifest and of its files.
-use Rattle.ringcheck.proofs.Common.{◌≡◌, ◌∙◌, ◌<◌, ◌≤◌, ◌∷◌, [], inl, inr, ℕ, zero, suc, Bool, true, false, List, Option, Some, Result, Ok, Err, IfOk, length, map, take, arith, refl, subst, sym, ◌==◌, slice_get, AllByRecursion, eqb-true, false≢true, nil_from_length, none-some, same_Some, IfOk-weaker, GridRules, Profile, Entry, manifest_in, FileView, Status, HasRisen, file_limit, within, IsSilent, Written, Halt, AfterHalt, AfterNoTable, Halts, HaltsTable, OfFiles, OfTaken, refusal, refusal_of, refusal_of_table, Refusal, PrintsRefusal, of_archive, of_role, HasFiles, HasTable, HoldsForPackage, RefusedFile, IsPackageRefusal, RefusedAmong, SaysPackage, Checks, IsCheckStatus, IsLegalStatus, bad_file, long_file, refused_file, refused_manifest, setting_in, sources, status_of}
+use Rattle.ringcheck.proofs.Common.{◌≡◌, ◌∙◌, ◌<◌, ◌≤◌, ◌∷◌, [], inl, inr, ℕ, zero, suc, Bool, true, false, List, Some, Result, Ok, Err, IfOk, length, map, take, arith, refl, subst, sym, ◌==◌, slice_get, AllByRecursion, eqb-true, false≢true, nil_from_length, IfOk-weaker, Profile, Entry, manifest_in, FileView, Status, HasRisen, file_limit, within, IsSilent, Written, Halt, AfterHalt, AfterNoTable, Halts, HaltsTable, OfFiles, OfTaken, refusal, Refusal, PrintsRefusal, of_archive, of_role, HasFiles, HasTable, HoldsForPackage, RefusedFile, IsPackageRefusal, RefusedAmong, SaysPackage, bad_file, long_file, refused_file, refused_manifest, setting_in, sources, status_of, None, ReportFormat, IsOutlinedReportStatus, Reports, report_style, GridRules, Option}
 use Rattle.std.specs.Prelude.{◌&&◌}
 use Rattle.std.specs.Borrow.{Bor}
-use Rattle.package_check.specs.SoundnessAsRead.{AreLegal}
 use Rattle.ringcheck_files.specs.declared.Status.TheVariants as status
+use Rattle.waivers.specs.declared.Waiver.{Waiver}
 use Rattle.ringcheck_files.specs.declared.outcomes.Failure.{Failure}
 use Rattle.ringcheck.specs.declared.refusals.Halt.TheVariants as halt
 use Rattle.ringcheck.specs.declared.refusals.NoTable.{NoTable}
@@ -69,12 +69,6 @@ module _ (has : List ℕ → List ℕ → Type 0) (profile : Profile) (entries :
       taken has profile entries Risen Holds files held r
       (answered (sources profile entries files) (named (within file_limit has) profile entries files names held same) (read_in (setting_in profile entries) entries files) stood)
 
--- a halt with this refusal
-pub halts_of : (Is : Refusal → Type 0) (Risen : Type 0) (h : Halt) (why : Refusal) → refusal_of h ≡ Some why → Is why → Halts Is Risen h
-halts_of Is Risen (halt.Refused what fault) why same is = subst Is (sym (same_Some (refusal what fault) why same)) is
-halts_of Is Risen (halt.Archive what fault name) why same is = subst Is (sym (same_Some (of_archive name.now (refusal what fault)) why same)) is
-halts_of Is Risen (halt.Unread what) why same is = absurd (none-some why same)
-
 -- a halt was printed
 module _ (Is : Refusal → Type 0) (Risen : Type 0) (refusal_style : RefusalStyle) (path : List ℕ) (before after : Written) (P : Status → Type 0) where
   pub halted : (Risen → P status.Device) → ((why : Refusal) → Is why → PrintsRefusal refusal_style why before after → P status.Refused) → (h : Halt) → Halts Is Risen h
@@ -84,11 +78,6 @@ module _ (Is : Refusal → Type 0) (Risen : Type 0) (refusal_style : RefusalStyl
   halted device refused (halt.Archive what why name) is r printed =
       IfOk-weaker r (AfterHalt refusal_style (halt.Archive what why name) path before after) P (λ s p. subst P (sym p.0) (refused (of_archive name.now (refusal what why)) is p.1)) printed
   halted device refused (halt.Unread what) risen r printed = IfOk-weaker r (AfterHalt refusal_style (halt.Unread what) path before after) P (λ s p. subst P (sym p.0) (device risen)) printed
-
--- a table is lacking with this refusal
-pub table_halts_of : (Is : Refusal → Type 0) (Risen : Type 0) (h : NoTable) (why : Refusal) → refusal_of_table h ≡ Some why → Is why → HaltsTable Is Risen h
-table_halts_of Is Risen (none.Halted h) why same is = halts_of Is Risen h why same is
-table_halts_of Is Risen (none.Role fault row) why same is = subst Is (sym (same_Some (of_role row.role row.file fault) why same)) is
 
 -- it was printed why there is no table
 module _ (Is : Refusal → Type 0) (Risen : Type 0) (refusal_style : RefusalStyle) (path : List ℕ) (before after : Written) (P : Status → Type 0) where
@@ -104,12 +93,6 @@ module _ (Is : Refusal → Type 0) (Risen : Type 0) (refusal_style : RefusalStyl
 pub risen_since : (old middle new : ℕ) → old ≤ middle → HasRisen middle new → HasRisen old new
 risen_since old middle new le (inl more) = inl (omega arith)
 risen_since old middle new le (inr last) = inr last
-
--- what could not be read later was not read
-pub unread_since : (Is : Refusal → Type 0) (old middle new : ℕ) → old ≤ middle → (h : Halt) → Halts (λ why. ⊥) (HasRisen middle new) h → Halts Is (HasRisen old new) h
-unread_since Is old middle new le (halt.Refused what why) h = absurd h
-unread_since Is old middle new le (halt.Archive what why name) h = absurd h
-unread_since Is old middle new le (halt.Unread what) h = risen_since old middle new le h
 
 -- what is held or refused by a loader that has no more is so by one that has more
 module _ (later has : List ℕ → List ℕ → Type 0) (to : (n b : List ℕ) → later n b → has n b) where
@@ -148,23 +131,12 @@ pub worked : (has : List ℕ → List ℕ → Type 0) (profile : Profile) (name 
 worked has profile name Holds refusal_style before after entries files listed loaded true h silent = (record { entries = entries; listed = listed; files = files; loaded = loaded; holds = h }, silent)
 worked has profile name Holds refusal_style before after entries files listed loaded false h silent = (record { entries = entries; listed = listed; files = files; loaded = loaded; holds = h }, silent)
 
--- what holds of all files of which something else holds, holds of a package
-pub package_weaker : (has : List ℕ → List ℕ → Type 0) (profile : Profile) (name : List ℕ) (P Q : List FileView → Type 0) → ((all : List FileView) → P all → Q all) → HoldsForPackage has profile name P → HoldsForPackage has profile name Q
-package_weaker has profile name P Q weaker h = record { entries = h.entries; listed = h.listed; files = h.files; loaded = h.loaded; holds = weaker (sources profile h.entries h.files) h.holds }
-
--- what is said of a package by what holds of its files, is said by what then holds of them too
-pub says_weaker : (has : List ℕ → List ℕ → Type 0) (profile : Profile) (name : List ℕ) (P Q : Bool → List FileView → Type 0) → ((passes : Bool) (all : List FileView) → P passes all → Q passes all) → (refusal_style : RefusalStyle) (before after : Written) (s : Status)
-    → SaysPackage has profile name P refusal_style before after s → SaysPackage has profile name Q refusal_style before after s
-says_weaker has profile name P Q weaker refusal_style before after status.Pass h = (package_weaker has profile name (P true) (Q true) (weaker true) h.0, h.1)
-says_weaker has profile name P Q weaker refusal_style before after status.Findings h = (package_weaker has profile name (P false) (Q false) (weaker false) h.0, h.1)
-says_weaker has profile name P Q weaker refusal_style before after status.Refused h = h
-says_weaker has profile name P Q weaker refusal_style before after status.Usage h = h
-says_weaker has profile name P Q weaker refusal_style before after status.Device h = h
-
--- of a package that was checked each file is of the profile
-pub checked_is_legal : (has : List ℕ → List ℕ → Type 0) (name : List ℕ) (rules : GridRules) (before after : Written) (s : Status) → IsCheckStatus has name rules before after s → IsLegalStatus has rules.profile name s
-checked_is_legal has name rules before after status.Pass h = package_weaker has rules.profile name (Checks rules before.0 after.0 true) AreLegal (λ all c. (c.is.contents, c.is.read)) h.0
-checked_is_legal has name rules before after status.Findings h = package_weaker has rules.profile name (Checks rules before.0 after.0 false) AreLegal (λ all c. (c.is.contents, c.is.read)) h.0
-checked_is_legal has name rules before after status.Refused h = tt
-checked_is_legal has name rules before after status.Usage h = tt
-checked_is_legal has name rules before after status.Device h = tt
+-- what a status says of a report with an outline
+pub outlined_along : (later has : List ℕ → List ℕ → Type 0) → ((n b : List ℕ) → later n b → has n b) → (name : List ℕ) (rules : GridRules) (limit : Option ℕ) (form : ReportFormat) (waivers : Option (List Waiver)) (outline : Option (List ℕ)) (before after : Written) (s : Status)
+    → IsOutlinedReportStatus later name rules limit form waivers outline before after s → IsOutlinedReportStatus has name rules limit form waivers outline before after s
+outlined_along later has to name rules limit form waivers None before after s h =
+    says_along later has to rules.profile name (Reports name rules limit form waivers [] before.0 after.0) (report_style form) before after s h
+outlined_along later has to name rules limit form waivers (Some file) before after s (inl (is, (why, (text, had, refused), printed, silent))) = inl (is, (why, (text, to file text had, refused), printed, silent))
+outlined_along later has to name rules limit form waivers (Some file) before after s (inr (inl is)) = inr (inl is)
+outlined_along later has to name rules limit form waivers (Some file) before after s (inr (inr (outline, (text, (had, short), reads), h))) =
+    inr (inr (outline, (text, (to file text had, short), reads), says_along later has to rules.profile name (Reports name rules limit form waivers outline before.0 after.0) (report_style form) before after s h))

@@ -1,5 +1,5 @@
 -- What a status says of a request, by the words that it was read from.
-use Rattle.ringcheck.proofs.Common.{ℕ, Bool, true, false, List, Option, inl, inr, is_some, option_map, sym, Relation, IsSilent, IsSilentStatus, Written, HasCause, Status, IsParsedMeasureStatus, parse_check, parse_draw, parse_measure, parse_report, profile_of, IsParsedCheckStatus, IsParsedLegalStatus, IsParsedDrawStatus, IsParsedReportStatus, IsExitOf, IsLegalRequest, IsRequestStatus}
+use Rattle.ringcheck.proofs.Common.{ℕ, Bool, true, false, List, Option, inl, inr, is_some, option_map, sym, Relation, IsSilent, IsSilentStatus, Written, HasCause, Status, IsParsedMeasureStatus, parse_check, parse_draw, parse_measure, parse_report, profile_of, IsParsedCheckStatus, IsParsedDrawStatus, IsParsedReportStatus, IsExitOf, IsRequestStatus}
 use Rattle.command_line.specs.ProgramArgs.{IsCheck, IsDraw, IsExplain, IsManifest, IsMeasure, IsReport, IsRewrite, IsShow}
 use Rattle.command_line.specs.declared.Request.{Request}
 use Rattle.command_line.specs.declared.Request.TheVariants.{Check, Measure, Report, Draw, Show, Rewrite, Manifest, Explain}
@@ -17,11 +17,6 @@ pub check_status : (has : Relation) (r g : List ℕ) (p : Option (List ℕ)) (m 
     → IsCheck r g p m request → IsRequestStatus request has failed_before failed_after before after s → IsParsedCheckStatus has m (parse_check p r g) (check_sentence p r g) before after s
 check_status has r g p m (Check ring gap profile manifest) failed_before failed_after before after s (er, eg, ep, em) says = rw (sym er, sym eg, sym ep, sym em) says
 check_status has r g p m request failed_before failed_after before after s h says = absurd h
-
--- and of its files alone
-pub legal_status : (has : Relation) (r g : List ℕ) (p : Option (List ℕ)) (m : List ℕ) (request : Request) (s : Status) → IsCheck r g p m request → IsLegalRequest request has s → IsParsedLegalStatus has m (profile_of p) s
-legal_status has r g p m (Check ring gap profile manifest) s (er, eg, ep, em) says = rw (sym ep, sym em) says
-legal_status has r g p m request s h says = absurd h
 
 -- what a status says of a report, by its flag
 pub exits : (zero : Bool) (Says : Status → Type 0) (s : Status) → Says s → IsExitOf zero Says (exit_of zero s)

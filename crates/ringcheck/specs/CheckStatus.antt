@@ -147,10 +147,12 @@ SaysPackage has profile name Holds refusal_style before after status.Device = �
 abbrev pub status_of : Bool → Status
 status_of passes = if passes then status.Pass else status.Findings
 
--- the writer got just the text of the report on these files; the check passes where it has no finding, and then the files are sound
+-- the writer got just the text of the report on these files, each of which is of the profile; the check passes where it has no finding, and then
+-- the files are sound
 pub record Checks (rules : GridRules) (before after : Option (List ℕ)) (passes : Bool) (all : List FileView) : Type 0 where
   pub report : ReportView
   pub is : IsReport all rules report
+  pub legal : AreLegal all
   pub written : Appends before after (report_text all report)
   pub passed : passes ≡ (length report.findings == 0)
   pub sound : passes ≡ true → IsSound all rules
@@ -163,16 +165,3 @@ IsCheckStatus has name rules before after s = SaysPackage has rules.profile name
 abbrev pub IsParsedCheckStatus : Relation → List ℕ → Result GridRules Reason → List ℕ → Written → Written → Status → Type 0
 IsParsedCheckStatus has name (Ok rules) sentence before after s = IsCheckStatus has name rules before after s
 IsParsedCheckStatus has name (Err why) sentence before after s = IsExplainedUsage false why sentence before after s
-
--- what a status says of the files alone: where the check passes or has findings, each file of the package is of this profile
-abbrev pub IsLegalStatus : Relation → Profile → List ℕ → Status → Type 0
-IsLegalStatus has profile name status.Pass = HoldsForPackage has profile name AreLegal
-IsLegalStatus has profile name status.Findings = HoldsForPackage has profile name AreLegal
-IsLegalStatus has profile name status.Refused = ⊤
-IsLegalStatus has profile name status.Usage = ⊤
-IsLegalStatus has profile name status.Device = ⊤
-
--- what it says of them in the profile that a word names; a word that names none is refused, and no file is read
-abbrev pub IsParsedLegalStatus : Relation → List ℕ → Option Profile → Status → Type 0
-IsParsedLegalStatus has name (Some profile) s = IsLegalStatus has profile name s
-IsParsedLegalStatus has name None s = (s ≡ status.Usage) ⊎ (s ≡ status.Device)

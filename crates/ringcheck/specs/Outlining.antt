@@ -1,5 +1,5 @@
 -- The outline of a board that a loader has under a name, or why it is refused (docs/FORMATS.md, The program).
-use Rattle.std.specs.Prelude.{◌≡◌, ◌<◌, ◌⊎◌, ◌++◌, ◌∷◌, [], ℕ, List, Result, Ok, Err, codes, decimal, length}
+use Rattle.std.specs.Prelude.{◌≡◌, ◌<◌, ◌≤◌, ◌⊎◌, ◌++◌, ◌∷◌, [], ℕ, List, Result, Ok, Err, codes, decimal, length}
 use Rattle.std.specs.Io.KnownBytes.{Appends}
 use Rattle.grid_units.specs.Ascii as ascii
 use Rattle.grid_units.specs.Reasons.{reason_name}
@@ -20,9 +20,9 @@ ReadsOutline text (Err why) = ReadsLayer text (Err why)
 abbrev pub HasOutline : Relation → List ℕ → List Drawn → Type 0
 HasOutline has file outline = (text : List ℕ) × within file_limit has file text × ReadsOutline text (Ok outline)
 
--- a text is refused: it is above the limit of files, or it has this fault
+-- a text is refused: it is above the limit of files, or it is not, and has this fault
 abbrev pub RefusesOutline : List ℕ → Fault → Type 0
-RefusesOutline text why = ((file_limit < length text) × (why ≡ too_long)) ⊎ ReadsOutline text (Err why)
+RefusesOutline text why = ((file_limit < length text) × (why ≡ too_long)) ⊎ ((length text ≤ file_limit) × ReadsOutline text (Err why))
 
 -- the loader has under this name a text that is refused
 abbrev pub RefusedOutline : Relation → List ℕ → Fault → Type 0

@@ -1,14 +1,12 @@
 -- What a status says of a report for people (docs/FORMATS.md, Report for people; JSON; Waivers).
-use Rattle.std.specs.Prelude.{◌≡◌, ◌⊎◌, ◌==◌, ◌&&◌, ◌+◌, ◌-◌, ℕ, Bool, true, false, not, List, [], Option, Some, None, Result, Ok, Err, length, map}
+use Rattle.std.specs.Prelude.{◌≡◌, ◌⊎◌, ◌==◌, ◌&&◌, ℕ, Bool, true, false, not, List, [], Option, Some, None, Result, Ok, Err, length, map}
 use Rattle.std.specs.Io.KnownBytes.{Appends}
 use Rattle.grid_units.specs.Holes.{GridRules}
-use Rattle.grid_units.specs.declared.fault.Fault.{Fault}
 use Rattle.grid_units.specs.declared.fault.Reason.{Reason}
 use Rattle.grid_units.specs.declared.profile.Profile.{Profile}
-use Rattle.grid_units.specs.declared.profile.Profile.TheVariants.{Strict, Wide}
+use Rattle.grid_units.specs.declared.profile.Profile.TheVariants.{Strict}
 use Rattle.pad_shapes.specs.declared.drawn.Drawn.{Drawn}
-use Rattle.package_check.specs.Package.{FileView, IsFirstRefused, IsReport}
-use Rattle.package_check.specs.Reports.{ReportView}
+use Rattle.package_check.specs.Package.{FileView}
 use Rattle.package_check.specs.Soundness.{IsSound}
 use Rattle.layer_features.specs.declared.keep.Keep.{Keep}
 use Rattle.layer_features.specs.declared.keep.Keep.TheVariants as keep
@@ -20,7 +18,7 @@ use Rattle.print_text.specs.Texts.{waived_report_text}
 use Rattle.print_text.specs.declared.report_text.Particulars.{Particulars}
 use Rattle.report.specs.declared.BoardReport.{BoardReport}
 use Rattle.report.specs.declared.Acceptances.{Acceptances}
-use Rattle.board_report.specs.BoardReport.{AgreesWithCheck, IsBoardReportOf}
+use Rattle.board_report.specs.BoardReport.{AgreesWithCheck, FindsFewer, IsBoardReportOf}
 use Rattle.ringcheck_files.specs.declared.Status.{Status}
 use Rattle.ringcheck_files.specs.declared.Status.TheVariants as status
 use Rattle.report_page.specs.Pages.{IsHtmlPage}
@@ -32,7 +30,7 @@ use Rattle.ringcheck.specs.Refusals.{Refusal, PrintsRefusal}
 use Rattle.ringcheck_files.specs.LoaderRelation.{Relation}
 use Rattle.ringcheck_files.specs.Words.{IsExplainedUsage}
 use Rattle.ringcheck_files.specs.Writers.{Written}
-use Rattle.ringcheck.specs.CheckStatus.{HoldsForPackage, IsPackageRefusal, SaysPackage}
+use Rattle.ringcheck.specs.CheckStatus.{SaysPackage}
 use Rattle.ringcheck.specs.Outlining.{HasOutline, PrintsOutlineRefusal}
 use Rattle.ringcheck.specs.Waiving.{HasWaivers, RefusedWaivers}
 use Rattle.waivers.specs.Findings.{findings_text}
@@ -63,30 +61,14 @@ says_fewer _ _ = false
 abbrev pub has_none : BoardReport → Bool
 has_none report = (length report.rings.items == 0) && (length report.gaps.items == 0)
 
--- how many findings a report has
-abbrev pub finding_count : BoardReport → ℕ
-finding_count report = length report.rings.items + length report.gaps.items
-
--- the same ring and gap in the wide profile
-abbrev pub in_wide : GridRules → GridRules
-in_wide rules = record { ring = rules.ring; gap = rules.gap; profile = Wide }
-
 -- a report has to ask how many of its findings the wide profile does not have: it says so, and has a finding
 abbrev pub asks_wide : ReportFormat → GridRules → BoardReport → Bool
 asks_wide form rules report = says_fewer form rules.profile && not (has_none report)
 
--- how many findings of a report the wide profile does not have: those that a check of these files in that profile has fewer, or 0 where one of them
--- is refused
-abbrev pub FindsFewer : GridRules → BoardReport → ℕ → List FileView → Type 0
-FindsFewer rules report fewer all =
-    ((wide : ReportView) × IsReport all (in_wide rules) wide × (fewer ≡ finding_count report - length wide.findings))
-    ⊎ ((fewer ≡ 0) × ((index : ℕ) × (fault : Fault) × IsFirstRefused all index fault))
-
--- the same of the package under a name, as the loader has it when it is asked again; 0 where the package is refused, or the report does not ask
-abbrev pub IsFewer : Relation → List ℕ → Bool → GridRules → BoardReport → ℕ → Type 0
-IsFewer has name true rules report fewer =
-    HoldsForPackage has Wide name (FindsFewer rules report fewer) ⊎ ((fewer ≡ 0) × ((why : Refusal) × IsPackageRefusal has Wide name why))
-IsFewer has name false rules report fewer = fewer ≡ 0
+-- how many findings of the report on these files the wide profile does not have, where it asks for that; else 0
+abbrev pub IsFewer : Bool → List FileView → BoardReport → ℕ → Type 0
+IsFewer true all report fewer = FindsFewer all report fewer
+IsFewer false all report fewer = fewer ≡ 0
 
 -- whether a report passes, and its reasons: without a file of waivers it passes where it has no finding, and has no reason; with one it
 -- passes where each finding is waived, and has the reasons of the records that waive them
@@ -104,7 +86,7 @@ kept_for format.Waivers = keep.Rows
 -- the writer got just the report of the files under the rules, in a format, judged with the waivers of a file, if there is one; its findings
 -- are those of the check of them, one for one, and without a finding they are sound; a page shows what the copper files draw, and an outline
 -- of these parts; its particulars are the name of the manifest, the program, and how many of the findings the wide profile does not have
-pub record Reports (has : Relation) (name : List ℕ) (rules : GridRules) (limit : Option ℕ) (form : ReportFormat) (waivers : Option (List Waiver)) (outline : List Drawn) (before after : Option (List ℕ)) (passes : Bool) (all : List FileView) : Type 0 where
+pub record Reports (name : List ℕ) (rules : GridRules) (limit : Option ℕ) (form : ReportFormat) (waivers : Option (List Waiver)) (outline : List Drawn) (before after : Option (List ℕ)) (passes : Bool) (all : List FileView) : Type 0 where
   pub report : BoardReport
   pub is : IsBoardReportOf all rules report
   pub drawn : form ≡ format.Html → IsDrawnBoard all is.board
@@ -113,7 +95,7 @@ pub record Reports (has : Relation) (name : List ℕ) (rules : GridRules) (limit
   pub about : Particulars
   pub manifest : about.manifest.now ≡ name
   pub program : about.program.now ≡ PROGRAM.now
-  pub is_fewer : IsFewer has name (asks_wide form rules report) rules report about.fewer
+  pub is_fewer : IsFewer (asks_wide form rules report) all report about.fewer
   pub accepted : Acceptances
   pub judged : Judges waivers (map (λ source. source.name) all) report passes accepted
   pub written : PrintsReport form (map (λ source. source.name) all) is.board outline report about limit accepted before after
@@ -131,7 +113,7 @@ PrintsWaiversRefusal has file refusal_style before after = (why : Refusal) × Re
 
 -- what a status says of the report on a package, read in the profile of the rules
 abbrev pub IsReportStatus : Relation → List ℕ → GridRules → Option ℕ → ReportFormat → Option (List Waiver) → List Drawn → Written → Written → Status → Type 0
-IsReportStatus has name rules limit form waivers outline before after s = SaysPackage has rules.profile name (Reports has name rules limit form waivers outline before.0 after.0) (report_style form) before after s
+IsReportStatus has name rules limit form waivers outline before after s = SaysPackage has rules.profile name (Reports name rules limit form waivers outline before.0 after.0) (report_style form) before after s
 
 -- what a status says of a report for which the file of an outline may be named: that file is refused, or the status is Device, or the file
 -- has an outline and the report is made with it

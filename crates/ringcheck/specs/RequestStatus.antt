@@ -1,5 +1,5 @@
 -- What a status says of a request of the command line, and of any words (docs/FORMATS.md, The program).
-use Rattle.std.specs.Prelude.{⊤, ◌≡◌, ◌++◌, ◌⊎◌, ℕ, Bool, true, false, List, Option, Result, Ok, Err, codes, is_some, map, option_map}
+use Rattle.std.specs.Prelude.{◌≡◌, ◌++◌, ◌⊎◌, ℕ, Bool, true, false, List, Option, Result, Ok, Err, codes, is_some, map, option_map}
 use Rattle.std.specs.Borrow.{Bor}
 use Rattle.std.specs.Io.KnownBytes.{Appends}
 use Rattle.std.specs.String.{string_bytes}
@@ -20,7 +20,7 @@ use Rattle.ringcheck.specs.MeasureStatus.{IsParsedMeasureStatus}
 use Rattle.ringcheck.specs.ParsedWords.{parse_check, parse_draw, parse_measure, parse_report, profile_of}
 use Rattle.ringcheck_files.specs.FileStatus.{IsParsedFileStatus, parse_kind}
 use Rattle.ringcheck.specs.ReportStatus.{IsParsedReportStatus}
-use Rattle.ringcheck.specs.CheckStatus.{IsParsedCheckStatus, IsParsedLegalStatus}
+use Rattle.ringcheck.specs.CheckStatus.{IsParsedCheckStatus}
 use Rattle.ringcheck.specs.Sentences.{check_sentence, draw_sentence, is_for_people, measure_sentence, profile_sentence, report_sentence}
 use Rattle.ringcheck.specs.ShowStatus.{IsParsedShowStatus}
 use Rattle.ringcheck_files.specs.LoaderRelation.{Relation, in_folder}
@@ -58,11 +58,6 @@ IsRequestStatus (Rewrite kind file) has failed_before failed_after before after 
 IsRequestStatus (Manifest why profile files) has failed_before failed_after before after s =
     IsParsedManifestStatus (profile_of (word_bytes profile)) (profile_sentence (word_bytes profile)) why has failed_before failed_after (map (λ file. file.now) files.items) before after s
 IsRequestStatus (Explain word) has failed_before failed_after before after s = IsExplainStatus (word_bytes word) before.0 after.0 s × IsSilentStatus before after s
-
--- what a status says of the files of a request's package: of a check, that each is of the profile that it names
-abbrev pub IsLegalRequest : Request → Relation → Status → Type 0
-IsLegalRequest (Check ring gap profile manifest) has s = IsParsedLegalStatus has manifest.now (profile_of (word_bytes profile)) s
-IsLegalRequest _ has s = ⊤
 
 -- what a status says of words that are no request: just the help, the version's line, or `usage` and what is wrong was written, or it is Device
 abbrev pub IsNoRequestStatus : Refusal → Option (List ℕ) → Option (List ℕ) → Status → Type 0

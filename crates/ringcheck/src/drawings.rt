@@ -16,8 +16,7 @@ use ringcheck_files::Failure;
 use std::alloc::Global;
 use std::io::Write;
 
-/// Prints the picture of the files of these names, which a reader has taken, with what its copper files draw, and with the outline and what
-/// is found under the rules, if it is asked for these.
+/// Prints the picture of the files of these names, which a reader has taken, with the outline and what is found under the rules, if asked.
 pub(crate) fn draw<'a, W: Write>(
     alloc: Global,
     reader: PackageReader,

@@ -3,7 +3,6 @@
 
 mod checks;
 mod drawings;
-mod fewer;
 mod jobs;
 mod load_package;
 mod measures;

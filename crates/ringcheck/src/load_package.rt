@@ -173,8 +173,7 @@ struct Pass<'a> {
     halt: Option<Halt<'a>>,
 }
 
-/// Loads those of the files that are copper, or those that are not, as `copper` says, up to the first that cannot be loaded, and hands
-/// each to the reader as it is loaded.
+/// Hands the files that are copper, or those that are not, as `copper` says, to the reader, up to the first that cannot be loaded.
 fn take_kind<'a, L: Loader>(
     alloc: Global,
     loader: &mut L,
@@ -205,9 +204,8 @@ fn take_kind<'a, L: Loader>(
     })
 }
 
-/// A reader that has taken the files of the entries in a profile, the drill files before the copper files, and keeps this of
-/// them. After a file that cannot be loaded only those before it are loaded, so the first that cannot be, in the order of the entries, is
-/// the answer.
+/// A reader that has taken the files of the entries in a profile, the drill files before the copper files, and keeps this of them. After a file
+/// that cannot be loaded only those before it are loaded: the answer is the first, in the order of the entries, that cannot be.
 pub(crate) fn take_files<'a, L: Loader>(
     alloc: Global,
     profile: Profile,
@@ -246,8 +244,7 @@ impl Sink for CheckSink {
     }
 }
 
-/// Loads the copper file of an entry at this index, and hands it to the check as it is loaded, as the layer of this number; or returns why
-/// the file cannot be loaded.
+/// Hands the copper file of an entry at this index to the check, as the layer of this number; or returns why it cannot be loaded.
 fn check_file<'a, L: Loader>(
     alloc: Global,
     loader: &mut L,

@@ -1,6 +1,6 @@
 //! The outline of a board, from a loader, and what is printed where there is none.
 
-ghost use Rattle.std.specs.Prelude.{◌≤◌, ◌↔◌, ℕ, List, IfOk, Some};
+ghost use Rattle.std.specs.Prelude.{◌≤◌, ℕ, List, IfOk, Some};
 ghost use Rattle.grid_units.specs.Results.{Answers};
 ghost use Rattle.ringcheck_files.specs.Outcomes.{HasRisen};
 ghost use Rattle.ringcheck.specs.Inner.Outlines.{AfterNoOutline, OfOutline};

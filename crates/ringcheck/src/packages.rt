@@ -1,6 +1,6 @@
 //! The commands on the package of a manifest: each does a job on it, or prints why it cannot be done.
 
-ghost use Rattle.std.specs.Prelude.{◌≡◌, [], ℕ, IfErr, IfOk, Some, is_some, map, option_map, slice_get};
+ghost use Rattle.std.specs.Prelude.{◌≡◌, ℕ, IfErr, IfOk, Some, is_some, map, option_map, slice_get};
 ghost use Rattle.manifest.specs.declared.Entry.{Entry as TheEntry};
 ghost use Rattle.ringcheck_files.specs.Outcomes.{HasCause, HasRisen};
 ghost use Rattle.ringcheck.specs.DrawStatus.{IsOutlinedDrawStatus, IsParsedDrawStatus};
@@ -12,17 +12,16 @@ ghost use Rattle.ringcheck.specs.declared.jobs.Job.TheVariants as jobs;
 ghost use Rattle.ringcheck.specs.MeasureStatus.{IsParsedMeasureStatus};
 ghost use Rattle.ringcheck.specs.ParsedWords as named;
 ghost use Rattle.ringcheck.specs.ReportStatus.{IsOutlinedReportStatus, IsParsedReportStatus};
-ghost use Rattle.ringcheck.specs.CheckStatus.{HasTable, IsParsedCheckStatus, IsParsedLegalStatus, status_of};
+ghost use Rattle.ringcheck.specs.CheckStatus.{HasTable, IsParsedCheckStatus, status_of};
 ghost use Rattle.ringcheck.specs.Sentences.{check_sentence, draw_sentence, is_for_people, measure_sentence, report_sentence};
 ghost use Rattle.ringcheck_files.specs.Writers.{texts};
 
-use crate::fewer::fewer_findings;
 use crate::jobs::{Job, Order, PictureOrder, kept_for, report_style};
 use crate::load_package::{check_files, load_table, take_files};
 use crate::outlines::{load_outline, print_no_outline};
 use crate::parsed_words::{ReportFormat, parse_check, parse_draw, parse_measure, parse_report};
 use crate::refusals::{Halt, Subject, print_halt, print_no_table};
-use crate::reports::{Reported, print_judged, report_on_taken};
+use crate::reports::{Reported, fewer_findings, print_judged, report_on_taken};
 use crate::sentences::{NoMeasure, NoPicture, NoReport, is_for_people, refuse};
 use crate::{Entry, Loader, checks, drawings, measures};
 use command_line::{PROGRAM, PictureWords, ReportWords};
@@ -58,8 +57,7 @@ fn particulars<'a>(manifest: &'a str, fewer: u128) -> Particulars<'a>
     }
 }
 
-/// Loads the files of these entries of the manifest under a name, which have these names, prints the report on them, and returns whether it
-/// passes.
+/// Loads the files of these entries, which have these names, prints the report on them, and returns whether it passes.
 fn report_files<'a, L: Loader, W: Write>(
     alloc: Global,
     options: &Order,
@@ -70,7 +68,7 @@ fn report_files<'a, L: Loader, W: Write>(
     out: &mut W,
 ) -> Result<Result<bool, Halt<'a>>, Failure>
     ensures answers { HasTable (manifest_in options.now.rules.profile) (L.has loader.old) name.now entries.now → map (λ name. name.now) names.now ≡ map (λ entry. entry.name) entries.now
-        → IfOk result (OfFiles (L.has loader.old) options.now.rules.profile entries.now (HasRisen (L.failed loader.old) (L.failed loader.new)) (Holds (jobs.Report options.now) (L.has loader.old) name.now (W.contents out.old) (W.contents out.new))) }
+        → IfOk result (OfFiles (L.has loader.old) options.now.rules.profile entries.now (HasRisen (L.failed loader.old) (L.failed loader.new)) (Holds (jobs.Report options.now) name.now (W.contents out.old) (W.contents out.new))) }
     ensures silent { IfOk result (λ done. IfErr done (λ h. W.contents out.new ≡ W.contents out.old)) }
 {
     let keep = kept_for(options.format);
@@ -82,10 +80,7 @@ fn report_files<'a, L: Loader, W: Write>(
         Ok(found) => found,
         Err(halt) => return Ok(Err(halt)),
     };
-    let fewer = match fewer_findings(alloc, options, &report, loader, entries)? {
-        Ok(fewer) => fewer,
-        Err(halt) => return Ok(Err(halt)),
-    };
+    let fewer = fewer_findings(alloc, options, &board, &report)?;
     let about = particulars(name, fewer);
     let reported = Reported {
         names,
@@ -106,7 +101,7 @@ fn answer<'a, L: Loader, W: Write>(
     loader: &mut L,
     out: &mut W,
 ) -> Result<Result<bool, Halt<'a>>, Failure>
-    ensures answers { HasTable (manifest_in (job_profile job.now)) (L.has loader.old) name.now entries.now → IfOk result (OfFiles (L.has loader.old) (job_profile job.now) entries.now (HasRisen (L.failed loader.old) (L.failed loader.new)) (Holds job.now (L.has loader.old) name.now (W.contents out.old) (W.contents out.new))) }
+    ensures answers { HasTable (manifest_in (job_profile job.now)) (L.has loader.old) name.now entries.now → IfOk result (OfFiles (L.has loader.old) (job_profile job.now) entries.now (HasRisen (L.failed loader.old) (L.failed loader.new)) (Holds job.now name.now (W.contents out.old) (W.contents out.new))) }
     ensures silent { IfOk result (λ done. IfErr done (λ h. W.contents out.new ≡ W.contents out.old)) }
 {
     let names = names_of(alloc, entries)?;
@@ -206,7 +201,6 @@ pub(crate) fn check<L: Loader, W: Write, E: Write>(
     to: &mut Streams<W, E>,
 ) -> Result<Status, Failure>
     ensures says { IfOk result (IsParsedCheckStatus (L.has loader.old) name.now (named.parse_check (option_map (λ w. w.now) profile.entry) ring.now gap.now) (check_sentence (option_map (λ w. w.now) profile.entry) ring.now gap.now) (texts W.contents E.contents to.old) (texts W.contents E.contents to.new)) }
-    ensures legal { IfOk result (IsParsedLegalStatus (L.has loader.old) name.now (named.profile_of (option_map (λ w. w.now) profile.entry))) }
     ensures cause { IfOk result (HasCause (L.failed loader.old) (L.failed loader.new)) }
 {
     match parse_check(profile, ring, gap) {
@@ -276,8 +270,7 @@ fn draw_outlined<L: Loader, W: Write, E: Write>(
     }
 }
 
-/// Prints the picture of the package of a manifest, with what is found under the rules that two words name, if they are given, and the
-/// outline of a file, if one is named.
+/// Prints the picture of the package of a manifest, with what is found under the rules, and with an outline, if these are named.
 pub(crate) fn draw<L: Loader, W: Write, E: Write>(
     alloc: Global,
     unparsed: &PictureWords,
@@ -298,8 +291,7 @@ pub(crate) fn draw<L: Loader, W: Write, E: Write>(
     }
 }
 
-/// Prints a report on the package of a manifest: its findings under the rules, with what waives them, in a format. The file of an outline, if
-/// one is named, is loaded first.
+/// Prints a report on the package of a manifest in a format. The file of an outline, if one is named, is loaded first.
 fn report_outlined<L: Loader, W: Write, E: Write>(
     alloc: Global,
     named: (Rules, Option<usize>, ReportFormat),

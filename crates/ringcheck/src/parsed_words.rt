@@ -86,8 +86,7 @@ pub enum ReportFormat {
     Waivers,
 }
 
-/// The format of a report that a word names; text where there is no word. `waivers` is refused where a file of waivers is given, and all but
-/// `html` where an outline is.
+/// The format of a report that a word names, or text. `waivers` is refused beside a file of waivers, and all but `html` beside an outline.
 #[tactic(auto, unfolding(crate::specs::ParsedWords::parse_report_format))]
 fn parse_report_format(
     waives: bool,

@@ -4,7 +4,7 @@ ghost use Rattle.std.specs.Prelude.{◌≡◌, ◌++◌, ◌∷◌, ◌⊎◌, [
 ghost use Rattle.std.specs.Io.KnownBytes.{Appends};
 ghost use Rattle.command_line.specs.ProgramArgs.{are_plain_rules, are_plain_words, check_words, draw_words, explain_words, is_plain_if_some, is_plain_word, manifest_words, measure_words, report_words, rewrite_words, show_words};
 ghost use Rattle.ringcheck.specs.Inner.Exits.{exit_of};
-ghost use Rattle.ringcheck.specs.RequestStatus.{IsExitOf, IsLegalRequest, IsLineStatus, IsProgramStatus, IsRequestStatus, word_bytes};
+ghost use Rattle.ringcheck.specs.RequestStatus.{IsExitOf, IsLineStatus, IsProgramStatus, IsRequestStatus, word_bytes};
 ghost use Rattle.ringcheck_files.specs.LoaderRelation.{in_folder};
 ghost use Rattle.ringcheck.specs.DrawStatus.{IsParsedDrawStatus};
 ghost use Rattle.ringcheck_files.specs.Outcomes.{HasCause};
@@ -14,7 +14,7 @@ ghost use Rattle.ringcheck.specs.MeasureStatus.{IsParsedMeasureStatus};
 ghost use Rattle.ringcheck.specs.ParsedWords as named;
 ghost use Rattle.ringcheck_files.specs.FileStatus.{IsParsedFileStatus, parse_kind};
 ghost use Rattle.ringcheck.specs.ReportStatus.{IsParsedReportStatus};
-ghost use Rattle.ringcheck.specs.CheckStatus.{IsParsedCheckStatus, IsParsedLegalStatus};
+ghost use Rattle.ringcheck.specs.CheckStatus.{IsParsedCheckStatus};
 ghost use Rattle.ringcheck.specs.Sentences.{check_sentence, draw_sentence, is_for_people, measure_sentence, profile_sentence, report_sentence};
 ghost use Rattle.ringcheck_files.specs.Writers.{texts};
 ghost use Rattle.ringcheck.specs.ShowStatus.{IsParsedShowStatus};
@@ -65,7 +65,6 @@ fn carry_out<L: Loader, W: Write, E: Write>(
     to: &mut Streams<W, E>,
 ) -> Result<Status, Failure>
     ensures says { IfOk result (IsRequestStatus request.now (L.has loader.old) (L.failed loader.old) (L.failed loader.new) (texts W.contents E.contents to.old) (texts W.contents E.contents to.new)) }
-    ensures legal { IfOk result (IsLegalRequest request.now (L.has loader.old)) }
     ensures cause { IfOk result (HasCause (L.failed loader.old) (L.failed loader.new)) }
 {
     match request {
@@ -135,8 +134,7 @@ fn answer<L: Loader, W: Write, E: Write>(
     loader: &mut L,
     to: &mut Streams<W, E>,
 ) -> Status
-    ensures says { IsLineStatus line.now (L.has loader.old) (L.failed loader.old) (L.failed loader.new) (texts W.contents E.contents to.old) (texts W.contents E.contents to.new) result }
-    ensures legal { IsLegalRequest line.now.request (in_folder (word_bytes line.now.folder) (L.has loader.old)) result }
+    ensures { IsLineStatus line.now (L.has loader.old) (L.failed loader.old) (L.failed loader.new) (texts W.contents E.contents to.old) (texts W.contents E.contents to.new) result }
 {
     match enter(alloc, line.folder, loader) {
         Ok(()) => answer_there(alloc, &line.request, loader, to),
@@ -151,8 +149,7 @@ fn answer_there<L: Loader, W: Write, E: Write>(
     loader: &mut L,
     to: &mut Streams<W, E>,
 ) -> Status
-    ensures says { IsRequestStatus request.now (L.has loader.old) (L.failed loader.old) (L.failed loader.new) (texts W.contents E.contents to.old) (texts W.contents E.contents to.new) result }
-    ensures legal { IsLegalRequest request.now (L.has loader.old) result }
+    ensures { IsRequestStatus request.now (L.has loader.old) (L.failed loader.old) (L.failed loader.new) (texts W.contents E.contents to.old) (texts W.contents E.contents to.new) result }
 {
     match carry_out(alloc, request, loader, to) {
         Ok(status) => status,
@@ -184,8 +181,6 @@ pub fn run<L: Loader, W: Write, E: Write>(
 ) -> Status
     ensures check { (r g : List ℕ) (profile folder : Option (List ℕ)) (m : List ℕ) → map (λ w. w.now) words.now ≡ check_words r g profile folder m → is_plain_word r ≡ true → is_plain_word g ≡ true
         → is_plain_if_some profile ≡ true → is_plain_if_some folder ≡ true → is_plain_word m ≡ true → IsParsedCheckStatus (in_folder folder (L.has loader.old)) m (named.parse_check profile r g) (check_sentence profile r g) (texts W.contents E.contents to.old) (texts W.contents E.contents to.new) result }
-    ensures legal { (r g : List ℕ) (profile folder : Option (List ℕ)) (m : List ℕ) → map (λ w. w.now) words.now ≡ check_words r g profile folder m → is_plain_word r ≡ true → is_plain_word g ≡ true
-        → is_plain_if_some profile ≡ true → is_plain_if_some folder ≡ true → is_plain_word m ≡ true → IsParsedLegalStatus (in_folder folder (L.has loader.old)) m (named.profile_of profile) result }
     ensures report { (exit_zero : Bool) (r g : List ℕ) (profile limit waive outline format folder : Option (List ℕ)) (m : List ℕ) → map (λ w. w.now) words.now ≡ report_words exit_zero r g profile limit waive outline format folder m → is_plain_word r ≡ true → is_plain_word g ≡ true
         → is_plain_if_some profile ≡ true → is_plain_if_some limit ≡ true → is_plain_if_some waive ≡ true → is_plain_if_some outline ≡ true → is_plain_if_some format ≡ true → is_plain_if_some folder ≡ true → is_plain_word m ≡ true
         → IsExitOf exit_zero (IsParsedReportStatus (in_folder folder (L.has loader.old)) m (named.parse_report profile r g limit waive outline format) (is_for_people format) (report_sentence profile r g limit (is_some outline) format) waive outline (texts W.contents E.contents to.old) (texts W.contents E.contents to.new)) result }

@@ -1,20 +1,21 @@
 //! Reports on a package: each finding under the rules, what is lacking, why, and whether it is waived.
 
-ghost use Rattle.std.specs.Prelude.{◌≡◌, ◌==◌, ◌&&◌, Bool, List, IfOk, OnOk, length, map};
+ghost use Rattle.std.specs.Prelude.{◌≡◌, ◌&&◌, List, IfOk, OnOk, map};
+ghost use Rattle.std.specs.List.{AllByRecursion};
 ghost use Rattle.package_check.specs.Holding.{HasTakenAll};
 ghost use Rattle.package_check.specs.Package.{FileView};
 ghost use Rattle.report.specs.declared.Acceptances.{Acceptances as TheAcceptances};
 ghost use Rattle.ringcheck.specs.Inner.Halting.{OfTaken};
 ghost use Rattle.ringcheck.specs.Inner.Jobs.{given};
 ghost use Rattle.ringcheck.specs.Inner.Reporting.{IsReportOn};
-ghost use Rattle.ringcheck.specs.ReportStatus.{Judges, PrintsPage, PrintsReport, has_none, kept_for};
+ghost use Rattle.ringcheck.specs.ReportStatus.{IsFewer, Judges, PrintsPage, PrintsReport, asks_wide, has_none, kept_for, says_fewer};
 
 use crate::jobs::Order;
 use crate::parsed_words::ReportFormat;
 use crate::refusals::{Halt, refused};
 use crate::{PackageFault, PackageReader};
-use board_report::laws::report_agrees_with_check;
-use board_report::report_on;
+use board_report::{fewer_in_wide, laws, report_on};
+use grid_units::Profile;
 use package_check::Board;
 use pad_shapes::Drawn;
 use print_json::ReportJson;
@@ -103,6 +104,40 @@ pub(crate) fn has_none(report: &BoardReport) -> bool
     report.rings.is_empty() && report.gaps.is_empty()
 }
 
+/// Whether a report in this format and profile says how many of its findings the wide profile does not have.
+fn says_fewer(format: ReportFormat, profile: Profile) -> bool
+    ensures { result ≡ says_fewer format profile }
+{
+    match (format, profile) {
+        (ReportFormat::Text | ReportFormat::Html | ReportFormat::Json, Profile::Strict) => true,
+        _ => false,
+    }
+}
+
+/// Whether a report has to ask how many of its findings the wide profile does not have.
+fn asks_wide(options: &Order, report: &BoardReport) -> bool
+    ensures { result ≡ asks_wide options.now.format options.now.rules report.now }
+{
+    says_fewer(options.format, options.rules.profile()) && !has_none(report)
+}
+
+/// How many findings of the report on a board the wide profile does not have, where the report asks for that; else 0.
+pub(crate) fn fewer_findings(
+    alloc: Global,
+    options: &Order,
+    board: &Board,
+    report: &BoardReport,
+) -> Result<u128, Failure>
+    ensures { (all : List FileView) → AllByRecursion (λ source. source.setting.profile ≡ options.now.rules.profile) all → IsReportOn options.now.rules options.now.format board.now report.now all
+        → IfOk result (IsFewer (asks_wide options.now.format options.now.rules report.now) all report.now) }
+{
+    if !asks_wide(options, report) {
+        return Ok(0);
+    }
+    let fewer = fewer_in_wide(alloc, board, report)?;
+    Ok(fewer as u128)
+}
+
 /// Prints a report with these waivers, and returns whether each finding is waived.
 fn print_waived<W: Write>(
     alloc: Global,
@@ -161,7 +196,7 @@ pub(crate) fn report_on_taken<'a>(
     ensures { (all : List FileView) → map (λ name. name.now) names.now ≡ map (λ source. source.name) all → HasTakenAll reader (kept_for options.now.format) all
         → IfOk result (OfTaken (λ found. IsReportOn options.now.rules options.now.format found.0 found.1) all) }
 {
-    report_agrees_with_check();
+    laws::report_agrees_with_check();
     let board = match reader.board() {
         Ok(board) => board,
         Err(PackageFault::Memory) => return Err(Failure::Memory),

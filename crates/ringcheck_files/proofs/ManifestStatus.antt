@@ -1,5 +1,5 @@
 -- Files that were loaded one by one, by their names.
-use Rattle.ringcheck_files.proofs.Common.{◌≡◌, ◌∙◌, ◌<◌, ◌≤◌, ◌+◌, ◌++◌, ◌&&◌, inl, inr, ℕ, zero, suc, Bool, true, false, cond, List, [], ◌∷◌, length, map, take, get_or, Bor, Option, Some, None, arith, refl, ap, sym, subst, Appends, slice_get, list_all, false≢true, HasLoaded, HasAllLoaded, IsHeldStatus, IsManifestStatus, IsProposalText, LoadedView, PrintsProposal, HasRisenBy, bytes, unread, folder, long, is_container, are_containers, is_entry_name, count_unread, first_said, loaded_view, is_unread, loaded_file, loaded_files, said_of}
+use Rattle.ringcheck_files.proofs.Common.{◌≡◌, ◌∙◌, ◌<◌, ◌≤◌, ◌+◌, ◌++◌, ◌&&◌, inl, inr, ℕ, zero, suc, Bool, true, false, cond, List, [], ◌∷◌, length, map, take, get_or, Bor, Option, Some, arith, refl, ap, sym, subst, Appends, slice_get, list_all, false≢true, HasLoaded, HasAllLoaded, IsHeldStatus, IsManifestStatus, IsProposalText, LoadedView, PrintsProposal, HasRisenBy, bytes, unread, folder, long, is_container, are_containers, is_entry_name, count_unread, first_said, loaded_view, is_unread, loaded_file, loaded_files, said_of}
 use Rattle.std.proofs.lemmas.List.Sums.{sum_by_push}
 use Rattle.grid_units.specs.declared.profile.Profile.{Profile}
 use Rattle.manifest.specs.ProposalList.{name_of}
@@ -125,16 +125,6 @@ not_all [] [] n is = refl
 not_all [] (x ∷ xs) n is = absurd (omega (arith, n))
 not_all (y ∷ ys) [] n is = absurd (omega (arith, n))
 not_all (y ∷ ys) (x ∷ xs) n is = all_hold (y ∷ ys) (x ∷ xs) n ∙ is
-
--- of no files there are none
-pub no_names : (names : List (Bor (List ℕ))) (all : List LoadedFile) → slice_get names 0 ≡ None → are_containers (loaded_files names all) ≡ false
-no_names [] all at = refl
-no_names (y ∷ ys) all at = absurd cc
-
-pub no_files : (names : List (Bor (List ℕ))) (all : List LoadedFile) → slice_get all 0 ≡ None → are_containers (loaded_files names all) ≡ false
-no_files [] [] at = refl
-no_files (y ∷ ys) [] at = refl
-no_files names (x ∷ xs) at = absurd cc
 
 -- where each of the loaded files is one, the first is
 pub first_is : (all : List LoadedFile) (one : LoadedFile) → slice_get all 0 ≡ Some one → list_all (λ one. is_container (loaded_view one)) all ≡ true → is_container (loaded_view one) ≡ true

@@ -63,10 +63,9 @@ pub record PrintsFileRefusal (what : FileJob) (kind : Kind) (has : Relation) (na
 -- what a status says of `show` or `rewrite` on a file of this kind
 abbrev pub IsFileStatus : FileJob → Kind → Relation → List ℕ → Option (List ℕ) → Option (List ℕ) → Status → Type 0
 IsFileStatus what kind has name before after status.Pass = PrintsFile what kind has name before after
-IsFileStatus what kind has name before after status.Findings = ⊥
 IsFileStatus what kind has name before after status.Refused = PrintsFileRefusal what kind has name before after
-IsFileStatus what kind has name before after status.Usage = ⊥
 IsFileStatus what kind has name before after status.Device = ⊤
+IsFileStatus what kind has name before after _ = ⊥
 
 -- beside the answer just why the file of this name cannot be read was said: that it is a folder, or where names are taken from
 abbrev pub SaysUnread : List ℕ → Written → Written → Type 0

@@ -144,21 +144,18 @@ pub record PrintsContainers (has : Relation) (failed_before failed_after : ℕ) 
 -- what a status says of a manifest of files with these names, for a profile; `failed_before` and `failed_after` count the loader's failures
 abbrev pub IsManifestStatus : Profile → Bool → Relation → ℕ → ℕ → List (List ℕ) → Option (List ℕ) → Option (List ℕ) → Status → Type 0
 IsManifestStatus profile why has failed_before failed_after names before after status.Pass = (list_all is_entry_name names ≡ true) × PrintsProposal profile why has failed_before failed_after names before after
-IsManifestStatus profile why has failed_before failed_after names before after status.Findings = ⊥
-IsManifestStatus profile why has failed_before failed_after names before after status.Refused = ⊥
 IsManifestStatus profile why has failed_before failed_after names before after status.Usage =
     ((list_all is_entry_name names ≡ false) × Appends before after (usage_line BadManifest ++ sentence_line name_sentence)) ⊎ PrintsContainers has failed_before failed_after names before after
 IsManifestStatus profile why has failed_before failed_after names before after status.Device = ⊤
+IsManifestStatus profile why has failed_before failed_after names before after _ = ⊥
 
 -- ---- files that are at hand
 
 -- what a status says of the manifest or the table of files that are at hand: it was written, or there are some and each is a folder or a zip archive
 abbrev pub IsHeldStatus : Profile → Bool → List (List ℕ × LoadedView) → Option (List ℕ) → Option (List ℕ) → Status → Type 0
 IsHeldStatus profile why all before after status.Pass = (are_containers all ≡ false) × ((files : List InputFile) × (map loaded_file files ≡ all) × (text : List ℕ) × IsProposalText profile why files text × Appends before after text)
-IsHeldStatus profile why all before after status.Findings = ⊥
-IsHeldStatus profile why all before after status.Refused = ⊥
 IsHeldStatus profile why all before after status.Usage = (are_containers all ≡ true) × Appends before after (usage_line BadManifest ++ sentence_line (first_said all))
-IsHeldStatus profile why all before after status.Device = ⊥
+IsHeldStatus profile why all before after _ = ⊥
 
 -- ---- explanations
 
@@ -172,16 +169,12 @@ pub record PrintsPage (word : List ℕ) (before after : Option (List ℕ)) : Typ
 abbrev pub IsExplainStatus : Option (List ℕ) → Option (List ℕ) → Option (List ℕ) → Status → Type 0
 IsExplainStatus (Some word) before after status.Pass = PrintsPage word before after
 IsExplainStatus None before after status.Pass = (list : List ℕ) × ListsWords list × Appends before after list
-IsExplainStatus word before after status.Findings = ⊥
-IsExplainStatus word before after status.Refused = ⊥
 IsExplainStatus (Some word) before after status.Usage = (known_word word ≡ None) × Appends before after (usage_line BadRole ++ sentence_line (no_page_sentence word))
-IsExplainStatus None before after status.Usage = ⊥
 IsExplainStatus word before after status.Device = ⊤
+IsExplainStatus word before after _ = ⊥
 
 -- what a status says of the version: on Pass just its line was written, such as `ringcheck 0.1.0` (docs/FORMATS.md, The program)
 abbrev pub IsVersionStatus : Option (List ℕ) → Option (List ℕ) → Status → Type 0
 IsVersionStatus before after status.Pass = Appends before after VERSION_LINE.now
-IsVersionStatus before after status.Findings = ⊥
-IsVersionStatus before after status.Refused = ⊥
-IsVersionStatus before after status.Usage = ⊥
 IsVersionStatus before after status.Device = ⊤
+IsVersionStatus before after _ = ⊥

@@ -1,6 +1,6 @@
 //! Counted reads, and whether one of them failed.
 
-ghost use Rattle.std.specs.Prelude.{◌≡◌, ◌<◌, ◌+◌, ◌-◌, ◌^◌, true, false, OnOk, IfErr, length};
+ghost use Rattle.std.specs.Prelude.{◌≡◌, ◌<◌, ◌+◌, ◌-◌, ◌^◌, true, false, OnOk, IfErr};
 ghost use Rattle.ringcheck_files.specs.Inner.{IsNextRead, IsFresh};
 
 use crate::ReadFail;

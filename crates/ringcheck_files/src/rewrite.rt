@@ -1,6 +1,6 @@
 //! A text, rewritten as its canonical text.
 
-ghost use Rattle.std.specs.Prelude.{◌≡◌, ◌++◌, ℕ, List, Ok, Err, OnOk, IfErr};
+ghost use Rattle.std.specs.Prelude.{◌≡◌, Ok, Err, OnOk, IfErr};
 ghost use Rattle.drill_text.specs.Outcome.{file_of};
 ghost use Rattle.drill_text.specs.Texts.{ReadsAs};
 ghost use Rattle.drill_text.specs.declared.kept.Keep.TheVariants as drill_keep;

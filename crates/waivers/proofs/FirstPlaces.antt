@@ -31,21 +31,6 @@ module _ {X : Type 0} (p : X → Bool) where
       let place : 0 + length (take i xs) ≡ i = omega (arith, taken) in
       ap (position_from p 0) grown ∙ (more_from 0 (take i xs) x ∙ ap (λ (n : ℕ). option_or (position_from p 0 (take i xs)) (if p x then Some n else None)) place)
 
--- a key that has a place keeps it
-pub place_unchanged : (found : List ℕ → Option ℕ) (key : List ℕ) (place : ℕ) → is_some (found key) ≡ true → (other : List ℕ) → found other ≡ option_or (found other) (if bytes_eq key other then Some place else None)
-place_unchanged found key place some other = elim (cases_Bool (bytes_eq key other)) [
-  | inl t ↦ by_some (found other) (ap (λ k. is_some (found k)) (sym ((bytes_eq-Decides key other).0 t)) ∙ some)
-  | inr f ↦ rw f (by_none (found other))
-]
-  where
-    by_some : (o : Option ℕ) → is_some o ≡ true → o ≡ option_or o (if bytes_eq key other then Some place else None)
-    by_some None e = absurd cc
-    by_some (Some n) e = refl
-
-    by_none : (o : Option ℕ) → o ≡ option_or o None
-    by_none None = refl
-    by_none (Some n) = refl
-
 -- a key without a place gets one
 pub place_added : (found new : List ℕ → Option ℕ) (key : List ℕ) (place : ℕ) → is_some (found key) ≡ false → ((other : List ℕ) → new other ≡ cond (bytes_eq key other) (Some place) (found other))
     → (other : List ℕ) → new other ≡ option_or (found other) (if bytes_eq key other then Some place else None)

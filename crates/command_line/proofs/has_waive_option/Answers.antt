@@ -1,5 +1,5 @@
-use Rattle.std.proofs.Common.{◌≡◌, ◌∙◌, rules, tests, List, ℕ, Bor}
-use Rattle.std.specs.List.{list_any}
+use Rattle.command_line.proofs.Common.{◌≡◌, ◌∙◌, List, ℕ, Bor, list_any}
+use Rattle.std.proofs.Common.{rules, tests}
 use Rattle.std.proofs.lemmas.Iterator.{YieldsList-from_slice}
 use Rattle.std.proofs.lemmas.Iterator.Search.{any_from_yields_List}
 use Rattle.command_line.specs.RefusalTexts.{is_waive_option}

@@ -1,5 +1,5 @@
-use Rattle.std.proofs.Common.{◌∙◌, ap, sym, refl, Some, map, codes, Bor, List, ℕ}
-use Rattle.clap.specs.Words.{found_of}
+use Rattle.command_line.proofs.Common.{◌∙◌, ap, sym, refl, Some, codes, Bor, List, ℕ, found_of}
+use Rattle.std.proofs.Common.{map}
 use Rattle.clap.proofs.WalkLemmas.{raw_values-rows}
 use Rattle.command_line.proofs.manifest_request.Goals as goal
 

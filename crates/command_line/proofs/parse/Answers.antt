@@ -1,8 +1,9 @@
-use Rattle.std.proofs.Common.{◌≡◌, ◌∙◌, ap, ap₂, ◌≤◌, ◌++◌, List, codes, length, map, Bool, Bor, Option, refl, subst, sym, true, Err, Some, None, arith}
+use Rattle.command_line.proofs.Common.{◌≡◌, ◌∙◌, ap, ap₂, ◌++◌, List, codes, Bool, Bor, Option, refl, sym, true, Some, None, Row, Text, fault_of, subcommand_of, IsLineOf, flag_words, option_words, ringcheck_app}
+use Rattle.std.proofs.Common.{◌≤◌, length, map, subst, Err, arith}
 use Rattle.std.proofs.lemmas.List.{length-append, length-map}
 use Rattle.clap.specs.Lexer.{usize_max}
-use Rattle.clap.specs.Words.{Row, Text, fault_of, is_simple, is_simple_and_free, subcommand_of, takes}
-use Rattle.command_line.specs.ProgramArgs.{ParsesLine, IsCheck, IsDraw, IsExplain, IsLineOf, IsManifest, IsMeasure, IsReport, IsRewrite, IsShow, flag_words, manifest_words, option_words, ringcheck_app}
+use Rattle.clap.specs.Words.{is_simple, is_simple_and_free, takes}
+use Rattle.command_line.specs.ProgramArgs.{ParsesLine, IsCheck, IsDraw, IsExplain, IsManifest, IsMeasure, IsReport, IsRewrite, IsShow, manifest_words}
 use Rattle.command_line.proofs.ParseResult.{fault_told, line_is_parsed, refused, version_told}
 use Rattle.command_line.proofs.CommandWords.{check_answer, check_options, draw_answer, draw_options, explain_answer, is_free_command, is_plain_command, measure_answer, measure_options, rewrite_answer, rewrite_options, show_answer, show_options, version_fault, word_options}
 use Rattle.command_line.proofs.GivenOptions.{first_is, rows_of}

@@ -56,11 +56,8 @@ Halts Is Risen (halt.Unread what) = Risen
 
 -- the file at this index cannot be read
 abbrev pub IsUnreadAt : Halt → ℕ → Type 0
-IsUnreadAt (halt.Refused what why) index = ⊥
-IsUnreadAt (halt.Archive what why name) index = ⊥
-IsUnreadAt (halt.Unread subject.Manifest) index = ⊥
-IsUnreadAt (halt.Unread subject.Waivers) index = ⊥
 IsUnreadAt (halt.Unread (subject.File at name)) index = at ≡ index
+IsUnreadAt _ index = ⊥
 
 -- just the text of something that cannot be read was written in this style, and beside it its sentence; it was looked for by this name
 abbrev pub PrintsUnread : RefusalStyle → Subject → List ℕ → Written → Written → Type 0

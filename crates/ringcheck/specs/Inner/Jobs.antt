@@ -35,12 +35,12 @@ job_profile (job.Report options) = options.rules.profile
 job_profile (job.Draw order) = order.profile
 
 -- what is said of the files of the package under a name where a job on them passes, or does not
-abbrev pub Holds : Job → Relation → List ℕ → Option (List ℕ) → Option (List ℕ) → Bool → List FileView → Type 0
-Holds (job.Check rules) has name before after = Checks rules before after
-Holds (job.Measure order) has name before after = PrintsMeasure order before after
-Holds (job.Report options) has name before after = Reports has name options.rules options.limit options.format (given options.waivers) options.outline.items before after
-Holds (job.Draw order) has name before after = PrintsPicture order.rules order.outline.items before after
+abbrev pub Holds : Job → List ℕ → Option (List ℕ) → Option (List ℕ) → Bool → List FileView → Type 0
+Holds (job.Check rules) name before after = Checks rules before after
+Holds (job.Measure order) name before after = PrintsMeasure order before after
+Holds (job.Report options) name before after = Reports name options.rules options.limit options.format (given options.waivers) options.outline.items before after
+Holds (job.Draw order) name before after = PrintsPicture order.rules order.outline.items before after
 
 -- what a status says of a job on the package under a name
 abbrev pub SaysJob : Job → Relation → List ℕ → Written → Written → Status → Type 0
-SaysJob job has name before after s = SaysPackage has (job_profile job) name (Holds job has name before.0 after.0) (job_style job) before after s
+SaysJob job has name before after s = SaysPackage has (job_profile job) name (Holds job name before.0 after.0) (job_style job) before after s

@@ -1,4 +1,4 @@
-use Rattle.std.proofs.Common.{◌∙◌, ap}
+use Rattle.command_line.proofs.Common.{◌∙◌, ap}
 use Rattle.clap.specs.Simple.{app_of_fields}
 use Rattle.command_line.proofs.commands.new_command.Goals as goal
 

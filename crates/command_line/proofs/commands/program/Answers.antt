@@ -1,5 +1,4 @@
-use Rattle.std.proofs.Common.{◌∙◌, ap, true}
-use Rattle.clap.specs.Words.{App}
+use Rattle.command_line.proofs.Common.{◌∙◌, ap, true, App}
 use Rattle.clap.specs.Simple.{app_of_fields}
 use Rattle.command_line.proofs.commands.program.Goals as goal
 

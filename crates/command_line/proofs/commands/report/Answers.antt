@@ -1,6 +1,4 @@
-use Rattle.std.proofs.Common.{◌∙◌, ap, ap₂}
-use Rattle.std.proofs.lemmas.Result.{IfOk-weaker}
-use Rattle.clap.specs.Words.{with_rule}
+use Rattle.command_line.proofs.Common.{◌∙◌, ap, ap₂, IfOk-weaker, with_rule}
 use Rattle.command_line.specs.Inner.AppParts.{report_args_of}
 use Rattle.command_line.proofs.commands.report.Goals as goal
 

@@ -1,5 +1,4 @@
-use Rattle.std.proofs.Common.{◌∙◌, ap, true}
-use Rattle.clap.specs.Words.{Rule, rule_of}
+use Rattle.command_line.proofs.Common.{◌∙◌, ap, true, Rule, rule_of}
 use Rattle.command_line.proofs.commands.required_arg.Goals as goal
 
 pub returns-clause-rule : goal.returns-clause-rule

@@ -1,5 +1,4 @@
-use Rattle.std.proofs.Common.{◌∙◌, ap}
-use Rattle.std.proofs.lemmas.Result.{IfOk-weaker}
+use Rattle.command_line.proofs.Common.{◌∙◌, ap, IfOk-weaker}
 use Rattle.command_line.specs.Inner.AppParts.{file_commands_of, package_commands_of}
 use Rattle.command_line.proofs.commands.ringcheck.Goals as goal
 

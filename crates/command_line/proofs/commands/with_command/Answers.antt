@@ -1,8 +1,6 @@
-use Rattle.std.proofs.Common.{◌∙◌, ap, ap₂, refl}
-use Rattle.std.proofs.lemmas.Result.{IfOk-weaker}
-use Rattle.clap.specs.Words.{App, app_of, with_subcommand}
+use Rattle.command_line.proofs.Common.{◌∙◌, ap, ap₂, refl, IfOk-weaker, App, with_subcommand, both}
+use Rattle.clap.specs.Words.{app_of}
 use Rattle.clap.proofs.SimpleLemmas.{is_false}
-use Rattle.clap.proofs.WalkLemmas.{both}
 use Rattle.command_line.proofs.commands.with_command.Goals as goal
 
 pub returns-in-Ok : goal.returns-in-Ok

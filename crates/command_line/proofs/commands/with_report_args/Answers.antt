@@ -1,6 +1,4 @@
-use Rattle.std.proofs.Common.{◌∙◌, ap₂, refl}
-use Rattle.std.proofs.lemmas.Result.{IfOk-weaker}
-use Rattle.clap.specs.Words.{with_rule}
+use Rattle.command_line.proofs.Common.{◌∙◌, ap₂, refl, IfOk-weaker, with_rule}
 use Rattle.command_line.proofs.commands.with_report_args.Goals as goal
 
 pub returns : goal.returns

@@ -11,6 +11,7 @@ returns-clause-answers g c all rules named stands =
     record {
       report = report;
       is = c.in-Ok.ensures.exact all rules stands;
+      legal = let is = c.in-Ok.ensures.exact all rules stands in (is.contents, is.read);
       written = subst (λ (ns : List (List ℕ)). Appends (contents c.args.out.now) (contents c.print.new.out) (text_of ns report)) named c.in_ok-print.ensures;
       passed = passed;
       sound = λ passes. c.in-Ok.ensures.sound all rules stands (none_left report.findings (sym passed ∙ passes));

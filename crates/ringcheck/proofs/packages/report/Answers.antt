@@ -1,5 +1,5 @@
 use Rattle.ringcheck.proofs.Common.{[], true, Ok, Some, inr, option_map, sym, IfOk-weaker, texts, IsOutlinedReportStatus, IsParsedReportStatus}
-use Rattle.ringcheck.proofs.OutlinedReports.{outlined_along}
+use Rattle.ringcheck.proofs.Outcomes.{outlined_along}
 use Rattle.ringcheck.proofs.packages.report.Goals as goal
 
 pub returns-in-Ok-2-clause-says : goal.returns-in-Ok-2-clause-says

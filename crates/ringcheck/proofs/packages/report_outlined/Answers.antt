@@ -1,5 +1,5 @@
 use Rattle.ringcheck.proofs.Common.{Some, inr, IfOk-weaker, texts, SaysPackage, given, IsOutlinedReportStatus, Reports, report_style}
-use Rattle.ringcheck.proofs.OutlinedReports.{report_along}
+use Rattle.ringcheck.proofs.Outcomes.{says_along}
 use Rattle.ringcheck.proofs.packages.report_outlined.Goals as goal
 
 pub returns-in-Ok-clause-says : goal.returns-in-Ok-clause-says
@@ -13,8 +13,8 @@ returns-in-Ok-clause-says g c =
     let waivers = given c.args.waivers in
     let outline = c.in-Ok.outline.items in
     let listed = rw c.in-Ok.is at c.in_ok-outline-in-Some.ensures.loaded in
-    let holds = Reports later name rules limit form waivers outline before.0 after.0 in
+    let holds = Reports name rules limit form waivers outline before.0 after.0 in
     rw (c.in-Some.is)
     (IfOk-weaker c.run_job-in-Ok.result (SaysPackage later rules.profile name holds (report_style form) before after) (IsOutlinedReportStatus has name rules limit form waivers (Some c.in-Some.file.now) before after)
-    (λ s status_of_outcome. inr (inr (outline, listed, report_along later has c.in_ok-outline-in-Some.ensures.keeps name rules limit form waivers outline before after s status_of_outcome)))
+    (λ s status_of_outcome. inr (inr (outline, listed, says_along later has c.in_ok-outline-in-Some.ensures.keeps rules.profile name holds (report_style form) before after s status_of_outcome)))
     c.run_job-in-Ok.ensures.says)

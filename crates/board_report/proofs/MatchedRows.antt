@@ -1,5 +1,9 @@
 -- Rows and pads belong together.
-use Rattle.report.proofs.Common.{◌≡◌, ◌+◌, ◌∷◌, ℕ, suc, cond, List, [], Some, None, length, refl, ap, cons_option, enumerate_from, filter_map, WidePad, is_pad_row, RowsAreMatched, pad_place}
+use Rattle.board_report.proofs.Common.{◌≡◌, ◌+◌, ◌∷◌, ℕ, suc, cond, List, [], Some, None, length, refl, ap, WidePad}
+use Rattle.std.specs.List.{cons_option, enumerate_from, filter_map}
+use Rattle.pad_shapes.specs.Rows.{is_pad_row}
+use Rattle.report.specs.Causes.{pad_place}
+use Rattle.board_report.specs.BoardReport.{RowsAreMatched}
 use Rattle.layer_features.specs.Features.{pad_in, pads_of, row_kind, rows_of}
 use Rattle.layer_features.specs.declared.feature.Feature.{Feature}
 use Rattle.layer_features.specs.declared.feature.FeatureKind.{FeatureKind}

@@ -1,0 +1,38 @@
+use Rattle.board_report.proofs.Common.{◌≡◌, ◌+◌, ◌-◌, ℕ, List, inl, inr, length, refl, ap, sym, ◌∙◌, arith, length-append, IsGapEntry, board_findings, wide_pad_covers, Finding}
+use Rattle.std.specs.List.{filter, list_any}
+use Rattle.std.proofs.lemmas.Slice.Zip.{AllZip-long}
+use Rattle.ring_rules.specs.Findings.{gap_findings, ring_findings}
+use Rattle.package_check.specs.WiderProfile.{contradicts_role, is_gap, wide_rings}
+use Rattle.package_check.proofs.WiderFindings.{gaps_among, gaps_are, rings_are}
+use Rattle.board_report.proofs.fewer.fewer_in_wide.Goals as goal
+
+-- what two numbers have more of is the same where each has as many more
+less_both : (a b n : ℕ) → a - b ≡ (a + n) - (b + n)
+less_both a b n = omega arith
+
+pub returns-then-some_contradict : goal.returns-then-some_contradict
+returns-then-some_contradict c all flashed is =
+    let answers = c.wide_answers_by_board.ensures all c.args.report.now.rules c.args.board.now flashed in
+    inr (refl, answers.refuses (sym (ap (list_any contradicts_role) c.files.ensures.sums) ∙ (sym c.some_contradict.ensures ∙ c.if-some_contradict.true)))
+
+pub returns : goal.returns
+returns c all flashed is =
+    let board = c.args.board.now in
+    let report = c.args.report.now in
+    let rules = report.rules in
+    let answers = c.wide_answers_by_board.ensures all rules board flashed in
+    let (wide, read, found) = answers.reads (sym (ap (list_any contradicts_role) c.files.ensures.sums) ∙ (sym c.some_contradict.ensures ∙ c.if-some_contradict.false)) in
+    let gaps = gap_findings rules.gap board.holes in
+    let all_gaps : filter is_gap (board_findings rules board) ≡ gaps =
+    gaps_among (ring_findings wide_pad_covers rules.profile rules.ring board.layers board.holes) gaps (rings_are wide_pad_covers rules.profile rules.ring board.layers board.holes) (gaps_are rules.gap board.holes) in
+    let as_many = AllZip-long (IsGapEntry board rules.gap) (filter is_gap (board_findings rules board)) report.gaps.items is.gaps in
+    let gap_count : length report.gaps.items ≡ length gaps = omega (arith, as_many, ap length all_gaps) in
+    let rings = c.in_ok-rings.ensures in
+    let wide_count : length wide.findings ≡ length c.in_ok-rings.rings.items + length gaps =
+    ap length found ∙ (length-append (wide_rings rules board) gaps ∙ ap (λ (fs : List Finding). length fs + length gaps) (sym rings)) in
+    let first : c.len.result ≡ length report.rings.items = omega (arith, c.len.ensures, report.rings.ok.0) in
+    let second : c.len-2.result ≡ length c.in_ok-rings.rings.items = omega (arith, c.len-2.ensures, c.in_ok-rings.rings.ok.0) in
+    let fewer : c.saturating_sub.result ≡ (length report.rings.items + length report.gaps.items) - length wide.findings =
+    c.saturating_sub.ensures ∙ ((λ i. first i - second i) ∙ (less_both (length report.rings.items) (length c.in_ok-rings.rings.items) (length gaps)
+    ∙ ((λ i. (length report.rings.items + sym gap_count i) - sym wide_count i)))) in
+    inl (wide, read, fewer)
