@@ -9,7 +9,7 @@ for part in HANDLES crates.txt crates; do
 done
 mkdir -p "$copy/crates/sweep_times/src"
 cp "$here/sweep_times.rt.txt" "$copy/crates/sweep_times/src/main.rt"
-echo 'sweep_times: grid_units pad_shapes ring_rules margins' >> "$copy/crates.txt"
+echo 'sweep_times: grid_units pad_shapes ring_rules board' >> "$copy/crates.txt"
 (cd "$copy" && git init -q)
 cd "$copy/crates/sweep_times"
 rt run > "$copy/log" 2>&1 < /dev/null || { cat "$copy/log"; exit 1; }

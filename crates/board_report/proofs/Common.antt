@@ -1,4 +1,4 @@
--- The names that most proofs of this crate cite, passed on from one place. Declares nothing.
+-- Names that proofs of this crate cite, passed on from one place. Declares nothing.
 pub use Rattle.std.proofs.Common.{Bool, Bor, Equal, Err, Greater, IfOk, Less, List, None, Option, Some, [], ap, ap₂, arith, cond, drop, eqb, false, get_or, inl, inr, length, ltb, map, min, of_z, pos, refl, rules, subst, suc, sym, take, to_z, true, w64, zero, ℕ, ℤ, ◌&&◌, ◌*◌, ◌++◌, ◌+◌, ◌-◌, ◌<◌, ◌||◌, ◌∙◌, ◌∷◌, ◌≡◌, ◌≤◌, ◌⊎◌}
 pub use Rattle.board_report.specs.BoardReport.{IsGapEntry, IsRingEntry, IsRingEntryAt, MatchesGap, MatchesRing, ReportAgreesWithCheck, layer_pads, layer_uncounted}
 pub use Rattle.board_report.specs.Inner.EntriesSoFar.{AddsEntry, AreBoardBests, IsCurrentLayer}
@@ -9,13 +9,14 @@ pub use Rattle.board_report.specs.declared.places.FileHoles.{FileHoles}
 pub use Rattle.board_report.specs.declared.rows.LayerFileHoles.{LayerFileHoles}
 pub use Rattle.grid_units.specs.Holes.{GridHole, GridRules}
 pub use Rattle.grid_units.specs.declared.profile.Profile.{Profile}
-pub use Rattle.margins.specs.BestPads.{AreBestPads}
-pub use Rattle.margins.specs.Meets.{GapsPass, GapsPassExactly, MeetsOnLayers, RingsPass, RingsPassExactly, needs_ring}
-pub use Rattle.margins.specs.declared.best.BestPad.{BestPad}
-pub use Rattle.package_check.specs.Boards.{BoardView, CountsAddUp, board_findings, hole_count, holes_before, reported}
+pub use Rattle.board.specs.BestPads.{AreBestPads}
+pub use Rattle.board.specs.Meets.{GapsPass, GapsPassExactly, MeetsOnLayers, RingsPass, RingsPassExactly, needs_ring}
+pub use Rattle.board.specs.declared.best.BestPad.{BestPad}
+pub use Rattle.board.specs.Boards.{BoardView, CountsAddUp, board_findings, hole_count, holes_before}
+pub use Rattle.package_check.specs.Boards.{reported}
 pub use Rattle.package_check.specs.Package.{FileView, IsAnswer, IsReport, file_views_in}
 pub use Rattle.package_check.specs.WiderProfile.{is_gap}
-pub use Rattle.package_check.specs.declared.FileSum.{FileSum}
+pub use Rattle.board.specs.declared.FileSum.{FileSum}
 pub use Rattle.pad_shapes.specs.WidePads.{wide_pad_covers}
 pub use Rattle.pad_shapes.specs.declared.wide_pad.WidePad.{WidePad}
 pub use Rattle.report.specs.declared.RingLine.{RingLine}

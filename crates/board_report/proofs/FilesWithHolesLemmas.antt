@@ -4,7 +4,7 @@ use Rattle.std.specs.List.Sorted.{IsNonDecreasingBy, IsPartitionPoint, IsPartiti
 use Rattle.std.proofs.lemmas.List.Sorted.{IsPartitionedBy-leb}
 use Rattle.std.proofs.lemmas.List.Sums.{sum_by_more}
 use lib.Dec.{leb}
-use Rattle.package_check.specs.declared.FileSum.TheVariants as sum
+use Rattle.board.specs.declared.FileSum.TheVariants as sum
 use Rattle.board_report.proofs.JoinedRows.{pairs_join}
 use Rattle.board_report.proofs.HolePlacesLemmas.{placed}
 

@@ -1,7 +1,7 @@
 -- The drill files of holes.
 use Rattle.board_report.proofs.Common.{◌≡◌, ℕ, ◌+◌, ◌-◌, ◌<◌, ◌≤◌, min, inl, inr, List, length, get_or, ap, ◌∙◌, arith, cases_lt, Drilled, CountsAddUp, hole_count, FileSum, IsPlace, holes_before}
 use Rattle.std.proofs.lemmas.List.Sums.{sum_by-take-le, sum_by_more}
-use Rattle.margins.specs.NearestHoles.{IsPair}
+use Rattle.board.specs.NearestHoles.{IsPair}
 
 -- the holes before the next file
 pub before_next : (files : List FileSum) (file : ℕ) (one : FileSum) → file < length files → get_or files file one ≡ one → holes_before files (file + 1) ≡ holes_before files file + hole_count one

@@ -3,7 +3,7 @@ use Rattle.board_report.proofs.Common.{◌≡◌, ◌++◌, ℕ, List, [], ◌�
 use Rattle.std.proofs.Common.{Result, Ok}
 use Rattle.grid_units.specs.declared.fault.Fault.{Fault}
 use Rattle.ring_rules.specs.Findings.{ring_findings, gap_findings}
-use Rattle.margins.specs.declared.met.Met.{Met}
+use Rattle.board.specs.declared.met.Met.{Met}
 use Rattle.package_check.specs.AlikePackages.{AnswerIsUnique}
 use Rattle.package_check.specs.Reports.{ReportView}
 use Rattle.package_check.specs.declared.PackageFault.{PackageFault}

@@ -2,7 +2,7 @@
 use Rattle.board_report.proofs.Common.{Less, Equal, Greater, ltb, ℤ, w64, to_z, of_z, ◌≡◌, ◌++◌, ◌&&◌, ℕ, pos, ◌+◌, ◌*◌, ◌<◌, ◌≤◌, inl, inr, Bool, true, false, cond, List, [], ◌∷◌, Option, Some, None, length, map, get_or, drop, refl, sym, subst, ap, ◌∙◌, arith, Profile, is_some, ◌*ℤ◌, Vec, All, Contains, slice_get, BTreeMap, IsOrdered, get, is_at, keys, values, get_or-map, length-map, drop_more, drop_all, length-append, get_or_append_left, filter_passes, cases_lt, eqb-true, eqb_tells, hole_at, default_hole, needs_ring, BestPad, RingLine, BoardView, FileSum, Drilled, AreRowLines, IsBefore, IsRowLine, RowKey, IsLeastWithNumber, is_in_row, places_in, places_of, holes_before, LayerFileHoles, IsRowOf, IsTableOf, IsNumberedLeast, is_not_empty, row_of}
 use Rattle.std.specs.Int.Signed.{mag}
 use Rattle.std.proofs.lemmas.Int.{ints}
-use Rattle.margins.proofs.PassedIntegers.{same}
+use Rattle.board.proofs.PassedIntegers.{same}
 use Rattle.std.specs.Option.{option_map_or}
 use Rattle.std.specs.Ordering.{nat_cmp}
 use Rattle.std.specs.Cmp.{nat_cmp_total}
@@ -11,9 +11,9 @@ use Rattle.std.proofs.lemmas.Option.{slice_get-get_or, get_or_from_slice_get, sl
 use Rattle.std.proofs.lemmas.Map.Entries.{btree_map_get_place, place_from_lookup}
 use Rattle.std.proofs.lemmas.Map.Keys.{below_from_sorted}
 use Rattle.std.specs.Ordering.{is_eq}
-use Rattle.margins.specs.Rows.{IsLeastRingOf, IsRingRow}
-use Rattle.margins.specs.declared.row.RowLeast.{RowLeast}
-use Rattle.margins.specs.declared.row.RingRow.{RingRow}
+use Rattle.board.specs.Rows.{IsLeastRingOf, IsRingRow}
+use Rattle.board.specs.declared.row.RowLeast.{RowLeast}
+use Rattle.board.specs.declared.row.RingRow.{RingRow}
 use Rattle.report.specs.declared.LeastRing as line
 
 -- the next element of a list

@@ -5,7 +5,7 @@ use Rattle.report.specs.UnitMistakes.{AreFileRanges, IsUnitMistake, IsUnitMistak
 use Rattle.report.specs.UnitMistakes as scales
 use Rattle.report.specs.declared.mistakes.FileRange.{FileRange}
 use Rattle.report.proofs.FewestLemmas.{one_scale}
-use Rattle.package_check.specs.declared.FileSum.TheVariants as sum
+use Rattle.board.specs.declared.FileSum.TheVariants as sum
 use Rattle.board_report.proofs.JoinedRows.{pairs_join}
 
 module _ (board : BoardView) where

@@ -10,17 +10,18 @@ use Rattle.ring_rules.specs.Places.{hole_at}
 use Rattle.ring_rules.specs.declared.finding.Drilled.{Drilled}
 use Rattle.ring_rules.specs.declared.finding.Finding.{Finding}
 use Rattle.ring_rules.specs.declared.finding.Finding.TheVariants.{Gap, Oblique, Ring}
-use Rattle.margins.specs.Gaps.{IsGap}
-use Rattle.margins.specs.Meets.{needs_ring}
+use Rattle.board.specs.Gaps.{IsGap}
+use Rattle.board.specs.Meets.{needs_ring}
 use Rattle.layer_features.specs.Features.{pads_of, rows_of}
 use Rattle.layer_features.specs.declared.feature.Feature.{Feature}
-use Rattle.package_check.specs.Boards.{BoardView, IsFlashedBoard, board_findings}
+use Rattle.board.specs.Boards.{BoardView, board_findings}
+use Rattle.package_check.specs.Boards.{IsFlashedBoard}
 use Rattle.package_check.specs.Package.{FileView, IsFirstRefused, IsReport}
 use Rattle.package_check.specs.Reports.{ReportView}
 use Rattle.package_check.specs.Soundness.{IsSound}
 use Rattle.package_check.specs.WiderProfile.{in_wide, is_gap, read_in}
-use Rattle.package_check.specs.declared.FileSum.{FileSum}
-use Rattle.package_check.specs.declared.FileSum.TheVariants as sum
+use Rattle.board.specs.declared.FileSum.{FileSum}
+use Rattle.board.specs.declared.FileSum.TheVariants as sum
 use Rattle.board_report.specs.Measures.{IsMeasure}
 use Rattle.board_report.specs.Rows.{IsPlace}
 use Rattle.report.specs.declared.Measure.{Measure}
@@ -105,7 +106,7 @@ conflict_in (file, sum.Mixed span round slots unplated) = None
 pub record IsBoardReport (required : GridRules) (board : BoardView) (output : BoardReport) : Type 0 where
   pub rules : output.rules ≡ required
   pub layers : output.layers.items ≡ map (head_of board.holes) (enumerate_from 0 board.layer_indexes)
-  pub rings : AllZip (IsRingEntry board required) (filter (λ finding. not (is_gap finding)) (board_findings required board)) output.rings.items
+  pub rings : AllZip (IsRingEntry board required) (filter is_of_ring (board_findings required board)) output.rings.items
   pub gaps : AllZip (IsGapEntry board required.gap) (filter is_gap (board_findings required board)) output.gaps.items
   pub measure : Measure
   pub measured : IsMeasure required.profile board measure
@@ -138,7 +139,7 @@ MatchesGap files _ output = ⊥
 -- each by themselves, so there are as many; and a package whose report has no entry is sound
 pub record AgreesWithCheck (sources : List FileView) (required : GridRules) (output : BoardReport) : Type 0 where
   pub reported : (report : ReportView) × IsReport sources required report
-  pub rings : (report : ReportView) → IsReport sources required report → AllZip (MatchesRing report.files) (filter (λ finding. not (is_gap finding)) report.findings) output.rings.items
+  pub rings : (report : ReportView) → IsReport sources required report → AllZip (MatchesRing report.files) (filter is_of_ring report.findings) output.rings.items
   pub gaps : (report : ReportView) → IsReport sources required report → AllZip (MatchesGap report.files) (filter is_gap report.findings) output.gaps.items
   pub count : (report : ReportView) → IsReport sources required report → length report.findings ≡ length output.rings.items + length output.gaps.items
   pub sound : output.rings.items ≡ [] → output.gaps.items ≡ [] → IsSound sources required

@@ -4,11 +4,12 @@ use Rattle.grid_units.specs.Holes.{GridRules}
 use Rattle.grid_units.specs.declared.fault.Fault.{Fault}
 use Rattle.grid_units.specs.declared.profile.Profile.{Profile}
 use Rattle.pad_shapes.specs.WidePads.{wide_pad_covers}
-use Rattle.margins.specs.BestPads.{AreBestPads}
-use Rattle.margins.specs.Meets.{MeetsRings, MeetsRingsInPads, MeetsGaps, allows}
-use Rattle.margins.specs.declared.best.BestPad.{BestPad}
-use Rattle.margins.specs.declared.met.Met.{Met}
-use Rattle.package_check.specs.Boards.{IsBoard, BoardView, board_findings}
+use Rattle.board.specs.BestPads.{AreBestPads}
+use Rattle.board.specs.Meets.{MeetsRings, MeetsRingsInPads, MeetsGaps, allows}
+use Rattle.board.specs.declared.best.BestPad.{BestPad}
+use Rattle.board.specs.declared.met.Met.{Met}
+use Rattle.board.specs.Boards.{BoardView, board_findings}
+use Rattle.package_check.specs.Boards.{IsBoard}
 use Rattle.package_check.specs.Package.{IsFirstRefused, IsReport, FileView}
 use Rattle.package_check.specs.Reports.{ReportView}
 use Rattle.package_check.specs.declared.PackageFault.{PackageFault}

@@ -3,27 +3,27 @@ use Rattle.std.specs.Prelude.{◌≡◌, ◌⊎◌, ◌&&◌, ◌==◌, ℕ, pos
 use Rattle.std.specs.List.{All, AllPairs, Contains, filter, range_with_len, slice_range}
 use Rattle.pad_shapes.specs.WidePads.{wide_pad_covers}
 use Rattle.ring_rules.specs.Places.{hole_at, default_hole}
-use Rattle.margins.specs.BestPads.{AreBestPads}
-use Rattle.margins.specs.Meets.{needs_ring}
-use Rattle.margins.specs.NearestHoles.{IsNearest, IsPair}
-use Rattle.margins.specs.Rows.{IsRingRow}
-use Rattle.margins.specs.declared.best.BestPad.{BestPad}
-use Rattle.margins.specs.declared.nearest.Nearest.{Nearest}
-use Rattle.margins.specs.declared.row.RingRow.{RingRow}
+use Rattle.board.specs.BestPads.{AreBestPads}
+use Rattle.board.specs.Meets.{needs_ring}
+use Rattle.board.specs.NearestHoles.{IsNearest, IsPair}
+use Rattle.board.specs.Rows.{IsRingRow}
+use Rattle.board.specs.declared.best.BestPad.{BestPad}
+use Rattle.board.specs.declared.nearest.Nearest.{Nearest}
+use Rattle.board.specs.declared.row.RingRow.{RingRow}
 use Rattle.report.specs.declared.GapLine.{GapLine}
 use Rattle.report.specs.declared.HolePlace.{HolePlace}
 use Rattle.report.specs.declared.RingLine.{RingLine}
-use Rattle.package_check.specs.Boards.{BoardView, CountsAddUp, holes_before}
-use Rattle.package_check.specs.declared.FileSum.{FileSum}
+use Rattle.board.specs.Boards.{BoardView, CountsAddUp, holes_before}
+use Rattle.board.specs.declared.FileSum.{FileSum}
 use Rattle.board_report.specs.declared.places.FileHoles.{FileHoles}
 use Rattle.grid_units.specs.declared.profile.Profile.{Profile}
 use Rattle.pad_shapes.specs.declared.wide_pad.WidePad.{WidePad}
 use Rattle.ring_rules.specs.declared.finding.Drilled.{Drilled}
 use Rattle.report.specs.declared.UnitMistake.{UnitMistake}
 use Rattle.report.specs.UnitMistakes.{IsUnitMistake}
-use Rattle.margins.specs.declared.row.RowLeast as row
+use Rattle.board.specs.declared.row.RowLeast as row
 use Rattle.report.specs.declared.LeastRing as line
-use Rattle.package_check.specs.declared.FileSum.TheVariants as sum
+use Rattle.board.specs.declared.FileSum.TheVariants as sum
 
 -- the hole at a place in the list of all holes has this number, from 1, in this drill file
 pub record IsPlace (files : List FileSum) (hole : ℕ) (place : HolePlace) : Type 0 where

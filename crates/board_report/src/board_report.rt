@@ -3,7 +3,7 @@
 ghost use Rattle.std.specs.Prelude.{◌≡◌, IfOk, length};
 ghost use Rattle.std.specs.List.{All};
 ghost use Rattle.ring_rules.specs.WithoutFindings.{NamesPlaces};
-ghost use Rattle.package_check.specs.Boards.{board_findings};
+ghost use Rattle.board.specs.Boards.{board_findings};
 ghost use Rattle.board_report.specs.Inner.EntriesSoFar.{AreBoardBests};
 ghost use Rattle.board_report.specs.BoardReport.{IsBoardReport};
 
@@ -12,8 +12,8 @@ use crate::gaps::gap_lacks;
 use crate::heads::{heads, role_conflicts};
 use crate::measure::measure_of;
 use crate::rings::ring_lacks;
+use board::{BestPad, ring_findings_from_bests};
 use grid_units::Rules;
-use margins::{BestPad, ring_findings_from_bests};
 use package_check::Board;
 use pad_shapes::WidePad;
 use report::BoardReport;

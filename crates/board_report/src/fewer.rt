@@ -3,7 +3,7 @@
 ghost use Rattle.std.specs.Prelude.{◌≡◌, ◌++◌, IfOk, OnOk};
 ghost use Rattle.std.specs.List.{list_any};
 ghost use Rattle.ring_rules.specs.Search.{IsRingIndexOf};
-ghost use Rattle.package_check.specs.WiderProfile.{contradicts_role, layer_rings, wide_rings};
+ghost use Rattle.package_check.specs.WiderProfile.{is_called_plated, layer_rings, wide_rings};
 ghost use Rattle.board_report.specs.BoardReport.{HasFewer};
 
 use grid_units::{Profile, Rules};
@@ -13,8 +13,8 @@ use ring_rules::{Finding, LayerSearch, RingIndex, mean_zone_size};
 use std::alloc::{AllocError, Global};
 
 /// Whether a file is a drill file whose role says that no hole is plated, and whose comments say that holes are.
-fn contradicts_role(file: &FileSum) -> bool
-    ensures { result ≡ contradicts_role file.now }
+fn is_called_plated(file: &FileSum) -> bool
+    ensures { result ≡ is_called_plated file.now }
 {
     matches!(
         file,
@@ -27,10 +27,10 @@ fn contradicts_role(file: &FileSum) -> bool
 }
 
 /// Whether one of the files is such a file.
-fn some_contradict(files: &[FileSum]) -> bool
-    ensures { result ≡ list_any contradicts_role files.now }
+fn some_are_called_plated(files: &[FileSum]) -> bool
+    ensures { result ≡ list_any is_called_plated files.now }
 {
-    files.iter().any(|file| contradicts_role(file))
+    files.iter().any(|file| is_called_plated(file))
 }
 
 /// Appends the rings that lack on one layer, by the index of its file, where each pad counts that the file has.
@@ -82,7 +82,7 @@ pub fn fewer_in_wide(
     ensures { IfOk result (HasFewer board.now report.now) }
 {
     laws::wide_answers_by_board();
-    if some_contradict(board.files()) {
+    if some_are_called_plated(board.files()) {
         return Ok(0);
     }
     let rings = wide_rings(alloc, board, report.rules)?;

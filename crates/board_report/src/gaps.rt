@@ -10,8 +10,8 @@ ghost use Rattle.package_check.specs.WiderProfile.{is_gap};
 
 use crate::FileHoles;
 use crate::places::hole_at;
+use board::gap_between;
 use grid_units::Rules;
-use margins::gap_between;
 use package_check::Board;
 use report::GapLack;
 use ring_rules::Finding;

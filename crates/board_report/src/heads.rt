@@ -2,10 +2,10 @@
 
 ghost use Rattle.std.specs.Prelude.{◌≡◌, IfOk, count_by, map};
 ghost use Rattle.std.specs.List.{enumerate_from, filter_map};
-ghost use Rattle.margins.specs.Meets.{needs_ring};
+ghost use Rattle.board.specs.Meets.{needs_ring};
 ghost use Rattle.board_report.specs.BoardReport.{head_of, conflict_in};
 
-use margins::needs_ring;
+use board::needs_ring;
 use package_check::{Board, FileSum};
 use report::{LayerHead, RoleConflict};
 use ring_rules::Drilled;

@@ -3,7 +3,7 @@
 ghost use Rattle.board_report.specs.Measures.{MeasuredPasses};
 ghost use Rattle.board_report.specs.BoardReport.{ReportAgreesWithCheck, RowsAreMatched};
 
-use margins::laws::{gaps_pass, rings_pass};
+use board::laws::{gaps_pass, rings_pass};
 use package_check::laws::{passing_is_sound, unique_answer};
 use pad_shapes::WidePad;
 

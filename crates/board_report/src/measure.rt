@@ -4,7 +4,7 @@ ghost use Rattle.std.specs.Prelude.{◌≡◌, ◌++◌, ◌∷◌, [], ℕ, Res
 ghost use Rattle.grid_units.specs.Holes.{GridRules};
 ghost use Rattle.grid_units.specs.declared.fault.Fault.{Fault as TheFault};
 ghost use Rattle.pad_shapes.specs.WidePads.{wide_pad_covers};
-ghost use Rattle.margins.specs.Meets.{MeetsOnLayers};
+ghost use Rattle.board.specs.Meets.{MeetsOnLayers};
 ghost use Rattle.package_check.specs.Package.{IsAnswer, file_views_in};
 ghost use Rattle.package_check.specs.Reports.{ReportView};
 ghost use Rattle.board_report.specs.Measures.{AnswersMeasure, AreLayerBests, BoardPasses, IsMeasure, PackagePasses, RefusesAlike};
@@ -14,12 +14,12 @@ use crate::laws::measured_passes;
 use crate::places::{files_with_holes, gap_line};
 use crate::rows::push_layer_lines;
 use crate::units::unit_mistakes;
-use grid_units::Profile;
-use margins::laws::{gaps_pass, rings_pass};
-use margins::{
+use board::laws::{gaps_pass, rings_pass};
+use board::{
     BestPad, RingsMet, best_pads, gap_met_of_nearest, met_with_layer, met_without_layers,
     nearest_holes,
 };
+use grid_units::Profile;
 use package_check::laws::unique_answer;
 use package_check::{Board, File, Keep, PackageFault, read_package};
 use pad_shapes::WidePad;

@@ -2,12 +2,12 @@
 
 ghost use Rattle.std.specs.Prelude.{◌≡◌, ◌++◌, ◌∷◌, ◌+◌, ◌<◌, ◌≤◌, [], length, IfOk, OnOk};
 ghost use Rattle.std.specs.List.{Contains};
-ghost use Rattle.margins.specs.NearestHoles.{IsNearest, IsNearestOf, IsPair};
-ghost use Rattle.package_check.specs.Boards.{BoardView, holes_before};
+ghost use Rattle.board.specs.NearestHoles.{IsNearest, IsNearestOf, IsPair};
+ghost use Rattle.board.specs.Boards.{BoardView, holes_before};
 ghost use Rattle.board_report.specs.Rows.{AreFilesWithHoles, IsPlace, IsGapLine, IsLeastGap};
 ghost use Rattle.board_report.specs.BoardReport.{IsPlacedHole};
 
-use margins::Nearest;
+use board::Nearest;
 use package_check::{Board, hole_count};
 use report::{GapLine, HolePlace, PlacedHole};
 use std::alloc::{AllocError, Global};

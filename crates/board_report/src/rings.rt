@@ -10,8 +10,8 @@ ghost use Rattle.board_report.specs.BoardReport.{IsRingEntry, IsRingEntryAt, is_
 
 use crate::FileHoles;
 use crate::places::hole_at;
+use board::BestPad;
 use grid_units::Rules;
-use margins::BestPad;
 use package_check::Board;
 use pad_shapes::{FeatureRow, WidePad};
 use report::{CauseFinder, FurtherCopper, RingLack};

@@ -3,14 +3,14 @@
 ghost use Rattle.std.specs.Prelude.{◌≡◌, ◌==◌, ◌&&◌, ◌||◌, ◌++◌, ◌∷◌, ◌+◌, ◌<◌, ◌≤◌, [], ℕ, length, get_or, IfOk, OnOk, if◌then◌else◌};
 ghost use Rattle.std.specs.List.{All};
 ghost use Rattle.pad_shapes.specs.WidePads.{wide_pad_covers};
-ghost use Rattle.margins.specs.BestPads.{AreBestPads};
-ghost use Rattle.margins.specs.Meets.{needs_ring};
+ghost use Rattle.board.specs.BestPads.{AreBestPads};
+ghost use Rattle.board.specs.Meets.{needs_ring};
 ghost use Rattle.board_report.specs.Rows.{AreFilesWithHoles, AreRowLines, IsRowLine, places_of};
 ghost use Rattle.board_report.specs.Inner.Tables.{IsRowOf, IsLayerFileHoles, IsTableOf, IsNumberedLeast, FitsFile, has_radius, items_at, row_of};
 
 use crate::places::FileHoles;
+use board::{BestPad, RingRow, needs_ring, ring_row};
 use grid_units::Profile;
-use margins::{BestPad, RingRow, needs_ring, ring_row};
 use package_check::Board;
 use report::{LeastRing, RingLine};
 use ring_rules::Drilled;

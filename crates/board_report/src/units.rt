@@ -2,13 +2,13 @@
 
 ghost use Rattle.std.specs.Prelude.{◌≡◌, ◌++◌, ◌<◌, length, IfOk, OnOk};
 ghost use Rattle.pad_shapes.specs.WidePads.{wide_pad_covers};
-ghost use Rattle.margins.specs.BestPads.{AreBestPads};
+ghost use Rattle.board.specs.BestPads.{AreBestPads};
 ghost use Rattle.board_report.specs.Rows.{AreUnitMistakes, first_pads, is_plated};
 ghost use Rattle.board_report.specs.Inner.Tables.{AreSearched, AreFoundMistakes, IsSearched, IsLayerFileHoles, listed};
 
 use crate::places::end_of;
 use crate::rows::LayerFileHoles;
-use margins::BestPad;
+use board::BestPad;
 use package_check::{Board, FileSum};
 use pad_shapes::WidePad;
 use report::{FileRange, UnitMistake};

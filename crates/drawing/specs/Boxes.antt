@@ -13,7 +13,7 @@ use Rattle.pad_shapes.specs.Rounded.{GridRounded, rounded_bottom, rounded_left, 
 use Rattle.pad_shapes.specs.declared.wide_pad.WidePad.{WidePad}
 use Rattle.pad_shapes.specs.declared.wide_pad.WidePad.TheVariants as wide
 use Rattle.ring_rules.specs.declared.finding.Drilled.{Drilled}
-use Rattle.package_check.specs.Boards.{BoardView}
+use Rattle.board.specs.Boards.{BoardView}
 use Rattle.picture.specs.Outlines.{long_radius}
 use Rattle.picture.specs.Scenes.{cross_of}
 use Rattle.picture.specs.declared.frame.Frame.{Frame}

@@ -5,7 +5,7 @@ ghost use Rattle.std.specs.List.{flat_map, fold};
 ghost use Rattle.drawing.specs.Boxes.{cross_extent, cross_extents, extents, hole_extent, joined_to, pad_extent, whole_extent};
 
 use crate::extent::{Extent, hole_extent, joined_to, pad_extent, point_extent};
-use package_check::Board;
+use board::Board;
 use pad_shapes::{FeatureRow, WidePad};
 use ring_rules::Drilled;
 

@@ -6,8 +6,8 @@ ghost use Rattle.drawing.specs.Pages.{IsPanel, IsScene, number_of, text_of_panel
 ghost use Rattle.drawing.specs.Layouts.{box_left, box_top};
 
 use crate::layout::Layout;
+use board::Board;
 use grid_units::{Line, name_of};
-use package_check::Board;
 use pad_shapes::Drawn;
 use picture::{LayerCopper, Place, Scene, scene_of};
 use ring_rules::{Drilled, Finding};

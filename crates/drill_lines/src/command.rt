@@ -2,7 +2,7 @@
 
 ghost use Rattle.std.specs.Prelude.{◌≡◌, ◌≤◌, ◌↔◌, IsSome, IfSome};
 
-use grid_units::{Dec, Text, Unit, Zeros};
+use grid_units::{Dec, OptionalInteger, Text, Unit, Zeros};
 use std::fmt;
 use std::marker::Model;
 
@@ -57,27 +57,24 @@ impl DrillFormat {
     }
 }
 
-/// The units kept for a coordinate that is left out: one more than a decimal can have.
-const OMITTED: i64 = 100_000_000_000_000;
-
 /// A coordinate of a line, or that it is left out. It takes eight bytes, since a file has many; contracts see
 /// the optional decimal.
 #[derive(Clone, Copy, PartialEq, Eq)]
 pub struct OptionalDec {
-    units: i64,
+    units: OptionalInteger,
 }
 
 impl Model for OptionalDec {
-    ghost use Rattle.std.specs.Prelude.{ℤ, Option, unwrap_or};
-    ghost use Rattle.drill_lines.specs.Formats.{stored_coordinate, omitted, IsStored};
+    ghost use Rattle.std.specs.Prelude.{ℤ, ◌≤◌, Option, IfSome, unsigned_abs};
+    ghost use Rattle.grid_units.specs.Numbers.{max_units};
 
     ghost Value = { Option ℤ };
 
-    ghost view = { λ c. stored_coordinate c.units };
+    ghost view = { λ c. c.units };
 
-    ghost invariant = { λ c. IsStored c.units };
+    ghost invariant = { λ c. IfSome c.units (λ z. unsigned_abs z ≤ max_units) };
 
-    ghost inverse = { λ v. record { units = unwrap_or v omitted } };
+    ghost inverse = { λ v. record { units = v } };
 }
 
 impl OptionalDec {
@@ -87,11 +84,8 @@ impl OptionalDec {
     pub fn new(value: Option<Dec>) -> OptionalDec
         ensures { result ≡ value }
     {
-        match value {
-            Some(value) => OptionalDec {
-                units: value.units(),
-            },
-            None => OptionalDec { units: OMITTED },
+        OptionalDec {
+            units: OptionalInteger::of(value.map(Dec::units)),
         }
     }
 
@@ -99,14 +93,14 @@ impl OptionalDec {
     pub fn get(self) -> Option<Dec>
         ensures { result ≡ self }
     {
-        Dec::from_units(self.units)
+        Dec::from_units(self.units.get()?)
     }
 
     /// This coordinate, or the other one where this is left out.
     pub fn or(self, other: OptionalDec) -> OptionalDec
         ensures { result ≡ option_or self other }
     {
-        if self.units == OMITTED { other } else { self }
+        if self.get().is_some() { self } else { other }
     }
 }
 

@@ -1,4 +1,4 @@
--- The names that most proofs of this crate cite, passed on from one place. Declares nothing.
+-- Names that proofs of this crate cite, passed on from one place. Declares nothing.
 pub use Rattle.std.proofs.Common.{All, Bool, Err, IfOk, IfSome, IsSome, List, None, Ok, Option, Result, Some, [], add-one, ap, append_assoc, arith, cond, drop, eqb, false, get_or, inl, inr, is_none, is_some, leb, length, lit≤, ltb, map, nat_eq, nat_le, not, of_z, pos, refl, rules, subst, suc, sym, take, to_z, true, unsigned_abs, unwrap_or, vec_len, w64, zero, ℕ, ℤ, ◌&&◌, ◌*◌, ◌++◌, ◌+◌, ◌-◌, ◌/◌, ◌<◌, ◌||◌, ◌↔◌, ◌∙◌, ◌∷◌, ◌≡◌, ◌≢◌, ◌≤ℤ◌, ◌≤◌, ◌⊎◌}
 pub use Rattle.drill_lines.proofs.Answered.{means, written_is_answered}
 unfoldable pub use Rattle.drill_lines.proofs.Answered.{read_in_part}

@@ -1,2 +1,14 @@
 pub mod CanonicalLemmas
 pub mod NumberLemmas
+pub mod Answered
+pub mod PieceExamples
+pub mod NumberRuns
+pub mod Parameters
+pub mod ProfileLemmas
+pub mod RowLemmas
+pub mod SplitLemmas
+pub mod WrittenPieces
+pub mod FieldLemmas
+pub mod WrittenWords
+pub mod Exact
+pub mod WordExamples

@@ -1,5 +1,12 @@
 pub mod Canonical
 pub mod Negative
 pub mod Numbers
-pub mod OperationCoordinates
 pub mod Rows
+pub mod PieceGrammar
+pub mod Inner
+pub mod PieceLaws
+pub mod Pieces
+pub mod Profiles
+pub mod Words
+pub mod WordGrammar
+pub mod WordLaws

@@ -1,9 +1,8 @@
 //! The commands of a Gerber text.
 
 ghost use Rattle.std.specs.Prelude.{◌≡◌, ◌≢◌, Some, None, IfSome, IfNone, IfOk};
-ghost use Rattle.gerber_commands.specs.OperationCoordinates.{omitted};
 
-use grid_units::{Dec, Text, Unit};
+use grid_units::{Dec, OptionalInteger, Reason, Text, Unit};
 use std::alloc::{AllocError, Global};
 use std::fmt;
 use std::marker::Model;
@@ -171,72 +170,6 @@ impl<T: Drop> Boxed<T> {
     }
 }
 
-/// The value that stands for a coordinate that is left out.
-const OMITTED: i64 = i64::MIN;
-
-/// A coordinate of an operation as an integer, or that it is left out. It takes eight bytes, since a text has many;
-/// contracts see the optional integer.
-#[derive(Clone, Copy, Debug, PartialEq, Eq)]
-pub struct Coordinate {
-    value: i64,
-}
-
-impl Model for Coordinate {
-    ghost use Rattle.std.specs.Prelude.{ℤ, Option, unwrap_or};
-    ghost use Rattle.gerber_commands.specs.OperationCoordinates.{stored_coordinate, omitted, IsStored};
-
-    ghost Value = { Option ℤ };
-
-    ghost view = { λ c. stored_coordinate c.value };
-
-    ghost invariant = { λ c. IsStored c.value };
-
-    ghost inverse = { λ v. record { value = unwrap_or v omitted } };
-}
-
-impl Coordinate {
-    /// This coordinate, or that it is left out; `None` at the least `i64`, which no coordinate is.
-    pub fn new(value: Option<i64>) -> Option<Coordinate>
-        ensures some { IfSome result (λ c. c ≡ value) }
-        ensures none { IfNone result (value ≡ Some omitted) }
-    {
-        if value == Some(OMITTED) {
-            None
-        } else {
-            Some(Coordinate::of(value))
-        }
-    }
-
-    /// This coordinate, or that it is left out. The value is not the least `i64`.
-    pub fn of(value: Option<i64>) -> Coordinate
-        requires { value ≢ Some omitted }
-        ensures { result ≡ value }
-    {
-        match value {
-            Some(value) => Coordinate { value },
-            None => Coordinate::none(),
-        }
-    }
-
-    /// A coordinate that is left out.
-    pub fn none() -> Coordinate
-        ensures { result ≡ None }
-    {
-        Coordinate { value: OMITTED }
-    }
-
-    /// The coordinate, in units of the last decimal of the file's format, or `None` where it is left out.
-    pub fn get(self) -> Option<i64>
-        ensures { result ≡ self }
-    {
-        if self.value == OMITTED {
-            None
-        } else {
-            Some(self.value)
-        }
-    }
-}
-
 /// The shape of an aperture, standard or a macro (Gerber format, Aperture definition AD).
 #[derive(Debug, Drop)]
 pub enum Template {
@@ -284,10 +217,10 @@ pub enum Command {
     /// `D01`, `D02`, `D03`: a plot, a move or a flash, with the coordinates that stand in the word.
     Operate {
         action: Action,
-        x: Coordinate,
-        y: Coordinate,
-        i: Coordinate,
-        j: Coordinate,
+        x: OptionalInteger,
+        y: OptionalInteger,
+        i: OptionalInteger,
+        j: OptionalInteger,
     },
     /// `LPD`: dark polarity.
     Dark,
@@ -342,6 +275,9 @@ impl fmt::Debug for Command {
         })
     }
 }
+
+/// What a row of a table of items answers: none where the item does not fit it, else what the item spells, or why it spells nothing.
+pub type ItemRow = Option<Result<ItemCommands, Reason>>;
 
 /// What one item spells: an interpolation, another command, both or nothing. Contracts see the list of
 /// the commands.

@@ -2,8 +2,7 @@
 
 ghost use Rattle.std.specs.Prelude.{◌≡◌, ◌≢◌, IfOk, IfSome, ◌<◌, ◌^◌, ◌≤◌, ◌==◌, length, take, All, true, neg_ℤ, pos, if◌then◌else◌};
 ghost use Rattle.std.specs.List.{list_all, prefix_len};
-ghost use Rattle.grid_units.specs.Numbers.{is_digit, value};
-ghost use Rattle.gerber_commands.specs.OperationCoordinates.{omitted};
+ghost use Rattle.grid_units.specs.Numbers.{is_digit, omitted, value};
 ghost use Rattle.gerber_commands.specs.Numbers.{int_of, nat_of};
 
 use grid_units::Reason;

@@ -70,15 +70,11 @@ fn is_at(point: Point, expected: (i64, i64)) -> bool {
 
 /// Whether points have these coordinates.
 fn are_at(points: &[Point], expected: &[(i64, i64)]) -> bool {
-    if points.len() != expected.len() {
-        return false;
-    }
-    for i in 0..points.len() {
-        if !is_at(points[i], expected[i]) {
-            return false;
-        }
-    }
-    true
+    points.len() == expected.len()
+        && points
+            .iter()
+            .zip(expected)
+            .all(|(point, wanted)| is_at(*point, *wanted))
 }
 
 /// Whether a shape has these corners.
@@ -101,15 +97,11 @@ fn is_part(drawn: &Drawn, expected: &Part) -> bool {
 
 /// Whether these parts are drawn, in this order.
 fn are_parts(drawn: &[Drawn], expected: &[Part]) -> bool {
-    if drawn.len() != expected.len() {
-        return false;
-    }
-    for i in 0..drawn.len() {
-        if !is_part(&drawn[i], &expected[i]) {
-            return false;
-        }
-    }
-    true
+    drawn.len() == expected.len()
+        && drawn
+            .iter()
+            .zip(expected)
+            .all(|(part, wanted)| is_part(part, wanted))
 }
 
 /// Whether the layer of a text draws these parts.

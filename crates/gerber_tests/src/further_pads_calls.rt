@@ -317,15 +317,11 @@ fn is_at(point: Point, (x, y): (i64, i64)) -> bool {
 
 /// Whether points lie at these coordinates in µm.
 fn are_at(points: &[Point], expected: &[(i64, i64)]) -> bool {
-    if points.len() != expected.len() {
-        return false;
-    }
-    for i in 0..points.len() {
-        if !is_at(points[i], expected[i]) {
-            return false;
-        }
-    }
-    true
+    points.len() == expected.len()
+        && points
+            .iter()
+            .zip(expected)
+            .all(|(point, wanted)| is_at(*point, *wanted))
 }
 
 /// Whether a rounded polygon has this radius and these corners.

@@ -282,12 +282,11 @@ fn disc(x: i64, y: i64, radius: i64) -> Option<Flash> {
 
 /// Whether flashes are these discs.
 fn are_discs(flashes: &[Flash], discs: &[(i64, i64, i64)]) -> bool {
-    for (flash, &(x, y, radius)) in flashes.iter().zip(discs.iter()) {
-        if disc(x, y, radius) != Some(*flash) {
-            return false;
-        }
-    }
     flashes.len() == discs.len()
+        && flashes
+            .iter()
+            .zip(discs)
+            .all(|(flash, d)| disc(d.0, d.1, d.2) == Some(*flash))
 }
 
 /// Whether the flashes of a text are these discs, and all of them are pads.

@@ -1,10 +1,9 @@
 //! Commands as plain data, which a table can hold.
 
 use gerber_text::{
-    Action, AttributeKind, Boxed, Command, Coordinate, Format, Pieces, Sizes, Standard, StepRepeat,
-    Template,
+    Action, AttributeKind, Boxed, Command, Format, Pieces, Sizes, Standard, StepRepeat, Template,
 };
-use grid_units::{Dec, Text};
+use grid_units::{Dec, OptionalInteger, Text};
 use std::alloc::Global;
 
 /// The bytes of a text: these, or the letter `a` so many times.
@@ -91,10 +90,10 @@ fn one_piece(alloc: Global, piece: Bytes) -> Option<Vec<Text>> {
 fn operation(action: Action, x: Option<i64>, i: i64) -> Option<Command> {
     Some(Command::Operate {
         action,
-        x: Coordinate::new(x)?,
-        y: Coordinate::none(),
-        i: Coordinate::new(Some(i))?,
-        j: Coordinate::none(),
+        x: OptionalInteger::new(x)?,
+        y: OptionalInteger::none(),
+        i: OptionalInteger::new(Some(i))?,
+        j: OptionalInteger::none(),
     })
 }
 

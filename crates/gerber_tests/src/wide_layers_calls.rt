@@ -165,15 +165,11 @@ fn count(letters: &[u8], text: &[u8]) -> usize {
 
 /// Whether the flashes and contours of a layer have these letters.
 fn has_letters(features: &[Feature], letters: &[u8]) -> bool {
-    if features.len() != letters.len() {
-        return false;
-    }
-    for i in 0..features.len() {
-        if letter(&features[i].what) != letters[i] {
-            return false;
-        }
-    }
-    true
+    features.len() == letters.len()
+        && features
+            .iter()
+            .zip(letters)
+            .all(|(feature, wanted)| letter(&feature.what) == *wanted)
 }
 
 /// Whether a layer has these flashes and contours, and counts them so.

@@ -1,4 +1,4 @@
--- The names that most proofs of this crate cite, passed on from one place. Declares nothing.
+-- Names that proofs of this crate cite, passed on from one place. Declares nothing.
 pub use Rattle.std.proofs.Common.{All, Bool, Contains, Err, List, None, Ok, Option, Result, Some, [], add-zero, ap, append_assoc, arith, cond, drop, drop-cons, eqb, false, get_or, inl, inr, is_some, leb, length, lit<, lit≤, ltb, map, negsuc, not, pos, refl, rules, subst, suc, sym, take, true, unwrap_or, w64, zero, ℕ, ℤ, ◌%◌, ◌&&◌, ◌*◌, ◌++◌, ◌+◌, ◌-◌, ◌/◌, ◌<◌, ◌^◌, ◌||◌, ◌↔◌, ◌∙◌, ◌∷◌, ◌≡◌, ◌≢◌, ◌≤◌, ◌⊎◌}
 pub use Rattle.gerber_commands.specs.Canonical.{action_code, coordinate_text, integer, pieces_text, sizes_text, standard_name, template_text}
 unfoldable pub use Rattle.gerber_commands.specs.Canonical.{canonical}
@@ -16,14 +16,14 @@ pub use Rattle.gerber_commands.specs.declared.command.QuadrantMode.TheVariants.{
 pub use Rattle.gerber_commands.specs.declared.command.Standard.{Standard}
 pub use Rattle.gerber_commands.specs.declared.command.Standard.TheVariants.{Circle, Obround, Polygon, Rectangle}
 pub use Rattle.gerber_commands.specs.declared.command.Template.{Template}
-pub use Rattle.gerber_items.proofs.RowLemmas.{IsPlain, block_fields_are, bytes_are}
-pub use Rattle.gerber_items.specs.PieceGrammar.{HasNo, IsMacro, IsMacroName, IsPiece, IsTemplate, SpellsOne, fixed_pieces, standards}
-pub use Rattle.gerber_items.specs.Pieces.{after_comma, all_values, are_sizes, before_comma, before_last, define_template, format_fields, has_several_pieces, is_name_byte, is_name_start, last_byte, macro_of, max_sizes, min_sizes, pieces, repeat_fields, split_by, standard_template}
-unfoldable pub use Rattle.gerber_items.specs.Pieces.{aperture_number, attribute, block_aperture_row, block_fields, define, define_named, define_standard, definition, deprecated_piece_row, extended, file_attribute, format_row, is_name, macro_definition, mirror_row, negative_row, neutral_axes_row, no_effect_piece_row, piece, polarity_row, refused_format_row, removal, repeat, repeat_row, repeat_start, scale, sizes_of, transform_row, turn, unit_piece_row}
-pub use Rattle.gerber_items.specs.Profiles.{IsPieceIn, extended_in}
-pub use Rattle.gerber_items.specs.WordGrammar.{IsOperation, IsWord, NamesInt, fixed_words, modes}
-pub use Rattle.gerber_items.specs.Words.{Fields, action, action_with, is_plot, words}
-unfoldable pub use Rattle.gerber_items.specs.Words.{comment, coordinate, d_word, deprecated_row, fields, finish_row, g54_word, incremental_row, kind, mode_row, no_effect_row, operands, operate, operation_row, quadrant_row, region_row, select_row, split_mode, unit_row, word}
+pub use Rattle.gerber_commands.proofs.RowLemmas.{IsPlain, block_fields_are, bytes_are}
+pub use Rattle.gerber_commands.specs.PieceGrammar.{HasNo, IsMacro, IsMacroName, IsPiece, IsTemplate, SpellsOne, fixed_pieces, standards}
+pub use Rattle.gerber_commands.specs.Pieces.{after_comma, all_values, are_sizes, before_comma, before_last, define_template, format_fields, has_several_pieces, is_name_byte, is_name_start, last_byte, macro_of, max_sizes, min_sizes, pieces, repeat_fields, split_by, standard_template}
+unfoldable pub use Rattle.gerber_commands.specs.Pieces.{aperture_number, attribute, block_aperture_row, block_fields, define, define_named, define_standard, definition, deprecated_piece_row, extended, file_attribute, format_row, is_name, macro_definition, mirror_row, negative_row, neutral_axes_row, no_effect_piece_row, piece, polarity_row, refused_format_row, removal, repeat, repeat_row, repeat_start, scale, sizes_of, transform_row, turn, unit_piece_row}
+pub use Rattle.gerber_commands.specs.Profiles.{IsPieceIn, extended_in}
+pub use Rattle.gerber_commands.specs.WordGrammar.{IsOperation, IsWord, NamesInt, fixed_words, modes}
+pub use Rattle.gerber_commands.specs.Words.{Fields, action, action_with, is_plot, words}
+unfoldable pub use Rattle.gerber_commands.specs.Words.{comment, coordinate, d_word, deprecated_row, fields, finish_row, g54_word, incremental_row, kind, mode_row, no_effect_row, operands, operate, operation_row, quadrant_row, region_row, select_row, split_mode, unit_row, word}
 pub use Rattle.gerber_text.specs.Cut.{AreItems, OffsetByte, Splits, bytes_of, first_offset, has_end, offset_bytes, offset_bytes_from}
 pub use Rattle.gerber_text.specs.CutItems.{IsCutItem, IsSpelled, Spells, is_not_break, without_breaks}
 pub use Rattle.gerber_text.specs.FastPath.{HasLeadingCoordinate, HasLeadingInt, HasLeadingOperation, HasLeadingText, coordinate_field, is_negative_text, mode_prefix, operation_commands, text_code, text_command, text_end}

@@ -1,7 +1,7 @@
 -- Texts that are written for these commands, or for none.
 use Rattle.gerber_text.proofs.Common.{◌≡◌, ◌≢◌, inl, inr, ℕ, Bool, true, List, [], ◌∷◌, ◌++◌, pos, Some, None, Ok, Err, refl, arith, codes, All-from_recursion, parse_decimal, Millimetre, Command, UnitIs, FormatIs, Define, Select, Operate, Clear, Finish, Flash, Rectangle, Strict, Wide, int_of, nat_of, may_follow, no_effect_row, split_mode, mode_row, quadrant_row, region_row, unit_row, incremental_row, select_row, fields, operation_row, finish_row, word, IsItemIn, IsTextIn, IsItem, meaning_in, spelled_in, ReadsIn, fault, AfterEnd}
 use Rattle.gerber_commands.specs.declared.command.Template.TheVariants as templates
-use Rattle.gerber_items.proofs.PieceExamples.{format, millimetres}
+use Rattle.gerber_commands.proofs.PieceExamples.{format, millimetres}
 use Rattle.gerber_text.proofs.ItemLemmas.{word_is_item}
 use Rattle.gerber_text.proofs.SpellsTextLemmas.{spells_reads}
 use Rattle.gerber_text.proofs.UniqueReading.{one_read}

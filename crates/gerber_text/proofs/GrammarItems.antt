@@ -1,8 +1,8 @@
 -- Items and their grammar, both ways.
 use Rattle.gerber_text.proofs.Common.{◌≡◌, ◌≢◌, inl, inr, ℕ, Bool, true, false, cond, ◌||◌, eqb, List, [], ◌∷◌, ◌++◌, Ok, Err, Contains, refl, sym, ap, subst, ◌∙◌, arith, append_assoc, codes, bytes_eq, list_any, AllByRecursion, All-contains, All-from_recursion, list_any-append, eqb-true, ne_eqb, BadWord, Profile, Strict, Wide, Command, Finish, Meaning, word, extended_in, IsPieceIn, HasNo, fixed_pieces, SpellsOne, IsPiece, fixed_words, modes, IsWord, bytes_are, end_byte, IsUnfinished, IsItem, is_end_item, without_end, meaning_in, IsItemIn, IsEnd, is_finish, or_is_false}
-use Rattle.gerber_items.proofs.WrittenWords.{word_written}
-use Rattle.gerber_items.proofs.Exact.{word_exact}
-use Rattle.gerber_items.proofs.ProfileLemmas.{items_written_in, items_answered_in}
+use Rattle.gerber_commands.proofs.WrittenWords.{word_written}
+use Rattle.gerber_commands.proofs.Exact.{word_exact}
+use Rattle.gerber_commands.proofs.ProfileLemmas.{items_written_in, items_answered_in}
 use Rattle.gerber_text.proofs.ItemLemmas.{without_end_push, word_means, word_is_item, extended_means, piece_is_item}
 
 -- ---- bytes that are none of one kind

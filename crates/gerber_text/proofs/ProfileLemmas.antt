@@ -1,6 +1,6 @@
 -- Items in the two profiles.
 use Rattle.gerber_text.proofs.Common.{◌≡◌, ℕ, suc, Bool, true, false, cond, eqb, List, [], ◌∷◌, Ok, sym, ap, ◌∙◌, ◌>>=◌, bind_ok, Command, Strict, Wide, word, extended, extended_in, meaning_in, without_end, OffsetByte, bytes_of, first_offset, Entries, is_plotting, spelled_in, commands_by, SpellsTextIn}
-use Rattle.gerber_items.proofs.ProfileLemmas.{wide_reads_more as extended_reads_more}
+use Rattle.gerber_commands.proofs.ProfileLemmas.{wide_reads_more as extended_reads_more}
 use Rattle.gerber_text.proofs.Items.{spelled_ok}
 use Rattle.gerber_text.proofs.SpelledIsWritten.{added}
 

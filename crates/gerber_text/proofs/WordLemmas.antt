@@ -1,6 +1,6 @@
 -- The words of operations are so written.
 use Rattle.gerber_text.proofs.Common.{◌≡◌, ◌⊎◌, inl, inr, ℕ, Bool, true, false, not, ◌||◌, ◌&&◌, List, [], ◌∷◌, ◌++◌, ℤ, Option, Some, None, is_some, Ok, Contains, refl, sym, ap, ◌∙◌, arith, append_assoc, IfSome, list_all, option_map, is_number_char, Operate, Action, Plot, Move, Flash, Interpolation, Linear, Clockwise, Counterclockwise, nat_of, modes_of, integer, coordinate_text, action_code, is_plot, mode_prefix, coordinate_field, and_true, both_true, list_all_append}
-use Rattle.gerber_items.specs.WordGrammar.{field, modes, NamesInt, IsOperation, code as code_number}
+use Rattle.gerber_commands.specs.WordGrammar.{field, modes, NamesInt, IsOperation, code as code_number}
 use Rattle.gerber_text.specs.Sayable.{is_text_byte, is_text, is_optional_int, is_operation as has_operands}
 use Rattle.gerber_text.proofs.NumberLemmas.{numbers_text, int_is}
 

@@ -3,7 +3,7 @@ use Rattle.gerber_text.proofs.Common.{◌≡◌, ◌≢◌, ◌⊎◌, inl, inr,
 use Rattle.std.specs.Prelude.{All}
 use Rattle.gerber_commands.specs.declared.command.AttributeKind.TheVariants as kinds
 use Rattle.gerber_commands.specs.declared.command.Template.TheVariants as templates
-use Rattle.gerber_items.specs.PieceGrammar.{field}
+use Rattle.gerber_commands.specs.PieceGrammar.{field}
 use Rattle.gerber_text.proofs.FieldRangeLemmas.{was_nat, was_int, was_dec}
 use Rattle.gerber_text.proofs.LengthLemmas.{is_bounded, bounded_short, short_true, comment_test, attribute_test, removal_test, macro_test, named_test, plain_test, standard_test}
 use Rattle.gerber_text.proofs.PieceLemmas.{starred, joined_ends}

@@ -9,7 +9,7 @@ use Rattle.gerber_commands.specs.declared.command.Interpolation.TheVariants.{Lin
 use Rattle.grid_units.specs.Limits.{item_limit}
 use Rattle.gerber_commands.specs.declared.command.AttributeKind.TheVariants as attributes
 use Rattle.gerber_commands.specs.Negative.{is_negative_comment, is_negative_image}
-use Rattle.gerber_items.specs.PieceGrammar.{HasNo}
+use Rattle.gerber_commands.specs.PieceGrammar.{HasNo}
 use Rattle.gerber_text.specs.declared.text_items.LeadingText.{LeadingText}
 use Rattle.gerber_text.specs.declared.text_items.TextKind.{TextKind}
 use Rattle.gerber_text.specs.declared.text_items.TextKind.TheVariants as kinds
@@ -19,7 +19,7 @@ use Rattle.gerber_text.specs.Meaning.{meaning_in}
 use Rattle.gerber_commands.specs.Numbers.{int_of}
 use Rattle.gerber_commands.specs.Rows.{modes_of}
 use Rattle.gerber_text.specs.declared.fast_path.LeadingOperation.{LeadingOperation}
-use Rattle.gerber_items.specs.Words.{coordinate}
+use Rattle.gerber_commands.specs.Words.{coordinate}
 use Rattle.grid_units.specs.Ascii as ascii
 
 -- The bytes begin with an item of this length, at most 64, without line breaks and not the end of the text. Whatever stands

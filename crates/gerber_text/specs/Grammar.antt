@@ -6,9 +6,9 @@ use Rattle.grid_units.specs.Limits.{text_limit, item_limit}
 use Rattle.gerber_commands.specs.declared.command.Command.{Command}
 use Rattle.gerber_commands.specs.declared.command.Command.TheVariants.{Finish}
 use Rattle.grid_units.specs.declared.profile.Profile.{Profile}
-use Rattle.gerber_items.specs.WordGrammar.{IsWord}
-use Rattle.gerber_items.specs.PieceGrammar.{HasNo}
-use Rattle.gerber_items.specs.Profiles.{IsPieceIn}
+use Rattle.gerber_commands.specs.WordGrammar.{IsWord}
+use Rattle.gerber_commands.specs.PieceGrammar.{HasNo}
+use Rattle.gerber_commands.specs.Profiles.{IsPieceIn}
 use Rattle.gerber_text.specs.CutItems.{without_breaks}
 use Rattle.gerber_text.specs.Reading.{plot_of, may_follow}
 use Rattle.grid_units.specs.Ascii as ascii

@@ -3,8 +3,8 @@ use Rattle.std.specs.Prelude.{ℕ, ◌-◌, Bool, ◌==◌, List, [], ◌∷◌,
 use Rattle.grid_units.specs.declared.fault.Reason.TheVariants.{BadWord}
 use Rattle.grid_units.specs.declared.profile.Profile.{Profile}
 use Rattle.gerber_commands.specs.Rows.{Meaning}
-use Rattle.gerber_items.specs.Profiles.{extended_in}
-use Rattle.gerber_items.specs.Words.{word}
+use Rattle.gerber_commands.specs.Profiles.{extended_in}
+use Rattle.gerber_commands.specs.Words.{word}
 use Rattle.grid_units.specs.Ascii as ascii
 
 -- all bytes but the last, which ends the item: `D10` of `D10*` (docs/FORMATS.md, Cutting)

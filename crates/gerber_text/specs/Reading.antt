@@ -16,7 +16,7 @@ use Rattle.gerber_text.specs.Meaning.{meaning_in}
 use Rattle.gerber_text.specs.declared.placed.Placed.{Placed}
 use Rattle.gerber_text.specs.Cut.{OffsetByte, offset_bytes, bytes_of, first_offset, has_end, Splits}
 use Rattle.grid_units.specs.Limits.{text_limit, item_limit}
-use Rattle.gerber_items.specs.Words.{is_plot}
+use Rattle.gerber_commands.specs.Words.{is_plot}
 use Rattle.grid_units.specs.Ascii as ascii
 
 -- commands, each with the number of its item, from 1, and the offset of that item's first byte

@@ -15,9 +15,9 @@ use Rattle.gerber_commands.specs.declared.command.Template.TheVariants as templa
 use Rattle.gerber_commands.specs.declared.command.Standard.{Standard}
 use Rattle.gerber_text.specs.Items.{is_line_break}
 use Rattle.gerber_commands.specs.Negative.{is_negative_comment}
-use Rattle.gerber_items.specs.Words.{is_plot}
+use Rattle.gerber_commands.specs.Words.{is_plot}
 use Rattle.gerber_commands.specs.Negative.{is_negative_image}
-use Rattle.gerber_items.specs.Pieces.{is_name, standard_template, min_sizes, max_sizes}
+use Rattle.gerber_commands.specs.Pieces.{is_name, standard_template, min_sizes, max_sizes}
 use Rattle.gerber_commands.specs.Canonical.{canonical}
 use Rattle.gerber_text.specs.CutItems.{without_breaks}
 use Rattle.grid_units.specs.Limits.{item_limit}

@@ -3,12 +3,13 @@
 ghost use Rattle.std.specs.Prelude.{◌≡◌, ◌≢◌, ◌++◌, [], ◌∷◌, ◌||◌, not, true, List, ℕ, Some, is_some, IfSome};
 ghost use Rattle.gerber_commands.specs.declared.command.Command.TheVariants.{Operate};
 ghost use Rattle.gerber_commands.specs.Canonical.{action_code};
-ghost use Rattle.gerber_commands.specs.OperationCoordinates.{omitted};
+ghost use Rattle.grid_units.specs.Numbers.{omitted};
 ghost use Rattle.gerber_text.specs.FastPath.{HasLeadingOperation, HasLeadingInt, HasLeadingCoordinate, mode_prefix};
 ghost use Rattle.gerber_commands.specs.Rows.{modes_of};
-ghost use Rattle.gerber_items.specs.Words.{is_plot};
+ghost use Rattle.gerber_commands.specs.Words.{is_plot};
 
-use gerber_commands::{Action, Coordinate, Interpolation, first_digits, signed};
+use gerber_commands::{Action, Interpolation, first_digits, signed};
+use grid_units::OptionalInteger;
 use grid_units::numbers::{is_negative, without_sign};
 
 /// An operation, the interpolation before it, if there is one, and how many bytes its item takes.
@@ -16,10 +17,10 @@ use grid_units::numbers::{is_negative, without_sign};
 pub struct LeadingOperation {
     pub mode: Option<Interpolation>,
     pub action: Action,
-    pub x: Coordinate,
-    pub y: Coordinate,
-    pub i: Coordinate,
-    pub j: Coordinate,
+    pub x: OptionalInteger,
+    pub y: OptionalInteger,
+    pub i: OptionalInteger,
+    pub j: OptionalInteger,
     pub len: usize,
 }
 
@@ -142,10 +143,10 @@ pub fn leading_operation(bytes: &[u8]) -> Option<LeadingOperation>
     Some(LeadingOperation {
         mode,
         action,
-        x: Coordinate::of(x),
-        y: Coordinate::of(y),
-        i: Coordinate::of(i),
-        j: Coordinate::of(j),
+        x: OptionalInteger::of(x),
+        y: OptionalInteger::of(y),
+        i: OptionalInteger::of(i),
+        j: OptionalInteger::of(j),
         len,
     })
 }

@@ -6,8 +6,7 @@ ghost use Rattle.gerber_text.specs.Meaning.{meaning_in, without_end};
 ghost use Rattle.grid_units.specs.declared.profile.Profile.TheVariants.{Strict};
 ghost use Rattle.grid_units.specs.Results.{Gives};
 
-use gerber_commands::ItemCommands;
-use gerber_items::{read_extended_in, read_word};
+use gerber_commands::{ItemCommands, read_extended_in, read_word};
 use grid_units::{ItemFail, Profile, Reason};
 use std::alloc::Global;
 

@@ -1,5 +1,5 @@
 -- Numbers, and the lengths in pm that they give (docs/FORMATS.md, Numbers).
-use Rattle.std.specs.Prelude.{ℕ, ◌+◌, ◌-◌, ◌*◌, ◌/◌, ◌^◌, Bool, false, not, ◌||◌, ◌&&◌, ◌==◌, nat_lt, nat_le, List, [], ◌∷◌, ◌++◌, length, drop, replicate, if◌then◌else◌, Result, Ok, Err, ℤ, pos, neg_ℤ, ◌*ℤ◌, unsigned_abs}
+use Rattle.std.specs.Prelude.{ℕ, Option, Some, None, negsuc, ◌+◌, ◌-◌, ◌*◌, ◌/◌, ◌^◌, Bool, false, not, ◌||◌, ◌&&◌, ◌==◌, nat_lt, nat_le, List, [], ◌∷◌, ◌++◌, length, drop, replicate, if◌then◌else◌, Result, Ok, Err, ℤ, pos, neg_ℤ, ◌*ℤ◌, unsigned_abs}
 use Rattle.std.specs.List.{fold, list_all, before_first, after_first}
 use Rattle.grid_units.specs.declared.fault.Reason.{Reason}
 use Rattle.grid_units.specs.declared.fault.Reason.TheVariants.{BadNumber, NoZeros, TooManyDigits, TooFine, TooFar}
@@ -80,6 +80,14 @@ parse_decimal text =
 -- the largest absolute value of a decimal, in units of 10^-8: 999,999.99999999
 abbrev pub max_units : ℕ
 max_units = 99999999999999
+
+-- the integer that is kept for one that is left out: -2^63, the least signed one of 64 bits
+abbrev pub omitted : ℤ
+omitted = negsuc 9223372036854775807
+
+-- the integer that is kept as this one of 64 bits, `None` for `omitted`
+abbrev pub stored : ℤ → Option ℤ
+stored z = if nat_le (unsigned_abs z) 9223372036854775807 then Some z else None
 
 -- ---- lengths
 

@@ -1,19 +1,7 @@
+use crate::drill_text_calls::{Ends, are_holes};
 use drill_text::{Drill, DrillReader, Keep};
-use grid_units::{Fail, Fault, Hole, Profile, Reason};
+use grid_units::{Fail, Fault, Profile, Reason};
 use std::alloc::Global;
-
-/// The ends of a hole, each with its x and its y, and its radius, in pm.
-type Ends = (i64, i64, i64, i64, i64);
-
-fn ends(hole: &Hole) -> Ends {
-    (
-        hole.from().x(),
-        hole.from().y(),
-        hole.to().x(),
-        hole.to().y(),
-        hole.radius(),
-    )
-}
 
 /// Reads a text in pieces of this many bytes.
 fn read(alloc: Global, profile: Profile, text: &[u8], size: usize) -> Result<Drill, Fail> {
@@ -27,10 +15,7 @@ fn read(alloc: Global, profile: Profile, text: &[u8], size: usize) -> Result<Dri
 /// Whether a text in pieces of this many bytes drills just these holes.
 fn drills_so(alloc: Global, text: &[u8], size: usize, wanted: &[Ends]) -> bool {
     match read(alloc, Profile::Wide, text, size) {
-        Ok(drill) => {
-            let holes = drill.holes();
-            holes.len() == wanted.len() && holes.iter().zip(wanted).all(|(h, e)| ends(h) == *e)
-        }
+        Ok(drill) => are_holes(drill.holes(), wanted),
         Err(_) => false,
     }
 }

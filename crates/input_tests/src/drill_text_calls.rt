@@ -6,20 +6,16 @@ use grid_units::{Fail, Fault, Hole, Reason, Text};
 use std::alloc::{AllocError, Global};
 
 /// The ends of a hole, each with its x and its y, and its radius, in pm.
-type Ends = (i64, i64, i64, i64, i64);
+pub(crate) type Ends = (i64, i64, i64, i64, i64);
 
 fn ends(hole: &Hole) -> Ends {
     let (from, to) = (hole.from(), hole.to());
     (from.x(), from.y(), to.x(), to.y(), hole.radius())
 }
 
-fn are_holes(holes: &[Hole], wanted: &[Ends]) -> bool {
-    for (hole, wanted) in holes.iter().zip(wanted) {
-        if ends(hole) != *wanted {
-            return false;
-        }
-    }
-    holes.len() == wanted.len()
+/// Whether holes have these ends and radii.
+pub(crate) fn are_holes(holes: &[Hole], wanted: &[Ends]) -> bool {
+    holes.len() == wanted.len() && holes.iter().zip(wanted).all(|(h, e)| ends(h) == *e)
 }
 
 /// The number of a tool, and its diameter in units of 10^-8.

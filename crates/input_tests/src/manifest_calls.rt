@@ -39,12 +39,11 @@ fn are_named(entries: &[Entry], files: &[Record]) -> bool {
 
 /// Whether the entries have just these spans.
 fn are_spanned(entries: &[Entry], spans: &[LayerRange]) -> bool {
-    for (entry, span) in entries.iter().zip(spans) {
-        if layers_of(entry.span) != *span {
-            return false;
-        }
-    }
     entries.len() == spans.len()
+        && entries
+            .iter()
+            .zip(spans)
+            .all(|(entry, span)| layers_of(entry.span) == *span)
 }
 
 /// What the entries of a manifest have: just these files, or just these spans.

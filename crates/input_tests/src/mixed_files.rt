@@ -2,9 +2,14 @@ use drill_text::{Drill, DrillReader, Keep, PlatingKind};
 use grid_units::{Fail, Fault, Profile, Reason};
 use std::alloc::Global;
 
-/// Reads a mixed file in pieces of this many bytes.
-fn read(alloc: Global, profile: Profile, text: &[u8], size: usize) -> Result<Drill, Fail> {
-    let mut reader = DrillReader::of_kind(alloc, Keep::Holes, profile, PlatingKind::Mixed);
+/// Reads a file whose platings are known so, in pieces of this many bytes.
+pub(crate) fn read(
+    alloc: Global,
+    kind: PlatingKind,
+    text: &[u8],
+    size: usize,
+) -> Result<Drill, Fail> {
+    let mut reader = DrillReader::of_kind(alloc, Keep::Holes, Profile::Wide, kind);
     for piece in text.chunks(size.max(1)) {
         reader.feed(piece)?;
     }
@@ -13,7 +18,7 @@ fn read(alloc: Global, profile: Profile, text: &[u8], size: usize) -> Result<Dri
 
 /// Whether a mixed file in pieces of this many bytes has just as many holes, plated or not as these.
 fn plates_so(alloc: Global, text: &[u8], size: usize, wanted: &[bool]) -> bool {
-    match read(alloc, Profile::Wide, text, size) {
+    match read(alloc, PlatingKind::Mixed, text, size) {
         Ok(drill) => drill.plated() == wanted && drill.holes().len() == wanted.len(),
         Err(_) => false,
     }
@@ -27,20 +32,20 @@ fn plates(alloc: Global, text: &str, wanted: &[bool]) -> bool {
         && plates_so(alloc, text, 1, wanted)
 }
 
-/// Whether a mixed file in pieces of this many bytes has this fault.
-fn refuses_so(alloc: Global, text: &[u8], size: usize, fault: &Fault) -> bool {
-    match read(alloc, Profile::Wide, text, size) {
+/// Whether a file whose platings are known so has this fault, in pieces of this many bytes.
+fn refuses_so(alloc: Global, kind: PlatingKind, text: &[u8], size: usize, fault: &Fault) -> bool {
+    match read(alloc, kind, text, size) {
         Err(Fail::Refused(found)) => found == *fault,
         _ => false,
     }
 }
 
-/// Whether a mixed file has this fault, whole and in pieces.
-fn refuses(alloc: Global, text: &str, fault: &Fault) -> bool {
+/// Whether a file whose platings are known so has this fault, whole and in pieces.
+pub(crate) fn refuses(alloc: Global, kind: PlatingKind, text: &str, fault: &Fault) -> bool {
     let text = text.as_bytes();
-    refuses_so(alloc, text, 1_000, fault)
-        && refuses_so(alloc, text, 7, fault)
-        && refuses_so(alloc, text, 1, fault)
+    refuses_so(alloc, kind, text, 1_000, fault)
+        && refuses_so(alloc, kind, text, 7, fault)
+        && refuses_so(alloc, kind, text, 1, fault)
 }
 
 /// Mixed files, and of each of their holes whether it is plated.
@@ -195,7 +200,10 @@ fn refused_mixed_files(rt: HostRuntime) {
             byte,
             reason,
         };
-        assert!(rt; refuses(rt.alloc(), text, &fault), "{text}");
+        assert!(rt;
+            refuses(rt.alloc(), PlatingKind::Mixed, text, &fault),
+            "{text}"
+        );
     }
 }
 

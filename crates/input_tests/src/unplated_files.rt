@@ -1,31 +1,7 @@
-use drill_text::{Drill, DrillReader, Keep, PlatingKind};
-use grid_units::{Fail, Fault, Profile, Reason};
+use crate::mixed_files::{read, refuses};
+use drill_text::PlatingKind;
+use grid_units::{Fault, Reason};
 use std::alloc::Global;
-
-/// Reads a file whose platings are known so, in pieces of this many bytes.
-fn read(alloc: Global, plating: PlatingKind, text: &[u8], size: usize) -> Result<Drill, Fail> {
-    let mut reader = DrillReader::of_kind(alloc, Keep::Holes, Profile::Wide, plating);
-    for piece in text.chunks(size.max(1)) {
-        reader.feed(piece)?;
-    }
-    reader.finish()
-}
-
-/// Whether an unplated file in pieces of this many bytes has this fault.
-fn refuses_so(alloc: Global, text: &[u8], size: usize, fault: &Fault) -> bool {
-    match read(alloc, PlatingKind::Unplated, text, size) {
-        Err(Fail::Refused(found)) => found == *fault,
-        _ => false,
-    }
-}
-
-/// Whether an unplated file has this fault, whole and in pieces.
-fn refuses(alloc: Global, text: &str, fault: &Fault) -> bool {
-    let text = text.as_bytes();
-    refuses_so(alloc, text, 1_000, fault)
-        && refuses_so(alloc, text, 7, fault)
-        && refuses_so(alloc, text, 1, fault)
-}
 
 /// Whether a file whose platings are known so is read.
 fn reads(alloc: Global, plating: PlatingKind, text: &str) -> bool {
@@ -92,7 +68,10 @@ fn unplated_files_that_say_plated_are_refused(rt: HostRuntime) {
             byte,
             reason: Reason::PlatingConflict,
         };
-        assert!(rt; refuses(rt.alloc(), text, &fault), "{text}");
+        assert!(rt;
+            refuses(rt.alloc(), PlatingKind::Unplated, text, &fault),
+            "{text}"
+        );
     }
 }
 
@@ -150,6 +129,9 @@ fn other_faults_come_first(rt: HostRuntime) {
             byte,
             reason,
         };
-        assert!(rt; refuses(rt.alloc(), text, &fault), "{text}");
+        assert!(rt;
+            refuses(rt.alloc(), PlatingKind::Unplated, text, &fault),
+            "{text}"
+        );
     }
 }

@@ -1,54 +1,49 @@
 -- What one more command changes of the positions that count and of those that do not.
-use Rattle.layer_features.proofs.Common.{◌≡◌, ◌∙◌, ℕ, suc, ◌+◌, ◌&&◌, ◌||◌, Bool, true, false, not, List, [], ◌∷◌, ◌++◌, cond, drop, reverse, refl, ap, sym, length, arith, append-nil, append_assoc, length-append, if◌then◌else◌, list_any, prefix_len, take_while, reverse-append, reverse-reverse, take_while-cons, with_prefixes, with_prefixes_from, last_or-more, list_any-more, with_prefixes-append, Command, after_last, up_to_last, block_after, changes_block, in_open_block, is_repeated, cleared, clears_all, draws, is_clear_after, is_clearing, polarity_set, uncleared, clearing_after, clearing_with}
+use Rattle.layer_features.proofs.Common.{◌≡◌, ◌∙◌, ℕ, ◌+◌, ◌&&◌, ◌||◌, Bool, true, false, not, List, [], ◌∷◌, ◌++◌, ◌-◌, cond, drop, take, refl, ap, sym, length, arith, append-nil, append_assoc, length-append, if◌then◌else◌, list_any, prefix_len, reverse-append, take_all, take-append-drop, with_prefixes, with_prefixes_from, last_or-more, list_any-more, with_prefixes-append, Command, after_last, up_to_last, block_after, changes_block, in_open_block, is_repeated, cleared, clears_all, draws, is_clear_after, is_clearing, polarity_set, uncleared, clearing_after, clearing_with}
 use Rattle.std.specs.Prelude.{unwrap_or}
+use Rattle.std.specs.List.{suffix_len}
+use Rattle.std.proofs.lemmas.List.{drop-append-le, drop_all, take-append-le}
 use Rattle.grid_units.proofs.BoolLemmas.{and_false, or_is_false}
 use Rattle.gerber_commands.specs.declared.command.Command.TheVariants as command
 use Rattle.layer_features.specs.declared.clearing.Clearing.{Clearing}
 
+-- how many elements at the end do not pass, with one more
+suffix_more : {A : Type 0} (goes_on : A → Bool) (xs : List A) (x : A) → suffix_len goes_on (xs ++ x ∷ []) ≡ cond (goes_on x) (1 + suffix_len goes_on xs) 0
+suffix_more goes_on xs x = ap (prefix_len goes_on) (reverse-append xs (x ∷ []))
+
+-- where the elements after the last one that passes begin
+begins : {A : Type 0} (xs : List A) (x : A) (n : ℕ) → length (xs ++ x ∷ []) - (1 + n) ≡ length xs - n
+begins xs x n = omega (arith, length-append xs (x ∷ []))
+
 -- the elements after the last one that passes, with one more: none where it passes, else that one too
 pub after_last-more : {A : Type 0} (test : A → Bool) (xs : List A) (x : A) → after_last test (xs ++ x ∷ []) ≡ (if test x then [] else after_last test xs ++ x ∷ [])
-after_last-more {A} test xs x =
-    let goes_on : A → Bool = λ y. not (test y) in
-    ap (λ (l : List A). reverse (take_while goes_on l)) (reverse-append xs (x ∷ [])) ∙ ap reverse (take_while-cons goes_on x (reverse xs)) ∙ by (take_while goes_on (reverse xs)) (test x)
+after_last-more {A} test xs x = ap (λ n. drop (length (xs ++ x ∷ []) - n) (xs ++ x ∷ [])) (suffix_more (λ y. not (test y)) xs x) ∙ by (test x)
   where
-    by : (l : List A) (b : Bool) → reverse (cond (not b) (x ∷ l) []) ≡ (if b then [] else reverse l ++ x ∷ [])
-    by l true = refl
-    by l false = reverse-append (x ∷ []) l
+    n : ℕ
+    n = suffix_len (λ y. not (test y)) xs
 
-one_more : (n : ℕ) → 1 + n ≡ suc n
-one_more n = omega arith
+    by : (b : Bool) → drop (length (xs ++ x ∷ []) - cond (not b) (1 + n) 0) (xs ++ x ∷ []) ≡ (if b then [] else after_last test xs ++ x ∷ [])
+    by true = drop_all (length (xs ++ x ∷ []) - 0) (xs ++ x ∷ []) (omega arith)
+    by false = ap (λ k. drop k (xs ++ x ∷ [])) (begins xs x n) ∙ drop-append-le (length xs - n) xs (x ∷ []) (omega arith)
 
 -- the elements up to the last one that passes, with one more: all where it passes, else the same
 up_to_last-more : {A : Type 0} (test : A → Bool) (xs : List A) (x : A) → up_to_last test (xs ++ x ∷ []) ≡ (if test x then xs ++ x ∷ [] else up_to_last test xs)
-up_to_last-more {A} test xs x =
-    let goes_on : A → Bool = λ y. not (test y) in
-    ap (λ (l : List A). reverse (drop (prefix_len goes_on l) l)) (reverse-append xs (x ∷ [])) ∙ by (test x) refl
+up_to_last-more {A} test xs x = ap (λ n. take (length (xs ++ x ∷ []) - n) (xs ++ x ∷ [])) (suffix_more (λ y. not (test y)) xs x) ∙ by (test x)
   where
-    by : (b : Bool) → test x ≡ b → reverse (drop (prefix_len (λ y. not (test y)) (x ∷ reverse xs)) (x ∷ reverse xs)) ≡ (if b then xs ++ x ∷ [] else up_to_last test xs)
-    by true e = ap (λ (c : Bool). reverse (drop (cond (not c) (1 + prefix_len (λ y. not (test y)) (reverse xs)) 0) (x ∷ reverse xs))) e ∙ reverse-append (x ∷ []) (reverse xs) ∙ ap (λ (l : List A). l ++ x ∷ []) (reverse-reverse xs)
-    by false e =
-        ap (λ (c : Bool). reverse (drop (cond (not c) (1 + prefix_len (λ y. not (test y)) (reverse xs)) 0) (x ∷ reverse xs))) e
-        ∙ ap (λ (n : ℕ). reverse (drop n (x ∷ reverse xs))) (one_more (prefix_len (λ y. not (test y)) (reverse xs)))
+    n : ℕ
+    n = suffix_len (λ y. not (test y)) xs
+
+    by : (b : Bool) → take (length (xs ++ x ∷ []) - cond (not b) (1 + n) 0) (xs ++ x ∷ []) ≡ (if b then xs ++ x ∷ [] else up_to_last test xs)
+    by true = take_all (length (xs ++ x ∷ []) - 0) (xs ++ x ∷ []) (omega arith)
+    by false = ap (λ k. take k (xs ++ x ∷ [])) (begins xs x n) ∙ take-append-le (length xs - n) xs (x ∷ []) (omega arith)
 
 -- the positions that do not count with one more command
 pub cleared-more : (before : List Command) (c : Command) → cleared (before ++ c ∷ []) ≡ (if clears_all (before, c) then with_prefixes before ++ (before, c) ∷ [] else cleared before)
 cleared-more before c = ap (up_to_last clears_all) (with_prefixes-append before (c ∷ [])) ∙ up_to_last-more clears_all (with_prefixes before) (before, c)
 
-split_run : {A : Type 0} (f : A → Bool) (l : List A) → l ≡ take_while f l ++ drop (prefix_len f l) l
-split_run f [] = refl
-split_run {A} f (x ∷ l) = by (f x) refl (split_run f l) ∙ ap (λ (run : List A). run ++ drop (prefix_len f (x ∷ l)) (x ∷ l)) (sym (take_while-cons f x l))
-  where
-    by : (b : Bool) → f x ≡ b → l ≡ take_while f l ++ drop (prefix_len f l) l → x ∷ l ≡ cond (f x) (x ∷ take_while f l) [] ++ drop (prefix_len f (x ∷ l)) (x ∷ l)
-    by true h rest =
-        ap (λ (r : List A). x ∷ r) rest ∙ ap (λ (n : ℕ). (x ∷ take_while f l) ++ drop n (x ∷ l)) (sym (one_more (prefix_len f l)))
-        ∙ ap (λ (c : Bool). cond c (x ∷ take_while f l) [] ++ drop (cond c (1 + prefix_len f l) 0) (x ∷ l)) (sym h)
-    by false h rest = ap (λ (c : Bool). cond c (x ∷ take_while f l) [] ++ drop (cond c (1 + prefix_len f l) 0) (x ∷ l)) (sym h)
-
 -- a list is the elements up to the last one that passes, and those after it
 cut : {A : Type 0} (test : A → Bool) (xs : List A) → xs ≡ up_to_last test xs ++ after_last test xs
-cut {A} test xs =
-    let goes_on : A → Bool = λ x. not (test x) in
-    sym (reverse-reverse xs) ∙ ap reverse (split_run goes_on (reverse xs)) ∙ reverse-append (take_while goes_on (reverse xs)) (drop (prefix_len goes_on (reverse xs)) (reverse xs))
+cut test xs = sym (take-append-drop (length xs - suffix_len (λ x. not (test x)) xs) xs)
 
 -- each position counts or does not
 pub all_positions : (commands : List Command) → with_prefixes commands ≡ cleared commands ++ uncleared commands

@@ -1,7 +1,6 @@
 -- What one more command changes of what is drawn.
-use Rattle.layer_features.proofs.Common.{◌≡◌, ◌∙◌, ℕ, List, [], ◌∷◌, ◌++◌, Option, pos, false, ap, option_or, cons_option, filter_map, filter_map-append, last_set, with_prefixes, last_or-more, last_set-more, with_prefixes-append, Command, unit_scale, aperture_selected, region_set, scale_set, turn_set, unit_set, x_set, y_set, aperture_numbered, decimals_set, draw_state_after, drawn_aperture_set, drawn_by, drawn_of, macro_named, macro_set, mirror_set, mode_set, quadrant_set, after_command}
+use Rattle.layer_features.proofs.Common.{◌≡◌, ◌∙◌, ℕ, List, [], ◌∷◌, ◌++◌, Option, pos, false, ap, option_or, last_set, with_prefixes, last_or-more, last_set-more, with_prefixes-append, Command, unit_scale, aperture_selected, region_set, scale_set, turn_set, unit_set, x_set, y_set, aperture_numbered, decimals_set, draw_state_after, drawn_aperture_set, macro_named, macro_set, mirror_set, mode_set, quadrant_set, after_command}
 use Rattle.gerber_commands.specs.declared.command.Interpolation.TheVariants.{Linear}
-use Rattle.pad_shapes.specs.declared.drawn.Drawn.{Drawn}
 use Rattle.layer_features.specs.declared.drawn_apertures.DrawnAperture.{DrawnAperture}
 
 -- the aperture of a number after one more command
@@ -28,9 +27,3 @@ draw_state_after-more before c = λ i. record {
   turn = last_or-more turn_set (pos 0) before c i;
   mirrored = last_or-more mirror_set false before c i;
 }
-
--- what is drawn with one more command
-pub drawn_of-more : (before : List Command) (c : Command) → drawn_of (before ++ c ∷ []) ≡ drawn_of before ++ cons_option (drawn_by (draw_state_after before) c) []
-drawn_of-more before c =
-    let draws : List Command × Command → Option Drawn = λ p. drawn_by (draw_state_after p.0) p.1 in
-    ap (filter_map draws) (with_prefixes-append before (c ∷ [])) ∙ filter_map-append draws (with_prefixes before) ((before, c) ∷ [])

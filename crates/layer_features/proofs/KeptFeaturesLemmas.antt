@@ -111,17 +111,6 @@ kept_gone old new taken features h counts same cleared none forgets rows = recor
 
 -- ---- the pads are taken out
 
-pub kept_taken : (old new : KeptFeatures) (taken : List WidePad) (features : List Feature) → KeepsFeatures old taken features → new.counts ≡ old.counts → new.features ≡ old.features → new.cleared ≡ old.cleared → new.pads.items ≡ [] → new.forgets ≡ false → new.rows ≡ old.rows
-    → KeepsFeatures new (left_pads old taken ++ old.pads.items) features
-kept_taken old new taken features h counts same cleared none forgets rows =
-    let all : List WidePad = left_pads old taken ++ old.pads.items in
-    record {
-      counts = counts ∙ h.counts;
-      few = subst (λ (n : ℕ). n ≤ length new.features.items) (sym cleared) (subst (λ (v : Vec Feature). old.cleared ≤ length v.items) (sym same) h.few);
-      features = (λ i. first_taken_away (cleared i) (same i).items) ∙ h.features ∙ ap (λ (b : Bool). if b then features else []) (sym rows);
-      pads = (λ i. (if forgets i then [] else all) ++ none i) ∙ append-nil all ∙ h.pads ∙ ap (λ (b : Bool). if b then [] else pads_of features) (sym rows);
-    }
-
 -- ---- counts
 
 -- one more
@@ -131,14 +120,6 @@ of_one test f fs = sum_by-cons (λ (g : Feature). cond (test g.what) 1 0) f fs
 -- one more at the end
 of_last : (test : FeatureKind → Bool) (fs : List Feature) (f : Feature) → count_by (λ (g : Feature). test g.what) (fs ++ f ∷ []) ≡ count_by (λ (g : Feature). test g.what) fs + cond (test f.what) 1 0
 of_last test fs f = sum_by-append (λ (g : Feature). cond (test g.what) 1 0) fs (f ∷ []) ∙ ap (λ (n : ℕ). count_by (λ (g : Feature). test g.what) fs + n) (of_one test f [] ∙ omega arith)
-
-pub counts_more : (a all : FeatureCounts) (fs : List Feature) (f : Feature) → a ≡ counts_of fs → all.flashed ≡ a.flashed + cond (is_flashed_pad f.what) 1 0 → all.contours ≡ a.contours + cond (is_contour f.what) 1 0
-    → all.other ≡ a.other + cond (is_other f.what) 1 0 → all ≡ counts_of (fs ++ f ∷ [])
-counts_more a all fs f is flashed contours other =
-    let by_flashed : all.flashed ≡ flashed_count (fs ++ f ∷ []) = omega (arith, flashed, ap (λ (c : FeatureCounts). c.flashed) is, of_last is_flashed_pad fs f) in
-    let by_contours : all.contours ≡ contour_count (fs ++ f ∷ []) = omega (arith, contours, ap (λ (c : FeatureCounts). c.contours) is, of_last is_contour fs f) in
-    let by_other : all.other ≡ other_count (fs ++ f ∷ []) = omega (arith, other, ap (λ (c : FeatureCounts). c.other) is, of_last is_other fs f) in
-    λ i. record { flashed = by_flashed i; contours = by_contours i; other = by_other i }
 
 -- what is left of one of this kind, at this point, before others
 abbrev left_before : GridPoint → FeatureKind → List Feature → List Feature

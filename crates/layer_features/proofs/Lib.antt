@@ -8,6 +8,7 @@ pub mod UnclearedPositions
 pub mod PointsLemmas
 pub mod CopiesLemmas
 pub mod ContourLemmas
+pub mod EndsLemmas
 pub mod ShortRuns
 pub mod TurnsLemmas
 pub mod ForgettingLemmas

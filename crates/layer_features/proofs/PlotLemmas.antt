@@ -1,6 +1,9 @@
 -- What a plot in a region meets where no rule is broken, and the parts of the region.
-use Rattle.layer_features.proofs.Common.{◌≡◌, ◌∙◌, ℕ, ℤ, Bool, true, false, List, [], ◌∷◌, ◌++◌, length, Option, None, Some, unwrap_or, refl, sym, ap, arith, if◌then◌else◌, is_none, option_map, option_or, cons_option, last_set, picometres, GridPoint, Millimetre, last_set-more, Command, Format, format_set, state_after, unit_set, flashes_of, broken_rule, Part, PlotState, part_by, region_parts, starts_region, decimals_set, draw_state_after, near, operation_point, point_at, plot_state, plot_state_after, point_in}
+use Rattle.layer_features.proofs.Common.{◌≡◌, ◌∙◌, ℕ, ℤ, unsigned_abs, Bool, true, false, not, ◌&&◌, nat_le, nat_lt, List, [], ◌∷◌, ◌++◌, length, Option, None, Some, unwrap_or, refl, sym, ap, arith, if◌then◌else◌, is_none, option_map, option_or, cons_option, last_set, picometres, GridPoint, Millimetre, last_set-more, Command, Format, format_set, state_after, unit_set, flashes_of, broken_rule, Part, PlotState, part_by, region_parts, starts_region, decimals_set, draw_state_after, near, operation_point, point_at, plot_state, plot_state_after, point_in}
+use Rattle.std.proofs.lemmas.Bool.Decides.{nat_tests}
+use Rattle.grid_units.specs.Points.{max_coordinate}
 use Rattle.grid_units.specs.declared.lengths.Unit.{Unit as Units}
+use Rattle.macro_shapes.specs.Primitives.{grid_point}
 use Rattle.gerber_commands.specs.declared.command.Command.TheVariants as command
 use Rattle.layer_features.proofs.CopperLemmas.{region_parts-more}
 use Rattle.layer_features.proofs.LegalFlashes.{keeps_rule, some_of}
@@ -23,12 +26,27 @@ decimals_are before = last_mapped format_set (λ (f : Format). f.decimals) decim
 abbrev point_by : Units → ℕ → ℤ → ℤ → Option GridPoint
 point_by unit decimals x y = point_at (near (picometres unit decimals x)) (near (picometres unit decimals y))
 
+above : (n m : ℕ) → nat_lt m n ≡ not (nat_le n m)
+above n m = grind (arith, nat_tests)
+
+-- lengths up to 10 m are those of a point
+near_is : (a b : ℤ) → point_at (near a) (near b) ≡ grid_point a b
+near_is a b =
+    (λ i. point_at (if above (unsigned_abs a) max_coordinate i then None else Some a) (if above (unsigned_abs b) max_coordinate i then None else Some b))
+    ∙ by (nat_le (unsigned_abs a) max_coordinate) (nat_le (unsigned_abs b) max_coordinate)
+  where
+    by : (s t : Bool) → point_at (if not s then None else Some a) (if not t then None else Some b) ≡ (if s && t then Some (record { x = a; y = b }) else None)
+    by true true = refl
+    by true false = refl
+    by false t = refl
+
 point_is : (before : List Command) (unit : Units) (format : Format) → (state_after before).unit ≡ Some unit → (state_after before).format ≡ Some format → (x y : Option ℤ)
     → operation_point (draw_state_after before) x y ≡ point_in (state_after before).unit (state_after before).format (state_after before) x y
 point_is before unit format in_unit in_format x y =
     let s = state_after before in
     ap (λ (o : Option ℕ). point_by (unwrap_or s.unit Millimetre) (unwrap_or o 0) (unwrap_or x s.x) (unwrap_or y s.y)) (decimals_are before)
     ∙ (λ i. point_by (unwrap_or (in_unit i) Millimetre) (unwrap_or (option_map (λ (f : Format). f.decimals) (in_format i)) 0) (unwrap_or x s.x) (unwrap_or y s.y))
+    ∙ near_is (picometres unit format.decimals (unwrap_or x s.x)) (picometres unit format.decimals (unwrap_or y s.y))
     ∙ sym (λ i. point_in (in_unit i) (in_format i) s x y)
 
 plot_is : (before : List Command) (unit : Units) (format : Format) → (state_after before).unit ≡ Some unit → (state_after before).format ≡ Some format → drawn_plot before ≡ plot_state_after before

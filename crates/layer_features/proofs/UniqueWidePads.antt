@@ -8,7 +8,8 @@ use Rattle.gerber_commands.specs.declared.command.Command.TheVariants as command
 use Rattle.gerber_commands.specs.declared.command.Template.{Template}
 use Rattle.gerber_commands.specs.declared.command.Template.TheVariants as template
 
-same_value : {A : Type 0} (o : Option A) (a b : A) → o ≡ Some a → o ≡ Some b → a ≡ b
+-- an option has one value
+pub same_value : {A : Type 0} (o : Option A) (a b : A) → o ≡ Some a → o ≡ Some b → a ≡ b
 same_value o a b p q = cc
 
 -- ---- the shape of a macro

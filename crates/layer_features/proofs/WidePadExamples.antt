@@ -6,7 +6,7 @@ use Rattle.pad_shapes.specs.declared.wide_pad.WidePad.TheVariants.{Plain, Rounde
 use Rattle.macro_shapes.proofs.OneAnswer.{answer_on}
 use Rattle.macro_shapes.specs.Pieces.{IsMacro, MacroAnswer}
 use Rattle.macro_shapes.specs.Signs.{sign_of}
-use Rattle.macro_shapes.specs.Values.{IsValue, Sum, lookup, no_factor, no_term, operand, operand_value, sum, term}
+use Rattle.macro_shapes.specs.Values.{IsValue, lookup, one_factor, one_term, operand, operand_value}
 use Rattle.macro_shapes.specs.declared.fields.Fields.{Fields}
 use Rattle.macro_shapes.specs.declared.piece.Code.TheVariants as code
 use Rattle.gerber_commands.specs.declared.command.Action.TheVariants as action
@@ -77,21 +77,17 @@ round x y = record { first = at x y; others = []; radius = 500000000 }
 
 -- ---- a macro
 
--- the expression of one digit
-abbrev digit : ℕ → Sum
-digit b = sum no_term (term no_factor (operand (b ∷ [])))
-
 zero_is : IsValue (lookup []) (48 ∷ []) (pos 0)
 unfolding operand_value parse_decimal sign_of
-zero_is = record { short = omega arith; expression = digit 48; written = refl; valued = refl }
+zero_is = (omega arith, one_term 0 (48 ∷ []) (pos 0) (one_factor 0 (48 ∷ []) (pos 0) (operand 0 (48 ∷ []) (pos 0) refl refl)))
 
 one_is : IsValue (lookup []) (49 ∷ []) (pos 100000000)
 unfolding operand_value parse_decimal sign_of
-one_is = record { short = omega arith; expression = digit 49; written = refl; valued = refl }
+one_is = (omega arith, one_term 0 (49 ∷ []) (pos 100000000) (one_factor 0 (49 ∷ []) (pos 100000000) (operand 0 (49 ∷ []) (pos 100000000) refl refl)))
 
 two_is : IsValue (lookup []) (50 ∷ []) (pos 200000000)
 unfolding operand_value parse_decimal sign_of
-two_is = record { short = omega arith; expression = digit 50; written = refl; valued = refl }
+two_is = (omega arith, one_term 0 (50 ∷ []) (pos 200000000) (one_factor 0 (50 ∷ []) (pos 200000000) (operand 0 (50 ∷ []) (pos 200000000) refl refl)))
 
 -- the fields of the piece
 abbrev circle : ℤ → Fields
@@ -161,6 +157,13 @@ unexposed_macro =
     let left : AreWidePadsOf (start 48 ++ command.Select 10 ∷ []) (flash 0 0) [] =
     (Millimetre, nanometres, aperture.Macro, _, record { outside = refl; in_unit = refl; in_format = refl; selected = refl }, (10, refl, shape), refl) in
     ([], _, refl, refl, ([], _, refl, refl, ([], _, refl, refl, ([], _, refl, refl, ([], _, refl, refl, ([], [], refl, left, refl))))))
+
+-- `%ADD10M*%`, `D10*`, `X0Y0D03*` without a macro of this name: the aperture has no shape, and its flash is no pad
+pub undefined_macro : AreWidePads (command.UnitIs Millimetre ∷ command.FormatIs nanometres ∷ command.Define 10 (template.Named name None) ∷ command.Select 10 ∷ flash 0 0 ∷ []) []
+undefined_macro =
+    let left : AreWidePadsOf (command.UnitIs Millimetre ∷ command.FormatIs nanometres ∷ command.Define 10 (template.Named name None) ∷ command.Select 10 ∷ []) (flash 0 0) [] =
+    (Millimetre, nanometres, aperture.Macro, None, record { outside = refl; in_unit = refl; in_format = refl; selected = refl }, (10, refl, refl), refl) in
+    ([], _, refl, refl, ([], _, refl, refl, ([], _, refl, refl, ([], _, refl, refl, ([], [], refl, left, refl)))))
 
 -- `D10*`, `%LPC*%`, `X0Y0D03*`: in clear polarity nothing is a pad
 pub macro_in_clear : AreWidePads (start 49 ++ command.Select 10 ∷ command.Clear ∷ flash 0 0 ∷ []) []

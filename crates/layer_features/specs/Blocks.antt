@@ -4,7 +4,7 @@ use Rattle.grid_units.specs.Lists.{last_set}
 use Rattle.gerber_commands.specs.declared.command.StepRepeat.{StepRepeat}
 use Rattle.gerber_commands.specs.declared.command.Command.{Command}
 use Rattle.layer_state.specs.Lookback.{block_set, no_repeat}
-use Rattle.layer_features.specs.AfterLast.{after_last}
+use Rattle.std.specs.List.{after_last}
 
 -- the block that is open after these commands
 abbrev pub block_after : List Command → StepRepeat
@@ -18,10 +18,6 @@ copy_count block = block.columns * block.rows
 abbrev pub is_repeated : StepRepeat → Bool
 is_repeated block = nat_lt 1 (copy_count block)
 
--- a block starts or ends (Gerber format, Step and repeat SR)
-abbrev pub changes_block : Command → Bool
-changes_block c = is_some (block_set c)
-
--- the commands of the block that is open, each with all commands before it
+-- the commands of the block that is open, each with all commands before it: those after the last one that starts or ends a block
 abbrev pub in_open_block : List (List Command × Command) → List (List Command × Command)
-in_open_block positions = after_last (λ p. changes_block p.1) positions
+in_open_block positions = after_last (λ p. is_some (block_set p.1)) positions

@@ -1,14 +1,14 @@
 -- Clear polarity: which positions of a list of commands still count when all of it is drawn (Gerber format, Load polarity LP;
 -- docs/FORMATS.md, Clear polarity).
-use Rattle.std.specs.Prelude.{Bool, true, false, ◌&&◌, ◌||◌, List, Option, None, Some, unwrap_or}
-use Rattle.std.specs.List.{list_any}
+use Rattle.std.specs.Prelude.{Bool, true, false, ◌&&◌, ◌||◌, nat_lt, List, Option, None, Some, unwrap_or}
+use Rattle.std.specs.List.{after_last, list_any}
 use Rattle.grid_units.specs.Lists.{last_set, with_prefixes}
 use Rattle.gerber_commands.specs.declared.command.Action.{Action}
 use Rattle.gerber_commands.specs.declared.command.Action.TheVariants as action
 use Rattle.gerber_commands.specs.declared.command.Command.{Command}
 use Rattle.gerber_commands.specs.declared.command.Command.TheVariants as command
-use Rattle.layer_features.specs.AfterLast.{after_last, up_to_last}
-use Rattle.layer_features.specs.Blocks.{block_after, in_open_block, is_repeated}
+use Rattle.layer_features.specs.AfterLast.{up_to_last}
+use Rattle.layer_features.specs.Blocks.{block_after, copy_count, in_open_block}
 
 -- polarity is clear from `%LPC*%` on, and dark again from `%LPD*%` on (Gerber format, Load polarity LP)
 abbrev pub polarity_set : Command → Option Bool
@@ -22,9 +22,8 @@ is_clear_after before = unwrap_or (last_set polarity_set before) false
 
 -- a plot or a flash, and no move (Gerber format, Operations D01, D02, D03)
 abbrev pub is_drawing : Action → Bool
-is_drawing action.Plot = true
 is_drawing action.Move = false
-is_drawing action.Flash = true
+is_drawing _ = true
 
 -- a command draws
 abbrev pub draws : Command → Bool
@@ -35,19 +34,15 @@ draws _ = false
 abbrev pub is_clearing : List Command × Command → Bool
 is_clearing p = draws p.1 && is_clear_after p.0
 
--- Something of the block that is open was drawn in clear polarity, and the block makes several copies: the next one takes away what stands
--- in this one (Gerber format, Step and repeat SR).
-abbrev pub is_cleared_by_copies : List Command → Bool
-is_cleared_by_copies before = is_repeated (block_after before) && list_any is_clearing (in_open_block (with_prefixes before))
-
--- at this position all is taken away that was drawn up to it, or will be by another copy
+-- At this position all counts as taken away that was drawn up to it, or will be by another copy: something of the block that is open was drawn in clear
+-- polarity, and the block makes several copies, of which the next one takes away what stands in this one (Gerber format, Step and repeat SR).
 abbrev pub clears_all : List Command × Command → Bool
-clears_all p = is_clearing p || is_cleared_by_copies p.0
+clears_all p = is_clearing p || (nat_lt 1 (copy_count (block_after p.0)) && list_any is_clearing (in_open_block (with_prefixes p.0)))
 
--- The positions that count, each command with all commands before it: those after the last one at which all is taken away.
+-- The positions that count, each command with all commands before it: those after the last one at which all counts as taken away.
 abbrev pub uncleared : List Command → List (List Command × Command)
 uncleared commands = after_last clears_all (with_prefixes commands)
 
--- The positions that do not count: those up to the last one at which all is taken away.
+-- The positions that do not count: those up to the last one at which all counts as taken away.
 abbrev pub cleared : List Command → List (List Command × Command)
 cleared commands = up_to_last clears_all (with_prefixes commands)

@@ -25,7 +25,7 @@ use Rattle.gerber_commands.specs.declared.command.Template.{Template}
 use Rattle.gerber_commands.specs.declared.command.Template.TheVariants as template
 use Rattle.gerber_commands.specs.declared.command.Command.{Command}
 use Rattle.gerber_commands.specs.declared.command.Command.TheVariants as command
-use Rattle.gerber_items.specs.Pieces.{unit_scale}
+use Rattle.gerber_commands.specs.Pieces.{unit_scale}
 use Rattle.layer_state.specs.Lookback.{aperture_selected, has_hole, region_set, scale_set, size_at, turn_set, unit_set, x_set, y_set}
 use Rattle.layer_state.specs.Numbers.{dec_length}
 use Rattle.pad_shapes.specs.declared.drawn.Drawn.{Drawn}
@@ -62,22 +62,11 @@ abbrev pub macro_set : List ℕ → Command → Option (List (List ℕ))
 macro_set name (command.Macro other pieces) = if pointwise nat_eq other name then Some pieces else None
 macro_set name _ = None
 
--- the length of a macro in bytes, each piece with the `*` that ends it
-abbrev pub macro_len : List (List ℕ) → ℕ
-macro_len pieces = sum_by (λ piece. length piece + 1) pieces
-
--- the length of the longest macro that gives a shape
-abbrev pub max_macro_len : ℕ
-max_macro_len = 4096
-
--- the greatest number of an aperture that has the shape of a macro
-abbrev pub max_shape_number : ℕ
-max_shape_number = 9999
-
--- the macro that an aperture of this number names, where both are within their limits: more and longer ones would take too long to read
+-- The macro that an aperture of this number names, where both are within their limits: a number up to 9999, and 4096 bytes, each piece with the `*` that ends
+-- it. More and longer ones would take too long to read.
 abbrev pub within_limits : ℕ → Option (List (List ℕ)) → Option (List (List ℕ))
-within_limits number None = None
-within_limits number (Some pieces) = if nat_le number max_shape_number && nat_le (macro_len pieces) max_macro_len then Some pieces else None
+within_limits number named =
+    option_and_then (λ pieces. if nat_le number 9999 && nat_le (sum_by (λ piece. length piece + 1) pieces) 4096 then Some pieces else None) named
 
 -- the shape of the primitives that fields spell in this unit, where they spell some that have one (Gerber format, Aperture macro AM)
 abbrev pub primitives_shape : Units → Option (List Fields) → Option GridRounded

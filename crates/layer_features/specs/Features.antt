@@ -174,15 +174,6 @@ feature_row f = record { at = f.at; what = row_kind f.what }
 abbrev pub rows_of : List Feature → List FeatureRow
 rows_of features = map feature_row features
 
--- what a flash of the strict profile is, without its pad
-abbrev pub strict_row_kind : What → RowKind
-strict_row_kind (what.Pad pad) = row.Pad
-strict_row_kind (what.Other why) = row.Other why
-
--- the row of a flash of the strict profile
-abbrev pub strict_row : Flash → FeatureRow
-strict_row f = record { at = f.at; what = strict_row_kind f.what }
-
 -- ---- counts
 
 -- how many flashes are pads

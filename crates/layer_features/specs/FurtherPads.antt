@@ -11,7 +11,7 @@ use Rattle.macro_shapes.specs.Primitives.{quarter_turns}
 use Rattle.gerber_commands.specs.declared.command.StepRepeat.{StepRepeat}
 use Rattle.gerber_commands.specs.declared.command.Command.{Command}
 use Rattle.gerber_commands.specs.declared.command.Command.TheVariants as command
-use Rattle.gerber_items.specs.Pieces.{unit_scale}
+use Rattle.gerber_commands.specs.Pieces.{unit_scale}
 use Rattle.pad_shapes.specs.declared.row.Why.{Why}
 use Rattle.pad_shapes.specs.declared.row.Why.TheVariants as why
 use Rattle.layer_features.specs.Drawn.{DrawState, draw_state_after, draw_unit, operation_point, selected_aperture, shape_in}
@@ -35,10 +35,6 @@ mirroring_set _ = None
 abbrev pub ended_copies : StepRepeat → Command → ℕ
 ended_copies block command.RegionEnd = copy_count block
 ended_copies block _ = 0
-
--- the most regions of a layer, of any kind and each copy counted: only the contours of the first ones count as pads
-abbrev pub max_regions : ℕ
-max_regions = 4194304
 
 -- how the flashes after these commands are mirrored
 abbrev pub mirroring_after : List Command → Mirroring
@@ -105,9 +101,10 @@ macro_why s = if is_none (macro_shape s) then why.Macro else why_of_shape s
 abbrev pub flashed_pad : CopperState → GridPoint → Option GridRounded
 flashed_pad s at = option_and_then (λ shape. shape_at shape at) (flash_shape s)
 
--- so many regions that ended, and the copies of one more in this block, are no more than the most
+-- the regions that ended, of any kind and each copy counted, and the copies of one more in this block are no more than the most of a layer: only the contours of
+-- the first ones count as pads
 abbrev pub is_room : ℕ → StepRepeat → Bool
-is_room regions block = nat_le (regions + copy_count block) max_regions
+is_room regions block = nat_le (regions + copy_count block) 4194304
 
 -- there is room for the region that ends here
 abbrev pub has_room : CopperState → Bool

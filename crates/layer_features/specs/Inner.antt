@@ -2,3 +2,4 @@ pub mod Pencils
 pub mod Forgetting
 pub mod States
 pub mod Turns
+pub mod Steps

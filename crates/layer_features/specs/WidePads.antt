@@ -12,6 +12,7 @@ use Rattle.pad_shapes.specs.Rounded.{GridRounded}
 use Rattle.pad_shapes.specs.declared.wide_pad.WidePad.{WidePad}
 use Rattle.pad_shapes.specs.declared.wide_pad.WidePad.TheVariants.{Plain, Rounded}
 use Rattle.macro_shapes.specs.Pieces.{MacroAnswer}
+use Rattle.macro_shapes.specs.Primitives.{grid_point}
 use Rattle.gerber_commands.specs.declared.command.Action.TheVariants as action
 use Rattle.gerber_commands.specs.declared.command.Interpolation.TheVariants.{Linear}
 use Rattle.gerber_commands.specs.declared.command.Format.{Format}
@@ -28,7 +29,7 @@ use Rattle.layer_state.specs.Placing.{shapes_at}
 use Rattle.layer_features.specs.Blocks.{block_after}
 use Rattle.layer_features.specs.Clearing.{is_clear_after, uncleared}
 use Rattle.layer_features.specs.Contours.{PlotState, contour_of, region_parts}
-use Rattle.layer_features.specs.Drawn.{macro_named, mode_set, near, point_at, primitives_shape, quadrant_set, within_limits}
+use Rattle.layer_features.specs.Drawn.{macro_set, mode_set, primitives_shape, quadrant_set, within_limits}
 use Rattle.layer_features.specs.FurtherPads.{ended_regions, is_room, mirroring_after, shape_by}
 
 -- ---- the shape of a macro
@@ -44,10 +45,10 @@ abbrev pub template_set : ℕ → List Command × Command → Option (List Comma
 template_set number (before, command.Define other template) = if number == other then Some (before, template) else None
 template_set number _ = None
 
--- the shape of an aperture by its template: of a macro, by the unit and the pieces that stood where the aperture was defined; others have none
+-- the shape of an aperture by its template: of a macro within the limits of numbers and bytes, by the unit and the pieces that stood where the aperture was defined; others have none
 abbrev pub IsTemplateShape : ℕ → Option (List Command × Template) → Option GridRounded → Type 0
 IsTemplateShape number (Some (before, template.Named name parameters)) shape =
-    IsMacroShape (last_set unit_set before) (within_limits number (macro_named before name)) parameters shape
+    IsMacroShape (last_set unit_set before) (within_limits number (last_set (macro_set name) before)) parameters shape
 IsTemplateShape number _ shape = shape ≡ None
 
 -- the shape of the aperture that is selected, by its last definition (Gerber format, Current aperture Dnn)
@@ -75,8 +76,7 @@ AreWideFlashPads before x y made =
 
 -- the point of coordinates, in pm: one left out is the last one; none before a unit and a format, or more than 10 m from zero along an axis
 abbrev pub point_in : Option Units → Option Format → GraphicsState → Option ℤ → Option ℤ → Option GridPoint
-point_in (Some unit) (Some format) s x y =
-    point_at (near (picometres unit format.decimals (unwrap_or x s.x))) (near (picometres unit format.decimals (unwrap_or y s.y)))
+point_in (Some unit) (Some format) s x y = grid_point (picometres unit format.decimals (unwrap_or x s.x)) (picometres unit format.decimals (unwrap_or y s.y))
 point_in _ _ s x y = None
 
 -- what a plot after these commands meets in a region; at the start draws are straight (Gerber format, Plot state G01, G02, G03; G75 and G74)
@@ -106,14 +106,11 @@ AreDarkPads before (command.Operate action.Flash x y i j) made = AreWideFlashPad
 AreDarkPads before command.RegionEnd made = made ≡ map Rounded (contours_at (state_after before).unit (block_after before) (contour_after before))
 AreDarkPads before _ made = made ≡ []
 
--- the pads of a command after others; in clear polarity none (Gerber format, Load polarity LP)
-abbrev pub AreWidePadsOf : List Command → Command → List WidePad → Type 0
-AreWidePadsOf before c made = MatchBool (is_clear_after before) (made ≡ []) (AreDarkPads before c made)
-
--- the pads of commands, each with all commands before it: those of each, in order
+-- the pads of commands, each with all commands before it: those of each, in order; in clear polarity none (Gerber format, Load polarity LP)
 abbrev pub AreWidePadsAt : List (List Command × Command) → List WidePad → Type 0
 AreWidePadsAt [] made = made ≡ []
-AreWidePadsAt (p ∷ ps) made = (first more : List WidePad) × (made ≡ first ++ more) × AreWidePadsOf p.0 p.1 first × AreWidePadsAt ps more
+AreWidePadsAt (p ∷ ps) made =
+    (first more : List WidePad) × (made ≡ first ++ more) × MatchBool (is_clear_after p.0) (first ≡ []) (AreDarkPads p.0 p.1 first) × AreWidePadsAt ps more
 
 -- The pads of a list of commands, in order: those of the commands that count, which stand after the last one at which clear polarity takes all away.
 -- Where one of these is a flash in a region, or before a unit, a format or an aperture, there is no such list.

@@ -1,13 +1,14 @@
 //! Which sides of a contour are arcs. Lengths are in pm.
 
-ghost use Rattle.std.specs.Prelude.{◌≡◌, ◌≤◌, ◌+◌, ◌-ℤ◌, unsigned_abs};
+ghost use Rattle.std.specs.Prelude.{◌≡◌, ◌≤◌, ◌+◌, ◌-ℤ◌, unsigned_abs, Some};
 ghost use Rattle.grid_units.specs.Laws.{square_length};
-ghost use Rattle.grid_units.specs.Points.{IsCoordinate, square};
+ghost use Rattle.grid_units.specs.Points.{IsCoordinate, square, square_distance};
 ghost use Rattle.macro_shapes.specs.Primitives.{is_same};
-ghost use Rattle.layer_features.specs.Arcs.{are_ends, are_radii, differ_little, is_arc, is_arc_round, max_radius};
+ghost use Rattle.layer_features.specs.Arcs.{are_ends, are_radii, differ_little, end_square, is_arc, is_beside_chord, start_square};
+ghost use Rattle.gerber_commands.specs.declared.command.QuadrantMode.TheVariants as quadrant;
 
 use gerber_text::QuadrantMode;
-use grid_units::{Point, square_length};
+use grid_units::{Point, square_distance, square_length};
 
 /// How much the radii at the two ends of an arc may differ: 2 um.
 const RADIUS_SLACK: u128 = 2_000_000;
@@ -20,7 +21,7 @@ const MOST_LEFT: u128 = 4_000_000_000_000_000_000;
 
 /// Whether the roots of two numbers differ by at most the slack.
 fn differ_little(more: u128, less: u128) -> bool
-    requires { less ≤ square max_radius }
+    requires { less ≤ square 1000000000000 }
     ensures { result ≡ differ_little more less }
 {
     let rest = more.saturating_sub(less + RADIUS_SLACK * RADIUS_SLACK);
@@ -57,28 +58,41 @@ fn square_of(across: u64, up: u64) -> u128
 
 /// The square of the radius of an arc at its start.
 fn start_radius_square(centre: Point) -> u128
-    ensures { result ≡ square_length centre.x centre.y }
+    ensures { result ≡ start_square centre }
 {
     square_of(centre.x().unsigned_abs(), centre.y().unsigned_abs())
 }
 
 /// The square of the radius of an arc at its end.
 fn end_radius_square(from: Point, to: Point, centre: Point) -> u128
-    ensures { result ≡ square_length ((to.x -ℤ from.x) -ℤ centre.x) ((to.y -ℤ from.y) -ℤ centre.y) }
+    ensures { result ≡ end_square from to centre }
 {
     let across = offset(from.x(), to.x(), centre.x());
     let up = offset(from.y(), to.y(), centre.y());
     square_of(across, up)
 }
 
-/// Whether both ends of an arc lie equally far from a centre that its start sees there.
+/// Whether an arc with these squares of its radii at its ends, and of its chord, leaves and reaches the chord on its outer side.
+fn is_beside_chord(a: u128, b: u128, chord: u128) -> bool
+    ensures { result ≡ is_beside_chord a b chord }
+{
+    a.max(b) - a.min(b) <= chord
+}
+
+/// The square of an arc's chord.
+fn chord_square(from: Point, to: Point) -> u128
+    ensures { result ≡ square_distance from to }
+{
+    square_distance(from, to) as u128
+}
+
+/// Whether both ends of an arc lie equally far from a centre at this offset from its start, and it lies beside its chord.
 fn are_ends(from: Point, to: Point, centre: Point) -> bool
     ensures { result ≡ are_ends from to centre }
 {
-    are_radii(
-        start_radius_square(centre),
-        end_radius_square(from, to, centre),
-    )
+    let start = start_radius_square(centre);
+    let end = end_radius_square(from, to, centre);
+    are_radii(start, end) && is_beside_chord(start, end, chord_square(from, to))
 }
 
 /// Whether two points are one.
@@ -90,7 +104,7 @@ fn is_same(a: Point, b: Point) -> bool
 
 /// Whether there is an arc from one point to another point, round a centre that its start sees there.
 fn is_arc_round(from: Point, to: Point, centre: Option<Point>) -> bool
-    ensures { result ≡ is_arc_round from to centre }
+    ensures { result ≡ is_arc (Some quadrant.Multi) from to centre }
 {
     match centre {
         Some(centre) => !is_same(from, to) && are_ends(from, to, centre),

@@ -1,7 +1,7 @@
 //! Clear polarity.
 
 ghost use Rattle.std.specs.Prelude.{◌≡◌, ◌&&◌, []};
-ghost use Rattle.layer_features.specs.Blocks.{changes_block};
+ghost use Rattle.layer_features.specs.Inner.Steps.{changes_block};
 ghost use Rattle.layer_features.specs.Clearing.{draws, is_drawing, polarity_set};
 ghost use Rattle.layer_features.specs.FurtherPads.{clearing_after};
 ghost use Rattle.layer_features.specs.Inner.States.{clearing_with};

@@ -3,7 +3,8 @@
 ghost use Rattle.std.specs.Prelude.{◌≡◌, ◌≤◌, ◌∷◌, IfOk, option_map, length, reverse};
 ghost use Rattle.std.specs.List.{list_all, list_any};
 ghost use Rattle.std.specs.Option.{option_copied};
-ghost use Rattle.layer_features.specs.Contours.{after_moves, clockwise_round, contour_of, counterclockwise_round, ends_of, is_clockwise, is_counterclockwise, is_move, leading_moves, leading_sides, points_of, polygon_by, polygon_of_sides, sides_of};
+ghost use Rattle.layer_features.specs.Contours.{contour_of, ends_of, is_clockwise, is_counterclockwise, is_move, points_of, polygon_by, sides_of};
+ghost use Rattle.layer_features.specs.Inner.Steps.{clockwise_round, counterclockwise_round, leading_moves, leading_sides, polygon_of_sides};
 
 use crate::part::Part;
 use grid_units::Point;
@@ -63,6 +64,7 @@ fn sides_of(parts: &[Part]) -> Option<&[Part]>
 }
 
 /// The start of a contour and the points where its sides end, where each part is a side.
+#[tactic(auto, using(crate::proofs::EndsLemmas::next_end))]
 fn ends_of(alloc: Global, start: Point, sides: &[Part]) -> Result<Option<Vec<Point>>, AllocError>
     ensures { IfOk result (λ answer. option_map (λ points. points.items) answer ≡ option_map (λ rest. start ∷ rest) (ends_of sides.now)) }
 {
@@ -80,6 +82,7 @@ fn ends_of(alloc: Global, start: Point, sides: &[Part]) -> Result<Option<Vec<Poi
 }
 
 /// The points of a contour, from the start of its first side.
+#[tactic(auto, using(crate::proofs::EndsLemmas::first_start))]
 pub(crate) fn points_of(alloc: Global, sides: &[Part]) -> Result<Option<Vec<Point>>, AllocError>
     ensures { IfOk result (λ answer. option_map (λ points. points.items) answer ≡ points_of sides.now) }
 {

@@ -3,7 +3,6 @@
 ghost use Rattle.std.specs.Prelude.{◌≡◌, ◌≤◌, ◌^◌, ◌*ℤ◌, pos, [], map, unsigned_abs};
 ghost use Rattle.std.specs.List.{cons_option, filter_map};
 ghost use Rattle.layer_state.specs.Numbers.{dec_length};
-ghost use Rattle.layer_state.specs.Lookback.{no_repeat};
 ghost use Rattle.layer_state.specs.Flashes.{numbers_below};
 ghost use Rattle.pad_shapes.specs.Placed.{shape_at};
 ghost use Rattle.layer_features.specs.Features.{contour_feature};
@@ -17,19 +16,6 @@ use grid_units::{Dec, Unit};
 use layer_state::dec_length;
 use pad_shapes::{PlacedRounded, SharedRounded};
 use std::alloc::AllocError;
-
-/// No repetition: one column and one row.
-pub(crate) fn no_repeat() -> StepRepeat
-    ensures { result ≡ no_repeat }
-{
-    let zero = Dec::from_units(0).unwrap();
-    StepRepeat {
-        columns: 1,
-        rows: 1,
-        step_x: zero,
-        step_y: zero,
-    }
-}
 
 /// By how much so many steps move a copy, in pm.
 fn stepped(step: Dec, unit: Unit, count: u32) -> i128

@@ -15,7 +15,8 @@ ghost use Rattle.layer_state.specs.Flashes.{added_flashes};
 ghost use Rattle.layer_state.specs.Lookback.{block_set, state_after};
 ghost use Rattle.layer_features.specs.Blocks.{copy_count, is_repeated};
 ghost use Rattle.layer_features.specs.DrawnCopper.{dark_part};
-ghost use Rattle.layer_features.specs.FurtherPads.{CopperState, clears_in, contour_by, contours_in, ended_copies, flash_shape, has_room, macro_shape, macro_why, max_regions, mirroring_set, region_contour, why_of_shape};
+ghost use Rattle.layer_features.specs.Inner.Steps.{max_regions};
+ghost use Rattle.layer_features.specs.FurtherPads.{CopperState, clears_in, contour_by, contours_in, ended_copies, flash_shape, has_room, macro_shape, macro_why, mirroring_set, region_contour, why_of_shape};
 ghost use Rattle.layer_features.specs.Features.{added_features, contour_feature, dark_kind, flash_feature, taken_away};
 ghost use Rattle.layer_features.specs.Kept.{AddsFeatures, KeepsFeatures, left_pads};
 ghost use Rattle.layer_features.specs.declared.keep.Keep.{Keep as TheKeep};
@@ -24,7 +25,7 @@ ghost use Rattle.layer_features.specs.Inner.States.{IsLike, after, command_of, c
 
 use crate::clearing::Clearing;
 use crate::contour::contour_of;
-use crate::copies::{lay, no_repeat};
+use crate::copies::lay;
 use crate::counts::FeatureCounts;
 use crate::drawing::Drawing;
 use crate::feature::{Feature, FeatureKind};
@@ -34,7 +35,7 @@ use crate::part::{Part, add_operation, add_parts};
 use crate::pencil::Pencil;
 use gerber_text::{Command, Interpolation, LeadingOperation, StepRepeat};
 use grid_units::Point;
-use layer_state::{Flash, Mirroring, What, oriented, quarter_turns};
+use layer_state::{Flash, Mirroring, What, no_repeat, oriented, quarter_turns};
 use pad_shapes::{Drawn, PlacedRounded, SharedRounded, Why, WidePad};
 use std::alloc::{AllocError, Global};
 

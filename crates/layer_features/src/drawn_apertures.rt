@@ -4,7 +4,8 @@ ghost use Rattle.std.specs.Prelude.{◌≡◌, ◌==◌, ℕ, nat_le, None, Some
 ghost use Rattle.std.specs.Option.{option_copied, option_or};
 ghost use Rattle.gerber_commands.specs.declared.command.Standard.TheVariants as standard;
 ghost use Rattle.gerber_commands.specs.declared.command.Template.TheVariants as template;
-ghost use Rattle.layer_features.specs.Drawn.{by_macro, drawn_aperture_of, macro_len, macro_shape, max_macro_len, shape_in, shaped, within_limits};
+ghost use Rattle.layer_features.specs.Drawn.{by_macro, drawn_aperture_of, macro_shape, shape_in, shaped, within_limits};
+ghost use Rattle.layer_features.specs.Inner.Steps.{macro_len};
 ghost use Rattle.layer_features.specs.Inner.Pencils.{macro_at};
 ghost use Rattle.macro_shapes.specs.Macros.{fields_of};
 
@@ -90,7 +91,7 @@ fn bytes_of(text: &Option<Text>) -> Option<&[u8]>
 
 /// Whether a macro is no longer than the longest that gives a shape, counting the `*` after each piece.
 fn is_short(texts: &[Text]) -> bool
-    ensures { result ≡ nat_le (macro_len texts.now) max_macro_len }
+    ensures { result ≡ nat_le (macro_len texts.now) 4096 }
 {
     let mut left = MAX_MACRO_LEN;
     for text in texts {

@@ -1,7 +1,7 @@
 //! The flashes and contours of a layer.
 
 ghost use Rattle.std.specs.Prelude.{◌≡◌, IfOk};
-ghost use Rattle.layer_features.specs.Features.{feature_row, is_contour, is_flashed_pad, pad_in, pads_of, row_kind, strict_feature_of, strict_kind_of, strict_view, taken_away, taken_kind};
+ghost use Rattle.layer_features.specs.Features.{feature_row, pad_in, pads_of, row_kind, strict_feature_of, strict_kind_of, strict_view, taken_away, taken_kind};
 
 use grid_units::Point;
 use pad_shapes::{FeatureRow, PlacedRounded, RowKind, Why, WidePad};
@@ -43,20 +43,6 @@ impl FeatureKind {
             FeatureKind::Clear => RowKind::Clear,
             FeatureKind::Cleared => RowKind::Cleared,
         }
-    }
-
-    /// Whether it is a flash that is a pad.
-    pub fn is_flashed_pad(&self) -> bool
-        ensures { result ≡ is_flashed_pad self.now }
-    {
-        matches!(self, FeatureKind::Pad(_))
-    }
-
-    /// Whether it is a contour.
-    pub fn is_contour(&self) -> bool
-        ensures { result ≡ is_contour self.now }
-    {
-        matches!(self, FeatureKind::Contour(_))
     }
 
     /// The pad that it is, if it is one.

@@ -1,11 +1,14 @@
 //! The parts of a region.
 
-ghost use Rattle.std.specs.Prelude.{◌≡◌, ◌++◌, [], None, OnOk};
+ghost use Rattle.std.specs.Prelude.{◌≡◌, ◌++◌, ◌&&◌, [], None, Some, OnOk, if◌then◌else◌, is_none, pos, unwrap_or};
 ghost use Rattle.std.specs.List.{cons_option};
+ghost use Rattle.std.specs.Option.{option_map_or, option_zip};
 ghost use Rattle.gerber_commands.specs.declared.command.Command.TheVariants as command;
 ghost use Rattle.layer_features.specs.FurtherPads.{plot_state};
-ghost use Rattle.layer_features.specs.Arcs.{centre_seen};
-ghost use Rattle.layer_features.specs.Contours.{arc_side, end_of, is_clockwise, is_counterclockwise, is_move, part_by, part_of, side_between, side_by, start_of, starts_region, straight_side};
+ghost use Rattle.layer_features.specs.declared.part.Part.TheVariants as part;
+ghost use Rattle.layer_features.specs.declared.part.Way.TheVariants as way;
+ghost use Rattle.layer_features.specs.Contours.{arc_side, is_clockwise, is_counterclockwise, is_move, part_by, part_of, side_by, starts_region};
+ghost use Rattle.layer_features.specs.Inner.Steps.{end_of, start_of};
 ghost use Rattle.layer_features.specs.Inner.Pencils.{draw_state};
 ghost use Rattle.layer_features.specs.Inner.States.{MakeSameContour, command_of, parts_after};
 
@@ -92,7 +95,7 @@ impl Part {
 
 /// A straight side, which is written without the offsets of a centre.
 fn straight_side(from: Point, to: Point, i: Option<i64>, j: Option<i64>) -> Part
-    ensures { result ≡ straight_side from to i j }
+    ensures { result ≡ (if is_none i && is_none j then part.Side from to way.Straight else part.Other) }
 {
     match (i, j) {
         (None, None) => Part::Side {
@@ -106,7 +109,7 @@ fn straight_side(from: Point, to: Point, i: Option<i64>, j: Option<i64>) -> Part
 
 /// The centre of an arc as its start sees it, where the offsets are near.
 fn centre_seen(pencil: &Pencil, i: Option<i64>, j: Option<i64>) -> Option<Point>
-    ensures { result ≡ centre_seen (plot_state (draw_state pencil.now)).point i j }
+    ensures { result ≡ (plot_state (draw_state pencil.now)).point (Some (unwrap_or i (pos 0))) (Some (unwrap_or j (pos 0))) }
 {
     pencil.operation_point(Some(i.unwrap_or(0)), Some(j.unwrap_or(0)))
 }
@@ -144,7 +147,8 @@ fn side_by(pencil: &Pencil, from: Point, to: Point, i: Option<i64>, j: Option<i6
 
 /// The side from the current point to another, where both are near.
 fn side_to(pencil: &Pencil, to: Option<Point>, i: Option<i64>, j: Option<i64>) -> Part
-    ensures { result ≡ side_between (plot_state (draw_state pencil.now)) ((plot_state (draw_state pencil.now)).point None None) to i j }
+    ensures { result ≡ option_map_or (λ ends. side_by (plot_state (draw_state pencil.now)) (draw_state pencil.now).mode ends.0 ends.1 i j)
+        (option_zip ((plot_state (draw_state pencil.now)).point None None) to) part.Other }
 {
     match (pencil.current_point(), to) {
         (Some(from), Some(to)) => side_by(pencil, from, to, i, j),

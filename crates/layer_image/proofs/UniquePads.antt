@@ -1,10 +1,8 @@
 -- Commands make at most one list of pads.
-use Rattle.layer_image.proofs.Common.{◌≡◌, ℤ, List, [], ◌∷◌, ◌++◌, Option, Some, sym, ◌∙◌, filter_map, Pad, Command, GraphicsState, state_after, PadsAreUnique, AreFlashPads, ArePadsFrom, ArePadsOf, copies_in, flashed_at}
+use Rattle.layer_image.proofs.Common.{◌≡◌, ℤ, List, [], ◌∷◌, ◌++◌, Option, sym, ◌∙◌, filter_map, Pad, Command, GraphicsState, state_after, PadsAreUnique, AreFlashPads, ArePadsFrom, ArePadsOf, copies_in, flashed_at}
 use Rattle.gerber_commands.specs.declared.command.Action.TheVariants as action
 use Rattle.gerber_commands.specs.declared.command.Command.TheVariants as command
-
-same_value : {A : Type 0} (o : Option A) (a b : A) → o ≡ Some a → o ≡ Some b → a ≡ b
-same_value o a b p q = cc
+use Rattle.layer_features.proofs.UniqueWidePads.{same_value}
 
 pub flash_once : (s : GraphicsState) (x y : Option ℤ) (a b : List Pad) → AreFlashPads s x y a → AreFlashPads s x y b → a ≡ b
 flash_once s x y a b p q =

@@ -105,7 +105,3 @@ pub record IsStrictView (text : List ℕ) (layer : LayerImage) : Type 0 where
 -- a text that reads as a layer in the strict profile has such a view
 abbrev pub StrictLayers : Type 0
 StrictLayers = (text : List ℕ) (layer : LayerImage) → ReadsLayer text (Ok layer) → IsStrictView text layer
-
--- a text that reads as a layer without a profile reads as the same one in the wide profile
-abbrev pub WideReadsMore : Type 0
-WideReadsMore = (text : List ℕ) (image : LayerImage) → ReadsLayer text (Ok image) → ReadsLayerIn Wide text (Ok image)

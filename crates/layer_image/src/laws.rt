@@ -6,7 +6,7 @@ ghost use Rattle.gerber_commands.specs.declared.command.Command.{Command};
 ghost use Rattle.gerber_commands.specs.declared.command.Command.TheVariants.{Clear, Dark};
 ghost use Rattle.layer_state.specs.Rules.{broken_rule};
 ghost use Rattle.grid_units.specs.declared.fault.Fault.{Fault};
-ghost use Rattle.layer_image.specs.Layers.{EachTextAnswersIn, EqualCommands, LayerReasonsIn, LayerTexts, LayersOfTextsIn, ReadingIsUniqueIn, ReadsLayerIn, StrictLayers, WideReadsMore};
+ghost use Rattle.layer_image.specs.Layers.{EachTextAnswersIn, EqualCommands, LayerReasonsIn, LayerTexts, LayersOfTextsIn, ReadingIsUniqueIn, ReadsLayerIn, StrictLayers};
 ghost use Rattle.layer_image.specs.Holding.{ShowsLayerFaultIn};
 ghost use Rattle.layer_image.specs.PadLaws.{FlashesAreCopies, LayerPads, LegalPads, PadsAreFlashed, PadsAreUnique};
 
@@ -46,11 +46,6 @@ pub fn readings_in_profiles()
     ensures stays { (profile : Profile) (text more : List ℕ) (f : Fault) → ShowsLayerFaultIn profile text f → ShowsLayerFaultIn profile (text ++ more) f }
     ensures read { (profile : Profile) (text : List ℕ) (f : Fault) → ShowsLayerFaultIn profile text f → ReadsLayerIn profile text (Err f) }
     ensures joined { (profile : Profile) (text more : List ℕ) (f : Fault) → ShowsLayerFaultIn profile text f → ReadsLayerIn profile (text ++ more) (Err f) }
-{}
-
-/// A text that reads as a layer without a profile reads as the same one in the wide profile.
-pub fn wide_reads_more()
-    ensures { WideReadsMore }
 {}
 
 /// A text of the strict profile reads as the same layer in the wide one, and nothing of it is drawn in clear polarity: what [`crate::view_in`] gives of its flashes and contours are its flashes in the

@@ -10,7 +10,7 @@ mod rows;
 
 pub use laws::{
     clear_polarity, copied_flashes, equal_commands, flashed_pads, readings_in_profiles,
-    strict_layers, wide_reads_more,
+    strict_layers,
 };
 pub use layer::{Layer, read_layer};
 pub use layer_features::{Feature, FeatureCounts, FeatureKind, Keep, into_pads};

@@ -1,4 +1,4 @@
--- The names that most proofs of this crate cite, passed on from one place. Declares nothing.
+-- Names that proofs of this crate cite, passed on from one place. Declares nothing.
 pub use Rattle.std.proofs.Common.{Bool, Err, FitsSigned, IfOk, List, None, Ok, OnOk, Option, Result, Some, [], add-one, ap, append-nil, append_assoc, arith, cond, drop, drop-cons, false, get_or, if◌then◌else◌, inl, inr, is_none, length, length-append, lit<, map, mul-le-mul, mul-le-mul_right, nat_eq, nat_le, nat_lt, negsuc, not, of_z, pos, refl, reverse, rules, slice_get, subst, suc, sym, take, to_z, true, true≢false, unsigned_abs, unwrap_or, zero, zero-mul, ℕ, ℤ, ◌&&◌, ◌*ℤ◌, ◌*◌, ◌++◌, ◌+ℤ◌, ◌+◌, ◌-◌, ◌/◌, ◌<◌, ◌^◌, ◌||◌, ◌∙◌, ◌∷◌, ◌≡◌, ◌≤◌, ◌⊎◌}
 pub use Rattle.gerber_commands.specs.declared.command.Action.{Action}
 pub use Rattle.gerber_commands.specs.declared.command.Command.{Command}

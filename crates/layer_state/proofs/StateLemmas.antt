@@ -1,7 +1,7 @@
 -- A judge that has taken in one more command knows it.
 use Rattle.layer_state.proofs.Common.{◌≡◌, ◌+◌, cond, List, [], ◌∷◌, ◌++◌, length, length-append, pos, false, sym, ap, subst, ◌∙◌, append_assoc, Flash, Flashes, KeptParts, flash_count, keeps_flashes, keeps_pads, KeepsFlashes, Adds, Command, State, state_after, no_repeat, unit_set, format_set, region_set, definition_set, defines_macro, aperture_selected, x_set, y_set, turn_set, scale_set, block_set, broken_rule, first_broken, added_flashes, flashes_of, pads_of, other_count, IsStateAfter, Applies, after, state_of, last_set-more, last_or-more, list_any-more, flat_positions-more}
 use Rattle.layer_state.proofs.KeptFlashesLemmas.{kept_append, kept_pads, others_append}
-use Rattle.gerber_items.specs.Pieces.{unit_scale}
+use Rattle.gerber_commands.specs.Pieces.{unit_scale}
 
 -- the state after one more command
 pub state_after-more : (before : List Command) (c : Command) → state_after (before ++ c ∷ []) ≡ after c (state_after before)

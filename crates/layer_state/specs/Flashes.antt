@@ -27,7 +27,7 @@ use Rattle.layer_state.specs.declared.flash.What.TheVariants as what
 use Rattle.layer_state.specs.declared.flash.Flash.{Flash}
 use Rattle.layer_state.specs.Lookback.{GraphicsState, state_after, current_aperture}
 use Rattle.layer_state.specs.Numbers.{dec_length, half_length}
-use Rattle.gerber_items.specs.Pieces.{unit_scale}
+use Rattle.gerber_commands.specs.Pieces.{unit_scale}
 
 -- ---- copies
 

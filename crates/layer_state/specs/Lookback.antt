@@ -14,7 +14,7 @@ use Rattle.gerber_commands.specs.declared.command.Command.{Command}
 use Rattle.gerber_commands.specs.declared.command.Command.TheVariants as command
 use Rattle.layer_state.specs.declared.aperture.Aperture.{Aperture}
 use Rattle.layer_state.specs.declared.aperture.Aperture.TheVariants as aperture
-use Rattle.gerber_items.specs.Pieces.{unit_scale}
+use Rattle.gerber_commands.specs.Pieces.{unit_scale}
 
 -- ---- what one command names
 

@@ -11,7 +11,7 @@ use Rattle.gerber_commands.specs.declared.command.Format.{Format}
 use Rattle.gerber_commands.specs.declared.command.Action.TheVariants as action
 use Rattle.gerber_commands.specs.declared.command.Command.{Command}
 use Rattle.gerber_commands.specs.declared.command.Command.TheVariants as command
-use Rattle.gerber_items.specs.Pieces.{unit_scale}
+use Rattle.gerber_commands.specs.Pieces.{unit_scale}
 use Rattle.layer_state.specs.declared.aperture.Aperture.{Aperture}
 use Rattle.layer_state.specs.declared.aperture.Aperture.TheVariants as aperture
 use Rattle.layer_state.specs.Lookback.{GraphicsState, state_after, current_aperture}

@@ -14,8 +14,8 @@ use crate::flash::{Flash, FlashKeep};
 use crate::flashes::MAX_FLASHES;
 use crate::rules::is_flash;
 use crate::state::State;
-use gerber_text::{Action, Command, Coordinate};
-use grid_units::ItemFail;
+use gerber_text::{Action, Command};
+use grid_units::{ItemFail, OptionalInteger};
 use std::alloc::Global;
 
 /// A judge, with what most operations need of its state kept at hand.
@@ -68,10 +68,10 @@ impl CachedState {
     pub(crate) fn operate(
         &mut self,
         action: Action,
-        x: Coordinate,
-        y: Coordinate,
-        i: Coordinate,
-        j: Coordinate,
+        x: OptionalInteger,
+        y: OptionalInteger,
+        i: OptionalInteger,
+        j: OptionalInteger,
     ) -> Result<(), ItemFail>
         ensures { (parts : KeptParts) (before : List Command) → IsStateAfter self.old.state parts before → AppliesOrRefuses parts before (command.Operate action x y i j) self.new.state result }
     {

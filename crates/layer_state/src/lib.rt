@@ -23,3 +23,4 @@ pub use flash::{Flash, FlashKeep, What};
 pub use length::{dec_length, step_length};
 pub use mirroring::{Mirroring, oriented, quarter_turns};
 pub use scan::{Scan, Scanned};
+pub use state::no_repeat;

@@ -171,7 +171,7 @@ impl State {
 }
 
 /// No repetition: one column and one row.
-fn no_repeat() -> StepRepeat
+pub fn no_repeat() -> StepRepeat
     ensures { result ≡ no_repeat }
 {
     let zero = Dec::from_units(0).unwrap();

@@ -1,5 +1,7 @@
 -- A cross: each point of the common part of two rectangles with its border is a point of one of them, or of a circle at a corner.
-use Rattle.macro_shapes.proofs.Common.{◌≡◌, ℕ, ℤ, pos, ◌+◌, ◌-◌, ◌*◌, ◌/◌, ◌≤◌, ◌<◌, ◌≤ℤ◌, ◌<ℤ◌, ◌+ℤ◌, ◌-ℤ◌, ◌*ℤ◌, unsigned_abs, min, true, List, [], ◌∷◌, Option, None, Some, refl, sym, ap, subst, ◌∙◌, ◌⊎◌, inl, inr, arith, ◌&&◌, nat_le, nat_lt, All, Contains, and_parts, or_cases, leb-true, ints, unsigned_abs-mul, All-nil, All-cons, All-contains, option_and_then_some, same_Some, GridPoint, square, le_of_squares, GridRounded, Edge, corners, edges, cross, along, square_edge, has_area, is_deep_left_of_all, is_beside, IsInRounded, is_z, is_add, is_sub, is_mul, same, of_natural, cancel, untimes-le, edge, parts_of, at_least_0, IsInLine, IsInRectangle, rounded_of, least, discs_in_turn, disc_at, or_0, do_cross, difference, cross_border, with_arms, cross_shape, rectangle_about, Primitive}
+use Rattle.macro_shapes.proofs.Common.{◌≡◌, ℕ, ℤ, pos, ◌+◌, ◌*◌, ◌/◌, ◌≤◌, ◌≤ℤ◌, ◌<ℤ◌, ◌+ℤ◌, ◌-ℤ◌, ◌*ℤ◌, unsigned_abs, min, true, List, [], ◌∷◌, Option, None, Some, refl, sym, ap, subst, ◌∙◌, ◌⊎◌, inl, inr, arith, ◌&&◌, nat_le, nat_lt, All, Contains, and_parts, or_cases, leb-true, ints, unsigned_abs-mul, All-nil, All-cons, All-contains, option_and_then_some, same_Some, GridPoint, square, le_of_squares, GridRounded, Edge, corners, edges, cross, along, square_edge, has_area, is_deep_left_of_all, is_beside, IsInRounded, is_z, is_add, is_sub, is_mul, same, of_natural, cancel, untimes-le, edge, parts_of, at_least_0, IsInLine, IsInRectangle, rounded_of, least, discs_in_turn, disc_at, do_cross, cross_border, with_arms, cross_shape, rectangle_about, Primitive}
+use Rattle.std.specs.Int.{abs_diff}
+use Rattle.std.specs.Prelude.{unwrap_or}
 use Rattle.macro_shapes.proofs.BordersInTurn.{cross_border_is}
 use Rattle.macro_shapes.proofs.BorderLemmas.{IsAtLeast, IsInSome, least_parts, weaker, in_line, line_back, near_corner, corners_given}
 use Rattle.macro_shapes.proofs.SidesLemmas.{cond_is, with_radius, rounded_parts, at, sided, bottom_edge, right_edge, are_apart, in_sides, rectangle_is, about_sides, half_side, both_sides}
@@ -153,7 +155,7 @@ abbrev IsInArms : GridPoint → ℕ → ℕ → ℕ → ℕ → GridPoint → Ty
 IsInArms c w h v g p = IsInRectangle c w h p ⊎ IsInRectangle c v g p
 
 -- the strips lie in the arms
-in_arms : (c : GridPoint) (w h v g size : ℕ) (p : GridPoint) → do_cross w h v g ≡ true → size ≤ difference w v → size ≤ difference h g → IsInStrips c (min w v) (min h g) size p → IsInArms c w h v g p
+in_arms : (c : GridPoint) (w h v g size : ℕ) (p : GridPoint) → do_cross w h v g ≡ true → size ≤ abs_diff w v → size ≤ abs_diff h g → IsInStrips c (min w v) (min h g) size p → IsInArms c w h v g p
 in_arms c w h v g size p crosses widths heights strips = elim (or_cases (nat_le v w && nat_le h g) (nat_le w v && nat_le g h) crosses) [
   | inl first_wide ↦
       let both = and_parts (nat_le v w) (nat_le h g) first_wide in
@@ -191,7 +193,7 @@ border_says qs common widths heights size h =
     }
 
 -- the points of a rectangle about a centre with a border
-around : (qs : List Primitive) (c : GridPoint) (w h v g size : ℕ) (common s : GridRounded) → do_cross w h v g ≡ true → rectangle_about c (min w v) (min h g) ≡ Some common → IsBorder qs common (difference w v) (difference h g) size
+around : (qs : List Primitive) (c : GridPoint) (w h v g size : ℕ) (common s : GridRounded) → do_cross w h v g ≡ true → rectangle_about c (min w v) (min h g) ≡ Some common → IsBorder qs common (abs_diff w v) (abs_diff h g) size
     → rounded_of common.first common.others size ≡ Some s → (p : GridPoint) → IsInRounded s p → IsInSome qs p ⊎ IsInArms c w h v g p
 around qs c w h v g size common s crosses about is_border made p inside =
     let m = min w v in
@@ -222,10 +224,10 @@ pub cross_inside : (qs : List Primitive) (c : GridPoint) (w h : ℕ) (other : �
     → IsInSome qs p ⊎ IsInArms c w h other.0 other.1 p
 cross_inside qs c w h other s crosses made p inside =
     option_and_then_some _ (rectangle_about c (min w other.0) (min h other.1)) s made (λ common about arms.
-    by common about (cross_border qs common (difference w other.0) (difference h other.1)) refl arms)
+    by common about (cross_border qs common (abs_diff w other.0) (abs_diff h other.1)) refl arms)
   where
-    by : (common : GridRounded) → rectangle_about c (min w other.0) (min h other.1) ≡ Some common → (o : Option ℕ) → cross_border qs common (difference w other.0) (difference h other.1) ≡ o
-        → with_arms common (or_0 o) ≡ Some s → IsInSome qs p ⊎ IsInArms c w h other.0 other.1 p
+    by : (common : GridRounded) → rectangle_about c (min w other.0) (min h other.1) ≡ Some common → (o : Option ℕ) → cross_border qs common (abs_diff w other.0) (abs_diff h other.1) ≡ o
+        → with_arms common (unwrap_or o 0) ≡ Some s → IsInSome qs p ⊎ IsInArms c w h other.0 other.1 p
     by common about None e arms = absurd cc
     by common about (Some size) e arms =
-        around qs c w h other.0 other.1 size common s crosses about (border_says qs common (difference w other.0) (difference h other.1) size e) (cond_is (nat_lt 0 size) (rounded_of common.first common.others size) s arms).1 p inside
+        around qs c w h other.0 other.1 size common s crosses about (border_says qs common (abs_diff w other.0) (abs_diff h other.1) size e) (cond_is (nat_lt 0 size) (rounded_of common.first common.others size) s arms).1 p inside

@@ -18,3 +18,4 @@ pub mod OutlineLemmas
 pub mod RunsOfPoints
 pub mod OneAnswer
 pub mod TakenPieces
+pub mod BytesLemmas

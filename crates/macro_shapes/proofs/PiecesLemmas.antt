@@ -1,6 +1,6 @@
 -- The primitives that are read are just those that the pieces spell.
 use Rattle.std.proofs.Common.{◌≡◌, ◌↔◌, ℕ, suc, ◌≤◌, ℤ, Bool, true, false, cond, leb, List, [], ◌∷◌, ◌++◌, length, map, Option, Some, None, refl, sym, ap, subst, ◌∙◌, arith, append_assoc}
-use Rattle.std.specs.Prelude.{option_map, option_and_then, Result, Ok, Err, MatchOption, IsSomeAnd}
+use Rattle.std.specs.Prelude.{option_map, option_and_then, Result, Ok, Err, MatchOption}
 use Rattle.std.specs.Bool.{MatchBool}
 use Rattle.std.specs.Result.{result_ok}
 use Rattle.std.specs.List.{AllZip}
@@ -12,8 +12,9 @@ use Rattle.grid_units.specs.Ascii as ascii
 use Rattle.macro_shapes.specs.Values.{Environment, lookup, assigned, IsValue}
 use Rattle.macro_shapes.specs.Pieces.{split_by, AreParameters, is_comment, definition, code_of, SpellsFields, SpellPrimitives, IsMacro}
 use Rattle.macro_shapes.specs.Inner.Reading.{start, run}
-use Rattle.macro_shapes.specs.Inner.Pieces.{value_of, all_values, parts_fields, piece_fields, on_definition, on_piece, fields_from, all_decimals, if_few, parameters_of}
+use Rattle.macro_shapes.specs.Inner.Pieces.{value_of, all_values, parts_fields, piece_fields, on_definition, fields_from, all_decimals, if_few, parameters_of}
 use Rattle.macro_shapes.specs.declared.fields.Fields.{Fields}
+use Rattle.macro_shapes.proofs.BytesLemmas.{comment_is, definition_is}
 use Rattle.macro_shapes.proofs.ReadingLemmas.{bind_some, map_some, read_exactly}
 
 -- ---- values
@@ -24,7 +25,7 @@ value_exactly variables text v = by (leb (length text) 1000) refl
   where
     by : (t : Bool) → leb (length text) 1000 ≡ t → (cond t (run variables start [] text) None ≡ Some v) ↔ IsValue variables text v
     by true e = read_exactly variables text v (leb-true (length text) 1000 e)
-    by false e = (λ h. absurd cc, λ h. absurd (omega (arith, h.short, leb-false (length text) 1000 e)))
+    by false e = (λ h. absurd cc, λ h. absurd (omega (arith, h.0, leb-false (length text) 1000 e)))
 
 pub values_found : (variables : Environment) (texts : List (List ℕ)) (vs : List ℤ) → all_values variables texts ≡ Some vs → AllZip (IsValue variables) texts vs
 values_found variables [] [] e = tt
@@ -64,9 +65,13 @@ fields_given variables piece f h =
 
 -- ---- pieces
 
+taken : (piece : List ℕ) (pieces : List (List ℕ)) (variables : Environment)
+    → fields_from variables (piece ∷ pieces) ≡ cond (is_comment piece) (fields_from variables pieces) (on_definition (definition piece) variables piece (λ later. fields_from later pieces))
+taken piece pieces variables = λ i. cond (comment_is piece i) (fields_from variables pieces) (on_definition (definition_is piece i) variables piece (λ later. fields_from later pieces))
+
 pub pieces_found : (pieces : List (List ℕ)) (variables : Environment) (found : List Fields) → fields_from variables pieces ≡ Some found → SpellPrimitives variables pieces found
 pieces_found [] variables found e = sym (same_Some [] found e)
-pieces_found (piece ∷ pieces) variables found e = by (is_comment piece) (definition piece) e (pieces_found pieces)
+pieces_found (piece ∷ pieces) variables found e = by (is_comment piece) (definition piece) (sym (taken piece pieces variables) ∙ e) (pieces_found pieces)
   where
     by : (t : Bool) (d : Option (ℕ × List ℕ)) → cond t (fields_from variables pieces) (on_definition d variables piece (λ later. fields_from later pieces)) ≡ Some found
         → ((later : Environment) (others : List Fields) → fields_from later pieces ≡ Some others → SpellPrimitives later pieces others)
@@ -84,7 +89,7 @@ pieces_found (piece ∷ pieces) variables found e = by (is_comment piece) (defin
 
 pub pieces_given : (pieces : List (List ℕ)) (variables : Environment) (found : List Fields) → SpellPrimitives variables pieces found → fields_from variables pieces ≡ Some found
 pieces_given [] variables found h = ap Some (sym h)
-pieces_given (piece ∷ pieces) variables found h = by (is_comment piece) (definition piece) h (pieces_given pieces)
+pieces_given (piece ∷ pieces) variables found h = taken piece pieces variables ∙ by (is_comment piece) (definition piece) h (pieces_given pieces)
   where
     by : (t : Bool) (d : Option (ℕ × List ℕ)) → MatchBool t (SpellPrimitives variables pieces found) (MatchOption d
         ((fields : Fields) × (others : List Fields) × SpellsFields variables piece fields × SpellPrimitives variables pieces others × (found ≡ fields ∷ others))
@@ -166,43 +171,9 @@ no_macro pieces parameters found e h = none_some (sym e ∙ parameters_given par
 
 -- ---- piece by piece
 
-pub match_weaker : {A : Type 0} (o : Option A) (P P' : Type 0) (Q Q' : A → Type 0) → (P → P') → ((x : A) → Q x → Q' x) → MatchOption o P Q → MatchOption o P' Q'
-match_weaker None P P' Q Q' f g h = f h
-match_weaker (Some x) P P' Q Q' f g h = g x h
-
-some_with : {A : Type 0} (o : Option A) (P : A → Type 0) → IsSomeAnd o P → (x : A) × (o ≡ Some x) × P x
-some_with None P h = absurd h
-some_with (Some x) P h = (x, refl, h)
-
 pub one_more : {A : Type 0} (done : List A) (x : A) (o : Option (List A)) → option_map (λ xs. (done ++ x ∷ []) ++ xs) o ≡ option_map (λ xs. done ++ xs) (option_map (λ xs. x ∷ xs) o)
 one_more done x None = refl
 one_more done x (Some xs) = ap Some (append_assoc done (x ∷ []) xs)
-
-module _ (variables : Environment) (piece : List ℕ) (done : List Fields) where
-  pub at_comment : is_comment piece ≡ true → (go : Environment → Option (List Fields)) → option_map (λ fs. done ++ fs) (on_piece variables piece go) ≡ option_map (λ fs. done ++ fs) (go variables)
-  at_comment e go = ap (λ t. option_map (λ fs. done ++ fs) (cond t (go variables) (on_definition (definition piece) variables piece go))) e
-
-  on_other : (d : Option (ℕ × List ℕ)) → is_comment piece ≡ false → definition piece ≡ d → (go : Environment → Option (List Fields)) → on_piece variables piece go ≡ on_definition d variables piece go
-  on_other d e h go = ap (λ t. cond t (go variables) (on_definition (definition piece) variables piece go)) e ∙ ap (λ k. on_definition k variables piece go) h
-
-  pub at_definition : (later : Environment) (d : ℕ × List ℕ) → is_comment piece ≡ false → definition piece ≡ Some d → IsSomeAnd (value_of variables d.1) (λ v. (n : ℕ) → later n ≡ assigned variables d.0 v n)
-      → (go : Environment → Option (List Fields)) → option_map (λ fs. done ++ fs) (on_piece variables piece go) ≡ option_map (λ fs. done ++ fs) (go later)
-  at_definition later d e h k go =
-      let x = some_with (value_of variables d.1) (λ v. (n : ℕ) → later n ≡ assigned variables d.0 v n) k in
-      ap (option_map (λ fs. done ++ fs)) (on_other (Some d) e h go ∙ (ap (option_and_then (λ v. go (assigned variables d.0 v))) x.1 ∙ (λ i. go (λ n. sym (x.2 n) i))))
-
-  pub no_definition : (d : ℕ × List ℕ) → is_comment piece ≡ false → definition piece ≡ Some d → value_of variables d.1 ≡ None → (go : Environment → Option (List Fields)) → on_piece variables piece go ≡ None
-  no_definition d e h k go = on_other (Some d) e h go ∙ ap (option_and_then (λ v. go (assigned variables d.0 v))) k
-
-  pub at_primitive : (new : List Fields) → is_comment piece ≡ false → definition piece ≡ None → IsSomeAnd (piece_fields variables piece) (λ f. new ≡ done ++ f ∷ [])
-      → (go : Environment → Option (List Fields)) → option_map (λ fs. done ++ fs) (on_piece variables piece go) ≡ option_map (λ fs. new ++ fs) (go variables)
-  at_primitive new e h k go =
-      let x = some_with (piece_fields variables piece) (λ f. new ≡ done ++ f ∷ []) k in
-      ap (option_map (λ fs. done ++ fs)) (on_other None e h go ∙ ap (option_and_then (λ f. option_map (λ fs. f ∷ fs) (go variables))) x.1)
-      ∙ (sym (one_more done x.0 (go variables)) ∙ ap (λ (l : List Fields). option_map (λ fs. l ++ fs) (go variables)) (sym x.2))
-
-  pub no_primitive : is_comment piece ≡ false → definition piece ≡ None → piece_fields variables piece ≡ None → (go : Environment → Option (List Fields)) → on_piece variables piece go ≡ None
-  no_primitive e h k go = on_other None e h go ∙ ap (option_and_then (λ f. option_map (λ fs. f ∷ fs) (go variables))) k
 
 -- ---- loops
 
@@ -210,22 +181,8 @@ pub nothing_before : {A : Type 0} (o : Option (List A)) → option_map (λ xs. [
 nothing_before None = refl
 nothing_before (Some xs) = refl
 
-pub values_next : (variables : Environment) (done : List ℤ) (parts more : List (List ℕ)) (field : List ℕ) (v : ℤ) → parts ≡ field ∷ more → value_of variables field ≡ Some v
-    → option_map (λ vs. (done ++ v ∷ []) ++ vs) (all_values variables more) ≡ option_map (λ vs. done ++ vs) (all_values variables parts)
-values_next variables done parts more field v e h =
-    one_more done v (all_values variables more)
-    ∙ sym (ap (λ l. option_map (λ vs. done ++ vs) (all_values variables l)) e ∙ ap (λ o. option_map (λ vs. done ++ vs) (option_and_then (λ w. option_map (λ vs. w ∷ vs) (all_values variables more)) o)) h)
-
-pub values_stop : (variables : Environment) (done : List ℤ) (parts more : List (List ℕ)) (field : List ℕ) → parts ≡ field ∷ more → value_of variables field ≡ None → option_map (λ vs. done ++ vs) (all_values variables parts) ≡ None
-values_stop variables done parts more field e h =
-    ap (λ l. option_map (λ vs. done ++ vs) (all_values variables l)) e ∙ ap (λ o. option_map (λ vs. done ++ vs) (option_and_then (λ w. option_map (λ vs. w ∷ vs) (all_values variables more)) o)) h
-
 pub decimals_next : (done : List (Option ℤ)) (parts more : List (List ℕ)) (part : List ℕ) (v : ℤ) → parts ≡ part ∷ more → parse_decimal part ≡ Ok v
     → option_map (λ vs. (done ++ Some v ∷ []) ++ vs) (all_decimals more) ≡ option_map (λ vs. done ++ vs) (all_decimals parts)
 decimals_next done parts more part v e h =
     one_more done (Some v) (all_decimals more)
     ∙ sym (ap (λ l. option_map (λ vs. done ++ vs) (all_decimals l)) e ∙ ap (λ r. option_map (λ vs. done ++ vs) (option_and_then (λ w. option_map (λ vs. Some w ∷ vs) (all_decimals more)) (result_ok r))) h)
-
-pub decimals_stop : (done : List (Option ℤ)) (parts more : List (List ℕ)) (part : List ℕ) (r : Reason) → parts ≡ part ∷ more → parse_decimal part ≡ Err r → option_map (λ vs. done ++ vs) (all_decimals parts) ≡ None
-decimals_stop done parts more part r e h =
-    ap (λ l. option_map (λ vs. done ++ vs) (all_decimals l)) e ∙ ap (λ r. option_map (λ vs. done ++ vs) (option_and_then (λ w. option_map (λ vs. Some w ∷ vs) (all_decimals more)) (result_ok r))) h

@@ -20,9 +20,6 @@ moves_from_own_first (p ∷ ps) first e = ap (λ (q : GridPoint). filter_map mov
 few_not_many : (n : ℕ) → nat_lt 256 n ≡ true → nat_le n 256 ≡ false
 few_not_many n h = grind (arith, nat_tests, h)
 
-pub few_if_not_many : (n : ℕ) → nat_lt 256 n ≡ false → nat_le n 256 ≡ true
-few_if_not_many n h = grind (arith, nat_tests, h)
-
 no_polygon : (a b d : Bool) (o : Option GridRounded) → (if a && (b && (false && d)) then o else None) ≡ None
 no_polygon true true d o = refl
 no_polygon true false d o = refl

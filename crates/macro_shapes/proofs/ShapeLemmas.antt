@@ -1,5 +1,6 @@
 -- Each point of a macro's shape is a point of one of its primitives.
-use Rattle.macro_shapes.proofs.Common.{◌≡◌, ℕ, suc, ℤ, pos, ◌+◌, ◌*◌, ◌/◌, ◌≤◌, ◌<◌, ◌≤ℤ◌, ◌<ℤ◌, ◌+ℤ◌, ◌-ℤ◌, ◌*ℤ◌, unsigned_abs, Bool, true, false, cond, not, eqb, List, [], ◌∷◌, length, Option, None, Some, refl, sym, ap, subst, ◌∙◌, ◌⊎◌, inl, inr, arith, ◌&&◌, ◌||◌, nat_le, nat_lt, int_lt, option_and_then, int_min, int_max, Contains, fold, int_eq, and_parts, and_from, false≢true, Decides-int_eq, nat_tests, ints, clamps, by_lt_z, unsigned_abs-mul, All-contains, mul-le, option_or, cond_some, option_and_then_some, same_Some, GridPoint, max_coordinate, square, square_distance, square-le, GridRounded, edges, corners, cross, along, square_edge, is_deep_left_of_all, is_deep_inside, has_area, is_convex, is_outline, IsNear, IsInRounded, is_n, is_sub, is_mul, same, of_natural, edge, no_area, parts_of, area_of, no_times, no_cross, IsInLine, IsInRectangle, is_same, rounded_of, least, discs_in_turn, disc_at, line_along, border, rectangle_of, rectangle_about, rectangle_along, other_end, rounded_or_along, or_0, with_border, do_cross, second_crossing, cross_shape, centre_shape, ShapeIsInPrimitives, Primitive}
+use Rattle.macro_shapes.proofs.Common.{◌≡◌, ℕ, suc, ℤ, pos, ◌+◌, ◌*◌, ◌/◌, ◌≤◌, ◌<◌, ◌≤ℤ◌, ◌<ℤ◌, ◌+ℤ◌, ◌-ℤ◌, ◌*ℤ◌, unsigned_abs, Bool, true, false, cond, not, eqb, List, [], ◌∷◌, length, Option, None, Some, refl, sym, ap, subst, ◌∙◌, ◌⊎◌, inl, inr, arith, ◌&&◌, ◌||◌, nat_le, nat_lt, int_lt, option_and_then, int_min, int_max, Contains, fold, int_eq, and_parts, and_from, false≢true, Decides-int_eq, nat_tests, ints, clamps, by_lt_z, unsigned_abs-mul, All-contains, mul-le, option_or, cond_some, option_and_then_some, same_Some, GridPoint, max_coordinate, square, square_distance, square-le, GridRounded, edges, corners, cross, along, square_edge, is_deep_left_of_all, is_deep_inside, has_area, is_convex, is_outline, IsNear, IsInRounded, is_n, is_sub, is_mul, same, of_natural, edge, no_area, parts_of, area_of, no_times, no_cross, IsInLine, IsInRectangle, is_same, rounded_of, least, discs_in_turn, disc_at, line_along, border, rectangle_of, rectangle_about, rectangle_along, other_end, rounded_or_along, with_border, do_cross, second_crossing, cross_shape, centre_shape, ShapeIsInPrimitives, Primitive}
+use Rattle.std.specs.Prelude.{unwrap_or}
 use Rattle.pad_shapes.specs.Inner.RoundedSets.{one_corner_is_disc, polygon_is_left_of_edges}
 use Rattle.macro_shapes.proofs.BordersInTurn.{border_is}
 use Rattle.macro_shapes.proofs.BorderLemmas.{IsAtLeast, IsInSome, same_point, in_circle, near_corner, near_edge, corners_given, edges_given}
@@ -277,7 +278,7 @@ line_inside a b w s h p inside = by (not (nat_le w max_coordinate)) (int_eq a.y 
 polygon_inside : (r : GridRounded) → is_convex r ≡ true → (p : GridPoint) → IsNear (corners r) 0 p → is_deep_inside r 0 p ≡ true
 polygon_inside r convex p h = and_from (has_area r) (is_deep_left_of_all r 0 p) (area_of r convex) ((polygon_is_left_of_edges r convex p).0 h)
 
-outline_inside : (qs : List Primitive) (r : GridRounded) (o : Option ℕ) (s : GridRounded) → border (primitive.Outline r ∷ qs) r ≡ o → with_border r (or_0 o) ≡ Some s → (p : GridPoint) → IsInRounded s p → IsInSome (primitive.Outline r ∷ qs) p
+outline_inside : (qs : List Primitive) (r : GridRounded) (o : Option ℕ) (s : GridRounded) → border (primitive.Outline r ∷ qs) r ≡ o → with_border r (unwrap_or o 0) ≡ Some s → (p : GridPoint) → IsInRounded s p → IsInSome (primitive.Outline r ∷ qs) p
 unfolding border
 outline_inside qs r None s e h p inside = by r.others (cond_is (nat_lt 1 (length r.others) || nat_lt 0 0) (rounded_of r.first r.others 0) s h) refl
   where

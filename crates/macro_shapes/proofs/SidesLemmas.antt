@@ -1,5 +1,5 @@
 -- Rectangles by their four sides: a point of one lies between them.
-use Rattle.macro_shapes.proofs.Common.{◌≡◌, ℕ, ℤ, pos, ◌+◌, ◌*◌, ◌/◌, ◌≤◌, ◌<◌, ◌≤ℤ◌, ◌<ℤ◌, ◌+ℤ◌, ◌-ℤ◌, ◌*ℤ◌, unsigned_abs, Bool, true, false, cond, not, List, [], ◌∷◌, length, Option, None, Some, refl, sym, ap, subst, ◌∙◌, inl, inr, arith, ◌&&◌, nat_le, nat_lt, int_le, int_lt, and_parts, or_cases, false≢true, ints, by_lt_z, cond_some, option_and_then_some, GridPoint, max_coordinate, square, GridRounded, Edge, corners, cross, square_edge, is_deep_left, is_deep_left_of_all, has_area, is_convex, is_outline, max_corners, IsInRounded, is_z, is_sub, is_mul, same, of_natural, edge, no_area, area_of, at_least_0, times_no, no_times, no_cross, grid_point, rounded_of, rectangle_of, rectangle_about}
+use Rattle.macro_shapes.proofs.Common.{◌≡◌, ℕ, ℤ, pos, ◌*◌, ◌/◌, ◌≤◌, ◌≤ℤ◌, ◌<ℤ◌, ◌+ℤ◌, ◌-ℤ◌, ◌*ℤ◌, unsigned_abs, Bool, true, false, cond, List, [], ◌∷◌, length, Option, None, Some, refl, sym, ap, subst, ◌∙◌, inl, inr, arith, ◌&&◌, nat_le, nat_lt, int_le, int_lt, and_parts, or_cases, false≢true, ints, by_lt_z, cond_some, option_and_then_some, GridPoint, max_coordinate, square, GridRounded, Edge, cross, square_edge, is_deep_left, is_deep_left_of_all, has_area, is_convex, is_outline, max_corners, IsInRounded, is_z, is_sub, is_mul, same, of_natural, edge, no_area, area_of, at_least_0, times_no, no_times, no_cross, grid_point, rounded_of, rectangle_of, rectangle_about}
 use Rattle.pad_shapes.specs.Shapes.{max_half_side}
 use Rattle.pad_shapes.specs.Inner.RoundedLaws.{left_of}
 use Rattle.pad_shapes.specs.Inner.RoundedSets.{polygon_is_left_of_edges}

@@ -1,11 +1,12 @@
 -- The pieces of a macro: comments, definitions of variables, and primitives with the values of their fields (Gerber format, Aperture
 -- macro AM).
-use Rattle.std.specs.Prelude.{◌≡◌, ◌↔◌, ℕ, ℤ, ◌≤◌, Bool, false, not, ◌&&◌, ◌||◌, ◌==◌, nat_le, List, [], ◌∷◌, length, drop, map, if◌then◌else◌, Option, None, Some, option_map, Ok, MatchOption, codes, take_while}
+use Rattle.std.specs.Prelude.{◌≡◌, ◌↔◌, ℕ, ℤ, ◌≤◌, Bool, ◌&&◌, ◌||◌, ◌==◌, nat_le, List, [], ◌∷◌, length, drop, map, if◌then◌else◌, Option, None, Some, option_map, option_and_then, Ok, MatchOption, codes, take_while}
 use Rattle.std.specs.Bool.{MatchBool}
 use Rattle.std.specs.List.{prefix_len, slice_split, AllZip}
 use Rattle.std.specs.Str.{bytes_eq}
 use Rattle.grid_units.specs.Ascii as ascii
 use Rattle.grid_units.specs.Numbers.{is_digit, is_digits, is_number_char, value, parse_decimal}
+use Rattle.grid_units.specs.Rows.{strip_prefix}
 use Rattle.macro_shapes.specs.Values.{Environment, lookup, assigned, IsValue}
 use Rattle.macro_shapes.specs.declared.piece.Code.{Code}
 use Rattle.macro_shapes.specs.declared.piece.Code.TheVariants as code
@@ -30,36 +31,22 @@ AreParameters (Some text) values =
 
 -- ---- comments
 
--- a field goes on: by a comma, or a byte of a number
-abbrev pub goes_on : List ℕ → Bool
-goes_on [] = false
-goes_on (b ∷ bs) = is_number_char b || (b == ascii.comma)
-
 -- `0`, alone or before a byte that is neither of a number nor a comma: `0 a pad` (Gerber format, Comment, code 0)
 abbrev pub is_comment : List ℕ → Bool
-is_comment [] = false
-is_comment (b ∷ bs) = if b == ascii.digit_zero then not (goes_on bs) else false
+is_comment piece = bytes_eq (take_while (λ b. is_number_char b || (b == ascii.comma)) piece) (codes "0")
 
 -- ---- definitions of variables
 
--- `b'='`
-abbrev pub equals : ℕ
-equals = 61
-
--- the number of a variable, from 1 to 999
-abbrev pub variable_number : List ℕ → Option ℕ
-variable_number digits = if is_digits digits && (nat_le 1 (value digits) && nat_le (value digits) max_variables) then Some (value digits) else None
-
--- a number, and an expression after `=`
+-- the number of a variable, from 1 to 999, and an expression after `=`
 abbrev pub defined : List ℕ → List ℕ → Option (ℕ × List ℕ)
-defined digits [] = None
-defined digits (b ∷ bs) = if b == equals then option_map (λ n. (n, bs)) (variable_number digits) else None
+defined digits rest =
+    if is_digits digits && (nat_le 1 (value digits) && nat_le (value digits) max_variables)
+    then option_map (λ text. (value digits, text)) (strip_prefix (codes "=") rest) else None
 
 -- the variable that a piece defines, and the expression of its value: `$4=$1x0.5` (Gerber format, Aperture macro AM, Definition of a new
 -- variable)
 abbrev pub definition : List ℕ → Option (ℕ × List ℕ)
-definition [] = None
-definition (b ∷ bs) = if b == ascii.dollar then defined (take_while is_digit bs) (drop (prefix_len is_digit bs) bs) else None
+definition piece = option_and_then (λ rest. defined (take_while is_digit rest) (drop (prefix_len is_digit rest) rest)) (strip_prefix (codes "$") piece)
 
 -- ---- primitives
 

@@ -44,10 +44,6 @@ IsInPrimitive (primitive.Outline corners) p = is_deep_inside corners 0 p ≡ tru
 
 -- ---- values of fields
 
--- one, in units of 10^-8
-abbrev pub one : ℤ
-one = pos 100000000
-
 -- the number of quarter turns counterclockwise, 0 to 3, of a rotation in units of 10^-8 degrees; none of another angle (Gerber format,
 -- Rotation parameter)
 abbrev pub quarter_turns : ℤ → Option ℕ
@@ -67,73 +63,41 @@ turned_y turns p = if turns == 0 then p.y else if turns == 1 then p.x else if tu
 abbrev pub grid_point : ℤ → ℤ → Option GridPoint
 grid_point x y = if nat_le (unsigned_abs x) max_coordinate && nat_le (unsigned_abs y) max_coordinate then Some (record { x = x; y = y }) else None
 
--- the turned point
-abbrev pub turned : ℕ → GridPoint → Option GridPoint
-turned turns p = grid_point (turned_x turns p) (turned_y turns p)
-
--- a value as a length in pm, none beyond 10 m
-abbrev pub length_of : Units → ℤ → Option ℤ
-length_of unit v = result_ok (within_limit (picometres unit 8 v))
-
--- a value as the size of a primitive, which is not below 0
+-- a value as the size of a primitive in pm, which is not below 0 or beyond 10 m
 abbrev pub size_of : Units → ℤ → Option ℕ
-size_of unit v = if int_lt v (pos 0) then None else option_map unsigned_abs (length_of unit v)
+size_of unit v = if int_lt v (pos 0) then None else option_map unsigned_abs (result_ok (within_limit (picometres unit 8 v)))
 
 -- a value as the side of a rectangle, which is above 0
 abbrev pub side_of : Units → ℤ → Option ℕ
 side_of unit v = if int_lt (pos 0) v then size_of unit v else None
 
--- two values as a point
-abbrev pub point_of : Units → ℤ → ℤ → Option GridPoint
-point_of unit x y = option_and_then (λ a. option_and_then (λ b. grid_point a b) (length_of unit y)) (length_of unit x)
-
--- two values as a point that is turned
+-- two values as a point that is turned by so many quarters, where it is no further than 10 m along each axis
 abbrev pub placed : Units → ℕ → ℤ → ℤ → Option GridPoint
-placed unit turns x y = option_and_then (turned turns) (point_of unit x y)
+placed unit turns x y = option_and_then (λ p. grid_point (turned_x turns p) (turned_y turns p)) (grid_point (picometres unit 8 x) (picometres unit 8 y))
 
--- the exposure is on (Gerber format, Exposure parameter)
-abbrev pub is_dark : ℤ → Bool
-is_dark exposure = int_eq exposure one
-
--- the quarter turns of a primitive whose exposure is on
+-- the quarter turns of a primitive whose exposure is on, that is 1 (Gerber format, Exposure parameter)
 abbrev pub dark_turns : ℤ → ℤ → Option ℕ
-dark_turns exposure rotation = if is_dark exposure then quarter_turns rotation else None
+dark_turns exposure rotation = if int_eq exposure (pos 100000000) then quarter_turns rotation else None
 
 -- ---- circles and lines
 
 -- a circle with these values, turned by so many quarters
-abbrev pub circle_at : Units → ℕ → ℤ → ℤ → ℤ → Option Primitive
-circle_at unit turns diameter x y = option_and_then (λ d. option_map (λ c. primitive.Circle c d) (placed unit turns x y)) (size_of unit diameter)
-
--- exposure, diameter, x, y and, where it is written, the rotation (Gerber format, Circle, code 1)
-abbrev pub circle : Units → List ℤ → Option Primitive
-circle unit (exposure ∷ diameter ∷ x ∷ y ∷ []) = if is_dark exposure then circle_at unit 0 diameter x y else None
-circle unit (exposure ∷ diameter ∷ x ∷ y ∷ rotation ∷ []) = option_and_then (λ turns. circle_at unit turns diameter x y) (dark_turns exposure rotation)
-circle unit _ = None
+abbrev pub circle_at : Units → ℤ → ℤ → ℤ → ℕ → Option Primitive
+circle_at unit diameter x y turns = option_and_then (λ d. option_map (λ c. primitive.Circle c d) (placed unit turns x y)) (size_of unit diameter)
 
 -- a vector line with these values, turned by so many quarters
-abbrev pub line_at : Units → ℕ → ℤ → ℤ → ℤ → ℤ → ℤ → Option Primitive
-line_at unit turns width x1 y1 x2 y2 =
+abbrev pub line_at : Units → ℤ → ℤ → ℤ → ℤ → ℤ → ℕ → Option Primitive
+line_at unit width x1 y1 x2 y2 turns =
     option_and_then (λ w. option_and_then (λ from. option_map (λ to. primitive.VectorLine from to w) (placed unit turns x2 y2)) (placed unit turns x1 y1)) (size_of unit width)
-
--- exposure, width, the two ends, rotation (Gerber format, Vector line, code 20)
-abbrev pub vector_line : Units → List ℤ → Option Primitive
-vector_line unit (exposure ∷ width ∷ x1 ∷ y1 ∷ x2 ∷ y2 ∷ rotation ∷ []) = option_and_then (λ turns. line_at unit turns width x1 y1 x2 y2) (dark_turns exposure rotation)
-vector_line unit _ = None
 
 -- the sides are exchanged by an odd number of quarter turns
 abbrev pub with_sides : ℕ → GridPoint → ℕ → ℕ → Primitive
 with_sides turns c w h = if turns % 2 == 0 then primitive.CentreLine c w h else primitive.CentreLine c h w
 
 -- a centre line with these values, turned by so many quarters
-abbrev pub rectangle_at : Units → ℕ → ℤ → ℤ → ℤ → ℤ → Option Primitive
-rectangle_at unit turns width height x y =
+abbrev pub rectangle_at : Units → ℤ → ℤ → ℤ → ℤ → ℕ → Option Primitive
+rectangle_at unit width height x y turns =
     option_and_then (λ w. option_and_then (λ h. option_map (λ c. with_sides turns c w h) (placed unit turns x y)) (side_of unit height)) (side_of unit width)
-
--- exposure, width, height, x, y, rotation (Gerber format, Center line, code 21)
-abbrev pub centre_line : Units → List ℤ → Option Primitive
-centre_line unit (exposure ∷ width ∷ height ∷ x ∷ y ∷ rotation ∷ []) = option_and_then (λ turns. rectangle_at unit turns width height x y) (dark_turns exposure rotation)
-centre_line unit _ = None
 
 -- ---- outlines
 
@@ -160,13 +124,9 @@ point_at run k = get_or run k (record { x = pos 0; y = pos 0 })
 abbrev pub is_closed : List GridPoint → Bool
 is_closed run = not (length run == 0) && is_same (point_at run 0) (point_at run (length run - 1))
 
--- the second of two points that follow one another, where it is another than the first
-abbrev pub moved : GridPoint × GridPoint → Option GridPoint
-moved pair = if is_same pair.1 pair.0 then None else Some pair.1
-
 -- the points of a run that are not the same as the one before them
 abbrev pub moves : List GridPoint → List GridPoint
-moves run = filter_map moved (zip run (drop 1 run))
+moves run = filter_map (λ pair. if is_same pair.1 pair.0 then None else Some pair.1) (zip run (drop 1 run))
 
 -- the points of a closed run, each once, or its one point
 abbrev pub stops : List GridPoint → List GridPoint
@@ -206,19 +166,17 @@ abbrev pub outline_at : Units → ℤ → ℤ → List ℤ → ℤ → Option Pr
 outline_at unit exposure count coordinates rotation =
     if is_count count (length coordinates) then option_and_then (λ turns. option_and_then outline_of (run_of unit turns coordinates)) (dark_turns exposure rotation) else None
 
--- exposure, the number of points, their coordinates and those of the first one again, rotation (Gerber format, Outline, code 4)
-abbrev pub outline : Units → List ℤ → Option Primitive
-outline unit (exposure ∷ count ∷ rest) = if length rest == 0 then None else outline_at unit exposure count (take (length rest - 1) rest) (get_or rest (length rest - 1) (pos 0))
-outline unit _ = None
-
 -- ---- all primitives
 
--- the primitive that fields spell, where it is judged
+-- The primitive that fields spell, where it is judged (Gerber format, Circle, code 1; Vector line, code 20; Center line, code 21; Outline, code 4).
+-- The angle of its rotation stands last, and may be left out of a circle; the coordinates of an outline end with those of its first point again.
 abbrev pub coded : Code → Units → List ℤ → Option Primitive
-coded code.Circle unit values = circle unit values
-coded code.VectorLine unit values = vector_line unit values
-coded code.CentreLine unit values = centre_line unit values
-coded code.Outline unit values = outline unit values
+coded code.Circle unit (exposure ∷ diameter ∷ x ∷ y ∷ []) = option_and_then (circle_at unit diameter x y) (dark_turns exposure (pos 0))
+coded code.Circle unit (exposure ∷ diameter ∷ x ∷ y ∷ angle ∷ []) = option_and_then (circle_at unit diameter x y) (dark_turns exposure angle)
+coded code.VectorLine unit (exposure ∷ width ∷ x1 ∷ y1 ∷ x2 ∷ y2 ∷ angle ∷ []) = option_and_then (line_at unit width x1 y1 x2 y2) (dark_turns exposure angle)
+coded code.CentreLine unit (exposure ∷ width ∷ height ∷ x ∷ y ∷ angle ∷ []) = option_and_then (rectangle_at unit width height x y) (dark_turns exposure angle)
+coded code.Outline unit (exposure ∷ count ∷ rest) = outline_at unit exposure count (take (length rest - 1) rest) (get_or rest (length rest - 1) (pos 0))
+coded _ unit _ = None
 
 -- the primitives that fields spell, where each of them is judged
 abbrev pub primitives_of : Units → List Fields → Option (List Primitive)

@@ -1,8 +1,8 @@
 -- The shape of a macro: a rounded polygon that is inside of its primitives.
-use Rattle.std.specs.Prelude.{◌≡◌, ℕ, ℤ, pos, ◌-◌, ◌+ℤ◌, ◌-ℤ◌, ◌/◌, max, min, Bool, ◌&&◌, ◌||◌, ◌==◌, not, nat_le, nat_lt, List, [], ◌∷◌, ◌++◌, length, map, if◌then◌else◌, Option, None, Some, is_none, option_and_then}
-use Rattle.std.specs.Int.{int_min, int_max}
+use Rattle.std.specs.Prelude.{◌≡◌, ℕ, ℤ, pos, ◌+ℤ◌, ◌-ℤ◌, ◌/◌, max, min, Bool, ◌&&◌, ◌||◌, ◌==◌, not, nat_le, nat_lt, List, [], ◌∷◌, ◌++◌, length, map, slice_get, if◌then◌else◌, Option, None, Some, is_none, option_and_then, unwrap_or}
+use Rattle.std.specs.Int.{abs_diff, int_min, int_max}
 use Rattle.std.specs.List.{filter_map, list_any, reduce, Contains}
-use Rattle.std.specs.Option.{option_or}
+use Rattle.std.specs.Option.{option_map_or, option_or}
 use Rattle.std.specs.Ordering.{int_eq}
 use Rattle.grid_units.specs.Points.{GridPoint, max_coordinate}
 use Rattle.pad_shapes.specs.Rounded.{GridRounded, Edge, corners, edges, IsInRounded}
@@ -15,16 +15,12 @@ use Rattle.macro_shapes.specs.declared.primitive.Primitive.TheVariants as primit
 -- the diameter of a circle at this point
 abbrev pub diameter_at : GridPoint → Primitive → Option ℕ
 diameter_at v (primitive.Circle centre diameter) = if is_same centre v then Some diameter else None
-diameter_at v (primitive.VectorLine from to width) = None
-diameter_at v (primitive.CentreLine centre width height) = None
-diameter_at v (primitive.Outline corners) = None
+diameter_at v _ = None
 
 -- the width of a vector line along this edge, in either direction
 abbrev pub width_along : Edge → Primitive → Option ℕ
-width_along e (primitive.Circle centre diameter) = None
 width_along e (primitive.VectorLine from to width) = if (is_same from e.from && is_same to e.to) || (is_same from e.to && is_same to e.from) then Some width else None
-width_along e (primitive.CentreLine centre width height) = None
-width_along e (primitive.Outline corners) = None
+width_along e _ = None
 
 -- the greatest diameter of the circles at a point
 unfoldable pub disc_at : List Primitive → GridPoint → Option ℕ
@@ -34,17 +30,13 @@ disc_at qs v = reduce max (filter_map (diameter_at v) qs)
 unfoldable pub line_along : List Primitive → Edge → Option ℕ
 line_along qs e = reduce max (filter_map (width_along e) qs)
 
--- the edges; one corner has none
-abbrev pub sides : GridRounded → List Edge
-sides r = if length r.others == 0 then [] else edges r
-
 -- the least of some sizes, where none of them lacks
 abbrev pub least_of : List (Option ℕ) → Option ℕ
 least_of sizes = if list_any is_none sizes then None else reduce min (filter_map (λ size. size) sizes)
 
--- the least of the circles at the corners and of the vector lines along the edges, where none of them lacks
+-- the least of the circles at the corners and of the vector lines along the edges, where none of them lacks; one corner has no edges
 unfoldable pub border : List Primitive → GridRounded → Option ℕ
-border qs r = least_of (map (disc_at qs) (corners r) ++ map (line_along qs) (sides r))
+border qs r = least_of (map (disc_at qs) (corners r) ++ map (line_along qs) (if length r.others == 0 then [] else edges r))
 
 -- ---- rectangles
 
@@ -68,23 +60,13 @@ rectangle_along a b width =
 
 -- ---- shapes
 
--- the ends of a line after the first one: none where they are equal
-abbrev pub other_end : GridPoint → GridPoint → List GridPoint
-other_end a b = if is_same a b then [] else b ∷ []
+-- the line without a width from one point to another, and one corner where they are equal
+abbrev pub segment : GridPoint → GridPoint → GridRounded
+segment a b = record { first = a; others = if is_same a b then [] else b ∷ []; radius = 0 }
 
--- the line with round ends where there are circles at both ends and a line between them, or the line with square ends along an axis
-abbrev pub rounded_or_along : GridPoint → GridPoint → ℕ → Option ℕ → Option GridRounded
-rounded_or_along a b width None = rectangle_along a b width
-rounded_or_along a b width (Some size) = rounded_of a (other_end a b) size
-
--- the shape of a vector line, by the circles at its ends and the lines between them
+-- the shape of a vector line: with round ends where there are circles at its ends and a line between them, else with square ends, along an axis
 abbrev pub line_shape : List Primitive → GridPoint → GridPoint → ℕ → Option GridRounded
-line_shape qs a b width = rounded_or_along a b width (border qs (record { first = a; others = other_end a b; radius = 0 }))
-
--- a size, or 0
-abbrev pub or_0 : Option ℕ → ℕ
-or_0 None = 0
-or_0 (Some n) = n
+line_shape qs a b width = option_map_or (rounded_of a (segment a b).others) (border qs (segment a b)) (rectangle_along a b width)
 
 -- the outline with its border, and without one where a circle or a line lacks; a flat outline has no shape without a border
 abbrev pub with_border : GridRounded → ℕ → Option GridRounded
@@ -98,20 +80,8 @@ do_cross width height other_width other_height = (nat_le other_width width && na
 
 -- the sides of a primitive that is a rectangle about this centre and crosses the one with these sides
 abbrev pub crossing : GridPoint → ℕ → ℕ → Primitive → Option (ℕ × ℕ)
-crossing c w h (primitive.Circle centre diameter) = None
-crossing c w h (primitive.VectorLine from to width) = None
 crossing c w h (primitive.CentreLine centre width height) = if is_same centre c && do_cross w h width height then Some (width, height) else None
-crossing c w h (primitive.Outline corners) = None
-
--- the sides of the second primitive, where that is a rectangle which crosses the first one
-abbrev pub second_crossing : GridPoint → ℕ → ℕ → List Primitive → Option (ℕ × ℕ)
-second_crossing c w h [] = None
-second_crossing c w h (q ∷ []) = None
-second_crossing c w h (q ∷ second ∷ qs) = crossing c w h second
-
--- the difference of two sizes
-abbrev pub difference : ℕ → ℕ → ℕ
-difference a b = max a b - min a b
+crossing c w h _ = None
 
 -- the least of the circles at the corners of the part that two rectangles have in common, the difference of their widths and that of
 -- their heights, where no circle lacks
@@ -125,11 +95,12 @@ with_arms common size = if nat_lt 0 size then rounded_of common.first common.oth
 -- the shape of two rectangles about a centre that cross: their common part with its border, where that is above 0
 abbrev pub cross_shape : List Primitive → GridPoint → ℕ → ℕ → ℕ × ℕ → Option GridRounded
 cross_shape qs c width height other =
-    option_and_then (λ common. with_arms common (or_0 (cross_border qs common (difference width other.0) (difference height other.1)))) (rectangle_about c (min width other.0) (min height other.1))
+    option_and_then (λ common. with_arms common (unwrap_or (cross_border qs common (abs_diff width other.0) (abs_diff height other.1)) 0)) (rectangle_about c (min width other.0) (min height other.1))
 
--- the shape of a centre line: with the one that crosses it, and else the rectangle alone
+-- the shape of a centre line: with the one that crosses it, where the second primitive is such a one, and else the rectangle alone
 abbrev pub centre_shape : List Primitive → GridPoint → ℕ → ℕ → Option GridRounded
-centre_shape qs c width height = option_or (option_and_then (cross_shape qs c width height) (second_crossing c width height qs)) (rectangle_about c width height)
+centre_shape qs c width height =
+    option_or (option_and_then (cross_shape qs c width height) (option_and_then (crossing c width height) (slice_get qs 1))) (rectangle_about c width height)
 
 -- ---- shapes by the first primitive
 
@@ -138,12 +109,11 @@ abbrev pub shape_from : List Primitive → Primitive → Option GridRounded
 shape_from qs (primitive.Circle centre diameter) = rounded_of centre [] diameter
 shape_from qs (primitive.VectorLine from to width) = line_shape qs from to width
 shape_from qs (primitive.CentreLine centre width height) = centre_shape qs centre width height
-shape_from qs (primitive.Outline corners) = with_border corners (or_0 (border qs corners))
+shape_from qs (primitive.Outline corners) = with_border corners (unwrap_or (border qs corners) 0)
 
 -- the shape of a macro with these primitives, by its first one; the others, all dark, only add to it
 abbrev pub shape_of : List Primitive → Option GridRounded
-shape_of [] = None
-shape_of (q ∷ qs) = shape_from (q ∷ qs) q
+shape_of qs = option_and_then (shape_from qs) (slice_get qs 0)
 
 -- each point of a macro's shape is a point of one of its primitives
 abbrev pub ShapeIsInPrimitives : Type 0

@@ -1,7 +1,8 @@
 //! Exact arithmetic of values: what would have to be rounded, or is out of range, has none.
 
 ghost use Rattle.std.specs.Prelude.{◌≡◌};
-ghost use Rattle.macro_shapes.specs.Values.{in_range, exact_quotient, have_other_signs, product, quotient, added, multiplied};
+ghost use Rattle.macro_shapes.specs.Values.{in_range, exact_quotient, have_other_signs, product, quotient};
+ghost use Rattle.macro_shapes.specs.Inner.Reading.{added, multiplied};
 
 use crate::sign::{Addition, Multiplication};
 use grid_units::Dec;

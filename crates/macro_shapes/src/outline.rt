@@ -2,7 +2,9 @@
 
 ghost use Rattle.std.specs.Prelude.{◌≡◌, ◌<◌, ◌∷◌, IfOk, None, if◌then◌else◌, nat_lt, option_map, reverse, length, zip};
 ghost use Rattle.pad_shapes.specs.Rounded.{max_corners};
-ghost use Rattle.macro_shapes.specs.Primitives.{is_same, is_count, run_of, is_closed, point_at, moved, moves, stops, are_different, rounded_of, polygon_of, either_way, outline_of, outline_at, outline, polygon_round};
+ghost use Rattle.macro_shapes.specs.Primitives.{is_same, is_count, run_of, is_closed, point_at, moves, stops, are_different, rounded_of, polygon_of, either_way, outline_of, outline_at, coded, polygon_round};
+ghost use Rattle.macro_shapes.specs.Inner.Steps.{moved};
+ghost use Rattle.macro_shapes.specs.declared.piece.Code.TheVariants as code;
 ghost use Rattle.std.specs.List.{filter_map, list_any};
 
 use crate::primitive::{Primitive, dark_turns, placed};
@@ -269,7 +271,7 @@ pub(crate) fn outline(
     unit: Unit,
     values: &[Dec],
 ) -> Result<Option<Primitive>, AllocError>
-    ensures { IfOk result (λ answer. answer ≡ outline unit values.now) }
+    ensures { IfOk result (λ answer. answer ≡ coded code.Outline unit values.now) }
 {
     match values {
         [exposure, count, rest @ ..] => {

@@ -2,8 +2,9 @@
 
 ghost use Rattle.std.specs.Prelude.{◌≡◌, ◌≤◌, ◌<◌, ◌∷◌, length, option_map, IfSome, position, ◌==◌};
 ghost use Rattle.std.specs.Option.{option_copied};
-ghost use Rattle.macro_shapes.specs.Pieces.{split_by, goes_on, is_comment, variable_number, defined, definition, code_of};
+ghost use Rattle.macro_shapes.specs.Pieces.{split_by, code_of};
 ghost use Rattle.macro_shapes.specs.Inner.Parts.{split_by_if};
+ghost use Rattle.macro_shapes.specs.Inner.Bytes.{goes_on, number_and_text, starts_comment, starts_definition, variable_number};
 
 use grid_units::numbers::{capped_value, digit_run_len, is_digits, is_number_char};
 
@@ -32,7 +33,7 @@ fn goes_on(rest: &[u8]) -> bool
 
 /// Whether a piece is a comment.
 pub(crate) fn is_comment(piece: &[u8]) -> bool
-    ensures { result ≡ is_comment piece.now }
+    ensures { result ≡ starts_comment piece.now }
 {
     match piece {
         [b'0', rest @ ..] => !goes_on(rest),
@@ -59,7 +60,7 @@ fn variable_number(digits: &[u8]) -> Option<usize>
 
 /// A variable and the expression after `=`.
 fn defined<'a>(digits: &[u8], rest: &'a [u8]) -> Option<(usize, &'a [u8])>
-    ensures value { option_map (λ d. (d.0, d.1.now)) result ≡ defined digits.now rest.now }
+    ensures value { option_map (λ d. (d.0, d.1.now)) result ≡ number_and_text digits.now rest.now }
     ensures low { IfSome result (λ d. 1 ≤ d.0) }
     ensures high { IfSome result (λ d. d.0 ≤ 999) }
 {
@@ -74,7 +75,7 @@ fn defined<'a>(digits: &[u8], rest: &'a [u8]) -> Option<(usize, &'a [u8])>
 
 /// The variable that a piece defines, and the expression of its value.
 pub(crate) fn definition(piece: &[u8]) -> Option<(usize, &[u8])>
-    ensures value { option_map (λ d. (d.0, d.1.now)) result ≡ definition piece.now }
+    ensures value { option_map (λ d. (d.0, d.1.now)) result ≡ starts_definition piece.now }
     ensures low { IfSome result (λ d. 1 ≤ d.0) }
     ensures high { IfSome result (λ d. d.0 ≤ 999) }
 {

@@ -1,7 +1,10 @@
 //! The primitives of a macro that are judged: circles, vector lines, centre lines and outlines.
 
-ghost use Rattle.std.specs.Prelude.{◌≡◌, IfOk};
-ghost use Rattle.macro_shapes.specs.Primitives.{quarter_turns, turned_x, turned_y, grid_point, turned, length_of, size_of, side_of, point_of, is_dark, dark_turns, placed, circle_at, circle, line_at, vector_line, with_sides, rectangle_at, centre_line, coded, primitives_of};
+ghost use Rattle.std.specs.Prelude.{◌≡◌, IfOk, pos};
+ghost use Rattle.std.specs.Ordering.{int_eq};
+ghost use Rattle.macro_shapes.specs.Primitives.{quarter_turns, turned_x, turned_y, grid_point, size_of, side_of, dark_turns, placed, circle_at, line_at, with_sides, rectangle_at, coded, primitives_of};
+ghost use Rattle.macro_shapes.specs.Inner.Steps.{length_of, point_of};
+ghost use Rattle.macro_shapes.specs.declared.piece.Code.TheVariants as code;
 
 use crate::fields::Fields;
 use crate::outline::outline;
@@ -113,7 +116,7 @@ pub(crate) fn grid_point(x: i64, y: i64) -> Option<Point>
 
 /// A point that is turned by so many quarters about the point of the flash.
 fn turned(turns: u8, point: Point) -> Option<Point>
-    ensures { result ≡ turned turns point }
+    ensures { result ≡ grid_point (turned_x turns point) (turned_y turns point) }
 {
     let x = turned_x(turns, point);
     let y = turned_y(turns, point);
@@ -167,7 +170,7 @@ pub(crate) fn placed(unit: Unit, turns: u8, x: Dec, y: Dec) -> Option<Point>
 
 /// Whether the exposure is on.
 fn is_dark(exposure: Dec) -> bool
-    ensures { result ≡ is_dark exposure }
+    ensures { result ≡ int_eq exposure (pos 100000000) }
 {
     exposure.units() == 100_000_000
 }
@@ -185,7 +188,7 @@ pub(crate) fn dark_turns(exposure: Dec, rotation: Dec) -> Option<u8>
 
 /// A circle.
 fn circle_at(unit: Unit, turns: u8, diameter: Dec, x: Dec, y: Dec) -> Option<Primitive>
-    ensures { result ≡ circle_at unit turns diameter x y }
+    ensures { result ≡ circle_at unit diameter x y turns }
 {
     let diameter = size_of(unit, diameter)?;
     let centre = placed(unit, turns, x, y)?;
@@ -194,7 +197,7 @@ fn circle_at(unit: Unit, turns: u8, diameter: Dec, x: Dec, y: Dec) -> Option<Pri
 
 /// The circle that values spell.
 fn circle(unit: Unit, values: &[Dec]) -> Option<Primitive>
-    ensures { result ≡ circle unit values.now }
+    ensures { result ≡ coded code.Circle unit values.now }
 {
     match values {
         [exposure, diameter, x, y] => {
@@ -222,7 +225,7 @@ fn line_at(
     x2: Dec,
     y2: Dec,
 ) -> Option<Primitive>
-    ensures { result ≡ line_at unit turns width x1 y1 x2 y2 }
+    ensures { result ≡ line_at unit width x1 y1 x2 y2 turns }
 {
     let width = size_of(unit, width)?;
     let from = placed(unit, turns, x1, y1)?;
@@ -232,7 +235,7 @@ fn line_at(
 
 /// The vector line that values spell.
 fn vector_line(unit: Unit, values: &[Dec]) -> Option<Primitive>
-    ensures { result ≡ vector_line unit values.now }
+    ensures { result ≡ coded code.VectorLine unit values.now }
 {
     match values {
         [exposure, width, x1, y1, x2, y2, rotation] => {
@@ -264,7 +267,7 @@ fn with_sides(turns: u8, centre: Point, width: u64, height: u64) -> Primitive
 
 /// A centre line.
 fn rectangle_at(unit: Unit, turns: u8, width: Dec, height: Dec, x: Dec, y: Dec) -> Option<Primitive>
-    ensures { result ≡ rectangle_at unit turns width height x y }
+    ensures { result ≡ rectangle_at unit width height x y turns }
 {
     let width = side_of(unit, width)?;
     let height = side_of(unit, height)?;
@@ -274,7 +277,7 @@ fn rectangle_at(unit: Unit, turns: u8, width: Dec, height: Dec, x: Dec, y: Dec) 
 
 /// The centre line that values spell.
 fn centre_line(unit: Unit, values: &[Dec]) -> Option<Primitive>
-    ensures { result ≡ centre_line unit values.now }
+    ensures { result ≡ coded code.CentreLine unit values.now }
 {
     match values {
         [exposure, width, height, x, y, rotation] => {

@@ -1,8 +1,10 @@
 //! The shape of a macro: a rounded polygon that is inside of its primitives.
 
-ghost use Rattle.std.specs.Prelude.{◌≡◌, IfOk, option_and_then};
+ghost use Rattle.std.specs.Prelude.{◌≡◌, IfOk, option_and_then, unwrap_or};
+ghost use Rattle.std.specs.Int.{abs_diff};
 ghost use Rattle.macro_shapes.specs.Primitives.{rounded_of};
-ghost use Rattle.macro_shapes.specs.Shapes.{diameter_at, width_along, disc_at, line_along, border, rectangle_of, rectangle_about, rectangle_along, other_end, rounded_or_along, line_shape, or_0, with_border, crossing, second_crossing, difference, cross_border, with_arms, cross_shape, centre_shape, do_cross, shape_from, shape_of};
+ghost use Rattle.macro_shapes.specs.Shapes.{diameter_at, width_along, disc_at, line_along, border, rectangle_of, rectangle_about, rectangle_along, line_shape, with_border, crossing, cross_border, with_arms, cross_shape, centre_shape, do_cross, shape_from, shape_of};
+ghost use Rattle.macro_shapes.specs.Inner.Steps.{other_end, second_crossing};
 ghost use Rattle.macro_shapes.specs.Inner.Borders.{greatest, least, disc_in_turn, line_in_turn, discs_in_turn, border_in_turn};
 
 use crate::outline::{is_same, rounded_of};
@@ -224,7 +226,7 @@ fn line_shape(
 
 /// A size, or 0.
 fn or_0(size: Option<u64>) -> u64
-    ensures { result ≡ or_0 size }
+    ensures { result ≡ unwrap_or size 0 }
 {
     match size {
         Some(size) => size,
@@ -258,7 +260,7 @@ fn outline_shape(
     primitives: &[Primitive],
     corners: &Rounded,
 ) -> Result<Option<Rounded>, AllocError>
-    ensures { IfOk result (λ answer. answer ≡ with_border corners.now (or_0 (border primitives.now corners.now))) }
+    ensures { IfOk result (λ answer. answer ≡ with_border corners.now (unwrap_or (border primitives.now corners.now) 0)) }
 {
     let size = or_0(border(primitives, corners.first(), corners.others()));
     with_border(alloc, corners, size)
@@ -312,9 +314,9 @@ fn second_crossing(
 
 /// The difference of two sizes.
 fn difference(a: u64, b: u64) -> u64
-    ensures { result ≡ difference a b }
+    ensures { result ≡ abs_diff a b }
 {
-    a.max(b) - a.min(b)
+    a.abs_diff(b)
 }
 
 /// The least of the circles at the corners of the common part of two rectangles and of the differences of their widths and

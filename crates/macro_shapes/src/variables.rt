@@ -1,8 +1,9 @@
 //! The variables of a macro.
 
-ghost use Rattle.std.specs.Prelude.{◌≡◌, ◌≤◌, ◌-◌, ℕ, None, length, get_or, OnOk, OnErr, IfOk, option_map};
+ghost use Rattle.std.specs.Prelude.{◌≡◌, ◌≤◌, ◌-◌, ℕ, None, if◌then◌else◌, length, get_or, OnOk, OnErr, IfOk, option_map};
 ghost use Rattle.std.specs.Option.{option_copied};
-ghost use Rattle.macro_shapes.specs.Values.{lookup, assigned, numbered};
+ghost use Rattle.macro_shapes.specs.Values.{lookup, assigned};
+ghost use Rattle.grid_units.specs.Numbers.{is_digits, value};
 ghost use Rattle.macro_shapes.specs.Pieces.{split_by};
 ghost use Rattle.macro_shapes.specs.Inner.Pieces.{all_decimals};
 
@@ -114,7 +115,7 @@ fn value_at(values: &[Option<Dec>], number: u64) -> Option<Dec>
 #[tactic(auto, using(crate::proofs::VariablesLemmas::lookup_capped))]
 fn numbered(values: &[Option<Dec>], digits: &[u8]) -> Option<Dec>
     requires { length values.now ≤ 999 }
-    ensures { result ≡ numbered (lookup values.now) digits.now }
+    ensures { result ≡ (if is_digits digits.now then lookup values.now (value digits.now) else None) }
 {
     if is_digits(digits) {
         value_at(values, capped_value(digits, 1_000))

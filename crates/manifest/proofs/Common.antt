@@ -1,4 +1,4 @@
--- The names that most proofs of this crate cite, passed on from one place. Declares nothing.
+-- Names that proofs of this crate cite, passed on from one place. Declares nothing.
 pub use Rattle.std.proofs.Common.{Bool, Bor, Err, IfOk, List, None, Ok, Option, Result, Some, [], add-one, ap, append_assoc, ap₂, arith, codes, cond, drop, false, get_or, inl, inr, length, map, min, not, refl, reverse, rules, set, slice_get, subst, suc, sym, take, tests, true, unwrap_or, zero, ℕ, ◌%◌, ◌&&◌, ◌++◌, ◌+◌, ◌-◌, ◌/◌, ◌<◌, ◌==◌, ◌^◌, ◌||◌, ◌∙◌, ◌∷◌, ◌≡◌, ◌≢◌, ◌≤◌, ◌⊎◌}
 pub use Rattle.csv.specs.Reading.{AreRecords, Ready, default_config, records, source_of}
 unfoldable pub use Rattle.csv.specs.Reading.{Reached, records_from, strip_bom}

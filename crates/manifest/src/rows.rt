@@ -4,11 +4,24 @@ ghost use Rattle.std.specs.Prelude.{◌≡◌, ◌<◌, ◌++◌, ◌∷◌, [],
 ghost use Rattle.std.specs.List.{list_any};
 ghost use Rattle.std.specs.Str.{bytes_eq};
 ghost use Rattle.csv.specs.Records.{Row, fields_of};
+ghost use Rattle.grid_units.specs.Results.{fault};
 ghost use Rattle.manifest.specs.Manifest.{field, is_control, is_plain_text, csv_records};
 
 use csv::{ByteRecord, Error, ReaderBuilder};
+use grid_units::{Fail, Fault, Reason};
 use std::alloc::{AllocError, Global};
 use std::str;
+
+/// The refusal of the record of this number, from 1. Its byte is 0.
+pub fn refused(place: u64, reason: Reason) -> Fail
+    ensures { result ≡ Fail.Refused (fault place 0 reason) }
+{
+    Fail::Refused(Fault {
+        place,
+        byte: 0,
+        reason,
+    })
+}
 
 /// Adds a record to those read before it.
 fn add_record(rows: &mut Vec<ByteRecord>, read: Result<ByteRecord, Error>) -> Result<(), AllocError>

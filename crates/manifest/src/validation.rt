@@ -3,18 +3,18 @@
 ghost use Rattle.std.specs.Prelude.{◌≡◌, ◌≤◌, map, not, true, false, MatchOption, IfErr, IfOk, IfSome, Ok, Err};
 ghost use Rattle.std.specs.List.{count_by, list_any};
 ghost use Rattle.csv.specs.Records.{fields_of};
-ghost use Rattle.grid_units.specs.Results.{Answers, with_place, fault};
+ghost use Rattle.grid_units.specs.Results.{Answers, with_place};
 ghost use Rattle.manifest.specs.Manifest as naming;
 ghost use Rattle.manifest.specs.Manifest.{field, is_well_formed, parse_manifest_records};
 ghost use Rattle.manifest.specs.Inner.RecordEntry as reading;
 ghost use Rattle.manifest.specs.Inner.RecordEntry.{checked_entry, entry_with};
 
 use crate::names::Name;
-use crate::rows::{has_field, text_field};
+use crate::rows::{has_field, refused, text_field};
 use crate::{Entry, Role};
 use csv::ByteRecord;
 use grid_units::numbers::{capped_value, is_digits};
-use grid_units::{Fail, Fault, Profile, Reason, Span};
+use grid_units::{Fail, Profile, Reason, Span};
 use std::alloc::Global;
 use std::collections::BTreeSet;
 
@@ -56,17 +56,6 @@ fn entries_of(
         Some((i, reason)) => Err(refused(i as u64 + 2, reason)),
         None => Ok(entries),
     }
-}
-
-/// The refusal of the record of this number, from 1. Its byte is 0.
-fn refused(place: u64, reason: Reason) -> Fail
-    ensures { result ≡ Fail.Refused (fault place 0 reason) }
-{
-    Fail::Refused(Fault {
-        place,
-        byte: 0,
-        reason,
-    })
 }
 
 /// The name of a record's file, empty where the record has none.

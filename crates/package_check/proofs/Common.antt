@@ -1,4 +1,4 @@
--- The names that most proofs of this crate cite, passed on from one place. Declares nothing.
+-- Names that proofs of this crate cite, passed on from one place. Declares nothing.
 pub use Rattle.std.proofs.Common.{Bool, Bor, Err, IfErr, IfOk, List, None, Ok, OnOk, Option, Result, Some, [], ap, append_assoc, ap₂, arith, cond, drop, eqb, false, get_or, inl, inr, leb, length, ltb, map, min, not, pos, refl, rules, set, slice_get, subst, suc, sym, take, true, zero, zero-add, ℕ, ◌&&◌, ◌*◌, ◌++◌, ◌+◌, ◌-◌, ◌<◌, ◌||◌, ◌↔◌, ◌∙◌, ◌∷◌, ◌≡◌, ◌≢◌, ◌≤◌, ◌⊎◌}
 pub use Rattle.drill_lines.specs.declared.command.DrillCommand.{DrillCommand}
 pub use Rattle.drill_text.specs.MixedLaws.{CalledIsListed, KindsReadTheSame, ListedIsCalled, UncontradictedIsLegal}
@@ -24,8 +24,9 @@ pub use Rattle.layer_image.specs.Kept.{KeptLayer, ReadsKeptIn, counting, plain}
 pub use Rattle.layer_image.specs.Layers.{LayerImage, ReadingIsUniqueIn, ReadsLayerIn, StrictLayers}
 pub use Rattle.manifest.specs.declared.Role.{Role}
 pub use Rattle.package_check.specs.AlikePackages.{AllReadAlike, AnswerExists, AnswerIsUnique, ReadingExists, ReadingIsUnique, SameAnswers}
-pub use Rattle.package_check.specs.Boards.{AreDrawnOf, AreFileLists, BoardView, CountsAddUp, FileCountsAddUp, IsBoard, IsDrawnBoard, IsFlashedBoard, OfCopper, Returns, board_findings, board_of, hole_count, holes_before, numbered_in, reported}
-unfoldable pub use Rattle.package_check.specs.Boards.{numbered_from}
+pub use Rattle.board.specs.Boards.{BoardView, CountsAddUp, board_findings, hole_count, holes_before, numbered_in}
+pub use Rattle.package_check.specs.Boards.{AreDrawnOf, AreFileLists, FileCountsAddUp, IsBoard, IsDrawnBoard, IsFlashedBoard, OfCopper, Returns, board_of, reported}
+unfoldable pub use Rattle.board.specs.Boards.{numbered_from}
 pub use Rattle.package_check.specs.CheckViews.{CheckView, holes_in_slot, is_drill_in, is_drill_sum}
 pub use Rattle.package_check.specs.Checking.{AreHolesOf, HasJudged, HasJudgedAll, IsJudgedOf, JudgesThose, TakesCopper, drill_files, layer_number}
 pub use Rattle.package_check.specs.ContentViews.{DrillView, LayerView}
@@ -37,13 +38,13 @@ pub use Rattle.package_check.specs.Judging.{HasTriedIn, HasTriedPadsOf, IsLeftOf
 pub use Rattle.package_check.specs.OpenFiles.{HasFailed, HasOpened, HasOpenedCopper, HasReadCopper, HasReadText, copper_keep, drill_role}
 pub use Rattle.package_check.specs.Package.{BytesHaveContent, FileView, FindingsNameTheirPlaces, HasContent, HasDrillContent, HasMixedContent, HaveContents, IsAnswer, IsFirstRefused, IsReport, NamesItsPlaces, Reads, ReadsBytes, ReadsCopper, ReadsHoles, ReadsMixedHoles, ReadsUnlessBadSpan, ReturnsExactly, ReturnsReport, Setting, bad_span, drilled, file_view, file_views_in, findings, holes_of, index_of, is_bad_span, is_copper, layer_count, layer_indexes, layers, not_copper, numbered_holes, pads_of, pieced_file_view, pieced_file_views, pieced_layer_count, report_on, sum_of, unnamed_file}
 pub use Rattle.package_check.specs.Reports.{ReportView}
-pub use Rattle.package_check.specs.Soundness.{AreDrilledBy, AreStraight, HolesAreSaidOnce, IsRun, IsSound, LiesAsAllowed, MakePads, PadsAreSaidOnce, PassingIsSound, SaysHoles, SaysPads}
+pub use Rattle.package_check.specs.Soundness.{AreDrilledBy, HolesAreSaidOnce, IsRun, IsSound, LiesAsAllowed, MakePads, PadsAreSaidOnce, PassingIsSound, SaysHoles, SaysPads, SoundIsStraight}
 pub use Rattle.package_check.specs.SoundnessAsRead.{AreLegal, IsPlatedThrough, PassingIsSoundAsRead, SoundAsReadIsSound, drilled_in}
 pub use Rattle.package_check.specs.Texts.{file_line, finding_line, last_line, name_words, report_text, rules_line, span_words, text_of}
 unfoldable pub use Rattle.package_check.specs.Texts.{drill_words, file_lines, layer_words, length_words, slot_words}
 pub use Rattle.package_check.specs.WiderProfile.{FindsNoMore, IsUncontradicted, ReadIsUncontradicted, WideFindsNoMore, is_gap, read_in}
-pub use Rattle.package_check.specs.declared.FileSum.{FileSum}
-pub use Rattle.package_check.specs.declared.Numbered.{Numbered}
+pub use Rattle.board.specs.declared.FileSum.{FileSum}
+pub use Rattle.board.specs.declared.Numbered.{Numbered}
 pub use Rattle.package_check.specs.declared.PackageFault.{PackageFault}
 pub use Rattle.package_check.specs.declared.checking.Judged.{Judged}
 pub use Rattle.package_check.specs.declared.contents.Content.{Content}
@@ -53,7 +54,7 @@ pub use Rattle.pad_shapes.specs.WidePads.{IsInWidePad, wide_pad_covers}
 pub use Rattle.pad_shapes.specs.declared.drawn.Drawn.{Drawn}
 pub use Rattle.pad_shapes.specs.declared.wide_pad.WidePad.{WidePad}
 pub use Rattle.ring_rules.proofs.EnumeratedLists.{enumerated_all, flat_listed_more}
-pub use Rattle.ring_rules.proofs.TriedPads.{layer_by_coverings, tried_more, tried_more_by_map}
+pub use Rattle.ring_rules.proofs.TriedPads.{layer_by_coverings, tried_more}
 pub use Rattle.ring_rules.specs.Findings.{finding_of, gap_findings, hole_findings, is_refused_slot, is_ring_finding, layer_findings, ring_findings}
 pub use Rattle.ring_rules.specs.Search.{Covering, HasTried}
 pub use Rattle.ring_rules.specs.WithoutFindings.{ApartWithoutFindings, AreAllApart, GapsNamePlaces, HolesHoldWithoutFindings, IsHoleHeld, NamesPlaces, RingsNamePlaces, StraightWithoutFindings}
@@ -63,7 +64,7 @@ pub use Rattle.ring_rules.specs.declared.ring_index.RingIndex.{RingIndex}
 pub use Rattle.std.proofs.Output.{has_written_append, has_written_of_eq}
 pub use Rattle.std.proofs.lemmas.Bool.{both_ways, cases_eq, cases_lt, cases_order, eq-eqb, eqb-true, false≢true, le-leb, le-ltb, leb-false, leb-true, lt-ltb, ltb-true, ne_eqb, or_cases, or_left, or_right}
 pub use Rattle.std.proofs.lemmas.List.{append-nil, get_or-append_right, get_or-map, get_or-set_other, get_or-set_same, get_or_append_left, get_or_default, length-append, length-drop, length-map, length-set, length-take-le, map-append, take-append-drop, take-take, take_all, take_more}
-pub use Rattle.std.proofs.lemmas.List.Concat.{flat_map-append, flat_map-cons}
+pub use Rattle.std.proofs.lemmas.List.Concat.{flat_map-cons}
 pub use Rattle.std.proofs.lemmas.List.Elements.{All-append, Contains-append_cases, Contains-append_left}
 pub use Rattle.std.proofs.lemmas.List.Sums.{count_by_more_no, count_by_more_yes, sum_by-cons, sum_by-take-le, sum_by_more}
 pub use Rattle.std.proofs.lemmas.Option.{get_or_from_slice_get, none-some, same_Some, slice_get-map, slice_get_past, slice_get_read, slice_get_within}

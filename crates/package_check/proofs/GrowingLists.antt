@@ -1,7 +1,7 @@
 -- Lists that grow by one file or one hole at a time.
 use Rattle.package_check.proofs.Common.{◌≡◌, ◌<◌, ◌+◌, ◌++◌, ℕ, List, [], Result, length, take, get_or, refl, sym, ap, ◌∙◌, Bool, true, false, Option, flat_map, enumerate_from, append-nil, Fault, flat_listed_more, LayerSpan, Role, Content, FileSum, index_in, Setting, Reads, ReadsUnlessBadSpan, is_bad_span, unnamed_file}
 use Rattle.std.specs.Prelude.{Option}
-use Rattle.package_check.specs.declared.FileSum.TheVariants as sum
+use Rattle.board.specs.declared.FileSum.TheVariants as sum
 
 -- what one more element gives
 pub flat_map_indexed_more : {X Y : Type 0} (f : ℕ × X → List Y) (out ys : List Y) (xs : List X) (i : ℕ) (x : X) → i < length xs → x ≡ get_or xs i x → f (i, x) ≡ ys

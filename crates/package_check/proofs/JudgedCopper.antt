@@ -5,7 +5,7 @@ use Rattle.layer_features.specs.declared.keep.Keep.TheVariants as keep
 use Rattle.layer_image.specs.declared.reader.LayerReader.{LayerReader}
 use Rattle.std.specs.Global.{Vec}
 use Rattle.package_check.specs.declared.contents.Content.TheVariants as content
-use Rattle.package_check.specs.declared.FileSum.TheVariants as sum
+use Rattle.board.specs.declared.FileSum.TheVariants as sum
 
 -- what is left of a layer, of which some pads were taken
 module _ (rules : GridRules) (holes : List Drilled) (layer : ℕ) (text : List ℕ) (left : List WidePad) (rest : KeptLayer) (read : ReadsKeptIn rules.profile keep.Pads left text (Ok rest)) where

@@ -1,5 +1,5 @@
--- A package that passes has no oblique plated slot.
-use Rattle.package_check.proofs.Common.{◌≡◌, ◌<◌, ◌≤◌, ◌+◌, ◌-◌, ℕ, zero, suc, Bool, true, false, not, cond, ◌&&◌, leb, List, [], ◌∷◌, Option, Some, None, Result, Ok, Err, IfOk, length, map, get_or, arith, refl, sym, ap, subst, ◌∙◌, AllZip, Contains, count_by, filter, flat_map, le-leb, sum_by-cons, GridHole, GridRules, Profile, Strict, Wide, LayerSpan, is_in_span, Drilled, DrillCommand, Role, PackageFault, FileView, Setting, ReturnsReport, is_copper, ReportView, AreDrilledBy, AreStraight, HolesAreSaidOnce, IsRun, IsSound, LiesAsAllowed, PassingIsSound, SaysHoles, SaysPads}
+-- A sound package has no oblique plated slot in the strict profile.
+use Rattle.package_check.proofs.Common.{◌≡◌, ◌<◌, ◌≤◌, ◌+◌, ◌-◌, ℕ, zero, suc, Bool, true, false, not, cond, ◌&&◌, leb, List, [], ◌∷◌, Option, Some, None, Result, Ok, Err, IfOk, length, map, get_or, arith, refl, sym, ap, subst, ◌∙◌, AllZip, Contains, count_by, filter, flat_map, le-leb, sum_by-cons, GridHole, GridRules, Profile, Strict, Wide, LayerSpan, is_in_span, Drilled, DrillCommand, Role, PackageFault, FileView, Setting, ReturnsReport, is_copper, ReportView, AreDrilledBy, HolesAreSaidOnce, IsRun, SoundIsStraight, LiesAsAllowed, SaysHoles, SaysPads}
 use Rattle.std.proofs.lemmas.Slice.Zip.{AllZip-long}
 use Rattle.pad_shapes.specs.Shapes.{IsAxisAligned}
 use Rattle.grid_units.proofs.ListLemmas.{flat_map_at}
@@ -59,39 +59,27 @@ along : (profile : Profile) (d : Drilled) → profile ≡ Strict → LiesAsAllow
 along Strict d is h = h
 along Wide d is h = absurd cc
 
-module _ {X : Type 0} (seen : X → FileView) (role_of : X → Role) (n : Setting) (same : (x : X) → (seen x).role ≡ role_of x) (all : (x : X) → (seen x).setting ≡ n) where
-  counted : (xs : List X) → length (filter (λ file. is_copper file.role) (map seen xs)) ≡ count_by (λ x. is_copper (role_of x)) xs
-  counted [] = refl
-  counted (x ∷ xs) =
-      kept_count (is_copper (seen x).role) (seen x) (filter (λ file. is_copper file.role) (map seen xs))
-      ∙ ((λ i. cond (is_copper (same x i)) 1 0 + counted xs i) ∙ sym (sum_by-cons (λ y. cond (is_copper (role_of y)) 1 0) x xs))
+counted : (sources : List FileView) → length (filter (λ file. is_copper file.role) sources) ≡ count_by (λ one. is_copper one.role) sources
+counted [] = refl
+counted (x ∷ xs) =
+    kept_count (is_copper x.role) x (filter (λ file. is_copper file.role) xs)
+    ∙ ((λ i. cond (is_copper x.role) 1 0 + counted xs i) ∙ sym (sum_by-cons (λ y. cond (is_copper y.role) 1 0) x xs))
 
-  setting_of_file : (xs : List X) (file : FileView) (k : ℕ) → k < length (map seen xs) → get_or (map seen xs) k file ≡ file → file.setting ≡ n
-  setting_of_file [] file k lt e = absurd (omega arith)
-  setting_of_file (x ∷ xs) file zero lt e = sym (ap (λ (f : FileView). f.setting) e) ∙ all x
-  setting_of_file (x ∷ xs) file (suc k) lt e = setting_of_file xs file k (omega arith) e
-
-  straight : HolesAreSaidOnce → (rules : GridRules) (xs : List X) → rules.profile ≡ Strict → n.profile ≡ Strict → IsSound (map seen xs) rules → n.layers ≡ count_by (λ x. is_copper (role_of x)) xs → 0 < n.layers → AreStraight (map seen xs)
-  straight once rules xs strict reads sound counts some file drilled d among said inside plated =
-      let from = plated_is_drill file.role file.span said.commands said.holes drilled d said.is inside plated in
-      let is_drill : not (is_copper file.role) ≡ true = from.0 in
-      let files = filter (λ (f : FileView). not (is_copper f.role)) (map seen xs) in
-      let place = kept (λ (f : FileView). not (is_copper f.role)) (map seen xs) file among.0 among.1 among.2 is_drill in
-      let other = said_by files sound.drills sound.holes file place.0 place.1 place.2 in
-      let setting_is : file.setting ≡ n = setting_of_file xs file among.0 among.1 among.2 in
-      let listed : Contains other.0 d = subst (λ (ds : List Drilled). Contains ds d) (once file drilled other.0 said other.2) inside in
-      let at = other.1 in
-      let far : at.0 < length sound.drills = at.1 in
-      let spot : get_or sound.drills at.0 other.0 ≡ other.0 = at.2 in
-      let whole : Contains (flat_map (λ (one : List Drilled). one) sound.drills) d = flat_map_at (λ (one : List Drilled). one) sound.drills other.0 d at.0 far spot listed in
-      let layers_are : file.setting.layers ≡ n.layers = ap (λ (m : Setting). m.layers) setting_is in
-      let layer = some_layer file.span file.setting.layers (subst (λ m. 0 < m) (sym layers_are) some) said.run in
-      let below : layer.0 < file.setting.layers = layer.1 in
-      let long : length sound.layers ≡ length (filter (λ (f : FileView). is_copper f.role) (map seen xs)) = AllZip-long SaysPads (filter (λ (f : FileView). is_copper f.role) (map seen xs)) sound.layers sound.pads in
-      let within : layer.0 < length sound.layers = omega (arith, below, layers_are, counts, counted xs, long) in
-      along rules.profile d strict (sound.held layer.0 d within whole plated (ap (is_in_span layer.0) from.1 ∙ layer.2)).0
-
-  pub passed_straight : HolesAreSaidOnce → PassingIsSound → (rules : GridRules) (xs : List X) (r : Result ReportView PackageFault) → rules.profile ≡ Strict → n.profile ≡ Strict → n.layers ≡ count_by (λ x. is_copper (role_of x)) xs → ReturnsReport (map seen xs) rules r
-      → IfOk r (λ report. report.findings ≡ [] → 0 < n.layers → AreStraight (map seen xs))
-  passed_straight once law rules xs (Ok report) strict reads counts h = λ none some. straight once rules xs strict reads (law (map seen xs) rules report h none) counts some
-  passed_straight once law rules xs (Err e) strict reads counts h = tt
+pub sound_is_straight : HolesAreSaidOnce → SoundIsStraight
+sound_is_straight once sources rules strict layered some sound file drilled d among said inside plated =
+    let from = plated_is_drill file.role file.span said.commands said.holes drilled d said.is inside plated in
+    let is_drill : not (is_copper file.role) ≡ true = from.0 in
+    let files = filter (λ (f : FileView). not (is_copper f.role)) sources in
+    let place = kept (λ (f : FileView). not (is_copper f.role)) sources file among.0 among.1 among.2 is_drill in
+    let other = said_by files sound.drills sound.holes file place.0 place.1 place.2 in
+    let listed : Contains other.0 d = subst (λ (ds : List Drilled). Contains ds d) (once file drilled other.0 said other.2) inside in
+    let at = other.1 in
+    let far : at.0 < length sound.drills = at.1 in
+    let spot : get_or sound.drills at.0 other.0 ≡ other.0 = at.2 in
+    let whole : Contains (flat_map (λ (one : List Drilled). one) sound.drills) d = flat_map_at (λ (one : List Drilled). one) sound.drills other.0 d at.0 far spot listed in
+    let layers_are : file.setting.layers ≡ count_by (λ (one : FileView). is_copper one.role) sources = layered file among in
+    let layer = some_layer file.span file.setting.layers (subst (λ m. 0 < m) (sym layers_are) some) said.run in
+    let below : layer.0 < file.setting.layers = layer.1 in
+    let long : length sound.layers ≡ length (filter (λ (f : FileView). is_copper f.role) sources) = AllZip-long SaysPads (filter (λ (f : FileView). is_copper f.role) sources) sound.layers sound.pads in
+    let within : layer.0 < length sound.layers = omega (arith, below, layers_are, counted sources, long) in
+    along rules.profile d strict (sound.held layer.0 d within whole plated (ap (is_in_span layer.0) from.1 ∙ layer.2)).0

@@ -1,5 +1,5 @@
 -- What a file says by the grammar of its format, it says once.
-use Rattle.package_check.proofs.Common.{◌≡◌, ℕ, List, map, ap, sym, subst, ◌∙◌, GridHole, Drilled, Command, Profile, Strict, Wide, WidePad, LayerSpan, CalledIsListed, Role, marked, plain, DrillCommand, AreDrilledBy, HolesAreSaidOnce, MakePads, PadsAreSaidOnce}
+use Rattle.package_check.proofs.Common.{◌≡◌, List, map, ap, sym, subst, ◌∙◌, GridHole, Drilled, Command, Profile, Strict, Wide, WidePad, LayerSpan, CalledIsListed, Role, marked, plain, DrillCommand, AreDrilledBy, HolesAreSaidOnce, MakePads, PadsAreSaidOnce}
 use Rattle.gerber_text.specs.Laws.{TextsSpellOneListIn}
 use Rattle.std.specs.Prelude.{Option}
 use Rattle.manifest.specs.declared.Role.TheVariants as role

@@ -1,6 +1,5 @@
 -- What is kept of a copper file to be shown.
-use Rattle.package_check.proofs.Common.{◌≡◌, ◌∙◌, ℕ, Bool, true, false, List, [], Result, Ok, Err, IfOk, OnOk, refl, sym, ap, if◌then◌else◌, Profile, Strict, Wide, Command, without_places, LayerImage, ReadsLayerIn, StrictLayers, counting, drawn_in, uncleared_drawn, keeps_drawn, keeps_rows, Drawn, Feature, Keep, copper_keep}
-use Rattle.gerber_text.specs.Reading.{Entries}
+use Rattle.package_check.proofs.Common.{◌≡◌, ◌∙◌, ℕ, Bool, true, false, List, [], Result, Ok, Err, IfOk, OnOk, refl, ap, if◌then◌else◌, Profile, Strict, Wide, without_places, LayerImage, ReadsLayerIn, StrictLayers, counting, drawn_in, uncleared_drawn, keeps_drawn, keeps_rows, Drawn, Feature, Keep, copper_keep}
 use Rattle.layer_features.specs.Features.{features_of, view_in, wide_features_of}
 use Rattle.layer_features.specs.declared.keep.Keep.TheVariants as keep
 

@@ -2,7 +2,7 @@
 use Rattle.package_check.proofs.Common.{◌≡◌, ◌≢◌, ◌<◌, ◌≤◌, ◌+◌, ◌++◌, ◌||◌, ◌&&◌, eqb, ltb, ℕ, zero, suc, List, [], ◌∷◌, Ok, Err, Result, Option, Some, None, OnOk, Bool, true, false, not, length, map, take, get_or, slice_get, inl, inr, arith, refl, sym, ap, subst, ◌∙◌, alloc_error, option_map, flat_map, AllocError, both_ways, cases_eq, cases_order, eq-eqb, eqb-true, false≢true, le-ltb, lt-ltb, ltb-true, ne_eqb, or_cases, or_left, or_right, length-map, flat_map-cons, get_or_from_slice_get, none-some, same_Some, slice_get-map, slice_get_read, slice_get_within, LayerSpan, Fault, Fail, keeps_drawn, keeps_rows, ReadingIsUniqueIn, Keep, Role, PackageFault, Content, PackageReader, Kept, FileView, Setting, HaveContents, IsFirstRefused, Reads, is_copper, unnamed_file, AreDrawnOf, AreFileLists, BoardView, IsBoard, IsDrawnBoard, IsFlashedBoard, OfCopper, Returns, board_of, HasContours, HasMacros, HasRows, HasTaken, HasTakenAll, HoldsThose, IsKeptOf, IsPutAt, IsOutOfMemory, ReadsAt, ReadsInto, StoppedAmong, TakesFile, TakesThose, contents_in, is_kind, is_kind_at, is_kind_of, is_wanted, kept_at, next_stop, shown_board, shown_in}
 use Rattle.grid_units.specs.declared.fault.Fail.TheVariants as fails
 use Rattle.package_check.specs.declared.PackageFault.TheVariants as stop
-use Rattle.package_check.specs.declared.readers.Shown.{Shown}
+use Rattle.board.specs.declared.Shown.{Shown}
 use Rattle.package_check.proofs.ContentIsReading.{content_read}
 use Rattle.package_check.proofs.FlashesByFile.{drawn_read, flashes_too, lists_first, no_lists}
 use Rattle.package_check.proofs.GrowingLists.{any_name}
@@ -306,10 +306,10 @@ module _ (keep : Keep) where
   rows_told keeps s one kept = λ copper. let h = kept.rows keeps copper in (h.0, h.1, h.2.rows)
 
   -- and its pads that do not count
-  pub macros_told : keeps_rows keep ≡ true → (s : FileView) (one : Kept) → IsKeptOf keep s one → OfCopper HasMacros s one.shown.uncounted.macros.items
+  pub macros_told : keeps_rows keep ≡ true → (s : FileView) (one : Kept) → IsKeptOf keep s one → OfCopper HasMacros s one.shown.macros.items
   macros_told keeps s one kept = λ copper. let h = kept.rows keeps copper in (h.0, h.1, h.2.macros)
 
-  pub contours_told : keeps_rows keep ≡ true → (s : FileView) (one : Kept) → IsKeptOf keep s one → OfCopper HasContours s one.shown.uncounted.contours.items
+  pub contours_told : keeps_rows keep ≡ true → (s : FileView) (one : Kept) → IsKeptOf keep s one → OfCopper HasContours s one.shown.contours.items
   contours_told keeps s one kept = λ copper. let h = kept.rows keeps copper in (h.0, h.1, h.2.contours)
 
   -- what each file draws
@@ -367,9 +367,9 @@ module _ (reader : PackageReader) (keep : Keep) (sources : List FileView) (all :
       rows = subst (AreFileLists (OfCopper HasRows) sources) (sym (ap (λ (b : BoardView). b.rows) is))
           (all_lists keep (OfCopper HasRows) (λ (one : Shown). one.rows.items) (rows_told keep keeps) sources reader.slots.items all.holds.inside each_kept);
       macros = subst (AreFileLists (OfCopper HasMacros) sources) (sym (ap (λ (b : BoardView). b.macros) is))
-          (all_lists keep (OfCopper HasMacros) (λ (one : Shown). one.uncounted.macros.items) (macros_told keep keeps) sources reader.slots.items all.holds.inside each_kept);
+          (all_lists keep (OfCopper HasMacros) (λ (one : Shown). one.macros.items) (macros_told keep keeps) sources reader.slots.items all.holds.inside each_kept);
       contours = subst (AreFileLists (OfCopper HasContours) sources) (sym (ap (λ (b : BoardView). b.contours) is))
-          (all_lists keep (OfCopper HasContours) (λ (one : Shown). one.uncounted.contours.items) (contours_told keep keeps) sources reader.slots.items all.holds.inside each_kept);
+          (all_lists keep (OfCopper HasContours) (λ (one : Shown). one.contours.items) (contours_told keep keeps) sources reader.slots.items all.holds.inside each_kept);
     }
 
     pub drawn_board_read : ReadingIsUniqueIn → keeps_drawn keep ≡ true → IsDrawnBoard sources board

@@ -10,7 +10,7 @@ use Rattle.pad_shapes.specs.declared.wide_pad.WidePad.TheVariants.{Plain, Rounde
 use Rattle.manifest.specs.declared.Role.TheVariants as role
 use Rattle.std.proofs.lemmas.List.Folds.{list_any-append}
 use Rattle.package_check.specs.declared.contents.Content.TheVariants as content
-use Rattle.package_check.specs.WiderProfile.{WideAnswersByBoard, contradicts_role, in_wide, layer_rings, wide_rings}
+use Rattle.package_check.specs.WiderProfile.{WideAnswersByBoard, is_called_plated, in_wide, layer_rings, wide_rings}
 use Rattle.package_check.proofs.Passing.{all_drilled}
 
 same_ok : {A : Type 0} {x y : A} → (let a : Result A Fault = Ok x in let b : Result A Fault = Ok y in a ≡ b) → x ≡ y
@@ -219,7 +219,7 @@ module _ (texts : (text : List ℕ) (commands : List DrillCommand) → (drills.R
   same_text text a b h k = same_ok (reads_once text (Ok a) (Ok b) ((texts text a).1 h) ((texts text b).1 k))
 
   silent : (q : Role) (name : List ℕ) (span : Option LayerSpan) (bytes : List ℕ) (n : ℕ) (c : Content) → BytesHaveContent (record { role = q; name = name; span = span; bytes = bytes; setting = record { layers = n; profile = Strict } }) c
-      → contradicts_role (sum_of c) ≡ false → q ≡ role.Unplated → (commands : List DrillCommand) → IsDrillText bytes commands → list_any calls_plated commands ≡ false
+      → is_called_plated (sum_of c) ≡ false → q ≡ role.Unplated → (commands : List DrillCommand) → IsDrillText bytes commands → list_any calls_plated commands ≡ false
   silent role.Unplated name span bytes n (content.Drill p v d) h none is commands text =
       let said : d.contradicted ≡ list_any calls_plated h.0.0 = ap (λ (view : DrillView). view.contradicted) h.0.2 in
       ap (list_any calls_plated) (same_text bytes commands h.0.0 text h.0.1) ∙ (sym said ∙ (sym (ap (λ (b : Bool). not b && d.contradicted) h.1) ∙ none))
@@ -229,16 +229,16 @@ module _ (texts : (text : List ℕ) (commands : List DrillCommand) → (drills.R
   silent role.Plated name span bytes n c h none is commands text = absurd cc
   silent role.Mixed name span bytes n c h none is commands text = absurd cc
 
-  all_silent : (ss : List FileView) (cs : List Content) → HaveContents (map (read_in Strict) ss) cs → list_any contradicts_role (map sum_of cs) ≡ false → AllByRecursion IsUncontradicted ss
+  all_silent : (ss : List FileView) (cs : List Content) → HaveContents (map (read_in Strict) ss) cs → list_any is_called_plated (map sum_of cs) ≡ false → AllByRecursion IsUncontradicted ss
   all_silent [] cs h none = tt
   all_silent (s ∷ ss) [] h none = absurd h
   all_silent (s ∷ ss) (c ∷ cs) h none =
-      let two = both_false (contradicts_role (sum_of c)) (list_any contradicts_role (map sum_of cs)) none in
+      let two = both_false (is_called_plated (sum_of c)) (list_any is_called_plated (map sum_of cs)) none in
       (silent s.role s.name s.span s.bytes s.setting.layers c h.0.1 two.0, all_silent ss cs h.1 two.1)
 
   -- a file that contradicts its role, and whose holes no comment calls plated
   not_silent : (q : Role) (name : List ℕ) (span : Option LayerSpan) (bytes : List ℕ) (n : ℕ) (c : Content) → BytesHaveContent (record { role = q; name = name; span = span; bytes = bytes; setting = record { layers = n; profile = Strict } }) c
-      → contradicts_role (sum_of c) ≡ true → (q ≡ role.Unplated → (commands : List DrillCommand) → IsDrillText bytes commands → list_any calls_plated commands ≡ false) → ⊥
+      → is_called_plated (sum_of c) ≡ true → (q ≡ role.Unplated → (commands : List DrillCommand) → IsDrillText bytes commands → list_any calls_plated commands ≡ false) → ⊥
   not_silent role.Unplated name span bytes n (content.Drill p v d) h some free =
       let said : d.contradicted ≡ list_any calls_plated h.0.0 = ap (λ (view : DrillView). view.contradicted) h.0.2 in
       not_both d.contradicted (sym (ap (λ (b : Bool). not b && d.contradicted) h.1) ∙ some) (said ∙ free refl h.0.0 h.0.1)
@@ -255,12 +255,12 @@ module _ (texts : (text : List ℕ) (commands : List DrillCommand) → (drills.R
   not_silent role.Mixed name span bytes n (content.Drill p v d) h some free = absurd h
 
   -- so the wide profile does not read them all
-  not_read : ReadIsUncontradicted → (ss : List FileView) (cs ds : List Content) → HaveContents (map (read_in Strict) ss) cs → HaveContents (map (read_in Wide) ss) ds → list_any contradicts_role (map sum_of cs) ≡ true → ⊥
+  not_read : ReadIsUncontradicted → (ss : List FileView) (cs ds : List Content) → HaveContents (map (read_in Strict) ss) cs → HaveContents (map (read_in Wide) ss) ds → list_any is_called_plated (map sum_of cs) ≡ true → ⊥
   not_read free [] [] ds h w some = not_both false some refl
   not_read free [] (c ∷ cs) ds h w some = absurd h
   not_read free (s ∷ ss) [] ds h w some = absurd h
   not_read free (s ∷ ss) (c ∷ cs) [] h w some = absurd w
-  not_read free (s ∷ ss) (c ∷ cs) (d ∷ ds) h w some = elim (or_cases (contradicts_role (sum_of c)) (list_any contradicts_role (map sum_of cs)) some) [
+  not_read free (s ∷ ss) (c ∷ cs) (d ∷ ds) h w some = elim (or_cases (is_called_plated (sum_of c)) (list_any is_called_plated (map sum_of cs)) some) [
     | inl here ↦ not_silent s.role s.name s.span s.bytes s.setting.layers c h.0.1 here (free s d w.0)
     | inr there ↦ not_read free ss cs ds h.1 w.1 there
   ]
@@ -277,8 +277,8 @@ wide_answers_by_board layers_too once texts reads_once free no_more exists sourc
     files_are : board.files ≡ map sum_of h.is.contents
     files_are = ap (λ (b : BoardView). b.files) h.is.is
 
-    refused : list_any contradicts_role board.files ≡ true → (answer : Result ReportView (ℕ × Fault)) × IsAnswer (map (read_in Wide) sources) (in_wide rules) answer → (index : ℕ) × (fault : Fault) × IsFirstRefused (map (read_in Wide) sources) index fault
-    refused some (Ok wide, is) = absurd (not_read texts reads_once free sources h.is.contents is.contents h.is.read is.read (sym (ap (list_any contradicts_role) files_are) ∙ some))
+    refused : list_any is_called_plated board.files ≡ true → (answer : Result ReportView (ℕ × Fault)) × IsAnswer (map (read_in Wide) sources) (in_wide rules) answer → (index : ℕ) × (fault : Fault) × IsFirstRefused (map (read_in Wide) sources) index fault
+    refused some (Ok wide, is) = absurd (not_read texts reads_once free sources h.is.contents is.contents h.is.read is.read (sym (ap (list_any is_called_plated) files_are) ∙ some))
     refused some (Err why, is) = (why.0, why.1, is)
 
     have : (Has : Profile → List ℕ → List WidePad → Type 0) (lists : List (List WidePad)) → AreFileLists (OfCopper Has) (map (read_in Strict) sources) lists
@@ -287,10 +287,10 @@ wide_answers_by_board layers_too once texts reads_once free no_more exists sourc
         let e : j ≡ 0 + j = omega arith in
         subst (λ (n : ℕ). OfCopper Has (get_or (map (read_in Strict) sources) j s) (get_or lists n [])) e (are.each j s (omega (arith, length-map sources (read_in Strict), lt)))
 
-    read : list_any contradicts_role board.files ≡ false → (wide : ReportView) × IsReport (map (read_in Wide) sources) (in_wide rules) wide × (wide.findings ≡ wide_rings rules board ++ gap_findings rules.gap board.holes)
+    read : list_any is_called_plated board.files ≡ false → (wide : ReportView) × IsReport (map (read_in Wide) sources) (in_wide rules) wide × (wide.findings ≡ wide_rings rules board ++ gap_findings rules.gap board.holes)
     read none =
         let strict : GridRules = record { ring = rules.ring; gap = rules.gap; profile = Strict } in
-        let more = no_more sources rules.ring rules.gap (report_on strict h.is.contents) (record { contents = h.is.contents; read = h.is.read; is = refl }) (all_silent texts reads_once sources h.is.contents h.is.read (sym (ap (list_any contradicts_role) files_are) ∙ none)) in
+        let more = no_more sources rules.ring rules.gap (report_on strict h.is.contents) (record { contents = h.is.contents; read = h.is.read; is = refl }) (all_silent texts reads_once sources h.is.contents h.is.read (sym (ap (list_any is_called_plated) files_are) ∙ none)) in
         let ds = more.1.contents in
         let pads : ℕ → List WidePad = λ layer. get_or board.layers layer [] in
         let macros : ℕ → List WidePad = λ file. get_or board.macros file [] in

@@ -1,6 +1,6 @@
--- The board of a package: what all of its files say together.
-use Rattle.std.specs.Prelude.{ℕ, ◌+◌, ◌<◌, ◌≡◌, ◌++◌, List, [], ◌∷◌, get_or, length, map, take, drop, true, Result, Ok, Err, ⊤}
-use Rattle.std.specs.List.{flat_map, enumerate_from, sum_by}
+-- The board of a package whose files are all read: what these say together, and the report on it.
+use Rattle.std.specs.Prelude.{ℕ, ◌<◌, ◌≡◌, List, [], get_or, length, map, true, Result, Ok, Err, ⊤}
+use Rattle.std.specs.List.{flat_map}
 use Rattle.grid_units.specs.Holes.{GridRules}
 use Rattle.grid_units.specs.declared.profile.Profile.{Profile}
 use Rattle.gerber_text.specs.Writing.{without_places}
@@ -8,14 +8,8 @@ use Rattle.layer_image.specs.Layers.{LayerImage, ReadsLayerIn}
 use Rattle.pad_shapes.specs.declared.drawn.Drawn.{Drawn}
 use Rattle.layer_features.specs.DrawnCopper.{drawn_in}
 use Rattle.pad_shapes.specs.declared.row.FeatureRow.{FeatureRow}
-use Rattle.pad_shapes.specs.WidePads.{wide_pad_covers}
 use Rattle.pad_shapes.specs.declared.wide_pad.WidePad.{WidePad}
-use Rattle.ring_rules.specs.Findings.{gap_findings, ring_findings}
-use Rattle.ring_rules.specs.declared.finding.Drilled.{Drilled}
-use Rattle.ring_rules.specs.declared.finding.Finding.{Finding}
-use Rattle.package_check.specs.declared.FileSum.{FileSum}
-use Rattle.package_check.specs.declared.FileSum.TheVariants as sum
-use Rattle.package_check.specs.declared.Numbered.{Numbered}
+use Rattle.board.specs.Boards.{BoardView, CountsAddUp, board_findings, numbered}
 use Rattle.package_check.specs.declared.PackageFault.{PackageFault}
 use Rattle.package_check.specs.declared.PackageFault.TheVariants as stop
 use Rattle.package_check.specs.declared.contents.Content.{Content}
@@ -23,18 +17,6 @@ use Rattle.package_check.specs.Reports.{ReportView}
 use Rattle.package_check.specs.FileTexts.{HasContours, HasMacros, HasRows}
 use Rattle.package_check.specs.SoundnessAsRead.{drilled_in}
 use Rattle.package_check.specs.Package.{FileView, HaveContents, IsFirstRefused, is_copper, layer_indexes, layers, sum_of}
-
--- the board of a package: the counts of each file, the pads and the index of each copper file, the holes of all drill files in order; and of each file what is kept
--- of rows, of shapes of macros and contours that the profile does not count, and of what is drawn
-pub record BoardView : Type 0 where
-  pub files : List FileSum
-  pub layers : List (List WidePad)
-  pub layer_indexes : List ℕ
-  pub holes : List Drilled
-  pub rows : List (List FeatureRow)
-  pub macros : List (List WidePad)
-  pub contours : List (List WidePad)
-  pub drawn : List (List Drawn)
 
 -- the board of files with these contents, rows, and pads that the profile does not count, which draw this
 abbrev pub board_of : List Content → List (List FeatureRow) → List (List WidePad) → List (List WidePad) → List (List Drawn) → BoardView
@@ -86,40 +68,9 @@ pub record IsDrawnBoard (sources : List FileView) (board : BoardView) : Type 0 w
   pub is : IsFlashedBoard sources board
   pub drawn : AreFileLists AreDrawnOf sources board.drawn
 
--- how many holes a file drills, slots among them; a copper file drills none
-abbrev pub hole_count : FileSum → ℕ
-hole_count (sum.Layer pads other contours) = 0
-hole_count (sum.Drill plated span contradicted round slots) = round + slots
-hole_count (sum.Mixed span round slots unplated) = round + slots
-
--- the number of holes in the files before one, by its index
-abbrev pub holes_before : List FileSum → ℕ → ℕ
-holes_before files file = sum_by hole_count (take file files)
-
--- the counts of the files add up to the number of these holes
-abbrev pub CountsAddUp : List FileSum → List Drilled → Type 0
-CountsAddUp files holes = sum_by hole_count files ≡ length holes
-
 -- where a package is read, the counts of its files add up to the holes of its board
 abbrev pub FileCountsAddUp : Type 0
 FileCountsAddUp = (sources : List FileView) (board : BoardView) → IsBoard sources board → CountsAddUp board.files board.holes
-
--- the holes of one file with its index, each with its number there, from 1
-abbrev pub numbered_in : ℕ → List Drilled → List Numbered
-numbered_in file holes = map (λ hole. record { file = file; number = hole.0; drilled = hole.1 }) (enumerate_from 1 holes)
-
--- the places of holes that are listed file by file, each file having as many as it counts; `file` is the index of the first of the files
-unfoldable pub numbered_from : ℕ → List FileSum → List Drilled → List Numbered
-numbered_from file [] holes = []
-numbered_from file (one ∷ files) holes = numbered_in file (take (hole_count one) holes) ++ numbered_from (file + 1) files (drop (hole_count one) holes)
-
--- the holes of a board with their places: the index of the file, from 0, and the number in it, from 1
-abbrev pub numbered : BoardView → List Numbered
-numbered board = numbered_from 0 board.files board.holes
-
--- what the rules find on a board: first the rings that are lacking, then the gaps
-abbrev pub board_findings : GridRules → BoardView → List Finding
-board_findings rules board = ring_findings wide_pad_covers rules.profile rules.ring board.layers board.holes ++ gap_findings rules.gap board.holes
 
 -- the report on a board under these rules
 abbrev pub reported : GridRules → BoardView → ReportView

@@ -4,11 +4,11 @@ use Rattle.grid_units.specs.Holes.{GridRules}
 use Rattle.ring_rules.specs.declared.finding.Drilled.{Drilled}
 use Rattle.ring_rules.specs.declared.layer_search.LayerSearch.{LayerSearch}
 use Rattle.ring_rules.specs.declared.ring_index.RingIndex.{RingIndex}
-use Rattle.package_check.specs.Boards.{hole_count}
+use Rattle.board.specs.Boards.{hole_count}
 use Rattle.package_check.specs.HoleViews.{HolesView}
 use Rattle.package_check.specs.Package.{Setting}
-use Rattle.package_check.specs.declared.FileSum.{FileSum}
-use Rattle.package_check.specs.declared.FileSum.TheVariants as sum
+use Rattle.board.specs.declared.FileSum.{FileSum}
+use Rattle.board.specs.declared.FileSum.TheVariants as sum
 use Rattle.package_check.specs.declared.PackageFault.{PackageFault}
 use Rattle.package_check.specs.declared.checking.Judged.{Judged}
 

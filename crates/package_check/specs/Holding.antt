@@ -14,9 +14,10 @@ use Rattle.package_check.specs.declared.PackageFault.{PackageFault}
 use Rattle.package_check.specs.declared.PackageFault.TheVariants as stop
 use Rattle.package_check.specs.declared.contents.Content.{Content}
 use Rattle.package_check.specs.declared.package_reader.PackageReader.{PackageReader}
-use Rattle.package_check.specs.declared.readers.Shown.{Shown}
+use Rattle.board.specs.declared.Shown.{Shown}
 use Rattle.package_check.specs.declared.slots.Kept.{Kept}
-use Rattle.package_check.specs.Boards.{BoardView, board_of}
+use Rattle.board.specs.Boards.{BoardView}
+use Rattle.package_check.specs.Boards.{board_of}
 use Rattle.package_check.specs.FileTexts.{Draws}
 use Rattle.package_check.specs.Package.{FileView, Reads, Setting, is_copper}
 
@@ -45,14 +46,14 @@ shown_in (Some one) = one.shown ∷ []
 -- the board of files with these contents, of which this is kept to be shown
 abbrev pub shown_board : List Content → List Shown → BoardView
 shown_board contents shown =
-    board_of contents (map (λ one. one.rows.items) shown) (map (λ one. one.uncounted.macros.items) shown) (map (λ one. one.uncounted.contours.items) shown)
+    board_of contents (map (λ one. one.rows.items) shown) (map (λ one. one.macros.items) shown) (map (λ one. one.contours.items) shown)
     (map (λ one. one.drawn.items) shown)
 
 -- what is kept to be shown of the layer of these commands: its rows, and the pads that the profile does not count
 pub record ShowsRows (profile : Profile) (commands : List Command) (shown : Shown) : Type 0 where
   pub rows : shown.rows.items ≡ rows_of (features_of profile commands)
-  pub macros : shown.uncounted.macros.items ≡ uncounted_macros profile (wide_features_of commands)
-  pub contours : shown.uncounted.contours.items ≡ uncounted_contours profile (wide_features_of commands)
+  pub macros : shown.macros.items ≡ uncounted_macros profile (wide_features_of commands)
+  pub contours : shown.contours.items ≡ uncounted_contours profile (wide_features_of commands)
 
 -- in the profile the bytes are the text of a layer, and this is kept of it to be shown
 abbrev pub HasShown : Profile → List ℕ → Shown → Type 0

@@ -15,13 +15,13 @@ use Rattle.package_check.specs.FileTexts.{HasLayerView, ReadsLayer, ReadsDrill, 
 use Rattle.package_check.specs.Reports.{ReportView}
 use Rattle.grid_units.specs.declared.fault.Fault.{Fault}
 use Rattle.package_check.specs.declared.File.{File}
-use Rattle.package_check.specs.declared.FileSum.{FileSum}
-use Rattle.package_check.specs.declared.Numbered.{Numbered}
+use Rattle.board.specs.declared.FileSum.{FileSum}
+use Rattle.board.specs.declared.Numbered.{Numbered}
 use Rattle.package_check.specs.declared.PackageFault.{PackageFault}
 use Rattle.manifest.specs.declared.Role.{Role}
 use Rattle.package_check.specs.declared.contents.Content.{Content}
 use Rattle.package_check.specs.declared.PiecedFile.{PiecedFile}
-use Rattle.package_check.specs.declared.FileSum.TheVariants as sum
+use Rattle.board.specs.declared.FileSum.TheVariants as sum
 use Rattle.package_check.specs.declared.PackageFault.TheVariants as stop
 use Rattle.grid_units.specs.declared.fault.Reason.TheVariants as reason
 use Rattle.manifest.specs.declared.Role.TheVariants as role
@@ -45,7 +45,7 @@ abbrev pub is_copper : Role → Bool
 is_copper role.Copper = true
 is_copper _ = false
 
--- the source for a file of the code
+-- the view of a file of the code
 abbrev pub file_view : Setting → File → FileView
 file_view setting file = record { role = file.role; name = file.name.now; span = file.span; bytes = file.bytes.now; setting = setting }
 
@@ -57,7 +57,7 @@ unnamed_file role span setting bytes = record { role = role; name = []; span = s
 abbrev pub layer_count : List File → ℕ
 layer_count files = count_by (λ file. is_copper file.role) files
 
--- the sources for the files of a package that is read in a profile, each with the number of copper files among them
+-- the views of the files of a package that is read in a profile, each with the number of copper files among them
 abbrev pub file_views_in : Profile → List File → List FileView
 file_views_in profile files = map (file_view (record { layers = layer_count files; profile = profile })) files
 
@@ -248,7 +248,7 @@ NamesItsPlaces report = All (NamesPlaces (length report.layers) (length report.h
 abbrev pub FindingsNameTheirPlaces : Type 0
 FindingsNameTheirPlaces = (sources : List FileView) (rules : GridRules) (report : ReportView) → IsReport sources rules report → NamesItsPlaces report
 
--- the source for a file that comes in pieces: its bytes are the pieces, joined
+-- the view of a file that comes in pieces: its bytes are the pieces, joined
 abbrev pub pieced_file_view : Setting → PiecedFile → FileView
 pieced_file_view setting file = record { role = file.role; name = file.name.now; span = file.span; bytes = concat (map (λ piece. piece.now) file.pieces.now); setting = setting }
 
@@ -256,6 +256,6 @@ pieced_file_view setting file = record { role = file.role; name = file.name.now;
 abbrev pub pieced_layer_count : List PiecedFile → ℕ
 pieced_layer_count files = count_by (λ file. is_copper file.role) files
 
--- the sources for the files of a package that is read in a profile, each with the number of copper files among them
+-- the views of the files of a package that is read in a profile, each with the number of copper files among them
 abbrev pub pieced_file_views : Profile → List PiecedFile → List FileView
 pieced_file_views profile files = map (pieced_file_view (record { layers = pieced_layer_count files; profile = profile })) files

@@ -1,5 +1,5 @@
 -- When a package is sound: what its files say as they are written, by the grammars of their formats, and what holds of that.
-use Rattle.std.specs.Prelude.{◌≡◌, ◌≤◌, ◌<◌, ℕ, Bool, true, false, not, List, [], map, length, get_or, Option, None, Some, ⊤}
+use Rattle.std.specs.Prelude.{◌≡◌, ◌≤◌, ◌<◌, ℕ, Bool, true, false, not, List, [], map, length, get_or, count_by, Option, None, Some, ⊤}
 use Rattle.std.specs.List.{AllPairs, AllZip, Contains, filter, flat_map}
 use Rattle.grid_units.specs.Holes.{GridHole, GridRules, AreClear}
 use Rattle.grid_units.specs.Lists.{last_set}
@@ -28,7 +28,7 @@ use Rattle.pad_shapes.specs.declared.wide_pad.WidePad.TheVariants.{Plain}
 use Rattle.package_check.specs.Package.{FileView, IsReport, is_copper}
 use Rattle.package_check.specs.Reports.{ReportView}
 
--- a span is a run of so many layers, which are numbered from 1; without one the holes go through all
+-- a span lies within so many layers, which are numbered from 1; without one the holes go through all
 abbrev pub IsRun : ℕ → Option LayerSpan → Type 0
 IsRun layers None = ⊤
 IsRun layers (Some span) = (1 ≤ span.first) × (span.first ≤ span.last) × (span.last ≤ layers)
@@ -39,7 +39,8 @@ abbrev pub MakePads : Profile → List Command → List WidePad → Type 0
 MakePads Strict commands made = (pads : List Pad) × ArePads commands pads × (made ≡ map Plain pads)
 MakePads Wide commands made = AreWidePads commands made
 
--- a copper file says these pads: its bytes are a Gerber text of commands that make just these, and the last file function among the commands, if any, is that of copper
+-- a copper file says these pads: its bytes are a Gerber text of commands that make just these, and the last file function among the commands, if any, is that of copper; no
+-- span is named for it
 pub record SaysPads (file : FileView) (pads : List WidePad) : Type 0 where
   pub commands : List Command
   pub written : gerber.IsTextIn file.setting.profile file.bytes commands
@@ -48,14 +49,14 @@ pub record SaysPads (file : FileView) (pads : List WidePad) : Type 0 where
   pub spanless : file.span ≡ None
 
 -- Holes of a drill file with their platings and its span: each hole of a file has the plating that the file's role says, and each of a mixed file is plated or unplated
--- as the comment before the definition of its tool calls it.
+-- as the comment before the definition of its tool calls it. No drill file has the role Copper, and only the wide profile reads one with the role Mixed.
 abbrev pub AreDrilledBy : Role → Option LayerSpan → List DrillCommand → List GridHole → List Drilled → Type 0
 AreDrilledBy role.Mixed span commands holes drilled = (plated : List Bool) × AreCalled commands plated × (drilled ≡ marked span holes plated)
 AreDrilledBy role.Plated span commands holes drilled = drilled ≡ map (λ hole. record { hole = hole; plated = true; span = span }) holes
 AreDrilledBy _ span commands holes drilled = drilled ≡ map (λ hole. record { hole = hole; plated = false; span = span }) holes
 
 -- a drill file says these holes: its bytes are a text of commands by the grammar of the profile, these drill just the holes, and they have their platings and the span of
--- the file
+-- the file, which lies within the layers of the package
 pub record SaysHoles (file : FileView) (drilled : List Drilled) : Type 0 where
   pub commands : List DrillCommand
   pub written : drill.IsText file.setting.profile file.bytes commands
@@ -70,8 +71,8 @@ LiesAsAllowed Strict hole = IsAxisAligned hole.from hole.to
 LiesAsAllowed Wide hole = ⊤
 
 -- Each copper file says the pads of a layer, and each drill file holes. On each layer of its span each plated hole, round or a slot, lies as the profile allows, and one pad of
--- the layer holds it, with the ring round each point between its ends. Two holes, of whatever files, are clear: their centres, or the lines between
--- their ends, are both radii and the gap apart, so that no points of them are nearer than the gap (ring_rules, `clear_holes_are_apart`).
+-- the layer holds it, with the ring round each point between its ends. Two holes, of whatever files, are clear: their cores (the centre, the line
+-- between the ends, of an oblique slot their box) are both radii and the gap apart, so that no points of them are nearer than the gap (ring_rules, `clear_holes_are_apart`).
 pub record IsSound (sources : List FileView) (rules : GridRules) : Type 0 where
   pub layers : List (List WidePad)
   pub drills : List (List Drilled)
@@ -85,6 +86,12 @@ pub record IsSound (sources : List FileView) (rules : GridRules) : Type 0 where
 abbrev pub AreStraight : List FileView → Type 0
 AreStraight sources =
     (file : FileView) (drilled : List Drilled) (d : Drilled) → Contains sources file → SaysHoles file drilled → Contains drilled d → d.plated ≡ true → IsAxisAligned d.hole.from d.hole.to
+
+-- In the strict profile a sound package of a layer and more has no oblique plated slot: each is one of those that `IsSound` holds, as its span is a run of the
+-- layers. Each file is read as one of a package of so many layers as it has copper files.
+abbrev pub SoundIsStraight : Type 0
+SoundIsStraight = (sources : List FileView) (rules : GridRules) → rules.profile ≡ Strict → ((file : FileView) → Contains sources file → file.setting.layers ≡ count_by (λ one. is_copper one.role) sources)
+    → 0 < count_by (λ one. is_copper one.role) sources → IsSound sources rules → AreStraight sources
 
 -- a copper file says at most one list of pads
 abbrev pub PadsAreSaidOnce : Type 0

@@ -8,9 +8,9 @@ use Rattle.grid_units.specs.declared.profile.Profile.TheVariants.{Strict, Wide}
 use Rattle.ring_rules.specs.declared.finding.Finding.{Finding}
 use Rattle.ring_rules.specs.declared.finding.Finding.TheVariants.{Ring, Oblique, Gap}
 use Rattle.grid_units.specs.Spans.{LayerSpan}
-use Rattle.package_check.specs.declared.FileSum.{FileSum}
-use Rattle.package_check.specs.declared.FileSum.TheVariants as sum
-use Rattle.package_check.specs.declared.Numbered.{Numbered}
+use Rattle.board.specs.declared.FileSum.{FileSum}
+use Rattle.board.specs.declared.FileSum.TheVariants as sum
+use Rattle.board.specs.declared.Numbered.{Numbered}
 use Rattle.package_check.specs.Reports.{ReportView}
 use Rattle.package_check.specs.Package.{FileView}
 use Rattle.grid_units.specs.Ascii as ascii

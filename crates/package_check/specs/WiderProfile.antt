@@ -14,11 +14,12 @@ use Rattle.ring_rules.specs.Findings.{gap_findings, layer_findings}
 use Rattle.ring_rules.specs.declared.finding.Finding.{Finding}
 use Rattle.ring_rules.specs.declared.finding.Finding.TheVariants.{Ring, Oblique, Gap}
 use Rattle.manifest.specs.declared.Role.TheVariants as role
-use Rattle.package_check.specs.Boards.{BoardView, IsFlashedBoard}
+use Rattle.board.specs.Boards.{BoardView}
+use Rattle.package_check.specs.Boards.{IsFlashedBoard}
 use Rattle.package_check.specs.Package.{FileView, HasContent, IsFirstRefused, IsReport}
 use Rattle.package_check.specs.Reports.{ReportView}
-use Rattle.package_check.specs.declared.FileSum.{FileSum}
-use Rattle.package_check.specs.declared.FileSum.TheVariants as sum
+use Rattle.board.specs.declared.FileSum.{FileSum}
+use Rattle.board.specs.declared.FileSum.TheVariants as sum
 use Rattle.package_check.specs.declared.contents.Content.{Content}
 
 -- the same file, read in a profile
@@ -41,17 +42,17 @@ pub record FindsNoMore (wide strict : ReportView) : Type 0 where
       → Contains strict.findings (Ring layer hole) ⊎ Contains strict.findings (Oblique layer hole)
   pub angles : (layer hole : ℕ) → ¬ Contains wide.findings (Oblique layer hole)
 
--- a file does not contradict its role: where that says that no hole is plated, no comment of its drill text says that holes are
+-- a file is not called plated where its role says that no hole is: no comment of its drill text says that holes are
 abbrev pub IsUncontradicted : FileView → Type 0
 IsUncontradicted source =
     source.role ≡ role.Unplated → (commands : List DrillCommand) → IsDrillText source.bytes commands → list_any calls_plated commands ≡ false
 
--- a package that the strict profile reads, and of which no file contradicts its role, the wide one reads too, and finds no more
+-- a package that the strict profile reads, and of which no file is called plated where its role is unplated, the wide one reads too, and finds no more
 abbrev pub WideFindsNoMore : Type 0
 WideFindsNoMore = (sources : List FileView) (ring gap : ℕ) (strict : ReportView) → IsReport (map (read_in Strict) sources) (record { ring = ring; gap = gap; profile = Strict }) strict → AllByRecursion IsUncontradicted sources
     → (wide : ReportView) × IsReport (map (read_in Wide) sources) (record { ring = ring; gap = gap; profile = Wide }) wide × FindsNoMore wide strict
 
--- a file that the wide profile reads does not contradict its role
+-- a file that the wide profile reads is not called plated where its role is unplated
 abbrev pub ReadIsUncontradicted : Type 0
 ReadIsUncontradicted = (source : FileView) (content : Content) → HasContent (read_in Wide source) content → IsUncontradicted source
 
@@ -61,10 +62,10 @@ ReadIsUncontradicted = (source : FileView) (content : Content) → HasContent (r
 abbrev pub in_wide : GridRules → GridRules
 in_wide rules = record { ring = rules.ring; gap = rules.gap; profile = Wide }
 
--- a drill file contradicts its role: that says that no hole is plated, and a comment says that holes are
-abbrev pub contradicts_role : FileSum → Bool
-contradicts_role (sum.Drill plated span contradicted round slots) = not plated && contradicted
-contradicts_role _ = false
+-- a drill file whose role says that no hole is plated, and of which a comment says that holes are
+abbrev pub is_called_plated : FileSum → Bool
+is_called_plated (sum.Drill plated span contradicted round slots) = not plated && contradicted
+is_called_plated _ = false
 
 -- all pads of a layer, by its place among the copper files and the index of its file: those that the profile counts, the shapes of macros, and the contours
 abbrev pub all_pads : BoardView → ℕ × ℕ → List WidePad
@@ -78,11 +79,11 @@ layer_rings rules board layer = layer_findings wide_pad_covers rules.profile rul
 abbrev pub wide_rings : GridRules → BoardView → List Finding
 wide_rings rules board = flat_map (layer_rings (in_wide rules) board) (enumerate_from 0 board.layer_indexes)
 
--- What the wide profile says of the files of a board that was read in the strict one: it refuses one of them where a drill file contradicts its role. Else it finds
+-- What the wide profile says of the files of a board that was read in the strict one: it refuses one of them where a file with the role unplated is called plated. Else it finds
 -- the rings that lack where all pads of the board count, and the same gaps.
 pub record AnswersInWide (sources : List FileView) (rules : GridRules) (board : BoardView) : Type 0 where
-  pub refuses : list_any contradicts_role board.files ≡ true → (index : ℕ) × (fault : Fault) × IsFirstRefused (map (read_in Wide) sources) index fault
-  pub reads : list_any contradicts_role board.files ≡ false
+  pub refuses : list_any is_called_plated board.files ≡ true → (index : ℕ) × (fault : Fault) × IsFirstRefused (map (read_in Wide) sources) index fault
+  pub reads : list_any is_called_plated board.files ≡ false
       → (wide : ReportView) × IsReport (map (read_in Wide) sources) (in_wide rules) wide
       × (wide.findings ≡ wide_rings rules board ++ gap_findings rules.gap board.holes)
 

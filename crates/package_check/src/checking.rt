@@ -21,7 +21,7 @@ ghost use Rattle.package_check.specs.declared.PackageFault.TheVariants as stop;
 ghost use Rattle.package_check.specs.declared.checking.Judged.{Judged as TheJudged};
 ghost use Rattle.ring_rules.specs.Findings.{gap_findings};
 
-use crate::board::{len_of, push_holes, sum_of};
+use crate::boards::{len_of, push_holes, sum_of};
 use crate::indexed_holes::IndexedHoles;
 use crate::laws::{findings_name_their_places, passing_is_sound, unique_answer, unique_reading};
 use crate::open_copper::{CopperReading, OpenCopper};

@@ -13,7 +13,8 @@ ghost use Rattle.package_check.specs.OpenFiles.{CopperStandsIn};
 ghost use Rattle.package_check.specs.Package.{ReadsCopper, ReadsHoles, ReadsMixedHoles, bad_span, is_bad_span, is_copper, not_copper};
 
 use crate::Role;
-use crate::readers::{Drill, Layer, MixedDrill, Shown, read_holes, read_layer_view, read_mixed};
+use crate::readers::{Drill, Layer, MixedDrill, read_holes, read_layer_view, read_mixed};
+use board::Shown;
 use drill_text::DrillReader;
 use grid_units::{Fail, Fault, Reason};
 use layer_image::{Keep, LayerReader};

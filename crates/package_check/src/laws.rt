@@ -2,7 +2,7 @@
 ghost use Rattle.package_check.specs.AlikePackages.{SameAnswers, AnswerIsUnique, ReadingIsUnique, AnswerExists, ReadingExists};
 ghost use Rattle.package_check.specs.Boards.{FileCountsAddUp};
 ghost use Rattle.package_check.specs.Package.{FindingsNameTheirPlaces};
-ghost use Rattle.package_check.specs.Soundness.{HolesAreSaidOnce, PadsAreSaidOnce, PassingIsSound};
+ghost use Rattle.package_check.specs.Soundness.{HolesAreSaidOnce, PadsAreSaidOnce, PassingIsSound, SoundIsStraight};
 ghost use Rattle.package_check.specs.SoundnessAsRead.{PassingIsSoundAsRead, SoundAsReadIsSound};
 ghost use Rattle.package_check.specs.WiderProfile.{ReadIsUncontradicted, WideAnswersByBoard, WideFindsNoMore};
 
@@ -54,6 +54,13 @@ pub fn files_say_once()
     drill_text::text_grammar();
     drill_text::drilled_holes();
     drill_text::laws::mixed_files();
+}
+
+/// In the strict profile a sound package with a copper layer has no oblique plated slot.
+pub fn sound_is_straight()
+    ensures { SoundIsStraight }
+{
+    files_say_once();
 }
 
 /// In the report on a package each finding names a layer and a hole, or two holes, the first before the second.

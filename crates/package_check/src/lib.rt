@@ -1,7 +1,7 @@
 //! The check of a package: each file is read, and the rules are applied to what the files say.
 #![tactic(auto)]
 
-mod board;
+mod boards;
 mod checking;
 mod contents;
 mod indexed_holes;
@@ -18,7 +18,7 @@ mod report;
 mod slots;
 mod text;
 
-pub use board::{Board, hole_count};
+pub use board::{Board, FileSum, Numbered, hole_count};
 pub use checking::PackageCheck;
 use grid_units::Fault;
 pub use layer_features::Keep;
@@ -30,7 +30,6 @@ pub use package::{check_bytes, layer_count, read_package};
 pub use package_reader::PackageReader;
 pub use pieces::check_pieces;
 pub use report::Report;
-use ring_rules::Drilled;
 pub use ring_rules::Span;
 pub use text::{CheckText, write_report};
 use thiserror::Error;
@@ -64,38 +63,4 @@ pub enum PackageFault {
     /// The file at this index of the list, from 0, is refused.
     #[error("the file at index {index} is refused")]
     File { index: usize, fault: Fault },
-}
-
-/// The counts of a file: flashed pads, other flashes and contours that count as pads of a layer, round holes and slots of a drill file.
-#[derive(Clone, Copy, Debug, PartialEq, Eq)]
-pub enum FileSum {
-    Layer {
-        pads: usize,
-        other: usize,
-        contours: usize,
-    },
-    /// A drill file whose role says whether its holes are plated. It is `contradicted` where its role is `unplated` and a comment says
-    /// that holes are plated, or its role is `plated` and a comment says that holes are not plated, and none that they are.
-    Drill {
-        plated: bool,
-        span: Option<Span>,
-        contradicted: bool,
-        round: usize,
-        slots: usize,
-    },
-    /// A mixed drill file: `unplated` of its holes and slots are not plated.
-    Mixed {
-        span: Option<Span>,
-        round: usize,
-        slots: usize,
-        unplated: usize,
-    },
-}
-
-/// A hole, with the index of its file among all files, from 0, and its number in that file, from 1.
-#[derive(Clone, Copy, Debug, PartialEq, Eq)]
-pub struct Numbered {
-    pub file: usize,
-    pub number: usize,
-    pub drilled: Drilled,
 }

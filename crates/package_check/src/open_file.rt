@@ -22,7 +22,7 @@ use crate::contents::{
     Content, bad_span, is_bad_span, read_copper, read_drill_content, read_mixed_content,
 };
 use crate::indexed_holes::PIECE;
-use crate::readers::Shown;
+use board::Shown;
 use drill_text::{DrillReader, PlatingKind};
 use grid_units::{Fail, Profile};
 use layer_image::{Keep, LayerReader, readings_in_profiles};

@@ -1,19 +1,18 @@
 // The check of a package.
-ghost use Rattle.std.specs.Prelude.{◌≡◌, ◌<◌, ℕ, [], true, Result, IfOk, OnOk};
+ghost use Rattle.std.specs.Prelude.{◌≡◌, ℕ, [], true, Result, IfOk, OnOk};
 ghost use Rattle.grid_units.specs.declared.fault.Fault.{Fault as TheFault};
 ghost use Rattle.layer_features.specs.Kept.{keeps_drawn, keeps_rows};
 ghost use Rattle.package_check.specs.Boards.{IsBoard, IsDrawnBoard, IsFlashedBoard, Returns};
 ghost use Rattle.grid_units.specs.declared.profile.Profile.{Profile as TheProfile};
-ghost use Rattle.grid_units.specs.declared.profile.Profile.TheVariants.{Strict};
 ghost use Rattle.package_check.specs.Package.{ReturnsExactly, ReturnsReport, IsAnswer, NamesItsPlaces, layer_count, file_views_in};
 ghost use Rattle.package_check.specs.Reports.{ReportView};
-ghost use Rattle.package_check.specs.Soundness.{AreStraight, IsSound};
+ghost use Rattle.package_check.specs.Soundness.{IsSound};
 ghost use Rattle.package_check.specs.SoundnessAsRead.{AreLegal};
 ghost use Rattle.package_check.specs.Checking.{HasJudgedAll, JudgesThose};
 ghost use Rattle.package_check.specs.Holding.{HasTakenAll, TakesThose, is_kind_at, setting_of};
 
 use crate::contents::{is_copper, is_kind};
-use crate::laws::{files_say_once, findings_name_their_places, passing_is_sound, unique_answer};
+use crate::laws::{findings_name_their_places, passing_is_sound, unique_answer};
 use crate::{Board, File, Keep, PackageCheck, PackageFault, PackageReader, Report};
 use grid_units::{Profile, Rules};
 use std::alloc::{AllocError, Global};
@@ -98,12 +97,10 @@ pub fn check_bytes(alloc: Global, files: &[File], rules: Rules) -> Result<Report
     ensures exact { ReturnsReport (file_views_in rules.profile files.now) rules result }
     ensures only { (answer : Result ReportView (ℕ × TheFault)) → IsAnswer (file_views_in rules.profile files.now) rules answer → ReturnsExactly answer result }
     ensures places { IfOk result NamesItsPlaces }
-    ensures straight { rules.profile ≡ Strict → IfOk result (λ report. report.findings ≡ [] → 0 < layer_count files.now → AreStraight (file_views_in rules.profile files.now)) }
     ensures legal { IfOk result (λ report. AreLegal (file_views_in rules.profile files.now)) }
     ensures sound { IfOk result (λ report. report.findings ≡ [] → IsSound (file_views_in rules.profile files.now) rules) }
 {
     unique_answer();
-    files_say_once();
     findings_name_their_places();
     passing_is_sound();
     report_of(alloc, files, rules)

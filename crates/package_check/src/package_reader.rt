@@ -14,9 +14,9 @@ ghost use Rattle.package_check.specs.OpenFiles.{HasOpened, HasReadText};
 ghost use Rattle.package_check.specs.declared.PackageFault.TheVariants as stop;
 
 use crate::open_file::{OpenFile, Reading};
-use crate::readers::Shown;
 use crate::slots::{Kept, board_of_slots, put};
 use crate::{Board, PackageFault, Role};
+use board::Shown;
 use grid_units::{Fail, Profile};
 use layer_features::Keep;
 use layer_image::readings_in_profiles;

@@ -1,18 +1,17 @@
 //! The check of a package whose files come in pieces.
 
-ghost use Rattle.std.specs.Prelude.{◌≡◌, ◌<◌, ℕ, [], false, true, Result, IfOk, OnOk};
+ghost use Rattle.std.specs.Prelude.{◌≡◌, ℕ, [], false, true, Result, IfOk, OnOk};
 ghost use Rattle.grid_units.specs.declared.fault.Fault.{Fault as TheFault};
 ghost use Rattle.grid_units.specs.declared.profile.Profile.{Profile as TheProfile};
-ghost use Rattle.grid_units.specs.declared.profile.Profile.TheVariants.{Strict};
 ghost use Rattle.package_check.specs.Package.{ReturnsExactly, ReturnsReport, IsAnswer, NamesItsPlaces, pieced_layer_count, pieced_file_views};
 ghost use Rattle.package_check.specs.Reports.{ReportView};
-ghost use Rattle.package_check.specs.Soundness.{AreStraight, IsSound};
+ghost use Rattle.package_check.specs.Soundness.{IsSound};
 ghost use Rattle.package_check.specs.SoundnessAsRead.{AreLegal};
 ghost use Rattle.package_check.specs.Checking.{HasJudgedAll, JudgesThose};
 ghost use Rattle.package_check.specs.Holding.{TakesThose, is_kind_at, setting_of};
 
 use crate::contents::{is_copper, is_kind};
-use crate::laws::{files_say_once, findings_name_their_places, passing_is_sound, unique_answer};
+use crate::laws::{findings_name_their_places, passing_is_sound, unique_answer};
 use crate::{PackageCheck, PackageFault, PackageReader, PiecedFile, Report};
 use grid_units::Rules;
 use std::alloc::{AllocError, Global};
@@ -83,12 +82,10 @@ pub fn check_pieces(
     ensures exact { ReturnsReport (pieced_file_views rules.profile files.now) rules result }
     ensures only { (answer : Result ReportView (ℕ × TheFault)) → IsAnswer (pieced_file_views rules.profile files.now) rules answer → ReturnsExactly answer result }
     ensures places { IfOk result NamesItsPlaces }
-    ensures straight { rules.profile ≡ Strict → IfOk result (λ report. report.findings ≡ [] → 0 < pieced_layer_count files.now → AreStraight (pieced_file_views rules.profile files.now)) }
     ensures legal { IfOk result (λ report. AreLegal (pieced_file_views rules.profile files.now)) }
     ensures sound { IfOk result (λ report. report.findings ≡ [] → IsSound (pieced_file_views rules.profile files.now) rules) }
 {
     unique_answer();
-    files_say_once();
     findings_name_their_places();
     passing_is_sound();
     report_of(alloc, files, rules)

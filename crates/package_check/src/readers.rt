@@ -20,12 +20,12 @@ ghost use Rattle.package_check.specs.FileTexts.{Draws, HasLayerView, ReadsLayer,
 ghost use Rattle.package_check.specs.Holding.{HasShown, ShowsRows};
 ghost use Rattle.package_check.specs.OpenFiles.{CopperStandsIn, copper_keep};
 
+use board::Shown;
 use drill_text::DrillReader;
 use grid_units::numbers::len_before;
 use grid_units::{Fail, Hole, Profile};
 use layer_image::{
-    Drawn, Feature, FeatureRow, Keep, LayerReader, Uncounted, counted_in, into_pads, rows_of,
-    strict_layers,
+    Feature, Keep, LayerReader, Uncounted, counted_in, into_pads, rows_of, strict_layers,
 };
 use pad_shapes::WidePad;
 use ring_rules::{Drilled, Span};
@@ -137,53 +137,6 @@ impl MixedDrill {
     }
 }
 
-/// What is kept of a file to be shown: the rows of its flashes and contours, the pads that its profile does not count, and what its
-/// commands draw, each where it is asked for.
-#[derive(Drop)]
-pub(crate) struct Shown {
-    rows: Vec<FeatureRow>,
-    uncounted: Uncounted,
-    drawn: Vec<Drawn>,
-}
-
-impl Shown {
-    /// Nothing to be shown. This takes no memory.
-    pub(crate) fn nothing(alloc: Global) -> Shown
-        ensures rows { result.rows.items ≡ [] }
-        ensures drawn { result.drawn.items ≡ [] }
-    {
-        Shown {
-            rows: Vec::new(alloc),
-            uncounted: Uncounted::nothing(alloc),
-            drawn: Vec::new(alloc),
-        }
-    }
-
-    pub(crate) fn rows(&self) -> &[FeatureRow]
-        ensures { result.now ≡ self.now.rows.items }
-    {
-        &self.rows
-    }
-
-    pub(crate) fn macros(&self) -> &[WidePad]
-        ensures { result.now ≡ self.now.uncounted.macros.items }
-    {
-        &self.uncounted.macros
-    }
-
-    pub(crate) fn contours(&self) -> &[WidePad]
-        ensures { result.now ≡ self.now.uncounted.contours.items }
-    {
-        &self.uncounted.contours
-    }
-
-    pub(crate) fn drawn(&self) -> &[Drawn]
-        ensures { result.now ≡ self.now.drawn.items }
-    {
-        &self.drawn
-    }
-}
-
 /// Whether the first field of a file function is `Copper`. A layer without one is taken for copper.
 pub(crate) fn is_copper_function(function: Option<&[u8]>) -> bool
     ensures { result ≡ is_copper_function (option_copied function.entry) }
@@ -224,7 +177,8 @@ fn show_rows(
 ) -> Result<Vec<WidePad>, AllocError>
     ensures pads { IfOk result (λ pads. pads.items ≡ pads_of features.items) }
     ensures rows { OnOk result (shown.new.rows.items ≡ rows_of features.items) }
-    ensures uncounted { shown.new.uncounted ≡ shown.old.uncounted }
+    ensures macros { shown.new.macros ≡ shown.old.macros }
+    ensures contours { shown.new.contours ≡ shown.old.contours }
     ensures drawn { shown.new.drawn ≡ shown.old.drawn }
 {
     match rows_of(alloc, &features) {
@@ -251,7 +205,9 @@ fn rows_view(
     let (features, drawn) = image.into_rows();
     shown.drawn = drawn;
     let (features, uncounted) = counted_in(alloc, profile, features)?;
-    shown.uncounted = uncounted;
+    let Uncounted { macros, contours } = uncounted;
+    shown.macros = macros;
+    shown.contours = contours;
     Ok(Layer {
         pads: show_rows(alloc, shown, features)?,
         flashed: counts.flashed,

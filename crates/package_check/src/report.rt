@@ -1,7 +1,7 @@
 // The report on what the files of a package say.
 ghost use Rattle.std.specs.Prelude.{◌≡◌, ◌<◌, List, Some, IfOk, length, slice_get};
-ghost use Rattle.package_check.specs.declared.FileSum.{FileSum as TheFileSum};
-ghost use Rattle.package_check.specs.Boards.{CountsAddUp, numbered_from};
+ghost use Rattle.board.specs.declared.FileSum.{FileSum as TheFileSum};
+ghost use Rattle.board.specs.Boards.{CountsAddUp, numbered_from};
 ghost use Rattle.package_check.specs.Inner.Leftovers.{AreFileStarts};
 
 use crate::{FileSum, Numbered, hole_count};
@@ -23,7 +23,7 @@ pub struct Report {
 }
 
 impl Model for Report {
-    ghost use Rattle.package_check.specs.Boards.{numbered_from};
+    ghost use Rattle.board.specs.Boards.{numbered_from};
     ghost use Rattle.package_check.specs.Inner.Leftovers.{AreFileStarts};
     ghost use Rattle.package_check.specs.Reports.{ReportView};
 

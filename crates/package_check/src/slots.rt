@@ -4,10 +4,9 @@ ghost use Rattle.std.specs.Prelude.{◌≡◌, ◌≤◌, ◌<◌, ◌++◌, ℕ
 ghost use Rattle.std.specs.List.{flat_map};
 ghost use Rattle.package_check.specs.Holding.{IsPutAt, contents_in, kept_at, shown_board, shown_in};
 
-use crate::Board;
-use crate::board::board_of;
+use crate::boards::board_of;
 use crate::contents::Content;
-use crate::readers::Shown;
+use board::{Board, Shown};
 use std::alloc::{AllocError, Global};
 
 /// What is kept of a file: its content, and what is kept of it to be shown.

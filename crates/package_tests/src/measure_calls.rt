@@ -2,9 +2,9 @@
 
 mod made;
 
+use board::Met;
 use board_report::{files_with_holes, measure_board, measure_bytes, place_among, place_of};
 use grid_units::{Fault, Profile, Reason, Rules};
-use margins::Met;
 use package_check::{File, Keep, PackageFault, Role, check_bytes, read_package};
 use report::{GapLine, HolePlace, LeastRing, Meets, RingLine, UnitFactor, UnitMistake};
 use std::alloc::Global;

@@ -63,7 +63,7 @@ square_bound a b h l =
     let q : b * b ≤ 20000000000000 * 20000000000000 = mul-le b b 20000000000000 20000000000000 l l in
     omega (arith, p, q)
 
-one-le-square : (n : ℕ) → 1 ≤ n → 1 ≤ n * n
+pub one-le-square : (n : ℕ) → 1 ≤ n → 1 ≤ n * n
 one-le-square n h = mul-le 1 1 n n h h
 
 -- an area whose whole part is more than an edge's length
@@ -97,19 +97,11 @@ carried Less a b c d e h = omega (arith, e, h)
 carried Equal a b c d e h = omega (arith, e, h)
 carried Greater a b c d e h = omega (arith, e, h)
 
-pub loss_above : (depth rest gain loss : ℕ) → rest < depth → gain < loss → depth * gain < square rest + depth * loss
-loss_above depth rest gain loss less more =
-    let f : depth * (gain + 1) ≤ depth * loss = mul-le-mul_left depth (omega (arith, more)) in
-    omega (arith, f, less)
-
 pub gain_above : (depth rest gain loss more : ℕ) → rest < depth → gain ≡ loss + more → depth ≤ more → square rest + depth * loss < depth * gain
 gain_above depth rest gain loss more less e far =
     let f : (rest + 1) * (rest + 1) ≤ depth * depth = mul-le (rest + 1) (rest + 1) depth depth (omega (arith, less)) (omega (arith, less)) in
     let g : depth * depth ≤ depth * more = mul-le-mul_left depth far in
     omega (arith, f, g, ap (λ t. depth * t) e)
-
-pub gain_split : (depth gain loss more : ℕ) → gain ≡ loss + more → depth * gain ≡ depth * loss + depth * more
-gain_split depth gain loss more e = omega (arith, ap (λ t. depth * t) e)
 
 -- a side of a box, as the code forms it
 pub zone_low : (l k z : ℤ) (reach radius : ℕ) → l ≡ k → unsigned_abs l ≤ 10000000000000 → reach ≤ 20000000000000 → radius ≤ 5000000000000 → ((k -ℤ pos radius) +ℤ pos reach) ≤ℤ z

@@ -1,16 +1,15 @@
 -- The corners of a polygon lie near just where both corners of their box do.
-use Rattle.std.proofs.Common.{◌≡◌, ◌∙◌, ℤ, ◌≤ℤ◌, ◌&&◌, arith, Bool, true, false, not, List, [], ◌∷◌, refl, sym}
+use Rattle.std.proofs.Common.{◌≡◌, ◌∙◌, ℤ, ◌≤ℤ◌, ◌&&◌, arith, true, not, List, [], ◌∷◌, refl, sym}
 use Rattle.std.specs.List.{fold, list_all}
+use Rattle.std.specs.Cmp.{both_ways}
 use Rattle.std.specs.Int.{int_min, int_max}
 use Rattle.std.proofs.lemmas.Int.{clamps, ints}
-use Rattle.std.proofs.lemmas.Bool.{false≢true}
 use Rattle.std.proofs.lemmas.Grind.{common_steps}
 use Rattle.grid_units.proofs.BoolLemmas.{both_true}
 use Rattle.grid_units.specs.Numbers.{is_too_far}
 use Rattle.grid_units.specs.Points.{GridPoint, IsCoordinate}
-use Rattle.pad_shapes.specs.Rounded.{GridRounded, corners}
+use Rattle.pad_shapes.specs.Rounded.{GridRounded, box_corner, corners}
 use Rattle.pad_shapes.specs.Placed.{is_near, moved_point, moved_shape}
-use Rattle.pad_shapes.specs.Inner.Frames.{high_corner, low_corner}
 use Rattle.pad_shapes.proofs.MovedShapes.{greatest-shift, least-shift}
 use Rattle.pad_shapes.proofs.PlacedLemmas.{greatest_near, least_near, near_x, near_y}
 
@@ -58,40 +57,35 @@ all_in_box (v ∷ vs) l g b t nl ng nb nt =
     (λ i. first i && all_in_box vs (int_min l v.x) (int_max g v.x) (int_min b v.y) (int_max t v.y) nl ng nb nt i)
 
 -- of a shape at its place
-near_by_box : (s : GridRounded) → is_near (low_corner s) && is_near (high_corner s) ≡ true → list_all is_near (corners s) ≡ true
+near_by_box : (s : GridRounded) → is_near (box_corner int_min s) && is_near (box_corner int_max s) ≡ true → list_all is_near (corners s) ≡ true
 near_by_box s h =
-    let both = both_true (is_near (low_corner s)) (is_near (high_corner s)) h in
-    let nl = near_x (low_corner s) both.0 in
-    let ng = near_x (high_corner s) both.1 in
-    let nb = near_y (low_corner s) both.0 in
-    let nt = near_y (high_corner s) both.1 in
-    let first = in_box s.first (low_corner s).x (high_corner s).x (low_corner s).y (high_corner s).y (least_low (λ v. v.x) s.first.x s.others) (greatest_high (λ v. v.x) s.first.x s.others)
+    let both = both_true (is_near (box_corner int_min s)) (is_near (box_corner int_max s)) h in
+    let nl = near_x (box_corner int_min s) both.0 in
+    let ng = near_x (box_corner int_max s) both.1 in
+    let nb = near_y (box_corner int_min s) both.0 in
+    let nt = near_y (box_corner int_max s) both.1 in
+    let first = in_box s.first (box_corner int_min s).x (box_corner int_max s).x (box_corner int_min s).y (box_corner int_max s).y (least_low (λ v. v.x) s.first.x s.others) (greatest_high (λ v. v.x) s.first.x s.others)
     (least_low (λ v. v.y) s.first.y s.others) (greatest_high (λ v. v.y) s.first.y s.others) nl ng nb nt in
     (λ i. first i && all_in_box s.others s.first.x s.first.x s.first.y s.first.y nl ng nb nt i)
 
-box_by_near : (s : GridRounded) → list_all is_near (corners s) ≡ true → is_near (low_corner s) && is_near (high_corner s) ≡ true
+box_by_near : (s : GridRounded) → list_all is_near (corners s) ≡ true → is_near (box_corner int_min s) && is_near (box_corner int_max s) ≡ true
 box_by_near s h =
     let both = both_true (is_near s.first) (list_all is_near s.others) h in
     let x = near_x s.first both.0 in
     let y = near_y s.first both.0 in
-    let low = near_point (low_corner s) (least_near (λ v. v.x) near_x s.others s.first.x x both.1) (least_near (λ v. v.y) near_y s.others s.first.y y both.1) in
-    let high = near_point (high_corner s) (greatest_near (λ v. v.x) near_x s.others s.first.x x both.1) (greatest_near (λ v. v.y) near_y s.others s.first.y y both.1) in
+    let low = near_point (box_corner int_min s) (least_near (λ v. v.x) near_x s.others s.first.x x both.1) (least_near (λ v. v.y) near_y s.others s.first.y y both.1) in
+    let high = near_point (box_corner int_max s) (greatest_near (λ v. v.x) near_x s.others s.first.x x both.1) (greatest_near (λ v. v.y) near_y s.others s.first.y y both.1) in
     (λ i. low i && high i)
 
-same : (a b : Bool) → (a ≡ true → b ≡ true) → (b ≡ true → a ≡ true) → a ≡ b
-same true b f g = sym (f refl)
-same false true f g = absurd (false≢true (g refl))
-same false false f g = refl
-
 -- the corners of the box move with the shape
-low-moved : (o : GridPoint) (s : GridRounded) → moved_point o (low_corner s) ≡ low_corner (moved_shape o s)
+low-moved : (o : GridPoint) (s : GridRounded) → moved_point o (box_corner int_min s) ≡ box_corner int_min (moved_shape o s)
 low-moved o s = (λ i. record { x = sym (least-shift (λ v. v.x) o o.x (λ v. refl) s.first.x s.others) i; y = sym (least-shift (λ v. v.y) o o.y (λ v. refl) s.first.y s.others) i })
 
-high-moved : (o : GridPoint) (s : GridRounded) → moved_point o (high_corner s) ≡ high_corner (moved_shape o s)
+high-moved : (o : GridPoint) (s : GridRounded) → moved_point o (box_corner int_max s) ≡ box_corner int_max (moved_shape o s)
 high-moved o s = (λ i. record { x = sym (greatest-shift (λ v. v.x) o o.x (λ v. refl) s.first.x s.others) i; y = sym (greatest-shift (λ v. v.y) o o.y (λ v. refl) s.first.y s.others) i })
 
 -- all corners of a shape that is moved are near just where both corners of the box are
-pub near_as_box : (o : GridPoint) (s : GridRounded) → is_near (moved_point o (low_corner s)) && is_near (moved_point o (high_corner s)) ≡ list_all is_near (corners (moved_shape o s))
+pub near_as_box : (o : GridPoint) (s : GridRounded) → is_near (moved_point o (box_corner int_min s)) && is_near (moved_point o (box_corner int_max s)) ≡ list_all is_near (corners (moved_shape o s))
 near_as_box o s =
     (λ i. is_near (low-moved o s i) && is_near (high-moved o s i))
-    ∙ same (is_near (low_corner (moved_shape o s)) && is_near (high_corner (moved_shape o s))) (list_all is_near (corners (moved_shape o s))) (near_by_box (moved_shape o s)) (box_by_near (moved_shape o s))
+    ∙ both_ways (is_near (box_corner int_min (moved_shape o s)) && is_near (box_corner int_max (moved_shape o s))) (list_all is_near (corners (moved_shape o s))) (near_by_box (moved_shape o s)) (box_by_near (moved_shape o s))

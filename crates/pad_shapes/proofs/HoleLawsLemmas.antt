@@ -5,14 +5,14 @@ use Rattle.std.specs.List.{All, Contains}
 use Rattle.std.proofs.lemmas.Int.{ints, clamps}
 use Rattle.std.proofs.lemmas.List.Elements.{All-nil, All-cons, All-head, All-tail, All-contains}
 use Rattle.grid_units.specs.Holes.{GridHole, IsBetween, IsInCore}
-use Rattle.grid_units.specs.Laws.{square_length}
 use Rattle.grid_units.specs.Points.{GridPoint, abs_diff, square, square_distance}
 use Rattle.grid_units.proofs.TriangleInequalities.{square-le}
 use Rattle.pad_shapes.specs.Shapes.{IsAxisAligned}
 use Rattle.pad_shapes.specs.Rounded.{WeightedPoint, total_weight, weighted_sum, IsInSlot}
 use Rattle.pad_shapes.specs.Inner.Identities.{is_z, is_n, is_add, is_sub, is_mul, same, of_natural, unscaled-le}
 use Rattle.pad_shapes.specs.Inner.Means.{length_same}
-use Rattle.pad_shapes.specs.Inner.RoundedLaws.{by_order, axis_in_slot}
+use Rattle.pad_shapes.specs.Inner.RoundedLaws.{axis_in_slot}
+use Rattle.pad_shapes.specs.Inner.ShapeLaws.{by_order}
 use Rattle.pad_shapes.specs.Holding.{IsNearCentreLine, HoldsHole}
 use Rattle.pad_shapes.specs.HoleLaws.{CentreLineIsSlot}
 use Rattle.pad_shapes.specs.Inner.HoldingLaws.{in_slot, unscaled}
@@ -72,11 +72,10 @@ on_line : (h : GridHole) (reach : ℕ) (p : GridPoint) → IsInSlot h.from h.to 
 on_line h reach p n =
     let s = split h.from h.to n.parts n.of_points in
     record {
-      k = total_weight n.parts;
-      x = weighted_sum (λ v. v.x) n.parts;
-      y = weighted_sum (λ v. v.y) n.parts;
-      on_line = record { some = n.some; first = s.first; second = s.second; whole = s.total; x_is = s.x; y_is = s.y };
-      near = n.near;
+      first = s.first;
+      second = s.second;
+      some = omega (arith, s.total, n.some);
+      near = length_same _ _ _ _ ((s.first + s.second) * reach) (total_weight n.parts * reach) (λ i. pos (s.total i) *ℤ p.x -ℤ sym s.x i) (λ i. pos (s.total i) *ℤ p.y -ℤ sym s.y i) (ap (λ m. m * reach) s.total) n.near;
     }
 
 pub centre_line_is_slot : CentreLineIsSlot
@@ -84,35 +83,30 @@ centre_line_is_slot h reach p = (in_slot h reach p, on_line h reach p)
 
 -- ---- round holes
 
-first_alone : (f t : ℤ) → f ≡ pos 1 *ℤ f +ℤ pos 0 *ℤ t
-first_alone f t = same (is_z f) (is_add (is_mul (is_n 1) (is_z f)) (is_mul (is_n 0) (is_z t))) (omega arith)
-
-one_step : (p f : ℤ) → pos 1 *ℤ p -ℤ f ≡ p -ℤ f
-one_step p f = same (is_sub (is_mul (is_n 1) (is_z p)) (is_z f)) (is_sub (is_z p) (is_z f)) (omega arith)
+one_step : (p f t : ℤ) → pos (1 + 0) *ℤ p -ℤ (pos 1 *ℤ f +ℤ pos 0 *ℤ t) ≡ p -ℤ f
+one_step p f t =
+    same (is_sub (is_mul (is_n (1 + 0)) (is_z p)) (is_add (is_mul (is_n 1) (is_z f)) (is_mul (is_n 0) (is_z t)))) (is_sub (is_z p) (is_z f)) (omega arith)
 
 -- what is near the first end is near the centre line
 near_end : (h : GridHole) (reach : ℕ) (p : GridPoint) → square_distance p h.from ≤ square reach → IsNearCentreLine h reach p
 near_end h reach p near = record {
-  k = 1;
-  x = h.from.x;
-  y = h.from.y;
-  on_line = record { some = omega arith; first = 1; second = 0; whole = refl; x_is = first_alone h.from.x h.to.x; y_is = first_alone h.from.y h.to.y };
-  near = length_same _ _ _ _ (1 * reach) reach (one_step p.x h.from.x) (one_step p.y h.from.y) (omega arith) near;
+  first = 1;
+  second = 0;
+  some = omega arith;
+  near = length_same _ _ _ _ ((1 + 0) * reach) reach (one_step p.x h.from.x h.to.x) (one_step p.y h.from.y h.to.y) (omega arith) near;
 }
 
 -- the mean of one number
-same_mean : (i j k : ℕ) (p f t x : ℤ) → f ≡ t → i + j ≡ k → x ≡ pos i *ℤ f +ℤ pos j *ℤ t → pos k *ℤ (p -ℤ f) ≡ pos k *ℤ p -ℤ x
-same_mean i j k p f t x e whole is =
-    ap (λ n. pos n *ℤ (p -ℤ f)) (sym whole)
-    ∙ same (is_mul (is_n (i + j)) (is_sub (is_z p) (is_z f))) (is_sub (is_mul (is_n (i + j)) (is_z p)) (is_add (is_mul (is_n i) (is_z f)) (is_mul (is_n j) (is_z f)))) (omega arith)
-    ∙ (λ n. pos (whole n) *ℤ p -ℤ (pos i *ℤ f +ℤ pos j *ℤ e n))
-    ∙ ap (λ z. pos k *ℤ p -ℤ z) (sym is)
+same_mean : (i j : ℕ) (p f t : ℤ) → f ≡ t → pos (i + j) *ℤ (p -ℤ f) ≡ pos (i + j) *ℤ p -ℤ (pos i *ℤ f +ℤ pos j *ℤ t)
+same_mean i j p f t e =
+    same (is_mul (is_n (i + j)) (is_sub (is_z p) (is_z f))) (is_sub (is_mul (is_n (i + j)) (is_z p)) (is_add (is_mul (is_n i) (is_z f)) (is_mul (is_n j) (is_z f)))) (omega arith)
+    ∙ (λ n. pos (i + j) *ℤ p -ℤ (pos i *ℤ f +ℤ pos j *ℤ e n))
 
 near_centre : (h : GridHole) (reach : ℕ) (p : GridPoint) → h.from ≡ h.to → IsNearCentreLine h reach p → square_distance p h.from ≤ square reach
 near_centre h reach p e n =
-    let l = n.on_line in
-    unscaled-le n.k reach (p.x -ℤ h.from.x) (p.y -ℤ h.from.y) l.some
-    (length_same _ _ _ _ (n.k * reach) (n.k * reach) (same_mean l.first l.second n.k p.x h.from.x h.to.x n.x (ap (λ v. v.x) e) l.whole l.x_is) (same_mean l.first l.second n.k p.y h.from.y h.to.y n.y (ap (λ v. v.y) e) l.whole l.y_is) refl n.near)
+    let k = n.first + n.second in
+    unscaled-le k reach (p.x -ℤ h.from.x) (p.y -ℤ h.from.y) n.some
+    (length_same _ _ _ _ (k * reach) (k * reach) (same_mean n.first n.second p.x h.from.x h.to.x (ap (λ v. v.x) e)) (same_mean n.first n.second p.y h.from.y h.to.y (ap (λ v. v.y) e)) refl n.near)
 
 pub holds_round : (points : GridPoint → Type 0) (ring : ℕ) (h : GridHole) → h.from ≡ h.to
     → (HoldsHole points ring h → (p : GridPoint) → square_distance p h.from ≤ square (h.radius + ring) → points p) × (((p : GridPoint) → square_distance p h.from ≤ square (h.radius + ring) → points p) → HoldsHole points ring h)
@@ -191,17 +185,14 @@ nearest i j a b z =
 -- the point of a slot's core that is nearest to p
 core_point : (h : GridHole) (reach : ℕ) (p : GridPoint) → IsAxisAligned h.from h.to → IsNearCentreLine h reach p → (c : GridPoint) × IsInCore h c × (square_distance p c ≤ square reach)
 core_point h reach p aligned n =
-    let l = n.on_line in
-    let i = l.first in
-    let j = l.second in
+    let i = n.first in
+    let j = n.second in
     let x = nearest i j h.from.x h.to.x p.x in
     let y = nearest i j h.from.y h.to.y p.y in (
       record { x = x.0; y = y.0 },
       (x.1.between, y.1.between),
       step-le i j reach (abs_diff p.x x.0) (abs_diff p.y y.0) (unsigned_abs (pos (i + j) *ℤ p.x -ℤ (pos i *ℤ h.from.x +ℤ pos j *ℤ h.to.x))) (unsigned_abs (pos (i + j) *ℤ p.y -ℤ (pos i *ℤ h.from.y +ℤ pos j *ℤ h.to.y)))
-          (subst (λ k. 1 ≤ k) (sym l.whole) l.some) x.1.near y.1.near
-          (subst (λ k. square_length (pos k *ℤ p.x -ℤ (pos i *ℤ h.from.x +ℤ pos j *ℤ h.to.x)) (pos k *ℤ p.y -ℤ (pos i *ℤ h.from.y +ℤ pos j *ℤ h.to.y)) ≤ square (k * reach)) (sym l.whole)
-          (length_same _ _ _ _ (n.k * reach) (n.k * reach) (ap (λ z. pos n.k *ℤ p.x -ℤ z) (sym l.x_is)) (ap (λ z. pos n.k *ℤ p.y -ℤ z) (sym l.y_is)) refl n.near)),
+          n.some x.1.near y.1.near n.near,
     )
   where
     step-le : (i j reach dx dy x y : ℕ) → 1 ≤ i + j → (i + j) * dx ≤ x → (i + j) * dy ≤ y → x * x + y * y ≤ ((i + j) * reach) * ((i + j) * reach) → dx * dx + dy * dy ≤ reach * reach

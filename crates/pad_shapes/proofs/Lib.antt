@@ -6,3 +6,4 @@ pub mod PlacedLemmas
 pub mod FrameLemmas
 pub mod HoleLawsLemmas
 pub mod SumLemmas
+pub mod ObroundLemmas

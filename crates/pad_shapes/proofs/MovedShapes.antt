@@ -1,6 +1,7 @@
 -- What a moved polygon is and covers, and where it lies, by the polygon that is not moved.
-use Rattle.std.proofs.Common.{◌≡◌, ◌∙◌, ℕ, ℤ, pos, ◌+◌, ◌-◌, ◌*◌, ◌+ℤ◌, ◌-ℤ◌, ◌*ℤ◌, Bool, true, false, not, ◌&&◌, ◌||◌, List, [], ◌∷◌, map, unsigned_abs, refl, sym, ap, arith}
+use Rattle.std.proofs.Common.{◌≡◌, ◌∙◌, ℕ, ℤ, pos, ◌+◌, ◌-◌, ◌*◌, ◌+ℤ◌, ◌-ℤ◌, ◌*ℤ◌, Bool, not, ◌&&◌, ◌||◌, List, [], ◌∷◌, map, unsigned_abs, refl, sym, ap, arith}
 use Rattle.std.specs.Prelude.{nat_le, int_le, int_lt}
+use Rattle.std.specs.Cmp.{both_ways}
 use Rattle.std.specs.Ordering.{int_eq}
 use Rattle.std.specs.List.{fold, list_all, list_any}
 use Rattle.std.proofs.lemmas.Bool.Decides.{Decides-int_eq}
@@ -8,7 +9,7 @@ use Rattle.std.proofs.lemmas.Int.{clamps, ints}
 use Rattle.std.proofs.lemmas.List.Folds.{list_all-map}
 use Rattle.std.specs.Int.{int_min, int_max}
 use Rattle.grid_units.specs.Points.{GridPoint, square, square_distance}
-use Rattle.pad_shapes.specs.Rounded.{GridRounded, Edge, along, corners, cross, edges, edges_back, greatest_corner, has_area, is_beside, is_beside_some, is_convex, is_deep_inside, is_deep_left, is_deep_left_of_all, is_near_corner, is_outline, least_corner, rounded_bottom, rounded_covers, rounded_left, rounded_right, rounded_top, square_edge}
+use Rattle.pad_shapes.specs.Rounded.{GridRounded, Edge, along, box_corner, corners, cross, edges, edges_back, has_area, is_beside, is_beside_some, is_convex, is_deep_inside, is_deep_left, is_deep_left_of_all, is_near_corner, is_outline, rounded_bottom, rounded_covers, rounded_left, rounded_right, rounded_top, square_edge}
 use Rattle.pad_shapes.specs.Placed.{moved_point, moved_shape}
 
 shift : (o a b : ℤ) → (o +ℤ a) -ℤ (o +ℤ b) ≡ a -ℤ b
@@ -55,17 +56,12 @@ convex-moved o r =
     let is_in : GridPoint → Bool = λ v. is_deep_inside (moved_shape o r) 0 v in
     list_all-map is_in (moved_point o) (corners r) ∙ (λ i. list_all (λ (v : GridPoint). deep_inside-moved o r 0 v i) (corners r))
 
-alike : (x y : Bool) → (x ≡ true → y ≡ true) → (y ≡ true → x ≡ true) → x ≡ y
-alike true y h k = sym (h refl)
-alike false true h k = k refl
-alike false false h k = refl
-
 unshifted : (o a b : ℤ) → o +ℤ a ≡ o +ℤ b → a ≡ b
 unshifted o a b e = omega (arith, ints, e)
 
 same-moved : (o a b : ℤ) → int_eq (o +ℤ a) (o +ℤ b) ≡ int_eq a b
 same-moved o a b =
-    alike (int_eq (o +ℤ a) (o +ℤ b)) (int_eq a b) (λ e. (Decides-int_eq a b).1 (unshifted o a b ((Decides-int_eq (o +ℤ a) (o +ℤ b)).0 e)))
+    both_ways (int_eq (o +ℤ a) (o +ℤ b)) (int_eq a b) (λ e. (Decides-int_eq a b).1 (unshifted o a b ((Decides-int_eq (o +ℤ a) (o +ℤ b)).0 e)))
     (λ e. (Decides-int_eq (o +ℤ a) (o +ℤ b)).1 (ap (λ (z : ℤ). o +ℤ z) ((Decides-int_eq a b).0 e)))
 
 -- the corners that are those of a rounded polygon stay so
@@ -128,14 +124,14 @@ greatest-shift f o by e a [] = refl
 greatest-shift f o by e a (v ∷ vs) =
     ap (λ (z : ℤ). fold (λ greatest v. int_max greatest (f v)) z (map (moved_point o) vs)) (ap (int_max (by +ℤ a)) (e v) ∙ max_shift by a (f v)) ∙ greatest-shift f o by e (int_max a (f v)) vs
 
-pub left-moved : (o : GridPoint) (r : GridRounded) → (o.x +ℤ least_corner (λ v. v.x) r) -ℤ pos r.radius ≡ rounded_left (moved_shape o r)
+pub left-moved : (o : GridPoint) (r : GridRounded) → (o.x +ℤ (box_corner int_min r).x) -ℤ pos r.radius ≡ rounded_left (moved_shape o r)
 left-moved o r = ap (λ (z : ℤ). z -ℤ pos r.radius) (sym (least-shift (λ v. v.x) o o.x (λ v. refl) r.first.x r.others))
 
-pub right-moved : (o : GridPoint) (r : GridRounded) → (o.x +ℤ greatest_corner (λ v. v.x) r) +ℤ pos r.radius ≡ rounded_right (moved_shape o r)
+pub right-moved : (o : GridPoint) (r : GridRounded) → (o.x +ℤ (box_corner int_max r).x) +ℤ pos r.radius ≡ rounded_right (moved_shape o r)
 right-moved o r = ap (λ (z : ℤ). z +ℤ pos r.radius) (sym (greatest-shift (λ v. v.x) o o.x (λ v. refl) r.first.x r.others))
 
-pub bottom-moved : (o : GridPoint) (r : GridRounded) → (o.y +ℤ least_corner (λ v. v.y) r) -ℤ pos r.radius ≡ rounded_bottom (moved_shape o r)
+pub bottom-moved : (o : GridPoint) (r : GridRounded) → (o.y +ℤ (box_corner int_min r).y) -ℤ pos r.radius ≡ rounded_bottom (moved_shape o r)
 bottom-moved o r = ap (λ (z : ℤ). z -ℤ pos r.radius) (sym (least-shift (λ v. v.y) o o.y (λ v. refl) r.first.y r.others))
 
-pub top-moved : (o : GridPoint) (r : GridRounded) → (o.y +ℤ greatest_corner (λ v. v.y) r) +ℤ pos r.radius ≡ rounded_top (moved_shape o r)
+pub top-moved : (o : GridPoint) (r : GridRounded) → (o.y +ℤ (box_corner int_max r).y) +ℤ pos r.radius ≡ rounded_top (moved_shape o r)
 top-moved o r = ap (λ (z : ℤ). z +ℤ pos r.radius) (sym (greatest-shift (λ v. v.y) o o.y (λ v. refl) r.first.y r.others))

@@ -13,8 +13,10 @@ use Rattle.std.proofs.lemmas.Nat.{mul-le}
 use borrow.Author.Differences.{true_is_lt}
 use Rattle.grid_units.specs.Laws.{square_length}
 use Rattle.grid_units.specs.Points.{GridPoint, square, square_distance}
+use Rattle.grid_units.proofs.ListLemmas.{list_any_element}
 use Rattle.grid_units.proofs.TriangleInequalities.{triangle_inequality, square_distance_comm}
 use Rattle.pad_shapes.specs.Rounded.{GridRounded, WeightedPoint, total_weight, weighted_sum, IsInRounded, corners, Edge, edges, edges_back, cross, along, square_edge, is_deep_left, is_deep_left_of_all, has_area, is_deep_inside, is_near_corner, is_beside, is_beside_some, is_near_rim, is_convex, is_outline, rounded_covers, PointsAreCovered}
+use Rattle.pad_shapes.proofs.EdgesLemmas.{one-le-square}
 use Rattle.pad_shapes.specs.Inner.Identities.{is_z, is_n, is_add, is_sub, is_mul, same, of_natural, square_is, pos_injective, scaled-le, cancel, times-le, untimes-le, length_is, area-le}
 use Rattle.pad_shapes.specs.Inner.Means.{length_same}
 use Rattle.pad_shapes.specs.Inner.Fan.{edge, turn, EachEdge, SomeEdge, each_edge, map_each, map_some, edge_and_ends, turned_back, no_area}
@@ -77,9 +79,6 @@ at_most_0 s z some h = untimes-le s z (pos 0) some (subst (λ t. (pos s *ℤ z) 
 
 pub at_least_0 : (s : ℕ) (z : ℤ) → 1 ≤ s → pos 0 ≤ℤ (pos s *ℤ z) → pos 0 ≤ℤ z
 at_least_0 s z some h = untimes-le s (pos 0) z some (subst (λ t. t ≤ℤ (pos s *ℤ z)) (sym (times_no (pos s))) h)
-
-one-le-square : (k : ℕ) → 1 ≤ k → 1 ≤ k * k
-one-le-square k one = mul-le 1 1 k k one one
 
 -- ---- a point near a line
 
@@ -1078,24 +1077,15 @@ abbrev pub IsInParts : GridRounded → GridPoint → Type 0
 IsInParts r p =
     (is_deep_inside r 0 p ≡ true) ⊎ (((v : GridPoint) × Contains (corners r) v × (square_distance p v ≤ square r.radius)) ⊎ ((e : Edge) × Contains (edges r) e × (is_beside e r.radius p ≡ true)))
 
--- an element that passes a test
-pub found_any : {X : Type 0} (t : X → Bool) (xs : List X) → list_any t xs ≡ true → (x : X) × Contains xs x × (t x ≡ true)
-found_any {X} t [] h = absurd (false≢true h)
-found_any {X} t (x ∷ xs) h = by (or_cases (t x) (list_any t xs) h) (found_any t xs)
-  where
-    by : (t x ≡ true) ⊎ (list_any t xs ≡ true) → (list_any t xs ≡ true → (y : X) × Contains xs y × (t y ≡ true)) → (y : X) × Contains (x ∷ xs) y × (t y ≡ true)
-    by (inl here) again = (x, (0, omega arith, refl), here)
-    by (inr later) again = let f = again later in (f.0, (suc f.1.0, omega (arith, f.1.1), f.1.2), f.2)
-
 pub parts_of : (r : GridRounded) → is_outline r.first r.others ≡ true → (p : GridPoint) → IsInRounded r p → IsInParts r p
 parts_of r outline p h =
     by (or_cases (is_deep_inside r 0 p) (nat_le 0 r.radius && is_near_rim r r.radius p) (sym (covers_is r p) ∙ covers_points r.first r.others r.radius outline p h))
   where
     rim : (is_near_corner r r.radius p ≡ true) ⊎ (is_beside_some r r.radius p ≡ true) → IsInParts r p
     rim (inl corner) =
-        let f = found_any (λ v. nat_le (square_distance p v) (square r.radius)) (corners r) corner in
+        let f = list_any_element (λ v. nat_le (square_distance p v) (square r.radius)) (corners r) corner in
         inr (inl (f.0, f.1, leb-true (square_distance p f.0) (square r.radius) f.2))
-    rim (inr beside) = inr (inr (found_any (λ e. is_beside e r.radius p) (edges r) beside))
+    rim (inr beside) = inr (inr (list_any_element (λ e. is_beside e r.radius p) (edges r) beside))
 
     by : (is_deep_inside r 0 p ≡ true) ⊎ ((nat_le 0 r.radius && is_near_rim r r.radius p) ≡ true) → IsInParts r p
     by (inl inside) = inl inside

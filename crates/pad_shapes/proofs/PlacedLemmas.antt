@@ -1,13 +1,12 @@
 -- Points that stay near.
-use Rattle.std.proofs.Common.{◌≡◌, ◌∙◌, ℕ, ℤ, pos, ◌≤◌, ◌<◌, ◌+ℤ◌, ◌-ℤ◌, unsigned_abs, [], ◌∷◌, arith, Bool, true, false, not, List, map, length, get_or, refl, sym, ap, subst}
+use Rattle.std.proofs.Common.{◌≡◌, ◌∙◌, ℕ, ℤ, pos, ◌≤◌, ◌<◌, ◌+ℤ◌, ◌-ℤ◌, unsigned_abs, [], ◌∷◌, arith, true, false, not, List, map, length, get_or, sym, ap, subst}
 use Rattle.std.specs.List.{fold, list_all}
 use Rattle.std.specs.Int.{int_min, int_max}
 use Rattle.std.proofs.lemmas.Int.{clamps, ints}
-use Rattle.std.proofs.lemmas.Bool.{false≢true}
 use Rattle.std.proofs.lemmas.List.{length-map}
 use Rattle.std.proofs.lemmas.List.Folds.{list_all-map}
 use Rattle.std.proofs.lemmas.List.Sums.{AllPass-from_list_all}
-use Rattle.grid_units.proofs.BoolLemmas.{both_true}
+use Rattle.grid_units.proofs.BoolLemmas.{both_true, not_true}
 use Rattle.grid_units.specs.Numbers.{is_too_far}
 use Rattle.std.proofs.lemmas.Grind.{common_steps}
 use Rattle.grid_units.specs.Points.{GridPoint, IsCoordinate}
@@ -17,10 +16,6 @@ use Rattle.pad_shapes.specs.Zones.{IsBoxOf, IsWithin}
 use Rattle.pad_shapes.specs.declared.zone.Zone.{Zone}
 use Rattle.pad_shapes.specs.Placed.{is_near, moved_point}
 use Rattle.pad_shapes.proofs.MovedShapes.{outline-moved}
-
-not_true : (b : Bool) → not b ≡ true → b ≡ false
-not_true true e = absurd (false≢true e)
-not_true false e = refl
 
 near : (z : ℤ) → is_too_far z ≡ false → IsCoordinate z
 near z h = grind (arith, common_steps)

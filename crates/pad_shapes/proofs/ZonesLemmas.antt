@@ -1,22 +1,12 @@
 -- Where a shape covers a centre: how near each axis the centre lies, and which zones it misses.
-use Rattle.std.proofs.Common.{◌≡◌, ℕ, ◌+◌, ◌-◌, ◌*◌, ◌≤◌, Bool, true, false, refl, arith}
+use Rattle.std.proofs.Common.{◌≡◌, ℕ, ◌+◌, ◌-◌, ◌*◌, ◌≤◌, true, arith}
 use Rattle.std.specs.Prelude.{◌&&◌, nat_le}
 use Rattle.std.proofs.lemmas.Bool.Decides.{nat_tests}
 use Rattle.std.proofs.lemmas.Nat.{mul-le}
 use Rattle.grid_units.specs.Points.{GridPoint, abs_diff, square, square_distance}
-use Rattle.grid_units.proofs.TriangleInequalities.{le_of_squares}
 use Rattle.pad_shapes.specs.Zones.{IsInset}
+use Rattle.pad_shapes.specs.Inner.ShapeLaws.{both_le, other_side-le, side-le}
 use Rattle.pad_shapes.specs.Shapes.{GridDisc, GridRect, GridObround, end_radius, square_axis_distance, disc_covers, rect_covers, obround_covers}
-
--- two tests that both passed
-both_le : (a b c d : ℕ) → (nat_le a b && nat_le c d) ≡ true → (a ≤ b) × (c ≤ d)
-both_le a b c d e = (grind (arith, nat_tests), grind (arith, nat_tests))
-
-side-le : (a b n : ℕ) → a * a + b * b ≤ n * n → a ≤ n
-side-le a b n h = le_of_squares a n (omega (arith, h))
-
-other_side-le : (a b n : ℕ) → a * a + b * b ≤ n * n → b ≤ n
-other_side-le a b n h = le_of_squares b n (omega (arith, h))
 
 pub disc_inset : (d : GridDisc) (c : GridPoint) (reach r : ℕ) → reach ≤ r → disc_covers d c r ≡ true → IsInset (abs_diff c.x d.centre.x) (abs_diff c.y d.centre.y) reach d.radius d.radius
 disc_inset d c reach r less e =
@@ -62,17 +52,3 @@ pub obround_square_bound : (d : GridObround) (c : GridPoint) (reach r dx dy radi
 obround_square_bound d c reach r dx dy radius past_x past_y less e x y same at_x at_y =
     let t = both_le r (end_radius d) (square_axis_distance d c) (square (end_radius d - r)) e in
     fits (abs_diff c.x d.centre.x - (d.half_x - end_radius d)) (abs_diff c.y d.centre.y - (d.half_y - end_radius d)) past_x past_y (end_radius d - r) (radius - reach) (omega (arith, x, same, at_x)) (omega (arith, y, same, at_y)) (omega (arith, less, same)) t.1
-
-pub disc_radius : (d : GridDisc) (c : GridPoint) (reach r : ℕ) → reach ≤ r → disc_covers d c r ≡ true → reach ≤ d.radius
-disc_radius d c reach r less e = let t = disc_inset d c reach r less e in omega (arith, t.x)
-
-pub obround_radius : (d : GridObround) (c : GridPoint) (reach r : ℕ) → reach ≤ r → obround_covers d c r ≡ true → reach ≤ end_radius d
-obround_radius d c reach r less e =
-    let t = both_le r (end_radius d) (square_axis_distance d c) (square (end_radius d - r)) e in omega (arith, t.0, less)
-
--- a test that cannot be true is false
-pub false_if_not_true : (b : Bool) → (b ≡ true → ⊥) → b ≡ false
-false_if_not_true b never = by_case b refl where
-  by_case : (x : Bool) → b ≡ x → b ≡ false
-  by_case true e = absurd (never e)
-  by_case false e = e

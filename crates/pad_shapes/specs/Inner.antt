@@ -4,6 +4,5 @@ pub mod Means
 pub mod Fan
 pub mod RoundedLaws
 pub mod RoundedSets
-pub mod Frames
 pub mod HoldingLaws
 pub mod WidePadLaws

@@ -1,5 +1,5 @@
 -- Pads of any shape: each answers as the shape inside it.
-use Rattle.std.specs.Prelude.{ℕ, ℤ, pos, ◌+ℤ◌, ◌-ℤ◌, Bool}
+use Rattle.std.specs.Prelude.{ℕ, ◌*◌, ℤ, pos, ◌+ℤ◌, ◌-ℤ◌, Bool}
 use Rattle.grid_units.specs.Points.{GridPoint}
 use Rattle.pad_shapes.specs.Shapes.{IsInDisc, IsInRect, IsInObround, disc_covers, rect_covers, obround_covers}
 use Rattle.pad_shapes.specs.declared.pad.Pad.{Pad}
@@ -28,3 +28,15 @@ abbrev pub pad_right : Pad → ℤ
 pad_right (Disc d) = d.centre.x +ℤ pos d.radius
 pad_right (Rect r) = r.centre.x +ℤ pos r.half_x
 pad_right (Obround o) = o.centre.x +ℤ pos o.half_x
+
+-- the side of a pad along x, in pm; of a disc its diameter
+abbrev pub pad_width : Pad → ℕ
+pad_width (Disc d) = 2 * d.radius
+pad_width (Rect r) = 2 * r.half_x
+pad_width (Obround o) = 2 * o.half_x
+
+-- the side of a pad along y, in pm; of a disc its diameter
+abbrev pub pad_height : Pad → ℕ
+pad_height (Disc d) = 2 * d.radius
+pad_height (Rect r) = 2 * r.half_y
+pad_height (Obround o) = 2 * o.half_y

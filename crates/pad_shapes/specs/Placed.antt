@@ -1,5 +1,5 @@
 -- Rounded polygons that lie at an offset. Lengths are whole picometres.
-use Rattle.std.specs.Prelude.{ℤ, ◌+ℤ◌, Bool, not, ◌&&◌, List, map, Option, None, Some, if◌then◌else◌}
+use Rattle.std.specs.Prelude.{◌+ℤ◌, Bool, not, ◌&&◌, map, Option, None, Some, if◌then◌else◌}
 use Rattle.std.specs.List.{list_all}
 use Rattle.grid_units.specs.Points.{GridPoint}
 use Rattle.grid_units.specs.Numbers.{is_too_far}

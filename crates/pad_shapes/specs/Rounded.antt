@@ -74,13 +74,9 @@ cross e p = (e.to.x -ℤ e.from.x) *ℤ (p.y -ℤ e.from.y) -ℤ (e.to.y -ℤ e.
 abbrev pub along : Edge → GridPoint → ℤ
 along e p = (e.to.x -ℤ e.from.x) *ℤ (p.x -ℤ e.from.x) +ℤ (e.to.y -ℤ e.from.y) *ℤ (p.y -ℤ e.from.y)
 
--- the square of an edge's length
-abbrev pub square_edge : Edge → ℕ
-square_edge e = square_distance e.to e.from
-
 -- the point lies to the left of the edge's line, and no nearer to it than the depth; or on it, for the depth 0
 abbrev pub is_deep_left : Edge → ℕ → GridPoint → Bool
-is_deep_left e depth p = int_le (pos 0) (cross e p) && nat_le (square depth * square_edge e) (square (unsigned_abs (cross e p)))
+is_deep_left e depth p = int_le (pos 0) (cross e p) && nat_le (square depth * square_distance e.to e.from) (square (unsigned_abs (cross e p)))
 
 -- the corners enclose an area: the first one lies to the left of some edge
 abbrev pub has_area : GridRounded → Bool
@@ -97,6 +93,10 @@ is_deep_inside r depth p = has_area r && is_deep_left_of_all r depth p
 -- the point is no further from a corner than the distance
 abbrev pub is_near_corner : GridRounded → ℕ → GridPoint → Bool
 is_near_corner r distance p = list_any (λ v. nat_le (square_distance p v) (square distance)) (corners r)
+
+-- the square of an edge's length
+abbrev pub square_edge : Edge → ℕ
+square_edge e = square_distance e.to e.from
 
 -- the point lies beside an edge, between its ends, no further from its line than the distance
 abbrev pub is_beside : Edge → ℕ → GridPoint → Bool
@@ -116,29 +116,25 @@ is_near_rim r distance p = is_near_corner r distance p || is_beside_some r dista
 abbrev pub rounded_covers : GridRounded → GridPoint → ℕ → Bool
 rounded_covers r c reach = is_deep_inside r (reach - r.radius) c || (nat_le reach r.radius && is_near_rim r (r.radius - reach) c)
 
--- the least of one coordinate of the corners
-abbrev pub least_corner : (GridPoint → ℤ) → GridRounded → ℤ
-least_corner coordinate r = fold (λ least v. int_min least (coordinate v)) (coordinate r.first) r.others
-
--- the greatest of one coordinate of the corners
-abbrev pub greatest_corner : (GridPoint → ℤ) → GridRounded → ℤ
-greatest_corner coordinate r = fold (λ greatest v. int_max greatest (coordinate v)) (coordinate r.first) r.others
+-- a corner of the box along the axes that holds the corners: along each axis it has their least coordinate, by `int_min`, or their greatest, by `int_max`
+abbrev pub box_corner : (ℤ → ℤ → ℤ) → GridRounded → GridPoint
+box_corner better r = record { x = fold (λ best v. better best v.x) r.first.x r.others; y = fold (λ best v. better best v.y) r.first.y r.others }
 
 -- the least x of the corners, less the radius
 abbrev pub rounded_left : GridRounded → ℤ
-rounded_left r = least_corner (λ v. v.x) r -ℤ pos r.radius
+rounded_left r = (box_corner int_min r).x -ℤ pos r.radius
 
 -- the greatest x of the corners and the radius
 abbrev pub rounded_right : GridRounded → ℤ
-rounded_right r = greatest_corner (λ v. v.x) r +ℤ pos r.radius
+rounded_right r = (box_corner int_max r).x +ℤ pos r.radius
 
 -- the least y of the corners, less the radius
 abbrev pub rounded_bottom : GridRounded → ℤ
-rounded_bottom r = least_corner (λ v. v.y) r -ℤ pos r.radius
+rounded_bottom r = (box_corner int_min r).y -ℤ pos r.radius
 
 -- the greatest y of the corners and the radius
 abbrev pub rounded_top : GridRounded → ℤ
-rounded_top r = greatest_corner (λ v. v.y) r +ℤ pos r.radius
+rounded_top r = (box_corner int_max r).y +ℤ pos r.radius
 
 -- the greatest reach that a shape covers round a centre, which is one that a call may have
 pub record IsGreatestReach (r : GridRounded) (c : GridPoint) (reach : ℕ) : Type 0 where

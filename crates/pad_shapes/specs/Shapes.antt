@@ -1,5 +1,5 @@
 -- Shapes of flashed pads: their points, and the holes that each of them covers. Lengths are whole picometres.
-use Rattle.std.specs.Prelude.{◌≡◌, ℕ, ℤ, pos, ◌+◌, ◌-◌, ◌≤◌, min, ◌≤ℤ◌, ◌⊎◌, Bool, true, false, ◌&&◌, nat_le}
+use Rattle.std.specs.Prelude.{◌≡◌, ◌↔◌, ℕ, ℤ, pos, ◌+◌, ◌-◌, ◌≤◌, min, ◌+ℤ◌, ◌-ℤ◌, ◌≤ℤ◌, ◌⊎◌, Bool, true, false, ◌&&◌, nat_le, if◌then◌else◌}
 use Rattle.grid_units.specs.Points.{GridPoint, abs_diff, square, square_distance}
 use Rattle.grid_units.specs.Holes.{IsBetween}
 
@@ -123,3 +123,22 @@ HasExtent {S} points left right = (s : S) → IsExtent (points s) (left s) (righ
 abbrev pub RectIsTight : Type 0
 RectIsTight =
     (r : GridRect) (c : GridPoint) (reach : ℕ) → rect_covers r c reach ≡ false → (p : GridPoint) × (square_distance p c ≤ square reach) × ¬ IsInRect r p
+
+-- the rectangle in the middle of an obround: its axis, wider across it by the radius of the ends
+abbrev pub middle_rect : GridObround → GridRect
+middle_rect o =
+    if nat_le o.half_y o.half_x then record { centre = o.centre; half_x = (axis o).half_x; half_y = end_radius o }
+    else record { centre = o.centre; half_x = end_radius o; half_y = (axis o).half_y }
+
+-- the disc round one end of the axis: the left one, or the lower one
+abbrev pub low_disc : GridObround → GridDisc
+low_disc o = record { centre = record { x = o.centre.x -ℤ pos (axis o).half_x; y = o.centre.y -ℤ pos (axis o).half_y }; radius = end_radius o }
+
+-- the disc round its other end
+abbrev pub high_disc : GridObround → GridDisc
+high_disc o = record { centre = record { x = o.centre.x +ℤ pos (axis o).half_x; y = o.centre.y +ℤ pos (axis o).half_y }; radius = end_radius o }
+
+-- An obround is what the Gerber format calls one (`%ADD12O,1.0X0.5*%`), a rectangle with half circles for its shorter sides: a point is in it just where
+-- it is in the rectangle in the middle or in one of the two discs.
+abbrev pub ObroundIsRectangleAndDiscs : Type 0
+ObroundIsRectangleAndDiscs = (o : GridObround) (p : GridPoint) → IsInObround o p ↔ (IsInRect (middle_rect o) p ⊎ IsInDisc (low_disc o) p ⊎ IsInDisc (high_disc o) p)

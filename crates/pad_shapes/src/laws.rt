@@ -1,6 +1,6 @@
 //! Laws of the shapes. Calling a law does nothing but give its clause.
 
-ghost use Rattle.pad_shapes.specs.Shapes.{ContainsCovered, ContainsCoveredSlots, CoveredIsBetween, HasExtent, RectIsTight};
+ghost use Rattle.pad_shapes.specs.Shapes.{ContainsCovered, ContainsCoveredSlots, CoveredIsBetween, HasExtent, RectIsTight, ObroundIsRectangleAndDiscs};
 ghost use Rattle.pad_shapes.specs.Rounded.{HoldsObliqueSlots, OneCornerIsDisc, OneCornerCovers, GreaterRadiusHolds, CoversLess, PolygonIsLeftOfEdges, PointsAreCovered};
 
 use crate::shape::PadShape;
@@ -17,6 +17,12 @@ pub fn shape_laws<S: PadShape>()
 /// Where a rectangle does not cover a centre, it misses a point within the reach.
 pub fn rect_is_tight()
     ensures { RectIsTight }
+{}
+
+/// An obround is a rectangle with half circles for its shorter sides: its points are those of the rectangle in the middle and of
+/// the discs round the two ends of its axis.
+pub fn obround_points()
+    ensures { ObroundIsRectangleAndDiscs }
 {}
 
 /// Where a rounded polygon covers both ends of a slot at any angle, it holds each point of the slot.

@@ -1,7 +1,7 @@
 //! Pads of any shape.
 
-ghost use Rattle.std.specs.Prelude.{◌≡◌};
-ghost use Rattle.pad_shapes.specs.Pads.{IsInPad, pad_covers, pad_left, pad_right};
+ghost use Rattle.std.specs.Prelude.{◌≡◌, ◌≤◌, ◌^◌, pos};
+ghost use Rattle.pad_shapes.specs.Pads.{IsInPad, pad_covers, pad_height, pad_left, pad_right, pad_width};
 ghost use Rattle.pad_shapes.specs.Inner.ShapeLaws.{pad_contains_covered, pad_contains_slots, pad_between, pad_extent};
 
 use crate::disc::Disc;
@@ -20,6 +20,32 @@ pub enum Pad {
     Rect(Rect),
     /// A pad with two round ends (aperture `O`).
     Obround(Obround),
+}
+
+impl Pad {
+    /// The width of the pad in pm: its side along x, of a disc the diameter.
+    pub fn width(&self) -> i64
+        ensures value { result ≡ pos (pad_width self.now) }
+        ensures within { pad_width self.now ≤ 10 ^ 13 }
+    {
+        match self {
+            Pad::Disc(disc) => 2 * disc.radius(),
+            Pad::Rect(rect) => 2 * rect.half_x(),
+            Pad::Obround(obround) => 2 * obround.half_x(),
+        }
+    }
+
+    /// The height of the pad in pm: its side along y, of a disc the diameter.
+    pub fn height(&self) -> i64
+        ensures value { result ≡ pos (pad_height self.now) }
+        ensures within { pad_height self.now ≤ 10 ^ 13 }
+    {
+        match self {
+            Pad::Disc(disc) => 2 * disc.radius(),
+            Pad::Rect(rect) => 2 * rect.half_y(),
+            Pad::Obround(obround) => 2 * obround.half_y(),
+        }
+    }
 }
 
 impl PadShape for Pad {

@@ -1,9 +1,9 @@
 //! Polygons by their corners: what lies inside of each edge, and what lies near the rim.
 
 ghost use Rattle.std.specs.Prelude.{◌≡◌, ◌≤◌};
+ghost use Rattle.std.specs.Int.{int_min, int_max};
 ghost use Rattle.grid_units.specs.Points.{IsCoordinate};
-ghost use Rattle.pad_shapes.specs.Rounded.{has_area, is_deep_inside, is_near_corner, is_near_rim, is_convex, is_outline, is_deep_left_of_all, is_beside_some, least_corner, greatest_corner};
-ghost use Rattle.pad_shapes.specs.Inner.Frames.{high_corner, low_corner};
+ghost use Rattle.pad_shapes.specs.Rounded.{has_area, is_deep_inside, is_near_corner, is_near_rim, is_convex, is_outline, is_deep_left_of_all, is_beside_some, box_corner};
 
 use crate::edges::{cross, is_beside, is_deep_left, square_distance_to};
 use crate::relative::RelativePoint;
@@ -128,7 +128,7 @@ pub(crate) fn is_outline(first: Point, others: &[Point]) -> bool
 
 /// The least x of the corners, in pm.
 fn least_x(first: Point, others: &[Point]) -> i64
-    ensures value { result ≡ least_corner (λ v. v.x) (record { first = first; others = others.now; radius = 0 }) }
+    ensures value { result ≡ (box_corner int_min (record { first = first; others = others.now; radius = 0 })).x }
     ensures in_range { IsCoordinate result }
 {
     let mut least = first.x();
@@ -140,7 +140,7 @@ fn least_x(first: Point, others: &[Point]) -> i64
 
 /// The greatest x of the corners, in pm.
 fn greatest_x(first: Point, others: &[Point]) -> i64
-    ensures value { result ≡ greatest_corner (λ v. v.x) (record { first = first; others = others.now; radius = 0 }) }
+    ensures value { result ≡ (box_corner int_max (record { first = first; others = others.now; radius = 0 })).x }
     ensures in_range { IsCoordinate result }
 {
     let mut greatest = first.x();
@@ -152,7 +152,7 @@ fn greatest_x(first: Point, others: &[Point]) -> i64
 
 /// The least y of the corners, in pm.
 fn least_y(first: Point, others: &[Point]) -> i64
-    ensures value { result ≡ least_corner (λ v. v.y) (record { first = first; others = others.now; radius = 0 }) }
+    ensures value { result ≡ (box_corner int_min (record { first = first; others = others.now; radius = 0 })).y }
     ensures in_range { IsCoordinate result }
 {
     let mut least = first.y();
@@ -164,7 +164,7 @@ fn least_y(first: Point, others: &[Point]) -> i64
 
 /// The greatest y of the corners, in pm.
 fn greatest_y(first: Point, others: &[Point]) -> i64
-    ensures value { result ≡ greatest_corner (λ v. v.y) (record { first = first; others = others.now; radius = 0 }) }
+    ensures value { result ≡ (box_corner int_max (record { first = first; others = others.now; radius = 0 })).y }
     ensures in_range { IsCoordinate result }
 {
     let mut greatest = first.y();
@@ -176,14 +176,14 @@ fn greatest_y(first: Point, others: &[Point]) -> i64
 
 /// The corner with the least x and the least y of the box of the corners.
 pub(crate) fn low_corner(first: Point, others: &[Point]) -> Point
-    ensures { result ≡ low_corner (record { first = first; others = others.now; radius = 0 }) }
+    ensures { result ≡ box_corner int_min (record { first = first; others = others.now; radius = 0 }) }
 {
     Point::new(least_x(first, others), least_y(first, others)).unwrap()
 }
 
 /// The corner with the greatest x and the greatest y of the box of the corners.
 pub(crate) fn high_corner(first: Point, others: &[Point]) -> Point
-    ensures { result ≡ high_corner (record { first = first; others = others.now; radius = 0 }) }
+    ensures { result ≡ box_corner int_max (record { first = first; others = others.now; radius = 0 }) }
 {
     Point::new(greatest_x(first, others), greatest_y(first, others)).unwrap()
 }

@@ -1,11 +1,11 @@
 //! Rounded polygons: convex polygons, and all that lies within a radius of them.
 
 ghost use Rattle.std.specs.Prelude.{◌≡◌, ℕ, pos, ◌<◌, ◌≤◌, ◌↔◌, false, IsSome, IfSome, MatchOption, unsigned_abs};
+ghost use Rattle.std.specs.Int.{int_min, int_max};
 ghost use Rattle.grid_units.specs.Points.{GridPoint};
 ghost use Rattle.pad_shapes.specs.Shapes.{IsPadRadius, max_reach};
 ghost use Rattle.pad_shapes.specs.Zones.{BoundsCentres, IsWithin};
-ghost use Rattle.pad_shapes.specs.Rounded.{IsRounded, IsInRounded, IsGreatestReach, rounded_covers, rounded_left, rounded_right};
-ghost use Rattle.pad_shapes.specs.Inner.Frames.{high_corner, low_corner};
+ghost use Rattle.pad_shapes.specs.Rounded.{IsRounded, IsInRounded, IsGreatestReach, box_corner, rounded_covers, rounded_left, rounded_right};
 ghost use Rattle.pad_shapes.specs.Inner.RoundedLaws.{rounded_contains_covered, rounded_contains_slots, rounded_between, rounded_extent};
 
 use crate::polygon::{high_corner, is_deep_inside, is_near_rim, is_outline, low_corner};
@@ -36,15 +36,15 @@ pub struct Rounded {
 
 impl Model for Rounded {
     ghost use Rattle.std.specs.Prelude.{◌≡◌, ◌≤◌, ◌<◌, true, length};
+    ghost use Rattle.std.specs.Int.{int_min, int_max};
     ghost use Rattle.pad_shapes.specs.Shapes.{max_half_side};
-    ghost use Rattle.pad_shapes.specs.Rounded.{GridRounded, max_corners, is_outline};
-    ghost use Rattle.pad_shapes.specs.Inner.Frames.{high_corner, low_corner};
+    ghost use Rattle.pad_shapes.specs.Rounded.{GridRounded, box_corner, max_corners, is_outline};
 
     ghost Value = { GridRounded };
 
     ghost view = { λ r. record { first = r.first; others = r.others.items; radius = r.radius } };
 
-    ghost invariant = { λ r. (length r.others.items < max_corners) × (r.radius ≤ max_half_side) × (is_outline r.first r.others.items ≡ true) × (r.low ≡ low_corner (record { first = r.first; others = r.others.items; radius = r.radius })) × (r.high ≡ high_corner (record { first = r.first; others = r.others.items; radius = r.radius })) };
+    ghost invariant = { λ r. (length r.others.items < max_corners) × (r.radius ≤ max_half_side) × (is_outline r.first r.others.items ≡ true) × (r.low ≡ box_corner int_min (record { first = r.first; others = r.others.items; radius = r.radius })) × (r.high ≡ box_corner int_max (record { first = r.first; others = r.others.items; radius = r.radius })) };
 }
 
 impl Rounded {
@@ -124,14 +124,14 @@ impl Rounded {
 
     /// The corner of the box of the corners that has the least x and the least y.
     pub(crate) fn low(&self) -> Point
-        ensures { result ≡ low_corner self.now }
+        ensures { result ≡ box_corner int_min self.now }
     {
         self.low
     }
 
     /// The corner of the box of the corners that has the greatest x and the greatest y.
     pub(crate) fn high(&self) -> Point
-        ensures { result ≡ high_corner self.now }
+        ensures { result ≡ box_corner int_max self.now }
     {
         self.high
     }

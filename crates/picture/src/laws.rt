@@ -1,6 +1,6 @@
 //! What holds of all pictures.
 
-ghost use Rattle.std.specs.Prelude.{◌≡◌, ℕ, ◌+◌, List, [], length, map, nat_lt, not};
+ghost use Rattle.std.specs.Prelude.{◌≡◌, ℕ, List, [], map, not};
 ghost use Rattle.std.specs.List.{filter};
 ghost use Rattle.pad_shapes.specs.Rows.{is_pad_row};
 ghost use Rattle.pad_shapes.specs.declared.pad.Pad.{Pad};
@@ -8,8 +8,7 @@ ghost use Rattle.pad_shapes.specs.declared.row.FeatureRow.{FeatureRow};
 ghost use Rattle.picture.specs.Elements.{pad_paths};
 ghost use Rattle.picture.specs.Escapes.{IsEscaped, escaped};
 ghost use Rattle.picture.specs.RoundedPads.{pads_text};
-ghost use Rattle.picture.specs.Scenes.{AreSortedBySize, IsOnePathPerSize, crosses_of, is_crowded, plain_pads, rounded_pads};
-ghost use Rattle.ring_rules.specs.declared.finding.Drilled.{Drilled};
+ghost use Rattle.picture.specs.Scenes.{AreSortedBySize, IsOnePathPerSize, crosses_of, plain_pads, rounded_pads};
 ghost use Rattle.pad_shapes.specs.declared.wide_pad.WidePad.TheVariants.{Plain};
 
 /// An escaped name has no `<`, no U+FFFE and no U+FFFF, and `&` only where an entity begins.
@@ -22,12 +21,15 @@ pub fn one_path_per_size()
     ensures { (pads : List Pad) → AreSortedBySize pads → IsOnePathPerSize pads }
 {}
 
+/// The crosses of a layer stand at its rows that are no pads, in their order.
+pub fn crosses_of_rows()
+    ensures { (rows : List FeatureRow) → crosses_of rows ≡ map (λ row. row.at) (filter (λ row. not (is_pad_row row.what)) rows) }
+{}
+
 /// Of a layer of the strict profile, whose pads are all plain, the plain pads are its pads, none is rounded, and the text of its pads is that of
-/// their paths. The crosses of any layer stand at its rows that are no pads, and its rows are counted.
+/// their paths.
 pub fn strict_layers()
     ensures pads { (pads : List Pad) → plain_pads (map Plain pads) ≡ pads }
     ensures rounded { (pads : List Pad) → rounded_pads (map Plain pads) ≡ [] }
-    ensures crosses { (rows : List FeatureRow) → crosses_of rows ≡ map (λ row. row.at) (filter (λ row. not (is_pad_row row.what)) rows) }
-    ensures crowded { (rows : List FeatureRow) (holes : List Drilled) → is_crowded rows holes ≡ nat_lt 100000 (length rows + length holes) }
     ensures text { (pads : List Pad) → pads_text pads [] ≡ pad_paths pads }
 {}

@@ -20,7 +20,7 @@ mod titles;
 mod widths;
 
 pub use frame::{Frame, Pen, Place};
-pub use laws::{escaped_names, one_path_per_size, strict_layers};
+pub use laws::{crosses_of_rows, escaped_names, one_path_per_size, strict_layers};
 pub use names::Escaped;
 pub use outlines::{long_radius, shown_outline};
 pub use panel::Panel;

@@ -6,17 +6,17 @@ use Rattle.grid_units.specs.declared.profile.Profile.{Profile}
 use Rattle.grid_units.specs.declared.profile.Profile.TheVariants.{Strict, Wide}
 use Rattle.std.proofs.lemmas.List.Elements.{All-append, All-map}
 use Rattle.grid_units.specs.Spans.{LayerSpan}
-use Rattle.margins.specs.declared.met.Met.{Met}
-use Rattle.margins.specs.declared.met.Met.TheVariants as mets
+use Rattle.board.specs.declared.met.Met.{Met}
+use Rattle.board.specs.declared.met.Met.TheVariants as mets
 use Rattle.report.specs.declared.GapLine.{GapLine}
 use Rattle.report.specs.declared.HolePlace.{HolePlace}
 use Rattle.report.specs.declared.Meets.{Meets}
 use Rattle.report.specs.declared.RingLine.{RingLine}
 use Rattle.report.specs.declared.UnitMistake.{UnitMistake}
 use Rattle.report.specs.declared.Measure.{Measure}
-use Rattle.package_check.specs.Boards.{BoardView}
-use Rattle.package_check.specs.declared.FileSum.{FileSum}
-use Rattle.package_check.specs.declared.FileSum.TheVariants as sums
+use Rattle.board.specs.Boards.{BoardView}
+use Rattle.board.specs.declared.FileSum.{FileSum}
+use Rattle.board.specs.declared.FileSum.TheVariants as sums
 use Rattle.report.specs.declared.PlacedHole.{PlacedHole}
 use Rattle.report.specs.declared.LayerHead.{LayerHead}
 use Rattle.report.specs.declared.BoardReport.{BoardReport}

@@ -6,7 +6,7 @@ use Rattle.grid_units.specs.declared.profile.Profile.{Profile}
 use Rattle.std.proofs.lemmas.Bool.{ne_eqb}
 use Rattle.std.proofs.lemmas.List.Concat.{flat_map-append}
 use Rattle.std.proofs.lemmas.List.FromFn.{get_or-enumerate_from, length-enumerate_from}
-use Rattle.package_check.specs.declared.FileSum.{FileSum}
+use Rattle.board.specs.declared.FileSum.{FileSum}
 use Rattle.grid_units.specs.HoleWords.{name_of}
 use Rattle.report.specs.Acceptances.{acceptance_at}
 use Rattle.report.specs.declared.LayerHead.{LayerHead}

@@ -9,8 +9,8 @@ use Rattle.grid_units.specs.Reasons.{reason_name}
 use Rattle.grid_units.specs.declared.fault.Fault.{Fault}
 use Rattle.grid_units.specs.declared.fault.Reason.{Reason}
 use Rattle.report.specs.declared.Measure.{Measure}
-use Rattle.package_check.specs.Boards.{BoardView}
-use Rattle.package_check.specs.declared.FileSum.{FileSum}
+use Rattle.board.specs.Boards.{BoardView}
+use Rattle.board.specs.declared.FileSum.{FileSum}
 use Rattle.grid_units.specs.HoleWords.{name_of}
 use Rattle.report.specs.Acceptances.{acceptance_at, waived_in}
 use Rattle.report.specs.declared.GapLack.{GapLack}

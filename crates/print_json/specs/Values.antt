@@ -13,17 +13,17 @@ use Rattle.grid_units.specs.Points.{GridPoint}
 use Rattle.grid_units.specs.Spans.{LayerSpan}
 use Rattle.pad_shapes.specs.declared.row.Why.{Why}
 use Rattle.pad_shapes.specs.declared.row.Why.TheVariants as why
-use Rattle.margins.specs.declared.met.Met.{Met}
-use Rattle.margins.specs.declared.met.Met.TheVariants as mets
+use Rattle.board.specs.declared.met.Met.{Met}
+use Rattle.board.specs.declared.met.Met.TheVariants as mets
 use Rattle.report.specs.UnitMistakes.{factor_word}
 use Rattle.report.specs.declared.GapLine.{GapLine}
 use Rattle.report.specs.declared.HolePlace.{HolePlace}
 use Rattle.report.specs.declared.Meets.{Meets}
 use Rattle.report.specs.declared.RingLine.{RingLine}
 use Rattle.report.specs.declared.UnitMistake.{UnitMistake}
-use Rattle.package_check.specs.Boards.{holes_before}
-use Rattle.package_check.specs.declared.FileSum.{FileSum}
-use Rattle.package_check.specs.declared.FileSum.TheVariants as sums
+use Rattle.board.specs.Boards.{holes_before}
+use Rattle.board.specs.declared.FileSum.{FileSum}
+use Rattle.board.specs.declared.FileSum.TheVariants as sums
 use Rattle.report.specs.declared.GapLack.{GapLack}
 use Rattle.report.specs.declared.PlacedHole.{PlacedHole}
 use Rattle.report.specs.declared.LayerHead.{LayerHead}

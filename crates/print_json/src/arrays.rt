@@ -11,8 +11,8 @@ ghost use Rattle.print_json.specs.Values.{array_of, file_value, gap_value, ring_
 use crate::findings::{GapJson, RingJson};
 use crate::numbers::{file_numbers, gap_numbers, ring_numbers, row_numbers, scale_numbers};
 use crate::values::{FileJson, RowJson, ScaleJson};
+use board::FileSum;
 use grid_units::{Profile, name_of};
-use package_check::FileSum;
 use report::{Acceptances, BoardReport, RingLine, UnitMistake, acceptance_of};
 use std::fmt;
 use std::fmt::{Display, Formatter};

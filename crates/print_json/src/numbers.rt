@@ -6,8 +6,8 @@ ghost use Rattle.report.specs.Causes.{flash_of, lack_of, ring_of};
 
 use crate::findings::{GapJson, RingJson};
 use crate::values::{FileJson, diameter};
+use board::FileSum;
 use grid_units::{Point, Rules, Span};
-use package_check::FileSum;
 use report::{
     LayerHead, Meets, Met, PlacedHole, RingCause, RingLine, UnitMistake, flash_of, lack_of, ring_of,
 };

@@ -7,8 +7,8 @@ ghost use Rattle.print_json.specs.Packages.{profile_value};
 ghost use Rattle.print_json.specs.Values.{contradicted_member, diameter_of, drill_role, drill_value, copper_value, file_value, hole_value, or_null, meets_value, members_of, met_value, mixed_value, picometres, point_value, row_value, rules_value, scale_value, span_value, whole};
 
 use crate::strings::Escaped;
+use board::FileSum;
 use grid_units::{Hole, Point, Profile, Rules, Span};
-use package_check::FileSum;
 use report::{LeastRing, Meets, Met, PlacedHole, RingLine, UnitMistake, factor_word};
 use std::fmt;
 use std::fmt::{Display, Formatter};

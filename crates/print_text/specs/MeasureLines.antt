@@ -2,8 +2,8 @@
 use Rattle.std.specs.Prelude.{ℕ, ◌+◌, ◌++◌, List, [], ◌∷◌, codes, decimal, Option, Some, None}
 use Rattle.std.specs.List.{flat_map}
 use Rattle.grid_units.specs.Spellings.{millimetres}
-use Rattle.margins.specs.declared.met.Met.{Met}
-use Rattle.margins.specs.declared.met.Met.TheVariants as mets
+use Rattle.board.specs.declared.met.Met.{Met}
+use Rattle.board.specs.declared.met.Met.TheVariants as mets
 use Rattle.report.specs.declared.GapLine.{GapLine}
 use Rattle.report.specs.declared.HolePlace.{HolePlace}
 use Rattle.report.specs.declared.LeastRing.{LeastRing}

@@ -8,11 +8,12 @@ use Rattle.grid_units.specs.Holes.{GridHole, GridRules}
 use Rattle.grid_units.specs.Points.{GridPoint}
 use Rattle.grid_units.specs.declared.profile.Profile.{Profile}
 use Rattle.grid_units.specs.declared.profile.Profile.TheVariants.{Strict, Wide}
+use Rattle.pad_shapes.specs.Pads.{pad_height, pad_width}
 use Rattle.pad_shapes.specs.declared.pad.Pad.{Pad}
 use Rattle.pad_shapes.specs.declared.pad.Pad.TheVariants as pads
-use Rattle.margins.specs.Depths.{pad_middle}
-use Rattle.margins.specs.declared.met.Met.{Met}
-use Rattle.margins.specs.declared.met.Met.TheVariants as mets
+use Rattle.board.specs.Depths.{pad_middle}
+use Rattle.board.specs.declared.met.Met.{Met}
+use Rattle.board.specs.declared.met.Met.TheVariants as mets
 use Rattle.report.specs.declared.Meets.{Meets}
 use Rattle.report.specs.UnitMistakes.{conflict_words, factor_word}
 use Rattle.report.specs.declared.RoleConflict.{RoleConflict}
@@ -64,18 +65,6 @@ shape_word (pads.Disc disc) = codes "disc "
 shape_word (pads.Rect rect) = codes "rect "
 shape_word (pads.Obround obround) = codes "obround "
 
--- the side of a pad along x; for a disc its diameter
-abbrev pub width_of : Pad → ℕ
-width_of (pads.Disc disc) = 2 * disc.radius
-width_of (pads.Rect rect) = 2 * rect.half_x
-width_of (pads.Obround obround) = 2 * obround.half_x
-
--- the side of a pad along y; for a disc its diameter
-abbrev pub height_of : Pad → ℕ
-height_of (pads.Disc disc) = 2 * disc.radius
-height_of (pads.Rect rect) = 2 * rect.half_y
-height_of (pads.Obround obround) = 2 * obround.half_y
-
 -- halfway between two coordinates, rounded towards 0: of 1 and 4 it is 2
 abbrev pub halfway : ℤ → ℤ → ℤ
 halfway a b = int_div (a +ℤ b) (pos 2)
@@ -86,7 +75,7 @@ hole_middle hole = record { x = halfway hole.from.x hole.to.x; y = halfway hole.
 
 -- the shape and the sides of a pad: `disc 0.6x0.6`
 abbrev pub pad_words : Pad → List ℕ
-pad_words pad = shape_word pad ++ two_lengths (pos (width_of pad)) (codes "x") (pos (height_of pad))
+pad_words pad = shape_word pad ++ two_lengths (pos (pad_width pad)) (codes "x") (pos (pad_height pad))
 
 -- the middle of a hole less that of a pad, along x and y: `, hole off by 0.001,0`
 abbrev pub off_words : GridPoint → GridPoint → List ℕ

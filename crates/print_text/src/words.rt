@@ -1,13 +1,13 @@
 //! The words for holes, pads and causes.
 
-ghost use Rattle.std.specs.Prelude.{◌≡◌, ◌*◌, ◌-ℤ◌, pos, map, Some};
+ghost use Rattle.std.specs.Prelude.{◌≡◌, ◌*◌, ◌-ℤ◌, map, Some};
 ghost use Rattle.grid_units.specs.Points.{IsCoordinate};
 ghost use Rattle.print_text.specs.Causes.{kind_words};
-ghost use Rattle.print_text.specs.Texts.{at_edge_words, cause_words, halfway, height_of, hole_middle, hole_words, in_pad_words, measured_words, other_words, pad_words, place_words, shape_word, width_of};
+ghost use Rattle.print_text.specs.Texts.{at_edge_words, cause_words, halfway, hole_middle, hole_words, in_pad_words, measured_words, other_words, pad_words, place_words, shape_word};
 
 use crate::kind::{CauseKind, kind_of, kind_words};
+use board::DepthShape;
 use grid_units::{DrilledWords, Hole, Point, ShortMillimetres, name_of};
-use margins::DepthShape;
 use pad_shapes::Pad;
 use report::{PlacedHole, RingAtEdge, RingCause, RingInPad};
 use std::fmt;
@@ -47,28 +47,6 @@ fn shape_word(pad: &Pad) -> &'static str
     }
 }
 
-/// The side of a pad along x in pm; for a disc its diameter.
-fn width_of(pad: &Pad) -> i64
-    ensures { result ≡ pos (width_of pad.now) }
-{
-    match pad {
-        Pad::Disc(disc) => 2 * disc.radius(),
-        Pad::Rect(rect) => 2 * rect.half_x(),
-        Pad::Obround(obround) => 2 * obround.half_x(),
-    }
-}
-
-/// The side of a pad along y in pm; for a disc its diameter.
-fn height_of(pad: &Pad) -> i64
-    ensures { result ≡ pos (height_of pad.now) }
-{
-    match pad {
-        Pad::Disc(disc) => 2 * disc.radius(),
-        Pad::Rect(rect) => 2 * rect.half_y(),
-        Pad::Obround(obround) => 2 * obround.half_y(),
-    }
-}
-
 /// The shape and the sides of a pad: `disc 0.6x0.6`.
 #[derive(Clone, Copy)]
 struct PadWords<'a>(&'a Pad);
@@ -78,8 +56,8 @@ impl Display for PadWords<'_> {
 
     #[tactic(auto, unfolding(grid_units::specs::HoleWords::two_lengths))]
     fn fmt<W: fmt::Write>(&self, f: &mut Formatter<W>) -> fmt::Result {
-        let width = ShortMillimetres(width_of(self.0));
-        let height = ShortMillimetres(height_of(self.0));
+        let width = ShortMillimetres(self.0.width());
+        let height = ShortMillimetres(self.0.height());
         write!(f, "{}{width}x{height}", shape_word(self.0))
     }
 }

@@ -182,16 +182,19 @@ fn streams(alloc: Global) -> Streams<Vec<u8>, Vec<u8>> {
     }
 }
 
-/// Whether a run over this loader ends with this status and prints just this.
+/// Whether a run over this loader ends with this status, prints just this text, and says just this beside it.
 fn prints<L: Loader>(
     alloc: Global,
     loader: &mut L,
     words: &[&str],
     status: Status,
     text: &str,
+    said: &str,
 ) -> bool {
     let mut to = streams(alloc);
-    run(alloc, words, loader, &mut to) == status && to.out.as_slice() == text.as_bytes()
+    run(alloc, words, loader, &mut to) == status
+        && to.out.as_slice() == text.as_bytes()
+        && to.err.as_slice() == said.as_bytes()
 }
 
 const THREE: &str = "role,name,file\ncopper,top,top.gbr\ncopper,bot,bot.gbr\nplated,pth,pth.drl\n";

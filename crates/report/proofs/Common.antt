@@ -1,10 +1,10 @@
--- The names that most proofs of this crate cite, passed on from one place. Declares nothing.
+-- Names that proofs of this crate cite, passed on from one place. Declares nothing.
 pub use Rattle.std.proofs.Common.{Bool, List, None, Option, Some, [], ap, append-nil, append_assoc, ap₂, arith, cond, drop, false, get_or, inl, inr, length, map, negsuc, not, refl, rules, subst, suc, sym, take, true, w64, ℕ, ℤ, ◌&&◌, ◌*◌, ◌++◌, ◌+◌, ◌-◌, ◌<◌, ◌==◌, ◌||◌, ◌↔◌, ◌∙◌, ◌∷◌, ◌≡◌, ◌≤ℤ◌, ◌≤◌, ◌⊎◌}
 pub use Rattle.grid_units.specs.Holes.{GridHole, IsBetween, is_round}
 pub use Rattle.grid_units.specs.Points.{GridPoint, IsCoordinate, abs_diff, max_coordinate, square}
-pub use Rattle.margins.specs.BestPads.{AreBare, AreBestPads, IsBare, IsBestPad, NoneCovers}
-pub use Rattle.margins.specs.Inner.DepthLaws.{both_le, le_both, wide_pad_covers_less}
-pub use Rattle.margins.specs.declared.best.BestPad.{BestPad}
+pub use Rattle.board.specs.BestPads.{AreBare, AreBestPads, IsBare, IsBestPad, NoneCovers}
+pub use Rattle.board.specs.Inner.DepthLaws.{both_le, le_both, wide_pad_covers_less}
+pub use Rattle.board.specs.declared.best.BestPad.{BestPad}
 pub use Rattle.pad_shapes.specs.Rounded.{GridRounded, IsInSlot, IsNear, is_outline, rounded_covers}
 pub use Rattle.pad_shapes.specs.Rows.{is_pad_row}
 pub use Rattle.pad_shapes.specs.Shapes.{IsAxisAligned, IsInBox, covers_both_ends, end_radius}

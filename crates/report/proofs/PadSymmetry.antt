@@ -5,7 +5,7 @@ use Rattle.std.proofs.Math.Bool.{and_self}
 use Rattle.pad_shapes.specs.Pads.{pad_covers}
 use Rattle.pad_shapes.specs.declared.pad.Pad.{Pad}
 use Rattle.pad_shapes.specs.declared.pad.Pad.TheVariants.{Disc, Rect, Obround}
-use Rattle.margins.specs.Depths.{pad_middle}
+use Rattle.board.specs.Depths.{pad_middle}
 
 -- a pad covers both or neither of two points as far from its middle along each axis
 covers_alike : (pad : Pad) (a b : GridPoint) (reach : ℕ) → abs_diff a.x (pad_middle pad).x ≡ abs_diff b.x (pad_middle pad).x → abs_diff a.y (pad_middle pad).y ≡ abs_diff b.y (pad_middle pad).y

@@ -26,9 +26,9 @@ use Rattle.report.specs.declared.bounds.Bounds.{Bounds}
 use Rattle.report.specs.declared.groups.Group.{Group}
 use Rattle.report.specs.declared.layer.CauseFinder.{CauseFinder}
 use Rattle.report.specs.declared.other.Other.{Other}
-use Rattle.margins.specs.BestPads.{AreBestPads, NoneCovers, IsDeepest}
-use Rattle.margins.specs.Depths.{pad_middle}
-use Rattle.margins.specs.declared.best.BestPad.{BestPad}
+use Rattle.board.specs.BestPads.{AreBestPads, NoneCovers, IsDeepest}
+use Rattle.board.specs.Depths.{pad_middle}
+use Rattle.board.specs.declared.best.BestPad.{BestPad}
 use Rattle.report.specs.declared.RingAtEdge.{RingAtEdge}
 use Rattle.report.specs.declared.RingInPad.{RingInPad}
 use Rattle.report.specs.declared.RingCause.{RingCause}

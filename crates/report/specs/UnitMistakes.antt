@@ -7,7 +7,7 @@ use Rattle.grid_units.specs.Holes.{GridHole, is_round}
 use Rattle.pad_shapes.specs.WidePads.{wide_pad_covers}
 use Rattle.pad_shapes.specs.declared.wide_pad.WidePad.{WidePad}
 use Rattle.ring_rules.specs.declared.finding.Drilled.{Drilled}
-use Rattle.margins.specs.BestPads.{IsBare}
+use Rattle.board.specs.BestPads.{IsBare}
 use Rattle.report.specs.declared.UnitFactor.{UnitFactor}
 use Rattle.report.specs.declared.UnitMistake.{UnitMistake}
 use Rattle.report.specs.declared.mistakes.FileRange.{FileRange}

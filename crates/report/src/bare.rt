@@ -4,15 +4,15 @@ ghost use Rattle.std.specs.Prelude.{◌≡◌, ◌&&◌, ◌≤◌, length, List
 ghost use Rattle.grid_units.specs.Holes.{is_round};
 ghost use Rattle.pad_shapes.specs.WidePads.{wide_pad_covers};
 ghost use Rattle.pad_shapes.specs.declared.wide_pad.WidePad.{WidePad as ThePad};
-ghost use Rattle.margins.specs.BestPads.{AreBestPads, AreBare};
-ghost use Rattle.margins.specs.Rows.{has_no_best_pad};
+ghost use Rattle.board.specs.BestPads.{AreBestPads, AreBare};
+ghost use Rattle.board.specs.Rows.{has_no_best_pad};
 ghost use Rattle.report.specs.UnitMistakes.{bare_count, round_count};
 ghost use Rattle.report.specs.Inner.RescaledCounts.{AreRescaled, IsRescaled};
 
 use crate::UnitFactor;
 use crate::scaled::scaled_point;
+use board::BestPad;
 use grid_units::{Hole, Point};
-use margins::BestPad;
 use ring_rules::Drilled;
 use std::alloc::{AllocError, Global};
 

@@ -5,8 +5,8 @@ ghost use Rattle.grid_units.specs.Points.{IsCoordinate, abs_diff, max_coordinate
 ghost use Rattle.pad_shapes.specs.Pads.{pad_covers};
 ghost use Rattle.report.specs.Causes.{half_apart, hole_shape, is_small};
 
+use board::DepthShape;
 use grid_units::{Hole, Point, Rules};
-use margins::DepthShape;
 use pad_shapes::{Pad, PadShape, Rounded};
 use std::alloc::{AllocError, Global};
 

@@ -3,14 +3,14 @@
 ghost use Rattle.std.specs.Prelude.{◌≡◌, ◌∷◌, [], ◌≤◌, List, length, IfOk, OnOk};
 ghost use Rattle.pad_shapes.specs.WidePads.{wide_pad_covers};
 ghost use Rattle.pad_shapes.specs.declared.wide_pad.WidePad.{WidePad as ThePad};
-ghost use Rattle.margins.specs.BestPads.{AreBare};
+ghost use Rattle.board.specs.BestPads.{AreBare};
 ghost use Rattle.report.specs.declared.UnitFactor.{UnitFactor as TheFactor};
 ghost use Rattle.report.specs.UnitMistakes.{bare_count_with, round_count};
 ghost use Rattle.report.specs.Inner.RescaledCounts.{AreCounted, AreRescaled, AreHoleRanges, AreRescaledRanges, AddsRange};
 
 use crate::UnitFactor;
 use crate::bare::{all_rescaled, round_among, round_bare_count};
-use margins::bare_holes;
+use board::bare_holes;
 use pad_shapes::WidePad;
 use ring_rules::Drilled;
 use std::alloc::{AllocError, Global};

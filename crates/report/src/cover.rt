@@ -6,7 +6,7 @@ ghost use Rattle.report.specs.Causes.{MarksBare, MarkUncounted, uncounted_pads};
 ghost use Rattle.report.specs.Inner.CauseParts.{uncounted_cause};
 
 use crate::{FurtherCopper, RingCause};
-use margins::bare_holes;
+use board::bare_holes;
 use pad_shapes::WidePad;
 use ring_rules::Drilled;
 use std::alloc::{AllocError, Global};

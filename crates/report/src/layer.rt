@@ -6,7 +6,7 @@ ghost use Rattle.pad_shapes.specs.declared.wide_pad.WidePad.{WidePad as TheWideP
 ghost use Rattle.ring_rules.specs.Findings.{is_refused_slot};
 ghost use Rattle.ring_rules.specs.Places.{hole_at};
 ghost use Rattle.pad_shapes.specs.Rows.{is_pad_row};
-ghost use Rattle.margins.specs.BestPads.{AreBestPads, IsBestPad, IsDeepest};
+ghost use Rattle.board.specs.BestPads.{AreBestPads, IsBestPad, IsDeepest};
 ghost use Rattle.report.specs.Causes.{HoldsRows, HoldsRowsAndBests, IsCause, UncountedPads, other_in, pad_place, pad_places, uncounted_pads};
 ghost use Rattle.report.specs.Inner.CauseParts.{cause_without_pad, other_cause, plain_cause, uncounted_cause};
 
@@ -15,8 +15,8 @@ use crate::cover::UncountedCover;
 use crate::groups::{Group, first_in, groups_of};
 use crate::other::{Other, others};
 use crate::{FurtherCopper, RingAtEdge, RingCause, RingInPad};
+use board::{BestPad, best_pads};
 use grid_units::{Hole, Rules};
-use margins::{BestPad, best_pads};
 use pad_shapes::{FeatureRow, RowKind, WidePad};
 use ring_rules::{Drilled, is_refused_slot};
 use std::alloc::{AllocError, Global};

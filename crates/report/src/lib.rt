@@ -19,10 +19,10 @@ mod scaled;
 mod waived;
 
 pub use bare::bare_among;
+pub use board::Met;
 pub use figures::{conflict_words, factor_word, flash_of, lack_of, ring_of};
 use grid_units::{Hole, Rules};
 pub use layer::CauseFinder;
-pub use margins::Met;
 pub use mistakes::{FileRange, unit_mistakes};
 use pad_shapes::{Pad, Why, WidePad};
 pub use scaled::scaled_point;

@@ -4,7 +4,7 @@ ghost use Rattle.std.specs.Prelude.{◌≡◌, ◌↔◌, ◌*◌, ◌<◌, ◌�
 ghost use Rattle.pad_shapes.specs.WidePads.{wide_pad_covers};
 ghost use Rattle.pad_shapes.specs.declared.wide_pad.WidePad.{WidePad as ThePad};
 ghost use Rattle.ring_rules.specs.declared.finding.Drilled.{Drilled as TheDrilled};
-ghost use Rattle.margins.specs.BestPads.{AreBestPads};
+ghost use Rattle.board.specs.BestPads.{AreBestPads};
 ghost use Rattle.report.specs.UnitMistakes.{AreFileRanges, AreUnitMistakes, IsUnitMistakeOrNone, bare_count_with, factors, holes_in};
 ghost use Rattle.report.specs.Inner.RescaledCounts.{AreSuspects, AreTried, IsSuspect, IsFewest, holes_of};
 ghost use Rattle.report.specs.declared.mistakes.FileRange.{FileRange as TheFileRange};
@@ -13,7 +13,7 @@ use crate::UnitMistake;
 use crate::bare::{bare_among, round_among};
 use crate::counts::HoleRange;
 use crate::fewest::{Fewest, Tried, try_factors};
-use margins::BestPad;
+use board::BestPad;
 use pad_shapes::WidePad;
 use ring_rules::Drilled;
 use std::alloc::{AllocError, Global};

@@ -1,8 +1,8 @@
--- The names that most proofs of this crate cite, passed on from one place. Declares nothing.
+-- Names that proofs of this crate cite, passed on from one place. Declares nothing.
 pub use Rattle.std.proofs.Common.{Bool, List, Option, Some, [], ap, append_assoc, ap₂, arith, codes, decimal, false, get_or, inl, inr, length, map, not, refl, subst, suc, sym, take, true, zero, ℕ, ◌++◌, ◌+◌, ◌-◌, ◌<◌, ◌==◌, ◌∙◌, ◌∷◌, ◌≡◌, ◌≤◌}
 pub use Rattle.drawing.specs.Pages.{IsPage, IsPanel, after_panels, before_panels, declaration, svg_text, text_of_panel}
 pub use Rattle.grid_units.specs.declared.profile.Profile.{Profile}
-pub use Rattle.package_check.specs.declared.FileSum.{FileSum}
+pub use Rattle.board.specs.declared.FileSum.{FileSum}
 pub use Rattle.print_text.proofs.Showing.{marks_all, marks_more}
 pub use Rattle.report.specs.declared.LayerHead.{LayerHead}
 pub use Rattle.report.specs.declared.RingLack.{RingLack}

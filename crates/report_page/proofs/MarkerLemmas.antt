@@ -18,7 +18,8 @@ use Rattle.pad_shapes.specs.WidePads.{wide_pad_covers}
 use Rattle.ring_rules.specs.Findings.{gap_findings, ring_findings}
 use Rattle.ring_rules.specs.WithoutFindings.{GapsNamePlaces, NamesPlaces, RingsNamePlaces}
 use Rattle.pad_shapes.specs.declared.drawn.Drawn.{Drawn}
-use Rattle.package_check.specs.Boards.{BoardView, IsBoard, board_findings}
+use Rattle.board.specs.Boards.{BoardView, board_findings}
+use Rattle.package_check.specs.Boards.{IsBoard}
 use Rattle.package_check.specs.Package.{FileView, index_of, pads_of}
 use Rattle.package_check.specs.declared.contents.Content.{Content}
 use Rattle.package_check.specs.declared.contents.Content.TheVariants as content

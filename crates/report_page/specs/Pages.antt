@@ -26,8 +26,9 @@ use Rattle.print_text.specs.Causes.{kind_of, kind_words}
 use Rattle.print_text.specs.Texts.{fewer_words, number_of, rules_words, waived_words, warning_words}
 use Rattle.print_text.specs.declared.report_text.Particulars.{Particulars}
 use Rattle.board_report.specs.Measures.{IsMeasure}
-use Rattle.package_check.specs.Boards.{BoardView, IsBoard}
-use Rattle.package_check.specs.declared.FileSum.{FileSum}
+use Rattle.board.specs.Boards.{BoardView}
+use Rattle.package_check.specs.Boards.{IsBoard}
+use Rattle.board.specs.declared.FileSum.{FileSum}
 use Rattle.picture.specs.Escapes.{escaped}
 use Rattle.pad_shapes.specs.declared.drawn.Drawn.{Drawn}
 use Rattle.drawing.specs.Pages.{IsDrawn, declaration, number_of as file_number, svg_text}
@@ -41,7 +42,7 @@ use Rattle.std.specs.Str.Iter.{HasSubslice}
 use Rattle.package_check.specs.Package.{FileView}
 use Rattle.board_report.specs.BoardReport.{IsBoardReport}
 use Rattle.report.specs.declared.RingCause.TheVariants as causes
-use Rattle.package_check.specs.declared.FileSum.TheVariants as sums
+use Rattle.board.specs.declared.FileSum.TheVariants as sums
 
 -- ---- the verdict and the rules
 

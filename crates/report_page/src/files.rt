@@ -7,8 +7,8 @@ ghost use Rattle.picture.specs.Escapes.{escaped};
 ghost use Rattle.report_page.specs.Pages.{amount, contour_words, copper_words, drill_role, drill_words, file_items, file_words, files_text, mixed_words, promise, span_words};
 
 use crate::frame::{FILES, PREMISES, STRICT_PROMISE, WIDE_PROMISE};
+use board::FileSum;
 use grid_units::{Profile, Span, name_of};
-use package_check::FileSum;
 use picture::Escaped;
 use std::fmt;
 use std::fmt::{Display, Formatter};

@@ -4,9 +4,9 @@ ghost use Rattle.std.specs.Prelude.{IfOk};
 ghost use Rattle.report.specs.Causes.{HoldsRowsAndBests, uncounted_pads};
 
 use crate::rows::{Form, RowFail, what_at};
+use board::best_pads;
 use grid_units::{Hole, Point, Profile, Rules};
 use layer_state::What;
-use margins::best_pads;
 use pad_shapes::{FeatureRow, RowKind, Why, WidePad};
 use report::{RingCause, *};
 use ring_rules::Drilled;

@@ -29,12 +29,11 @@ fn is_waiver(waiver: &Waiver, fields: &[&str; 6]) -> bool {
 
 /// Whether these waivers have these fields, in order.
 fn are_waivers(read: &[Waiver], all: &[[&str; 6]]) -> bool {
-    for (waiver, fields) in read.iter().zip(all) {
-        if !is_waiver(waiver, fields) {
-            return false;
-        }
-    }
     read.len() == all.len()
+        && read
+            .iter()
+            .zip(all)
+            .all(|(waiver, fields)| is_waiver(waiver, fields))
 }
 
 /// Whether a file has just these waivers, in order.

@@ -11,15 +11,6 @@ none_at count c = elim (cases_lt c count) [
   | inr past ↦ get_or_past (zeros count) c 0 (omega (arith, past, length-replicate {A = ℕ} count 0))
 ]
 
-pub chained_none : (cell : ℕ → ℕ) (count : ℕ) → IsChained cell 0 (zeros count) []
-chained_none cell count = record {
-  size = refl;
-  heads = λ k h. absurd (omega (arith, h));
-  heads_in = λ c m e. absurd (omega (arith, none_at count c, e));
-  links = λ j k h l e. absurd (omega (arith, h));
-  links_in = λ j m h e. absurd (omega (arith, h));
-}
-
 module _ (cell : ℕ → ℕ) (n : ℕ) (head next : List ℕ) (was : IsChained cell n head next) (inside : cell n < length head) where
   here : get_or (set head (cell n) (n + 1)) (cell n) 0 ≡ n + 1
   here = get_or-set_same head (cell n) (n + 1) 0 inside

@@ -1,6 +1,6 @@
--- The names that most proofs of this crate cite, passed on from one place. Declares nothing.
+-- Names that proofs of this crate cite, passed on from one place. Declares nothing.
 pub use Rattle.std.proofs.Common.{Bool, Bor, List, [], ap, arith, cond, drop, false, get_or, inl, inr, length, map, max, min, negsuc, of_z, pos, refl, rules, set, slice_index_or, subst, suc, sym, take, to_z, true, w64, zero, ℕ, ℤ, ◌*◌, ◌++◌, ◌+ℤ◌, ◌+◌, ◌-ℤ◌, ◌-◌, ◌/◌, ◌<ℤ◌, ◌<◌, ◌^◌, ◌∙◌, ◌∷◌, ◌≡◌, ◌≢◌, ◌≤ℤ◌, ◌≤◌, ◌⊎◌}
-pub use Rattle.grid_units.proofs.BoolLemmas.{and_false, and_false_right, both_true, either, not_false, not_true, or_is_false}
+pub use Rattle.grid_units.proofs.BoolLemmas.{and_false_right, both_true, either, not_false, not_true, or_is_false}
 pub use Rattle.grid_units.specs.Holes.{AreClear, GridHole, GridRules, IsBetween, IsInCore}
 pub use Rattle.grid_units.specs.Points.{GridPoint, IsCoordinate, abs_diff, square, square_distance}
 pub use Rattle.grid_units.specs.Spans.{is_in_span}
@@ -41,8 +41,8 @@ pub use Rattle.std.proofs.lemmas.List.Kept.{AllPairs-cons, AllPairs-filter, Cont
 pub use Rattle.std.proofs.lemmas.List.Sorted.{All-permutation, Contains-permutation, IsPartitionPoint-from_clause, IsPermutation-map, IsPermutation-put_mid, IsPermutation-refl, IsPermutation-sym, answers_always, length_permutation, ranks_by, sorted_far}
 pub use Rattle.std.proofs.lemmas.Result.{IfOk-weaker, on_ok_weaker}
 pub use Rattle.std.specs.Int.{int_max, int_min}
-pub use Rattle.std.specs.List.{All, AllPairs, Contains, IsDistinct, enumerate_from, filter, flat_map, list_any, prefix_len}
-pub use Rattle.std.specs.List.Sorted.{IsPartitionPoint, IsPartitionedBy, IsPermutation, IsSorted, IsSortedByKey}
+pub use Rattle.std.specs.List.{All, AllPairs, Contains, enumerate_from, filter, flat_map, list_any, prefix_len}
+pub use Rattle.std.specs.List.Sorted.{IsPartitionPoint, IsPartitionedBy, IsPermutation, IsSortedByKey}
 unfoldable pub use Rattle.std.specs.List.Sorted.{IsStrictlySortedBy}
 pub use Rattle.std.specs.Ordering.{eq_by_cmp, int_cmp, int_eq, is_lt, nat_cmp, ordering_then}
 pub use Rattle.std.specs.Prelude.{Err, IfOk, Ok, Result, int_le, int_lt, nat_eq, nat_le, nat_lt, not, ⊤, ◌&&◌, ◌||◌}

@@ -1,5 +1,5 @@
 -- Entries with their forms: what they stand for, and that more forms and more entries change nothing of it.
-use Rattle.ring_rules.proofs.Common.{◌≡◌, ℕ, ℤ, ◌<◌, ◌≤◌, inl, inr, List, [], ◌∷◌, ◌++◌, length, get_or, map, refl, sym, ap, subst, ◌∙◌, arith, cases_lt, ints, get_or-map, length-map, map_push, same_lists, get_or_append_left, get_or_push, length_push, GridPoint, IsCoordinate, GridHole, default_spot, spot_at, moved, form_at, spot_with, spot_of, HasForm, default_entry, HaveForms, Spot, Entry}
+use Rattle.ring_rules.proofs.Common.{◌≡◌, ℕ, ℤ, ◌<◌, ◌≤◌, List, [], ◌∷◌, ◌++◌, length, get_or, map, sym, ap, subst, ◌∙◌, arith, ints, get_or-map, length-map, map_push, same_lists, GridPoint, IsCoordinate, GridHole, moved, form_at, spot_with, spot_of, HasForm, default_entry, HaveForms, Spot, Entry}
 use Rattle.std.specs.Prelude.{◌+ℤ◌, ◌-ℤ◌}
 
 abbrev pub hole_of : GridPoint → ℤ → ℤ → ℕ → GridHole
@@ -12,35 +12,12 @@ moved_to form from to x y = ap (λ (v : ℤ). hole_of from v to.y form.radius) x
 reaches : (a b c d : ℤ) → (b -ℤ a) ≡ (d -ℤ c) → (c +ℤ (b -ℤ a)) ≡ d
 reaches a b c d same = omega (arith, ints, same)
 
--- a hole has a form where its radius and the ways between its ends are those of the form
-pub moved_is : (form hole : GridHole) → (form.to.x -ℤ form.from.x) ≡ (hole.to.x -ℤ hole.from.x) → (form.to.y -ℤ form.from.y) ≡ (hole.to.y -ℤ hole.from.y) → form.radius ≡ hole.radius → moved form hole.from ≡ hole
-moved_is form hole x y radius =
-    ap (λ (v : ℤ). hole_of hole.from v (hole.from.y +ℤ (form.to.y -ℤ form.from.y)) form.radius) (reaches form.from.x form.to.x hole.from.x hole.to.x x)
-    ∙ (ap (λ (v : ℤ). hole_of hole.from hole.to.x v form.radius) (reaches form.from.y form.to.y hole.from.y hole.to.y y)
-    ∙ ap (hole_of hole.from hole.to.x hole.to.y) radius)
-
--- a hole has its own form
-pub moved_itself : (hole : GridHole) → moved hole hole.from ≡ hole
-moved_itself hole = moved_is hole hole refl refl refl
-
--- an entry whose form makes it a hole of the grid
-pub has_form : (forms : List GridHole) (e : Entry) (hole : GridHole) → e.form < length forms → moved (form_at forms e.form) e.from ≡ hole → IsCoordinate hole.to.x → IsCoordinate hole.to.y → HasForm forms e
-has_form forms e hole listed is x y = record {
-  listed = listed;
-  x = subst (λ (h : GridHole). IsCoordinate h.to.x) (sym is) x;
-  y = subst (λ (h : GridHole). IsCoordinate h.to.y) (sym is) y;
-}
-
 abbrev spot_made : GridHole → ℕ → Spot
 spot_made hole place = record { hole = hole; place = place }
 
 -- the spot that an entry stands for, by its parts
 pub entry_is : (forms : List GridHole) (e : Entry) (s : Spot) → moved (form_at forms e.form) e.from ≡ s.hole → e.place ≡ s.place → spot_of forms e ≡ s
 entry_is forms e s hole place = ap (λ (h : GridHole). spot_made h e.place) hole ∙ ap (spot_made s.hole) place
-
--- the spot at an index
-pub spot_is : (forms : List GridHole) (entries : List Entry) (i : ℕ) → i < length entries → spot_at (map (spot_of forms) entries) i ≡ spot_of forms (get_or entries i default_entry)
-spot_is forms entries i h = get_or-map (spot_of forms) entries i default_entry default_spot h
 
 module _ (forms more : List GridHole) (longer : length forms ≤ length more) (kept : (n : ℕ) → n < length forms → form_at more n ≡ form_at forms n) where
   same_spot : (e : Entry) → HasForm forms e → spot_of more e ≡ spot_of forms e
@@ -54,23 +31,12 @@ module _ (forms more : List GridHole) (longer : length forms ≤ length more) (k
   }
 
   module _ (entries : List Entry) (have : HaveForms forms entries) where
-    -- with more forms
-    pub still_have : HaveForms more entries
-    still_have i h = still_has (get_or entries i default_entry) (have i h)
-
     pub same_spots : map (spot_of more) entries ≡ map (spot_of forms) entries
     same_spots = same_lists (map (spot_of more) entries) (map (spot_of forms) entries) (length-map entries (spot_of more) ∙ sym (length-map entries (spot_of forms))) (λ k d h.
         let inside : k < length entries = omega (arith, h, length-map entries (spot_of more)) in
         get_or-map (spot_of more) entries k default_entry d inside
         ∙ (same_spot (get_or entries k default_entry) (have k inside)
         ∙ sym (get_or-map (spot_of forms) entries k default_entry d inside)))
-
-    -- and with one entry more
-    pub have_more : (e : Entry) → HasForm more e → HaveForms more (entries ++ e ∷ [])
-    have_more e has i h = elim (cases_lt i (length entries)) [
-      | inl less ↦ subst (HasForm more) (sym (get_or_append_left entries (e ∷ []) default_entry i less)) (still_have i less)
-      | inr past ↦ subst (HasForm more) (sym (get_or_push entries e default_entry i (omega (arith, h, past, length_push entries e)))) has
-    ]
 
     pub spots_more : (e : Entry) → map (spot_of more) (entries ++ e ∷ []) ≡ map (spot_of forms) entries ++ spot_of more e ∷ []
     spots_more e = map_push (spot_of more) entries e ∙ ap (λ (ss : List Spot). ss ++ spot_of more e ∷ []) same_spots

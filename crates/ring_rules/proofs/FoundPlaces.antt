@@ -6,9 +6,6 @@ use Rattle.ring_rules.proofs.AddedClashes.{contains_last}
 use Rattle.ring_rules.proofs.SpotLemmas.{hole_of}
 
 module _ (spots : List Spot) (zone : Zone) where
-  pub found_none : (a : List ℕ) → AddsFound spots zone a a
-  found_none a = record { kept = λ i h. h; sound = λ i h. inl h }
-
   pub found_both : (a b c : List ℕ) → AddsFound spots zone a b → AddsFound spots zone b c → AddsFound spots zone a c
   found_both a b c first second = record {
     kept = λ i h. second.kept i (first.kept i h);

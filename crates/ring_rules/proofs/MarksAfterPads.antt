@@ -1,6 +1,5 @@
 -- The marks that are left after all pads.
-use Rattle.ring_rules.proofs.Common.{◌≡◌, ℕ, ◌+◌, ◌<◌, inl, inr, Bool, true, false, List, [], ◌∷◌, ◌++◌, length, get_or, set, map, refl, sym, ap, subst, ◌∙◌, arith, ◌&&◌, ◌||◌, not, list_any, cases_eq, cases_lt, get_or_default, get_or-map, length-map, same_lists, get_or-set_same, get_or-set_other, get_or_append_left, get_or_push, get_or-replicate, GridPoint, GridHole, Profile, is_in_span, is_ring_finding, default_hole, spot_at, AreSpotsOf, drilled_at, is_marked, gives_ring, AreClosedUnmarked, Axis, Node, Drilled, Spot}
-use lib.ListN.{replicate}
+use Rattle.ring_rules.proofs.Common.{◌≡◌, ℕ, ◌+◌, ◌<◌, inl, inr, Bool, true, false, List, [], ◌∷◌, ◌++◌, length, get_or, set, map, refl, sym, ap, subst, ◌∙◌, arith, ◌&&◌, ◌||◌, not, list_any, cases_eq, cases_lt, get_or_default, get_or-map, length-map, same_lists, get_or-set_same, get_or-set_other, get_or_append_left, get_or_push, GridPoint, GridHole, Profile, is_in_span, is_ring_finding, default_hole, spot_at, AreSpotsOf, drilled_at, is_marked, gives_ring, Drilled, Spot}
 use Rattle.std.proofs.lemmas.List.Folds.{list_any-append}
 use Rattle.ring_rules.proofs.GivesRingLemmas.{given_by_none}
 
@@ -14,10 +13,6 @@ and_nor true false b = refl
 and_nor false a b = refl
 
 module _ {S : Type 0} (covers : S → GridPoint → ℕ → Bool) (profile : Profile) (ring layer : ℕ) where
-  -- without pads each hole that needs a ring lacks it
-  lacks_without : (d : Drilled) → (d.plated && is_in_span layer d.span) ≡ is_ring_finding covers profile ring layer [] d
-  lacks_without d = sym (and_true (d.plated && is_in_span layer d.span)) ∙ ap (λ (b : Bool). (d.plated && is_in_span layer d.span) && b) (given_by_none covers profile ring d.hole [])
-
   -- a hole lacks its ring among more pads if it lacked it, and none of the others gives it
   lacks_among_more : (d : Drilled) (pads more : List S) → (is_ring_finding covers profile ring layer pads d && not (list_any (gives_ring covers profile ring d.hole) more)) ≡ is_ring_finding covers profile ring layer (pads ++ more) d
   lacks_among_more d pads more =
@@ -27,15 +22,6 @@ module _ {S : Type 0} (covers : S → GridPoint → ℕ → Bool) (profile : Pro
       ∙ ap (λ (b : Bool). (d.plated && is_in_span layer d.span) && b) (given_by_none covers profile ring d.hole (pads ++ more))))
 
   module _ (holes : List Drilled) (spots : List Spot) (listed : AreSpotsOf holes spots) where
-    -- the marks before any pad
-    pub marked_first : (first own : List Bool) → first ≡ map (λ d. d.plated && is_in_span layer d.span) holes → ((i : ℕ) → i < length spots → is_marked own i ≡ is_marked first (spot_at spots i).place)
-        → (i : ℕ) → i < length spots → is_marked own i ≡ is_ring_finding covers profile ring layer [] (drilled_at holes (spot_at spots i).place)
-    marked_first first own is needs i h =
-        needs i h
-        ∙ (ap (λ (ms : List Bool). get_or ms (spot_at spots i).place false) is
-        ∙ (get_or-map (λ (e : Drilled). e.plated && is_in_span layer e.span) holes (spot_at spots i).place default_hole false (listed.each i h).listed
-        ∙ lacks_without (drilled_at holes (spot_at spots i).place)))
-
     -- the marks after more pads
     pub marked_more : (before after : List Bool) (pads more : List S) → ((i : ℕ) → i < length spots → is_marked before i ≡ is_ring_finding covers profile ring layer pads (drilled_at holes (spot_at spots i).place))
         → ((i : ℕ) → i < length spots → is_marked after i ≡ (is_marked before i && not (list_any (gives_ring covers profile ring (spot_at spots i).hole) more)))
@@ -56,10 +42,6 @@ marked_places test holes spots listed lacking size put =
     get_or_default lacking k d false h
     ∙ (subst (λ (n : ℕ). is_marked lacking n ≡ test (drilled_at holes n)) has.2 (put has.0 has.1)
     ∙ sym (get_or-map test holes k default_hole d inside)))
-
--- where all nodes are open, none is closed
-pub all_open : (x y : Axis) (spots : List Spot) (nodes : List Node) (marks : List Bool) → AreClosedUnmarked x y spots nodes (replicate (length nodes) true) marks
-all_open x y spots nodes marks i h closed = absurd (let e : true ≡ false = sym (get_or-replicate (length nodes) i true false h) ∙ closed in cc)
 
 -- one spot more that puts its mark at its place
 pub put_more : (spots : List Spot) (own marks : List Bool) (n place : ℕ) → place ≡ (spot_at spots n).place → place < length marks → (test : ℕ → Bool) → is_marked own n ≡ test (spot_at spots n).place

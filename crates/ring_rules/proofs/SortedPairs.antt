@@ -1,9 +1,8 @@
 -- Pairs of places in order: a list in which each pair comes before all later ones is known by its members.
-use Rattle.ring_rules.proofs.Common.{◌≡◌, ℕ, ◌+◌, ◌<◌, ◌⊎◌, inl, inr, zero, suc, List, [], ◌∷◌, ◌++◌, map, length, get_or, refl, sym, ap, ◌∙◌, subst, arith, Bool, true, false, nat_eq, ◌&&◌, All, AllPairs, Contains, IsDistinct, IsSorted, IsPermutation, IsStrictlySortedBy, nat_cmp, ordering_then, is_lt, eq_by_cmp, cases_lt, cases_eq, nat_tests, All-nil, All-cons, All-head, All-tail, All-append, All-map, All-weaker, All-contains, All-from_recursion, AllPairs-cons, IsPairBefore, and_false}
+use Rattle.ring_rules.proofs.Common.{◌≡◌, ℕ, ◌+◌, ◌<◌, ◌⊎◌, inl, inr, zero, suc, List, [], ◌∷◌, ◌++◌, map, length, get_or, refl, sym, ap, ◌∙◌, subst, arith, Bool, true, nat_eq, ◌&&◌, All, AllPairs, Contains, IsStrictlySortedBy, nat_cmp, ordering_then, eq_by_cmp, cases_lt, nat_tests, All-head, All-tail, All-append, All-map, All-weaker, All-contains, All-from_recursion, AllPairs-cons, IsPairBefore}
 use Rattle.std.specs.declared.cmp.Ordering.{Ordering}
 use Rattle.std.specs.declared.cmp.Ordering.TheVariants.{Less}
 use Rattle.std.specs.Cmp.{IsTotalOrder, nat_cmp_total, on_total, then_total, both_tied, unsigned_ties, IsEquivalence, nat_eq_equiv, on_equiv, and_equiv}
-use Rattle.std.proofs.lemmas.Map.Keys.{IsDistinct-from_apart, IsDistinct-IsPermutation, apart_from_distinct}
 
 before_trans : (p q r : ℕ × ℕ) → IsPairBefore p q → IsPairBefore q r → IsPairBefore p r
 before_trans p q r h k = elim h [
@@ -90,86 +89,8 @@ same_rising (p ∷ ps) (q ∷ qs) up up' there back =
 abbrev pub pair_cmp : ℕ × ℕ → ℕ × ℕ → Ordering
 pair_cmp p q = ordering_then (nat_cmp p.0 q.0) (nat_cmp p.1 q.1)
 
--- two pairs that differ and are not the other way round
-before_from_test : (p q : ℕ × ℕ) → is_lt (pair_cmp q p) ≡ false → ¬ (p ≡ q) → IsPairBefore p q
-before_from_test p q e differ = elim (cases_lt p.0 q.0) [
-  | inl less ↦ inl less
-  | inr no_less ↦ elim (cases_lt q.0 p.0) [
-    | inl more ↦ absurd (grind (arith, nat_tests))
-    | inr same ↦
-        let first : p.0 ≡ q.0 = omega (arith, no_less, same) in
-        elim (cases_lt p.1 q.1) [
-          | inl less' ↦ inr (first, less')
-          | inr no_less' ↦ elim (cases_lt q.1 p.1) [
-            | inl more' ↦ absurd (grind (arith, nat_tests))
-            | inr same' ↦ absurd (differ (ap (λ n. (n, p.1)) first ∙ ap (λ n. (q.0, n)) (let s : p.1 ≡ q.1 = omega (arith, no_less', same') in s)))
-          ]
-        ]
-  ]
-]
-
-sorted_rest : (p : ℕ × ℕ) (ps : List (ℕ × ℕ)) → IsSorted pair_cmp (p ∷ ps) → IsSorted pair_cmp ps
-sorted_rest p ps up k d h l =
-    let next : suc k + 1 ≡ suc (k + 1) = omega arith in
-    subst (λ n. is_lt (pair_cmp (get_or (p ∷ ps) n d) (get_or ps k d)) ≡ false) next (up (suc k) d (omega arith) (omega (arith, l)))
-
--- a sorted list of pairs that all differ
-pub rising_from_sorted : (ps : List (ℕ × ℕ)) → IsSorted pair_cmp ps → AllPairs (λ p q. ¬ (p ≡ q)) ps → AllPairs IsPairBefore ps
-rising_from_sorted [] up differ = pairs_none IsPairBefore
-rising_from_sorted (p ∷ []) up differ = AllPairs-cons IsPairBefore p [] (All-nil (IsPairBefore p)) (pairs_none IsPairBefore)
-rising_from_sorted (p ∷ q ∷ ps) up differ =
-    let rest : AllPairs IsPairBefore (q ∷ ps) = rising_from_sorted (q ∷ ps) (sorted_rest p (q ∷ ps) up) (pairs_tail (λ (a b : ℕ × ℕ). ¬ (a ≡ b)) p (q ∷ ps) differ) in
-    let next : IsPairBefore p q = before_from_test p q (up 0 p (omega arith) (omega arith)) (differ 0 1 p (omega arith) (omega arith)) in
-    AllPairs-cons IsPairBefore p (q ∷ ps) (All-cons (IsPairBefore p) q ps next (All-weaker (IsPairBefore q) (IsPairBefore p) (λ r. before_trans p q r next) ps (pairs_head IsPairBefore q ps rest))) rest
-
-pub no_eq : (m n : ℕ) → ¬ (m ≡ n) → nat_eq m n ≡ false
-no_eq m n other = by_test (nat_eq m n) refl where
-  by_test : (b : Bool) → nat_eq m n ≡ b → b ≡ false
-  by_test true t = absurd (other (grind (arith, nat_tests)))
-  by_test false t = refl
-
 itself : (n : ℕ) → nat_eq n n ≡ true
 itself n = grind (arith, nat_tests)
-
-pub eq_flips : (m n : ℕ) → nat_eq m n ≡ nat_eq n m
-eq_flips m n = elim (cases_eq m n) [
-  | inl same ↦ ap (λ k. nat_eq k n) same ∙ ap (nat_eq n) (sym same)
-  | inr other ↦ no_eq m n other ∙ sym (no_eq n m (λ e. other (sym e)))
-]
-
-true_is_not_false : ¬ (true ≡ false)
-true_is_not_false e = cc
-
-abbrev same_pair : ℕ × ℕ → ℕ × ℕ → Bool
-same_pair p q = nat_eq p.0 q.0 && nat_eq p.1 q.1
-
-same_flips : (p q : ℕ × ℕ) → same_pair p q ≡ same_pair q p
-same_flips p q = ap (λ b. b && nat_eq p.1 q.1) (eq_flips p.0 q.0) ∙ ap (λ b. nat_eq q.0 p.0 && b) (eq_flips p.1 q.1)
-
-differ_test : (p q : ℕ × ℕ) → ¬ (p ≡ q) → same_pair p q ≡ false
-differ_test p q differ = elim (cases_eq p.0 q.0) [
-  | inl first ↦ elim (cases_eq p.1 q.1) [
-    | inl second ↦ absurd (differ (ap (λ n. (n, p.1)) first ∙ ap (λ n. (q.0, n)) second))
-    | inr other ↦ let t : nat_eq p.1 q.1 ≡ false = no_eq p.1 q.1 other in rw t (and_false (nat_eq p.0 q.0))
-  ]
-  | inr other ↦ let t : nat_eq p.0 q.0 ≡ false = no_eq p.0 q.0 other in rw t refl
-]
-
-same_itself : (p : ℕ × ℕ) → same_pair p p ≡ true
-same_itself p = ap (λ b. b && nat_eq p.1 p.1) (itself p.0) ∙ itself p.1
-
-test_differs : (p q : ℕ × ℕ) → same_pair p q ≡ false → ¬ (p ≡ q)
-test_differs p q t e = true_is_not_false (sym (same_itself q) ∙ (ap (λ r. same_pair r q) (sym e) ∙ t))
-
-pub other_places : (m n : ℕ) → nat_eq m n ≡ false → ¬ (m ≡ n)
-other_places m n t e = true_is_not_false (sym (itself n) ∙ (ap (λ k. nat_eq k n) (sym e) ∙ t))
-
--- pairs that differ stay so in another order
-pub differ_permutation : (ps qs : List (ℕ × ℕ)) → IsPermutation ps qs → AllPairs (λ p q. ¬ (p ≡ q)) ps → AllPairs (λ p q. ¬ (p ≡ q)) qs
-differ_permutation ps qs same differ =
-    let distinct : IsDistinct same_pair ps = IsDistinct-from_apart same_pair ps (λ i j d h k. differ_test (get_or ps i d) (get_or ps j d) (differ i j d h k)) in
-    let distinct' : IsDistinct same_pair qs = IsDistinct-IsPermutation same_pair same_flips ps qs same distinct in
-    λ i j d h k. test_differs (get_or qs i d) (get_or qs j d) (apart_from_distinct same_pair qs i j d distinct' h k)
 
 less_before : (p q : ℕ × ℕ) → pair_cmp p q ≡ Less → IsPairBefore p q
 less_before p q e = elim (cases_lt p.0 q.0) [

@@ -1,5 +1,5 @@
 -- Where nothing is found, each element passes.
-use Rattle.ring_rules.proofs.Common.{◌≡◌, ℕ, ℤ, pos, negsuc, ◌+◌, ◌<◌, inl, inr, Bool, true, false, List, [], length, get_or, refl, sym, ap, ◌∙◌, arith, not, ◌&&◌, nat_lt, filter, flat_map, enumerate_from, list_any, Contains, int_eq, nat_tests, Decides-int_eq, get_or-enumerate_from, length-enumerate_from, GridPoint, GridHole, AreClear, Profile, covers_hole, HoldsCoveredHoles, are_clear, is_oblique, is_refused_slot, lacks_ring, is_ring_finding, ring_findings, layer_findings, hole_findings, is_in_span, RingsHoldWithoutFindings, SlotsHoldWithoutFindings, HolesHoldWithoutFindings, StraightWithoutFindings, ApartWithoutFindings, Drilled, not_false, or_is_false, and_false_right}
+use Rattle.ring_rules.proofs.Common.{◌≡◌, ℕ, ℤ, ◌+◌, ◌<◌, inl, inr, Bool, true, false, List, [], length, get_or, refl, sym, ap, ◌∙◌, arith, not, ◌&&◌, nat_lt, filter, flat_map, enumerate_from, list_any, Contains, int_eq, nat_tests, Decides-int_eq, get_or-enumerate_from, length-enumerate_from, GridPoint, GridHole, AreClear, Profile, covers_hole, HoldsCoveredHoles, are_clear, is_oblique, is_refused_slot, lacks_ring, is_ring_finding, ring_findings, layer_findings, hole_findings, is_in_span, RingsHoldWithoutFindings, SlotsHoldWithoutFindings, HolesHoldWithoutFindings, StraightWithoutFindings, ApartWithoutFindings, Drilled, not_false, or_is_false, and_false_right}
 use Rattle.grid_units.specs.declared.profile.Profile.TheVariants.{Strict}
 use Rattle.pad_shapes.specs.Shapes.{IsAxisAligned, ContainsCovered, ContainsCoveredSlots}
 use Rattle.ring_rules.proofs.CoreLemmas.{clear_from_test, clear_holes_are_apart}
@@ -22,22 +22,6 @@ both_not : (a b : Bool) → a ≡ true → (a && not b) ≡ false → b ≡ true
 both_not true true t e = refl
 both_not true false t e = absurd cc
 both_not false b t e = absurd cc
-
-same_int : (z : ℤ) → int_eq z z ≡ true
-same_int (pos n) = let f : nat_lt n n ≡ false = grind (arith, nat_tests) in rw f refl
-same_int (negsuc n) = let f : nat_lt n n ≡ false = grind (arith, nat_tests) in rw f refl
-
--- where the ends share their x or their y, the hole is not oblique
-along_not_oblique : (h : GridHole) → IsAxisAligned h.from h.to → is_oblique h ≡ false
-along_not_oblique h (inl x) =
-    let e : int_eq h.from.x h.to.x ≡ true = ap (λ (z : ℤ). int_eq z h.to.x) x ∙ same_int h.to.x in
-    ap (λ b. not b && not (int_eq h.from.y h.to.y)) e
-along_not_oblique h (inr y) =
-    let e : int_eq h.from.y h.to.y ≡ true = ap (λ (z : ℤ). int_eq z h.to.y) y ∙ same_int h.to.y in
-    ap (λ b. not (int_eq h.from.x h.to.x) && not b) e ∙ and_false (not (int_eq h.from.x h.to.x)) where
-      and_false : (a : Bool) → (a && false) ≡ false
-      and_false true = refl
-      and_false false = refl
 
 int_same : (a b : ℤ) → int_eq a b ≡ true → a ≡ b
 int_same a b e = (Decides-int_eq a b).0 e

@@ -1,5 +1,5 @@
 -- Trees of regions, as they are built.
-use Rattle.ring_rules.proofs.Common.{◌≡◌, ℕ, ◌+◌, ◌<◌, ◌≤◌, inl, inr, List, [], ◌∷◌, ◌++◌, length, set, refl, sym, ap, subst, ◌∙◌, arith, cases_eq, cases_lt, get_or_push, length_push, get_or-set_same, get_or-set_other, length-set, GridPoint, row_of, column_of, IsIn, IsPartOfGrid, AreHalves, default_node, node_at, IsInLeaf, AreTrees, AreTreesOf, Region, Node, Axis}
+use Rattle.ring_rules.proofs.Common.{◌≡◌, ℕ, ◌+◌, ◌<◌, ◌≤◌, inl, inr, List, length, set, sym, ap, subst, ◌∙◌, arith, cases_eq, cases_lt, get_or-set_same, get_or-set_other, length-set, GridPoint, row_of, column_of, IsIn, IsPartOfGrid, AreHalves, default_node, node_at, IsInLeaf, AreTrees, AreTreesOf, Region, Node, Axis}
 
 abbrev pub with_end : Region → ℕ → Node
 with_end region end = record { region = region; end = end }
@@ -56,15 +56,6 @@ module _ (x y : Axis) where
   -- a point in a leaf of a range is in one of a wider range
   pub in_wider : (nodes : List Node) (a b c d : ℕ) (p : GridPoint) → c ≤ a → b ≤ d → IsInLeaf x y nodes a b p → IsInLeaf x y nodes c d p
   in_wider nodes a b c d p low high l = record { leaf = l.leaf; from = omega (arith, low, l.from); below = omega (arith, high, l.below); last = l.last; inside = l.inside }
-
-  no_trees : (nodes : List Node) (start end : ℕ) → end ≤ start → AreTrees x y nodes start end
-  no_trees nodes start end none = record {
-    each = λ i f l. absurd (omega (arith, f, l, none));
-    more = λ i f l. absurd (omega (arith, f, l, none));
-    within = λ i f l. absurd (omega (arith, f, l, none));
-    inside = λ i j p f l. absurd (omega (arith, f, l, none));
-    held = λ i p f l. absurd (omega (arith, f, l, none));
-  }
 
   -- lists with the same nodes from one index to another
   module _ (a b : List Node) (start end : ℕ) (same : (i : ℕ) → start ≤ i → i < end → node_at b i ≡ node_at a i) where
@@ -150,18 +141,6 @@ module _ (x y : Axis) where
         held = held;
       }
 
-  -- a leaf at the end of a list
-  pub leaf_pushed : (a : List Node) (region : Region) → IsPartOfGrid x y region → AreTreesOf x y (a ++ with_end region (length a + 1) ∷ []) region (length a) (length a + 1)
-  leaf_pushed a region part = rooted nodes region (length a) (length a + 1) (length a + 1) refl is (omega arith) part
-      (no_trees nodes (length a + 1) (length a + 1) (omega arith))
-      (λ j p f l. absurd (omega (arith, f, l)))
-      (λ p inside. record { leaf = length a; from = omega arith; below = omega arith; last = ap (λ (n : Node). n.end) is; inside = subst (λ (n : Node). IsIn x y n.region p) (sym is) inside }) where
-        nodes : List Node
-        nodes = a ++ with_end region (length a + 1) ∷ []
-
-        is : node_at (a ++ with_end region (length a + 1) ∷ []) (length a) ≡ with_end region (length a + 1)
-        is = get_or_push a (with_end region (length a + 1)) default_node (length a) refl
-
   -- a node over the trees of its halves
   module _ (region : Region) (halves : Region × Region) (a b c : List Node) (at : ℕ) (next : length a ≡ at + 1) (low : length a ≤ length b) (high : length b ≤ length c) (are : AreHalves region halves) (part : IsPartOfGrid x y region)
       (kept : (i : ℕ) → i < length b → node_at c i ≡ node_at b i) (first : AreTreesOf x y b halves.0 (length a) (length b)) (second : AreTreesOf x y c halves.1 (length b) (length c)) where
@@ -191,14 +170,6 @@ module _ (x y : Axis) where
           | inl one ↦ in_wider all (length a) (length b) at (length c) p (omega (arith, next)) high (first_all.held p one)
           | inr two ↦ in_wider all (length b) (length c) at (length c) p (omega (arith, next, low)) (omega arith) (second_all.held p two)
         ])
-
--- one node more at the end of a list
-pub pushed_leaf : (x y : Axis) (a b : List Node) (region : Region) (at : ℕ) → b ≡ a ++ with_end region (at + 1) ∷ [] → at ≡ length a → IsPartOfGrid x y region → AreTreesOf x y b region (length a) (length b)
-pushed_leaf x y a b region at is same part =
-    subst (λ (ns : List Node). AreTreesOf x y ns region (length a) (length ns)) (sym list)
-    (subst (AreTreesOf x y (a ++ with_end region (length a + 1) ∷ []) region (length a)) (sym (length_push a (with_end region (length a + 1)))) (leaf_pushed x y a region part)) where
-      list : b ≡ a ++ with_end region (length a + 1) ∷ []
-      list = is ∙ ap (λ (n : ℕ). a ++ with_end region (n + 1) ∷ []) same
 
 -- a node before the trees of its halves
 pub pushed_halves : (x y : Axis) (region : Region) (halves : Region × Region) (o a b c : List Node) (at end : ℕ) → at ≡ length o → length a ≡ length o + 1 → length a ≤ length b → length b ≤ length c → end ≡ length c → AreHalves region halves → IsPartOfGrid x y region

@@ -1,6 +1,5 @@
 -- Pads by what they cover: lists of pads of any type, and pads of one type that stand for those of another.
 use Rattle.ring_rules.proofs.Common.{◌≡◌, ℕ, ◌<◌, Bool, List, [], ◌∷◌, ◌++◌, map, length, refl, sym, ap, subst, ◌∙◌, ◌&&◌, ◌||◌, not, list_any, filter, enumerate_from, map-append, GridPoint, GridHole, is_in_span, Profile, covers_hole, finding_of, is_refused_slot, layer_findings, spot_at, Covering, HasTriedCoverings, HasTried, JudgesByCoverings, gives_ring, is_marked, Drilled, Spot}
-use Rattle.std.proofs.lemmas.Simd.{map-map}
 use Rattle.ring_rules.specs.declared.layer_search.LayerSearch.{LayerSearch}
 use Rattle.ring_rules.specs.declared.ring_index.RingIndex.{RingIndex}
 
@@ -29,24 +28,6 @@ pub marked_by_coverings : {S : Type 0} (covers : S → GridPoint → ℕ → Boo
 unfolding gives_ring
 marked_by_coverings covers profile ring spots before after more now i h =
     now i h ∙ ap (λ (b : Bool). is_marked before i && not b) (sym (any_mapped {Y = Covering} (gives_ring {S = Covering} (λ covering. covering) profile ring (spot_at spots i).hole) covers more))
-
-module _ {S W : Type 0} (covers : S → GridPoint → ℕ → Bool) (wide : W → GridPoint → ℕ → Bool) (into : S → W) (same : (s : S) (p : GridPoint) (r : ℕ) → wide (into s) p r ≡ covers s p r) where
-  -- pads of another type, by a map that keeps what they cover, are found just as they are themselves
-  pub layer_by_map : (profile : Profile) (ring layer : ℕ) (holes : List Drilled) (pads : List S) → layer_findings wide profile ring holes layer (map into pads) ≡ layer_findings covers profile ring holes layer pads
-  layer_by_map profile ring layer holes pads =
-      layer_by_covered wide covers profile ring layer holes (map into pads) pads
-      (λ h. any_mapped (covers_hole wide ring h) into pads ∙ (λ j. list_any (covers_hole (λ s p r. same s p r j) ring h) pads))
-
-  -- the coverings of pads and of more pads of another type, which stand for pads of the first one by the map
-  pub coverings_more : (pads : List W) (more : List S) → map wide pads ++ map covers more ≡ map wide (pads ++ map into more)
-  coverings_more pads more =
-      sym (map-append wide pads (map into more) ∙ ap (λ (ys : List Covering). map wide pads ++ ys) (map-map wide into more ∙ (λ j. map (λ s p r. same s p r j) more)))
-
-  -- a search that has tried pads, and then more pads of another type, has tried them all
-  pub tried_more_by_map : (holes : List Drilled) (layer : ℕ) (pads : List W) (more : List S) (index : RingIndex) (search : LayerSearch)
-      → HasTriedCoverings holes layer (map wide pads ++ map covers more) index search → HasTried wide holes layer (pads ++ map into more) index search
-  tried_more_by_map holes layer pads more index search =
-      subst (λ (coverings : List Covering). HasTriedCoverings holes layer coverings index search) (coverings_more pads more)
 
 -- so it is with more pads of the same type
 pub tried_more : {S : Type 0} (covers : S → GridPoint → ℕ → Bool) (holes : List Drilled) (layer : ℕ) (pads more : List S) (index : RingIndex) (search : LayerSearch)

@@ -1,28 +1,28 @@
--- The names that most proofs of this crate cite, passed on from one place. Declares nothing.
-pub use Rattle.std.proofs.Common.{Bool, Err, IfOk, List, None, Ok, OnOk, Option, Result, Some, [], ap, append-nil, append_assoc, arith, codes, cond, eqb, false, get_or, inl, inr, is_some, length, ltb, map, min, not, option_map, refl, set, subst, suc, sym, take, true, zero, ℕ, ◌&&◌, ◌++◌, ◌+◌, ◌-◌, ◌<◌, ◌||◌, ◌↔◌, ◌∙◌, ◌∷◌, ◌≡◌, ◌≢◌, ◌≤◌}
+-- Names that proofs of this crate cite, passed on from one place. Declares nothing.
+pub use Rattle.std.proofs.Common.{Bool, Err, IfOk, List, None, Ok, OnOk, Option, Result, Some, [], ap, append-nil, append_assoc, arith, codes, cond, eqb, false, get_or, inl, inr, is_some, length, ltb, map, min, not, option_map, refl, set, subst, suc, sym, take, true, zero, ℕ, ◌&&◌, ◌++◌, ◌+◌, ◌<◌, ◌||◌, ◌↔◌, ◌∙◌, ◌∷◌, ◌≡◌, ◌≢◌, ◌≤◌}
 pub use Rattle.grid_units.specs.Holes.{GridRules}
 pub use Rattle.grid_units.specs.declared.fault.Reason.{Reason}
 pub use Rattle.grid_units.specs.declared.profile.Profile.{Profile}
 pub use Rattle.grid_units.specs.declared.profile.Profile.TheVariants.{Strict, Wide}
-pub use Rattle.manifest.specs.Manifest.{manifest, manifest_in}
+pub use Rattle.manifest.specs.Manifest.{manifest_in}
 pub use Rattle.manifest.specs.declared.Entry.{Entry}
 pub use Rattle.package_check.specs.Boards.{IsBoard, Returns, reported}
 pub use Rattle.package_check.specs.CheckViews.{CheckView, setting_of}
 pub use Rattle.package_check.specs.Checking.{HasJudged, HasJudgedAll, TakesCopper, drill_files, layer_number}
 pub use Rattle.package_check.specs.Holding.{HasTaken, HasTakenAll}
 pub use Rattle.package_check.specs.OpenFiles.{HasOpened, HasOpenedCopper}
-pub use Rattle.package_check.specs.Package.{FileView, IsFirstRefused, ReadsBytes, ReadsCopper, ReadsHoles, ReadsUnlessBadSpan, ReturnsReport, Setting, is_bad_span, is_copper}
+pub use Rattle.package_check.specs.Package.{FileView, ReadsBytes, ReadsCopper, ReadsHoles, ReadsUnlessBadSpan, ReturnsReport, Setting, is_bad_span, is_copper}
 pub use Rattle.package_check.specs.declared.PackageFault.{PackageFault}
-pub use Rattle.ringcheck.specs.CheckStatus.{Checks, HasFiles, HasTable, HoldsForPackage, IsCheckStatus, IsPackageRefusal, IsParsedCheckStatus, RefusedAmong, RefusedFile, SaysPackage, bad_file, file_views_among, long_file, refused_file, refused_manifest, setting_in, sources, status_of}
+pub use Rattle.ringcheck.specs.CheckStatus.{Checks, HasFiles, HasTable, HoldsForPackage, IsPackageRefusal, IsParsedCheckStatus, RefusedAmong, RefusedFile, SaysPackage, bad_file, file_views_among, long_file, refused_file, refused_manifest, setting_in, sources, status_of}
 pub use Rattle.ringcheck.specs.DrawStatus.{IsOutlinedDrawStatus, IsParsedDrawStatus, PrintsPicture}
-pub use Rattle.ringcheck.specs.Inner.Halting.{AfterHalt, AfterNoTable, Halts, HaltsTable, OfFiles, OfTaken, RefusesTable, refusal, refusal_of, refusal_of_table}
+pub use Rattle.ringcheck.specs.Inner.Halting.{AfterHalt, AfterNoTable, Halts, HaltsTable, OfFiles, OfTaken, RefusesTable, refusal}
 pub use Rattle.ringcheck.specs.Inner.Jobs.{Holds, SaysJob, given, job_profile, job_style}
 pub use Rattle.ringcheck.specs.Inner.Loading.{AreFirstOf, CopperGoesOn, EndsAt, GoesOn, HasLoaded, LoadsCopper, LoadsCopperTo, LoadsFile, LoadsKind, OfCheckedCopper, RefusesLong, is_kind_at, is_kind_of, source}
 pub use Rattle.ringcheck.specs.MeasureStatus.{IsParsedMeasureStatus, PrintsMeasure, measure_page, measure_style}
-pub use Rattle.ringcheck.specs.ParsedWords.{in_profile, parse_check, parse_draw, parse_measure, parse_report, parse_rules, profile_of}
-unfoldable pub use Rattle.ringcheck.specs.ParsedWords.{parse_count, rules_in}
+pub use Rattle.ringcheck.specs.ParsedWords.{parse_check, parse_draw, parse_measure, parse_report, profile_of}
+unfoldable pub use Rattle.ringcheck.specs.ParsedWords.{parse_count}
 pub use Rattle.ringcheck.specs.Refusals.{PrintsRefusal, Refusal, indented_row, of_archive, of_file, of_role}
-pub use Rattle.ringcheck.specs.ReportStatus.{IsFewer, IsOutlinedReportStatus, IsParsedReportStatus, IsReportStatus, IsWaivingReportStatus, Judges, PrintsReport, Reports, asks_wide, has_none, kept_for, report_style, says_fewer}
+pub use Rattle.ringcheck.specs.ReportStatus.{IsFewer, IsOutlinedReportStatus, IsParsedReportStatus, IsWaivingReportStatus, Judges, PrintsReport, Reports, asks_wide, has_none, kept_for, report_style, says_fewer}
 pub use Rattle.ringcheck.specs.RequestStatus.{IsExitOf, IsRequestStatus, word_bytes}
 pub use Rattle.ringcheck.specs.declared.parsed_words.ReportFormat.{ReportFormat}
 pub use Rattle.ringcheck.specs.declared.refusals.Halt.{Halt}

@@ -1,5 +1,5 @@
 -- What a status says of a request, by the words that it was read from.
-use Rattle.ringcheck.proofs.Common.{ℕ, Bool, true, false, List, Option, inl, inr, is_some, option_map, sym, Relation, IsSilent, IsSilentStatus, Written, HasCause, Status, IsParsedMeasureStatus, parse_check, parse_draw, parse_measure, parse_report, profile_of, IsParsedCheckStatus, IsParsedDrawStatus, IsParsedReportStatus, IsExitOf, IsRequestStatus}
+use Rattle.ringcheck.proofs.Common.{ℕ, Bool, List, Option, is_some, option_map, sym, Relation, IsSilent, IsSilentStatus, Written, Status, IsParsedMeasureStatus, parse_check, parse_draw, parse_measure, parse_report, profile_of, IsParsedCheckStatus, IsParsedDrawStatus, IsParsedReportStatus, IsExitOf, IsRequestStatus}
 use Rattle.command_line.specs.ProgramArgs.{IsCheck, IsDraw, IsExplain, IsManifest, IsMeasure, IsReport, IsRewrite, IsShow}
 use Rattle.command_line.specs.declared.Request.{Request}
 use Rattle.command_line.specs.declared.Request.TheVariants.{Check, Measure, Report, Draw, Show, Rewrite, Manifest, Explain}
@@ -9,7 +9,6 @@ use Rattle.ringcheck_files.specs.FileStatus.{IsParsedFileStatus, parse_kind}
 use Rattle.ringcheck_files.specs.ManifestStatus.{IsExplainStatus}
 use Rattle.ringcheck.specs.ManifestStatus.{IsParsedManifestStatus}
 use Rattle.ringcheck.specs.ShowStatus.{IsParsedShowStatus}
-use Rattle.ringcheck.specs.Inner.Exits.{exit_of}
 use Rattle.ringcheck.specs.Sentences.{check_sentence, draw_sentence, is_for_people, measure_sentence, profile_sentence, report_sentence}
 
 -- of a check
@@ -17,24 +16,6 @@ pub check_status : (has : Relation) (r g : List ℕ) (p : Option (List ℕ)) (m 
     → IsCheck r g p m request → IsRequestStatus request has failed_before failed_after before after s → IsParsedCheckStatus has m (parse_check p r g) (check_sentence p r g) before after s
 check_status has r g p m (Check ring gap profile manifest) failed_before failed_after before after s (er, eg, ep, em) says = rw (sym er, sym eg, sym ep, sym em) says
 check_status has r g p m request failed_before failed_after before after s h says = absurd h
-
--- what a status says of a report, by its flag
-pub exits : (zero : Bool) (Says : Status → Type 0) (s : Status) → Says s → IsExitOf zero Says (exit_of zero s)
-exits false Says s h = h
-exits true Says status.Pass h = inl h
-exits true Says status.Findings h = inr h
-exits true Says status.Refused h = h
-exits true Says status.Usage h = h
-exits true Says status.Device h = h
-
--- the flag gives no new cause
-pub exit_cause : (zero : Bool) (before after : ℕ) (s : Status) → HasCause before after s → HasCause before after (exit_of zero s)
-exit_cause false before after s h = h
-exit_cause true before after status.Pass h = h
-exit_cause true before after status.Findings h = h
-exit_cause true before after status.Refused h = h
-exit_cause true before after status.Usage h = h
-exit_cause true before after status.Device h = h
 
 -- of a report
 pub report_status : (has : Relation) (z : Bool) (r g : List ℕ) (p n v l o : Option (List ℕ)) (m : List ℕ) (request : Request) (failed_before failed_after : ℕ) (before after : Written) (s : Status)

@@ -22,7 +22,7 @@ use Rattle.package_check.specs.FileTexts.{HasLayerView, ReadsDrill, drill_kind, 
 use Rattle.package_check.specs.AlikePackages.{ReadAlike, AllReadAlike, SameAnswers}
 use Rattle.ringcheck.specs.RewrittenPackages.{is_mixed, kind_of, with_bytes, IsRewritten, AreRewritten, RewritingKeepsAnswers}
 
-module _ (layer_once : layers.ReadingIsUniqueIn) (layer_wide : layers.WideReadsMore)
+module _ (layer_once : layers.ReadingIsUniqueIn) (layer_wide : (text : List ℕ) (layer : LayerImage) → layers.ReadsLayer text (Ok layer) → layers.ReadsLayerIn Wide text (Ok layer))
     (drill_once : (text : List ℕ) (a b : Result (List DrillCommand) Fault) → drills.Reads text a → drills.Reads text b → a ≡ b)
     (kinds_once : (kind : Kind) (text : List ℕ) (a b : Result (List DrillCommand) Fault) → ReadsBy kind text a → ReadsBy kind text b → a ≡ b)
     (drill_wide : (text : List ℕ) (commands : List DrillCommand) → drills.Reads text (Ok commands) → ReadsIn Wide text (Ok commands))

@@ -6,7 +6,8 @@ use Rattle.grid_units.specs.declared.profile.Profile.{Profile}
 use Rattle.grid_units.specs.declared.fault.Reason.{Reason}
 use Rattle.drawing.specs.Pages.{IsDrawn}
 use Rattle.pad_shapes.specs.declared.drawn.Drawn.{Drawn}
-use Rattle.package_check.specs.Boards.{BoardView, IsDrawnBoard, board_findings}
+use Rattle.board.specs.Boards.{BoardView, board_findings}
+use Rattle.package_check.specs.Boards.{IsDrawnBoard}
 use Rattle.package_check.specs.Package.{FileView}
 use Rattle.package_check.specs.Soundness.{IsSound}
 use Rattle.ringcheck_files.specs.declared.Status.{Status}

@@ -7,7 +7,8 @@ use Rattle.grid_units.specs.declared.profile.Profile.TheVariants.{Strict, Wide}
 use Rattle.print_text.specs.MeasureLines.{measure_text}
 use Rattle.board_report.specs.Measures.{IsMeasure, PackagePasses}
 use Rattle.report.specs.declared.Measure.{Measure}
-use Rattle.package_check.specs.Boards.{IsBoard, BoardView}
+use Rattle.board.specs.Boards.{BoardView}
+use Rattle.package_check.specs.Boards.{IsBoard}
 use Rattle.package_check.specs.Package.{FileView}
 use Rattle.package_check.specs.Texts.{file_lines}
 use Rattle.print_json.specs.Packages.{measure_value}

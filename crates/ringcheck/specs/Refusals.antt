@@ -123,4 +123,4 @@ beside style.Json sentence = sentence
 
 -- just the text of a refusal was written, and beside it its sentence
 abbrev pub PrintsRefusal : RefusalStyle → Refusal → Written → Written → Type 0
-PrintsRefusal refusal_style why before after = WritesRefusal refusal_style why before.0 after.0 × Says (beside refusal_style (sentence_of why)) before after
+PrintsRefusal refusal_style why before after = WritesRefusal refusal_style why before.0 after.0 × Says (beside refusal_style (sentence_of why)) before.1 after.1

@@ -10,7 +10,8 @@ use Rattle.package_check.specs.Package.{FileView}
 use Rattle.package_check.specs.Soundness.{IsSound}
 use Rattle.layer_features.specs.declared.keep.Keep.{Keep}
 use Rattle.layer_features.specs.declared.keep.Keep.TheVariants as keep
-use Rattle.package_check.specs.Boards.{BoardView, IsDrawnBoard}
+use Rattle.board.specs.Boards.{BoardView}
+use Rattle.package_check.specs.Boards.{IsDrawnBoard}
 use Rattle.print_json.specs.Packages.{waived_report_value}
 use Rattle.print_json.specs.Values.{json_text}
 use Rattle.command_line.specs.declared.commands.TheConstants.{PROGRAM}

@@ -51,7 +51,7 @@ pub fn rewriting_keeps_answers()
     ensures { RewritingKeepsAnswers }
 {
     layer_image::readings_in_profiles();
-    layer_image::wide_reads_more();
+    layer_image::strict_layers();
     drill_text::laws::unique_reading();
     drill_text::laws::readings_of_kinds();
     drill_text::laws::unplated_files();

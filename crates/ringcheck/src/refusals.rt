@@ -455,7 +455,7 @@ fn print_sought<'a, W: Write, E: Write>(
     sought: Sought<'a>,
 ) -> Result<(), Failure>
     ensures answer { OnOk result (Appends (W.contents to.old.out) (W.contents to.new.out) (unread_text style subject.entry sought.entry)) }
-    ensures beside { OnOk result (Says (beside style (Some (unread_words subject.entry sought.entry))) (texts W.contents E.contents to.old) (texts W.contents E.contents to.new)) }
+    ensures beside { OnOk result (Says (beside style (Some (unread_words subject.entry sought.entry))) (E.contents to.old.err) (E.contents to.new.err)) }
 {
     let line = UnreadLine(subject);
     let words = UnreadWords { subject, sought };

@@ -1,4 +1,4 @@
--- The names that most proofs of this crate cite, passed on from one place. Declares nothing.
+-- Names that proofs of this crate cite, passed on from one place. Declares nothing.
 pub use Rattle.std.proofs.Common.{All, Bool, Bor, Err, IfOk, IfSome, IsSome, List, MatchOption, None, Ok, Option, Result, Some, [], ap, append-nil, append_assoc, ap₂, arith, cond, drop, eqb, false, get_or, inl, inr, is_ok, leb, length, length-append, lit<, ltb, map, negsuc, not, pos, refl, rules, subst, suc, sym, take, true, unsigned_abs, unwrap_or, zero, ℕ, ℤ, ◌%◌, ◌&&◌, ◌*◌, ◌++◌, ◌+◌, ◌-◌, ◌/◌, ◌<◌, ◌^◌, ◌↔◌, ◌∙◌, ◌∷◌, ◌≡◌, ◌≢◌, ◌≤◌, ◌⊎◌}
 pub use Rattle.drill_lines.specs.declared.command.DrillCommand.{DrillCommand}
 pub use Rattle.drill_text.specs.Profiles.{ReadsAsIn, ReadsIn, ShowsIn, plain}
@@ -33,7 +33,7 @@ pub use Rattle.std.proofs.lemmas.Fmt.{decimal_by_steps, decimal_digit, length-de
 pub use Rattle.std.proofs.lemmas.List.{at_drop_all, at_drop_more, get_or-map, length-map, length-take, map-append, take_all, take_more}
 pub use Rattle.std.proofs.lemmas.Result.{IfOk-weaker, err_from_is_err_and}
 pub use Rattle.std.specs.Global.{Vec}
-pub use Rattle.std.specs.Io.KnownBytes.{Appends, Consumes, IsAtEnd, Keeps}
+pub use Rattle.std.specs.Io.KnownBytes.{Appends, Consumes}
 pub use Rattle.std.specs.List.{AllByRecursion, Contains, find, flat_map, list_all, list_any, prefix_len}
 pub use Rattle.std.specs.Option.{option_map, option_or, option_to_list}
 pub use Rattle.std.specs.Prelude.{codes, count_by, decimal, neg_ℤ, option_and_then, slice_get, take_while}

@@ -67,13 +67,14 @@ IsFileStatus what kind has name before after status.Refused = PrintsFileRefusal 
 IsFileStatus what kind has name before after status.Device = ⊤
 IsFileStatus what kind has name before after _ = ⊥
 
--- beside the answer just why the file of this name cannot be read was said: that it is a folder, or where names are taken from
-abbrev pub SaysUnread : List ℕ → Written → Written → Type 0
+-- to the writer beside the answer just why the file of this name cannot be read was written: that it is a folder, or that it cannot be read below some folder, or where
+-- the program was started. Which folder that is, and which of the two it is, no clause says.
+abbrev pub SaysUnread : List ℕ → Option (List ℕ) → Option (List ℕ) → Type 0
 SaysUnread name before after = Says (Some (folder_sentence name)) before after ⊎ ((folder : Option (List ℕ)) × Says (Some (unread_sentence name folder)) before after)
 
 -- what was said beside the answer of `show` or `rewrite`, by its status: at Device just why the file of this name cannot be read, and else nothing
 abbrev pub SaysOfFile : List ℕ → Written → Written → Status → Type 0
-SaysOfFile name before after status.Device = SaysUnread name before after
+SaysOfFile name before after status.Device = SaysUnread name before.1 after.1
 SaysOfFile name before after s = IsSilent before after
 
 -- what a status says of `show` or `rewrite` on a file of the kind that a word names, or where it names none

@@ -7,6 +7,7 @@ use Rattle.grid_units.specs.Spellings.{millimetres}
 use Rattle.grid_units.specs.declared.fault.Fault.{Fault}
 use Rattle.grid_units.specs.declared.profile.Profile.{Profile}
 use Rattle.grid_units.specs.declared.profile.Profile.TheVariants.{Strict, Wide}
+use Rattle.pad_shapes.specs.Pads.{pad_height, pad_width}
 use Rattle.pad_shapes.specs.Rounded.{rounded_bottom, rounded_left, rounded_right, rounded_top}
 use Rattle.pad_shapes.specs.declared.pad.Pad.{Pad}
 use Rattle.pad_shapes.specs.declared.pad.Pad.TheVariants as pads
@@ -55,18 +56,6 @@ feature_word (kind.Other why) = reason_word why
 feature_word (kind.Macro why) = reason_word why
 feature_word kind.Clear = codes "clear"
 feature_word kind.Cleared = codes "cleared"
-
--- the width of a pad in pm: its side along x after turns, of a disc the diameter
-abbrev pub pad_width : Pad → ℕ
-pad_width (pads.Disc disc) = 2 * disc.radius
-pad_width (pads.Rect rect) = 2 * rect.half_x
-pad_width (pads.Obround obround) = 2 * obround.half_x
-
--- the height of a pad in pm: its side along y after turns, of a disc the diameter
-abbrev pub pad_height : Pad → ℕ
-pad_height (pads.Disc disc) = 2 * disc.radius
-pad_height (pads.Rect rect) = 2 * rect.half_y
-pad_height (pads.Obround obround) = 2 * obround.half_y
 
 -- the width of a pad of the wide profile in pm: of a rounded polygon how far its least and its greatest x lie apart
 abbrev pub wide_pad_width : WidePad → ℕ

@@ -20,15 +20,15 @@ IsUsageStatus why before after s = ((s ≡ status.Usage) × Appends before after
 abbrev pub sentence_line : List ℕ → List ℕ
 sentence_line sentence = codes "  " ++ (sentence ++ ascii.line_feed ∷ [])
 
--- beside the answer just this sentence was said, on a line, or nothing where there is none
-abbrev pub Says : Option (List ℕ) → Written → Written → Type 0
-Says None before after = IsSilent before after
-Says (Some sentence) before after = Appends before.1 after.1 (sentence_line sentence)
+-- to the writer beside the answer just this sentence was written, on a line, or nothing where there is none
+abbrev pub Says : Option (List ℕ) → Option (List ℕ) → Option (List ℕ) → Type 0
+Says None before after = after ≡ before
+Says (Some sentence) before after = Appends before after (sentence_line sentence)
 
 -- just the line of a word that is refused was written, with this sentence below it, or, if not `below`, beside it
 abbrev pub PrintsUsage : Bool → Reason → List ℕ → Written → Written → Type 0
 PrintsUsage true why sentence before after = Appends before.0 after.0 (usage_line why ++ sentence_line sentence) × IsSilent before after
-PrintsUsage false why sentence before after = Appends before.0 after.0 (usage_line why) × Says (Some sentence) before after
+PrintsUsage false why sentence before after = Appends before.0 after.0 (usage_line why) × Says (Some sentence) before.1 after.1
 
 -- what a status says where a word is refused and a sentence says why: just both were written, or the status is Device
 abbrev pub IsExplainedUsage : Bool → Reason → List ℕ → Written → Written → Status → Type 0

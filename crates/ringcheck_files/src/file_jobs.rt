@@ -1,6 +1,6 @@
 //! Prints the table or the canonical text of one file.
 
-ghost use Rattle.std.specs.Prelude.{◌≡◌, IfOk, None, OnOk, Some, option_map};
+ghost use Rattle.std.specs.Prelude.{◌≡◌, IfOk, OnOk, Some, option_map};
 ghost use Rattle.std.specs.Io.KnownBytes.{Appends};
 ghost use Rattle.grid_units.specs.Results.{Answers};
 ghost use Rattle.ringcheck_files.specs.Outcomes.{HasCause};
@@ -107,7 +107,7 @@ fn unread_sentence<'a, L: Loader>(loader: &'a L, path: &'a str) -> UnreadFile<'a
 
 /// Says why the file of a name cannot be read: it is a folder, or nothing that can be read.
 fn say_unread<L: Loader, E: Write>(err: &mut E, loader: &L, name: &str) -> Result<(), Failure>
-    ensures { OnOk result (SaysUnread name.now (None, E.contents err.old) (None, E.contents err.new)) }
+    ensures { OnOk result (SaysUnread name.now (E.contents err.old) (E.contents err.new)) }
 {
     if loader.is_folder(name) {
         write!(err, "  {}\n", Container::Folder(name))?;

@@ -6,57 +6,26 @@ ghost use Rattle.grid_units.specs.Points.{abs_diff};
 ghost use Rattle.grid_units.specs.Spellings.{millimetres, places};
 ghost use Rattle.pad_shapes.specs.Rounded.{rounded_bottom, rounded_left, rounded_right, rounded_top};
 ghost use Rattle.ringcheck_files.specs.Rows.{NeedsNoQuotes};
-ghost use Rattle.ringcheck_files.specs.Tables.{height_of, pad_height, pad_width, wide_pad_height, wide_pad_width, width_of};
+ghost use Rattle.ringcheck_files.specs.Tables.{height_of, wide_pad_height, wide_pad_width, width_of};
 
 use arrayvec::ArrayString;
 use grid_units::write_mm;
 use itoa::Buffer;
 use layer_features::FeatureKind;
-use pad_shapes::{Pad, PlacedRounded, WidePad};
+use pad_shapes::{PlacedRounded, WidePad};
 
 /// How many pm are a millimetre.
 const MILLIMETRE: u64 = 1_000_000_000;
 
-/// The width of a pad in pm: its side along x, of a disc the diameter.
-fn pad_width(pad: &Pad) -> i64
-    ensures value { result ≡ pos (pad_width pad.now) }
-    ensures within { pad_width pad.now ≤ 10 ^ 13 }
-{
-    match pad {
-        Pad::Disc(disc) => 2 * disc.radius(),
-        Pad::Rect(rect) => 2 * rect.half_x(),
-        Pad::Obround(obround) => 2 * obround.half_x(),
-    }
-}
-
-/// The height of a pad in pm: its side along y, of a disc the diameter.
-fn pad_height(pad: &Pad) -> i64
-    ensures value { result ≡ pos (pad_height pad.now) }
-    ensures within { pad_height pad.now ≤ 10 ^ 13 }
-{
-    match pad {
-        Pad::Disc(disc) => 2 * disc.radius(),
-        Pad::Rect(rect) => 2 * rect.half_y(),
-        Pad::Obround(obround) => 2 * obround.half_y(),
-    }
-}
-
-/// The width of a rounded polygon in pm: that of its box.
-fn rounded_width(pad: &PlacedRounded) -> u64
-    ensures value { result ≡ abs_diff (rounded_right pad.now) (rounded_left pad.now) }
-    ensures within { result ≤ 3 * 10 ^ 13 }
+/// The width and the height of a rounded polygon in pm: those of its box.
+fn rounded_sides(pad: &PlacedRounded) -> (u64, u64)
+    ensures width { result.0 ≡ abs_diff (rounded_right pad.now) (rounded_left pad.now) }
+    ensures height { result.1 ≡ abs_diff (rounded_top pad.now) (rounded_bottom pad.now) }
+    ensures within { (result.0 ≤ 3 * 10 ^ 13) × (result.1 ≤ 3 * 10 ^ 13) }
 {
     let bounds = pad.bounds();
-    bounds.right.abs_diff(bounds.left)
-}
-
-/// The height of a rounded polygon in pm: that of its box.
-fn rounded_height(pad: &PlacedRounded) -> u64
-    ensures value { result ≡ abs_diff (rounded_top pad.now) (rounded_bottom pad.now) }
-    ensures within { result ≤ 3 * 10 ^ 13 }
-{
-    let bounds = pad.bounds();
-    bounds.top.abs_diff(bounds.bottom)
+    let width = bounds.right.abs_diff(bounds.left);
+    (width, bounds.top.abs_diff(bounds.bottom))
 }
 
 /// The width of a pad of the wide profile in pm.
@@ -65,8 +34,8 @@ fn wide_pad_width(pad: &WidePad) -> u64
     ensures within { result ≤ 3 * 10 ^ 13 }
 {
     match pad {
-        WidePad::Plain(pad) => pad_width(pad) as u64,
-        WidePad::Rounded(pad) => rounded_width(pad),
+        WidePad::Plain(pad) => pad.width() as u64,
+        WidePad::Rounded(pad) => rounded_sides(pad).0,
     }
 }
 
@@ -76,8 +45,8 @@ fn wide_pad_height(pad: &WidePad) -> u64
     ensures within { result ≤ 3 * 10 ^ 13 }
 {
     match pad {
-        WidePad::Plain(pad) => pad_height(pad) as u64,
-        WidePad::Rounded(pad) => rounded_height(pad),
+        WidePad::Plain(pad) => pad.height() as u64,
+        WidePad::Rounded(pad) => rounded_sides(pad).1,
     }
 }
 
@@ -133,7 +102,7 @@ pub(crate) fn width_of(what: &FeatureKind) -> ArrayString<16>
 {
     match what {
         FeatureKind::Pad(pad) => side_field(wide_pad_width(pad)),
-        FeatureKind::Contour(pad) => side_field(rounded_width(pad)),
+        FeatureKind::Contour(pad) => side_field(rounded_sides(pad).0),
         FeatureKind::Other(_) | FeatureKind::Macro(_) | FeatureKind::Clear | FeatureKind::Cleared =>
             ArrayString::new(),
     }
@@ -146,7 +115,7 @@ pub(crate) fn height_of(what: &FeatureKind) -> ArrayString<16>
 {
     match what {
         FeatureKind::Pad(pad) => side_field(wide_pad_height(pad)),
-        FeatureKind::Contour(pad) => side_field(rounded_height(pad)),
+        FeatureKind::Contour(pad) => side_field(rounded_sides(pad).1),
         FeatureKind::Other(_) | FeatureKind::Macro(_) | FeatureKind::Clear | FeatureKind::Cleared =>
             ArrayString::new(),
     }

@@ -116,7 +116,7 @@ impl<R: Files + Clock + Eprint> Loader for Disk<'_, R> {
 /// The most bytes of standard output that are held back for one write.
 const BUFFER: usize = 65_536;
 
-/// The same of standard error, so that a sentence comes after the answer on a terminal that shows both.
+/// The same of standard error, so that a sentence whose line is no longer comes after the answer on a terminal that shows both.
 const SENTENCE_BUFFER: usize = 8_192;
 
 /// After how many interrupted writes in a row no more is written, so that the program ends.

@@ -2,7 +2,7 @@
 #![tactic(auto)]
 
 #[cfg(test)]
-mod margins_calls;
+mod board_calls;
 #[cfg(test)]
 mod pad_shapes_calls;
 #[cfg(test)]

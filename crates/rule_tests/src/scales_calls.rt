@@ -1,7 +1,7 @@
 //! Scales of small files, in pm.
 
 use crate::rows::{add_round, disc, drilled, point};
-use margins::best_pads;
+use board::best_pads;
 use pad_shapes::WidePad;
 use report::{UnitFactor, UnitMistake, *};
 use ring_rules::Drilled;

@@ -1,4 +1,4 @@
--- The names that most proofs of this crate cite, passed on from one place. Declares nothing.
+-- Names that proofs of this crate cite, passed on from one place. Declares nothing.
 pub use Rattle.std.proofs.Common.{Bool, Err, IsUtf8, List, None, Ok, Option, Result, Some, [], ap, append-nil, append_assoc, arith, codes, cond, false, get_or, inl, inr, is_some, length, map, nat_lt, ne_eqb, negsuc, not, pos, refl, rules, slice_get, subst, suc, sym, take, true, unsigned_abs, w64, zero, ℕ, ℤ, ◌%◌, ◌*◌, ◌++◌, ◌+◌, ◌/◌, ◌<◌, ◌==◌, ◌^◌, ◌||◌, ◌∙◌, ◌∷◌, ◌≡◌, ◌≢◌, ◌≤◌}
 pub use Rattle.csv.specs.Writing.{default_writer, field_text, needs_byte, needs_quotes, read_back, row_text}
 unfoldable pub use Rattle.csv.specs.Writing.{escaped, fields_text, is_blank}

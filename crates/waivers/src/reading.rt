@@ -2,16 +2,16 @@
 
 ghost use Rattle.std.specs.Prelude.{◌≡◌, map, true, false, MatchOption, IfErr, IfOk, Ok, Err};
 ghost use Rattle.csv.specs.Records.{fields_of};
-ghost use Rattle.grid_units.specs.Results.{Answers, with_place, fault};
+ghost use Rattle.grid_units.specs.Results.{Answers, with_place};
 ghost use Rattle.manifest.specs.Manifest.{field, is_well_formed};
 ghost use Rattle.waivers.specs.Reading as naming;
 ghost use Rattle.waivers.specs.Inner.{checked_waiver, waiver_with};
 
 use crate::Waiver;
 use csv::ByteRecord;
-use grid_units::{Fail, Fault, Reason};
+use grid_units::{Fail, Reason};
 use manifest::Name;
-use manifest::rows::{has_field, text_field};
+use manifest::rows::{has_field, refused, text_field};
 use std::alloc::{AllocError, Global};
 
 /// The number of fields in each record.
@@ -43,17 +43,6 @@ fn waivers_after_head(alloc: Global, rows: &[ByteRecord]) -> Result<Vec<Waiver>,
         waivers.push(waiver)?;
     }
     Ok(waivers)
-}
-
-/// The refusal of a record by its number.
-fn refused(place: u64, reason: Reason) -> Fail
-    ensures { result ≡ Fail.Refused (fault place 0 reason) }
-{
-    Fail::Refused(Fault {
-        place,
-        byte: 0,
-        reason,
-    })
 }
 
 /// The waiver of a record.

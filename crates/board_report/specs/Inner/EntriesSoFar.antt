@@ -2,8 +2,8 @@
 use Rattle.std.specs.Prelude.{◌≡◌, ℕ, Bool, true, false, List, [], ◌∷◌, ◌++◌, Option, length, map}
 use Rattle.std.specs.Global.{Vec}
 use Rattle.ring_rules.specs.declared.finding.Finding.{Finding}
-use Rattle.margins.specs.declared.best.BestPad.{BestPad}
-use Rattle.package_check.specs.Boards.{BoardView}
+use Rattle.board.specs.declared.best.BestPad.{BestPad}
+use Rattle.board.specs.Boards.{BoardView}
 use Rattle.board_report.specs.Measures.{AreLayerBests}
 use Rattle.board_report.specs.Rows.{AreFilesWithHoles}
 use Rattle.report.specs.Causes.{HoldsRowsAndBests}

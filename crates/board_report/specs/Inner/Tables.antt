@@ -4,15 +4,15 @@ use Rattle.std.specs.Global.{Vec}
 use Rattle.std.specs.Option.{option_map_or}
 use Rattle.std.specs.Ordering.{nat_cmp}
 use Rattle.std.specs.BTreeMap.{BTreeMap, get}
-use Rattle.margins.specs.declared.row.RowLeast.{RowLeast}
-use Rattle.margins.specs.declared.row.RingRow.{RingRow}
+use Rattle.board.specs.declared.row.RowLeast.{RowLeast}
+use Rattle.board.specs.declared.row.RingRow.{RingRow}
 use Rattle.report.specs.declared.LeastRing as shown
 use Rattle.report.specs.declared.UnitMistake.{UnitMistake}
 use Rattle.report.specs.declared.mistakes.FileRange.{FileRange}
-use Rattle.package_check.specs.Boards.{BoardView}
-use Rattle.package_check.specs.declared.FileSum.{FileSum}
+use Rattle.board.specs.Boards.{BoardView}
+use Rattle.board.specs.declared.FileSum.{FileSum}
 use Rattle.board_report.specs.Rows.{RowKey, places_of, IsUnitMistakeOf, is_plated}
-use Rattle.package_check.specs.Boards.{holes_before}
+use Rattle.board.specs.Boards.{holes_before}
 use Rattle.board_report.specs.declared.rows.LayerFileHoles.{LayerFileHoles}
 
 -- the row of a radius, on the layer and in the drill file of a stretch

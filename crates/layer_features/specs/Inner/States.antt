@@ -10,10 +10,10 @@ use Rattle.layer_features.specs.Inner.Pencils.{after_command, draw_state}
 use Rattle.layer_features.specs.declared.clearing.Clearing.{Clearing}
 use Rattle.layer_features.specs.declared.copper.Copper.{Copper}
 use Rattle.layer_features.specs.declared.part.Part.{Part}
-use Rattle.layer_features.specs.Blocks.{changes_block}
 use Rattle.layer_features.specs.Clearing.{draws, polarity_set}
 use Rattle.layer_features.specs.Contours.{contour_of, part_by, starts_region}
-use Rattle.layer_features.specs.FurtherPads.{CopperState, ended_copies, max_regions, mirroring_set, plot_state}
+use Rattle.layer_features.specs.FurtherPads.{CopperState, ended_copies, mirroring_set, plot_state}
+use Rattle.layer_features.specs.Inner.Steps.{changes_block, max_regions}
 
 -- the command of an operation that a reader has passed
 abbrev pub command_of : LeadingOperation → Command

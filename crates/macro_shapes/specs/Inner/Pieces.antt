@@ -5,7 +5,8 @@ use Rattle.grid_units.specs.Ascii as ascii
 use Rattle.grid_units.specs.Numbers.{parse_decimal}
 use Rattle.macro_shapes.specs.Values.{Environment, assigned}
 use Rattle.macro_shapes.specs.Inner.Reading.{start, run}
-use Rattle.macro_shapes.specs.Pieces.{split_by, is_comment, definition, code_of, max_variables}
+use Rattle.macro_shapes.specs.Pieces.{split_by, code_of, max_variables}
+use Rattle.macro_shapes.specs.Inner.Bytes.{starts_comment, starts_definition}
 use Rattle.macro_shapes.specs.declared.fields.Fields.{Fields}
 
 -- the value of an expression
@@ -33,7 +34,7 @@ on_definition (Some d) variables piece go = option_and_then (λ v. go (assigned 
 
 -- what a piece adds to what those after it give
 abbrev pub on_piece : Environment → List ℕ → (Environment → Option (List Fields)) → Option (List Fields)
-on_piece variables piece go = if is_comment piece then go variables else on_definition (definition piece) variables piece go
+on_piece variables piece go = if starts_comment piece then go variables else on_definition (starts_definition piece) variables piece go
 
 -- the primitives that pieces spell, from these variables on
 abbrev pub fields_from : Environment → List (List ℕ) → Option (List Fields)

@@ -1,12 +1,26 @@
 -- How an expression is read, from left to right: what each sign does with what stands before it.
-use Rattle.std.specs.Prelude.{ℕ, ℤ, pos, Bool, false, ◌&&◌, nat_lt, List, [], ◌∷◌, ◌++◌, length, if◌then◌else◌, Option, None, Some, is_none, option_map, option_and_then}
+use Rattle.std.specs.Prelude.{ℕ, ℤ, pos, ◌+ℤ◌, ◌-ℤ◌, Bool, false, ◌&&◌, nat_lt, List, [], ◌∷◌, ◌++◌, length, if◌then◌else◌, Option, None, Some, is_none, option_map, option_and_then}
 use Rattle.macro_shapes.specs.declared.sign.Sign.{Sign}
 use Rattle.macro_shapes.specs.declared.sign.Sign.TheVariants.{Open, Close, Add, Multiply}
 use Rattle.macro_shapes.specs.declared.sign.Addition.{Addition}
+use Rattle.macro_shapes.specs.declared.sign.Addition.TheVariants.{Plus, Minus}
 use Rattle.macro_shapes.specs.declared.sign.Multiplication.{Multiplication}
+use Rattle.macro_shapes.specs.declared.sign.Multiplication.TheVariants.{Times, Over}
 use Rattle.macro_shapes.specs.declared.frames.Frame.{Frame}
 use Rattle.macro_shapes.specs.Signs.{sign_of}
-use Rattle.macro_shapes.specs.Values.{Environment, added, multiplied, operand_value}
+use Rattle.macro_shapes.specs.Values.{Environment, in_range, operand_value, product, quotient}
+
+-- a term after what stands before it: `$1` alone, `-$1`, `2+$1`
+abbrev pub added : Option (ℤ × Addition) → ℤ → Option ℤ
+added None b = Some b
+added (Some (a, Plus)) b = in_range (a +ℤ b)
+added (Some (a, Minus)) b = in_range (a -ℤ b)
+
+-- a factor after what stands before it: `$1` alone, `2x$1`, `2/$1`
+abbrev pub multiplied : Option (ℤ × Multiplication) → ℤ → Option ℤ
+multiplied None b = Some b
+multiplied (Some (a, Times)) b = product a b
+multiplied (Some (a, Over)) b = quotient a b
 
 -- what was read up to the operand at hand: what stands before each open bracket, the innermost first, what stands before the operand
 -- inside of them, and the value of brackets that closed just here

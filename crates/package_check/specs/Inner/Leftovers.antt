@@ -5,14 +5,14 @@ use Rattle.grid_units.specs.Holes.{GridRules}
 use Rattle.ring_rules.specs.Findings.{gap_findings}
 use Rattle.ring_rules.specs.declared.finding.Drilled.{Drilled}
 use Rattle.ring_rules.specs.declared.finding.Finding.{Finding}
-use Rattle.package_check.specs.Boards.{numbered_from, CountsAddUp, holes_before}
+use Rattle.board.specs.Boards.{numbered_from, CountsAddUp, holes_before}
 use Rattle.package_check.specs.Package.{sum_of}
 use Rattle.package_check.specs.Reports.{ReportView}
 use Rattle.package_check.specs.SoundnessAsRead.{drilled_in}
-use Rattle.package_check.specs.declared.FileSum.{FileSum}
+use Rattle.board.specs.declared.FileSum.{FileSum}
 use Rattle.package_check.specs.declared.checking.Judged.{Judged}
 use Rattle.package_check.specs.declared.slots.Kept.{Kept}
-use Rattle.package_check.specs.declared.FileSum.TheVariants as sum
+use Rattle.board.specs.declared.FileSum.TheVariants as sum
 
 -- what is left of a file: its counts, and the findings of rings on its layer
 pub record LeftView : Type 0 where

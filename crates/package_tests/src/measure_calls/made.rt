@@ -1,9 +1,9 @@
 //! Packages that are made by a counter: a check passes under the rules that a measure allows, and fails 1 pm above.
 
 use super::{file, passes};
+use board::Met;
 use board_report::measure_bytes;
 use grid_units::Profile;
-use margins::Met;
 use package_check::{File, Role, Span};
 use report::Meets;
 use std::alloc::{AllocError, Global};

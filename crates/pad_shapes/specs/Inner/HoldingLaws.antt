@@ -1,34 +1,32 @@
 -- Proofs that each shape holds the holes that it covers.
 use Rattle.std.proofs.Common.{◌≡◌, ℕ, ℤ, pos, ◌+◌, ◌-◌, ◌*◌, ◌≤◌, ◌<◌, ◌+ℤ◌, ◌-ℤ◌, ◌*ℤ◌, unsigned_abs, Bool, true, [], ◌∷◌, refl, sym, ap, subst, ◌∙◌, ◌⊎◌, inl, inr, arith, mul-le-mul_left}
-use Rattle.std.specs.Prelude.{◌&&◌, nat_le}
+use Rattle.std.specs.Prelude.{◌&&◌}
 use Rattle.std.specs.List.{Contains}
 use Rattle.std.proofs.lemmas.Int.{ints, unsigned_abs-mul}
 use Rattle.std.proofs.lemmas.Bool.{cases_lt, and_parts}
-use Rattle.std.proofs.lemmas.Bool.Decides.{nat_tests}
 use Rattle.std.proofs.lemmas.List.Elements.{All-nil, All-cons}
 use Rattle.std.proofs.lemmas.Nat.{mul-le}
 use Rattle.grid_units.specs.Holes.{GridHole}
 use Rattle.grid_units.specs.Laws.{square_length}
 use Rattle.grid_units.specs.Points.{GridPoint, abs_diff, square}
-use Rattle.grid_units.proofs.TriangleInequalities.{le_of_squares, two_steps-le}
+use Rattle.grid_units.proofs.TriangleInequalities.{two_steps-le}
 use Rattle.pad_shapes.specs.Shapes.{GridRect, GridObround, IsInDisc, IsInRect, IsInObround, end_radius, square_axis_distance, disc_covers, rect_covers, obround_covers}
 use Rattle.pad_shapes.specs.Rounded.{GridRounded, IsInSlot, IsInRounded, rounded_covers}
 use Rattle.pad_shapes.specs.Inner.Identities.{is_z, is_n, is_add, is_sub, is_mul, same, cancel}
 use Rattle.pad_shapes.specs.Inner.Means.{length_same}
-use Rattle.pad_shapes.specs.Inner.RoundedLaws.{rounded_contains_lines, no_distance}
+use Rattle.pad_shapes.specs.Inner.RoundedLaws.{rounded_contains_lines}
 use Rattle.pad_shapes.specs.Inner.RoundedSets.{one_corner_is_disc, one_corner_covers}
-use Rattle.pad_shapes.specs.Inner.ShapeLaws.{obround_contains_covered}
+use Rattle.pad_shapes.specs.Inner.ShapeLaws.{both_le, near_axis, other_side-le, side-le}
 use Rattle.pad_shapes.specs.Pads.{IsInPad, pad_covers}
 use Rattle.pad_shapes.specs.declared.pad.Pad.TheVariants.{Disc, Rect, Obround}
 use Rattle.pad_shapes.specs.Holding.{IsNearCentreLine, covers_hole, HoldsCoveredHoles}
 
 -- ---- rounded polygons
 
-counted_step : (i j k : ℕ) (p f t x : ℤ) → i + j ≡ k → x ≡ pos i *ℤ f +ℤ pos j *ℤ t → pos (i + (j + 0)) *ℤ p -ℤ (pos i *ℤ f +ℤ (pos j *ℤ t +ℤ pos 0)) ≡ pos k *ℤ p -ℤ x
-counted_step i j k p f t x whole is =
-    let sum : pos i *ℤ f +ℤ (pos j *ℤ t +ℤ pos 0) ≡ x = regrouped (pos i *ℤ f) (pos j *ℤ t) ∙ sym is in
-    let total : i + (j + 0) ≡ k = omega (arith, whole) in
-    λ n. pos (total n) *ℤ p -ℤ sum n
+counted_step : (i j : ℕ) (p f t : ℤ) → pos (i + (j + 0)) *ℤ p -ℤ (pos i *ℤ f +ℤ (pos j *ℤ t +ℤ pos 0)) ≡ pos (i + j) *ℤ p -ℤ (pos i *ℤ f +ℤ pos j *ℤ t)
+counted_step i j p f t =
+    let total : i + (j + 0) ≡ i + j = omega arith in
+    λ n. pos (total n) *ℤ p -ℤ regrouped (pos i *ℤ f) (pos j *ℤ t) n
   where
     regrouped : (a b : ℤ) → a +ℤ (b +ℤ pos 0) ≡ a +ℤ b
     regrouped a b = omega (arith, ints)
@@ -36,17 +34,15 @@ counted_step i j k p f t x whole is =
 -- what is near the centre line is near a mean of the ends
 pub in_slot : (h : GridHole) (reach : ℕ) (p : GridPoint) → IsNearCentreLine h reach p → IsInSlot h.from h.to reach p
 in_slot h reach p n =
-    let i = n.on_line.first in
-    let j = n.on_line.second in
-    let total : i + (j + 0) ≡ n.k = omega (arith, n.on_line.whole) in
+    let i = n.first in
+    let j = n.second in
+    let total : i + (j + 0) ≡ i + j = omega arith in
     record {
       parts = record { weight = i; point = h.from } ∷ record { weight = j; point = h.to } ∷ [];
       of_points = All-cons (λ w. Contains (h.from ∷ h.to ∷ []) w.point) (record { weight = i; point = h.from }) (record { weight = j; point = h.to } ∷ []) (0, omega arith, refl)
           (All-cons (λ w. Contains (h.from ∷ h.to ∷ []) w.point) (record { weight = j; point = h.to }) [] (1, omega arith, refl) (All-nil (λ w. Contains (h.from ∷ h.to ∷ []) w.point)));
-      some = omega (arith, total, n.on_line.some);
-      near = length_same _ _ _ _ ((i + (j + 0)) * reach) (n.k * reach)
-          (counted_step i j n.k p.x h.from.x h.to.x n.x n.on_line.whole n.on_line.x_is) (counted_step i j n.k p.y h.from.y h.to.y n.y n.on_line.whole n.on_line.y_is)
-          (ap (λ m. m * reach) total) n.near;
+      some = omega (arith, total, n.some);
+      near = length_same _ _ _ _ ((i + (j + 0)) * reach) ((i + j) * reach) (counted_step i j p.x h.from.x h.to.x) (counted_step i j p.y h.from.y h.to.y) (ap (λ m. m * reach) total) n.near;
     }
 
 pub rounded_holds : HoldsCoveredHoles IsInRounded rounded_covers
@@ -87,22 +83,12 @@ distance-le i j p f t o x is =
 
 -- ---- rectangles
 
-side-le : (a b n : ℕ) → a * a + b * b ≤ n * n → a ≤ n
-side-le a b n h = le_of_squares a n (omega (arith, h))
-
-other_side-le : (a b n : ℕ) → a * a + b * b ≤ n * n → b ≤ n
-other_side-le a b n h = le_of_squares b n (omega (arith, h))
-
 within_side : (i j reach half : ℕ) (p f t o x : ℤ) → 1 ≤ i + j → x ≡ pos i *ℤ f +ℤ pos j *ℤ t → unsigned_abs (pos (i + j) *ℤ p -ℤ x) ≤ (i + j) * reach
     → abs_diff f o + reach ≤ half → abs_diff t o + reach ≤ half → abs_diff p o ≤ half
 within_side i j reach half p f t o x some is near first second =
     let a : i * (abs_diff f o + reach) ≤ i * half = mul-le-mul_left i first in
     let b : j * (abs_diff t o + reach) ≤ j * half = mul-le-mul_left j second in
     cancel (i + j) (abs_diff p o) half some (omega (arith, a, b, near, distance-le i j p f t o x is))
-
--- two tests that both passed
-both_le : (a b c d : ℕ) → (nat_le a b && nat_le c d) ≡ true → (a ≤ b) × (c ≤ d)
-both_le a b c d e = (grind (arith, nat_tests), grind (arith, nat_tests))
 
 rect_near : (r : GridRect) (reach i j : ℕ) (f t p : GridPoint) (x y : ℤ) → 1 ≤ i + j → x ≡ pos i *ℤ f.x +ℤ pos j *ℤ t.x → y ≡ pos i *ℤ f.y +ℤ pos j *ℤ t.y
     → square_length (pos (i + j) *ℤ p.x -ℤ x) (pos (i + j) *ℤ p.y -ℤ y) ≤ square ((i + j) * reach) → rect_covers r f reach ≡ true → rect_covers r t reach ≡ true → IsInRect r p
@@ -117,20 +103,13 @@ rect_near r reach i j f t p x y some x_is y_is near e g =
 ends_covered : {S : Type 0} (covers : S → GridPoint → ℕ → Bool) (ring : ℕ) (h : GridHole) (s : S) → covers_hole covers ring h s ≡ true → (covers s h.from (h.radius + ring) ≡ true) × (covers s h.to (h.radius + ring) ≡ true)
 ends_covered covers ring h s e = and_parts (covers s h.from (h.radius + ring)) (covers s h.to (h.radius + ring)) e
 
--- k is the sum of the parts
-by_parts : (h : GridHole) (reach : ℕ) (p : GridPoint) (n : IsNearCentreLine h reach p)
-    → square_length (pos (n.on_line.first + n.on_line.second) *ℤ p.x -ℤ n.x) (pos (n.on_line.first + n.on_line.second) *ℤ p.y -ℤ n.y) ≤ square ((n.on_line.first + n.on_line.second) * reach)
-by_parts h reach p n =
-    subst (λ k. square_length (pos k *ℤ p.x -ℤ n.x) (pos k *ℤ p.y -ℤ n.y) ≤ square (k * reach)) (sym n.on_line.whole) n.near
-
-some_part : (h : GridHole) (reach : ℕ) (p : GridPoint) (n : IsNearCentreLine h reach p) → 1 ≤ n.on_line.first + n.on_line.second
-some_part h reach p n = subst (λ k. 1 ≤ k) (sym n.on_line.whole) n.on_line.some
-
 pub rect_holds : HoldsCoveredHoles IsInRect rect_covers
 rect_holds r ring h ends p n =
     let reach : ℕ = h.radius + ring in
     let e = ends_covered rect_covers ring h r ends in
-    rect_near r reach n.on_line.first n.on_line.second h.from h.to p n.x n.y (some_part h reach p n) n.on_line.x_is n.on_line.y_is (by_parts h reach p n) e.0 e.1
+    let x : ℤ = pos n.first *ℤ h.from.x +ℤ pos n.second *ℤ h.to.x in
+    let y : ℤ = pos n.first *ℤ h.from.y +ℤ pos n.second *ℤ h.to.y in
+    rect_near r reach n.first n.second h.from h.to p x y n.some refl refl n.near e.0 e.1
 
 -- ---- obrounds
 
@@ -172,13 +151,6 @@ mean_step-le i j reach m dx dy fx fy tx ty px py some at_x at_y near first secon
     let length : (i + j) * reach + (i * m + j * m) ≡ (i + j) * (reach + m) = omega arith in
     unscaled (i + j) px py (reach + m) some (subst (λ l. ((i + j) * px) * ((i + j) * px) + ((i + j) * py) * ((i + j) * py) ≤ l * l) length all)
 
--- a point that is no further from the axis than the radius of the ends is in the obround
-near_axis : (o : GridObround) (p : GridPoint) → square_axis_distance o p ≤ square (end_radius o) → IsInObround o p
-near_axis o p h = obround_contains_covered o p 0 (at_reach_0 (end_radius o) (square_axis_distance o p) h) p (no_distance p 0)
-  where
-    at_reach_0 : (r d : ℕ) → d ≤ square r → (nat_le 0 r && nat_le d (square (r - 0))) ≡ true
-    at_reach_0 r d k = grind (arith, nat_tests)
-
 obround_near : (o : GridObround) (reach i j : ℕ) (f t p : GridPoint) (x y : ℤ) → 1 ≤ i + j → x ≡ pos i *ℤ f.x +ℤ pos j *ℤ t.x → y ≡ pos i *ℤ f.y +ℤ pos j *ℤ t.y
     → square_length (pos (i + j) *ℤ p.x -ℤ x) (pos (i + j) *ℤ p.y -ℤ y) ≤ square ((i + j) * reach) → obround_covers o f reach ≡ true → obround_covers o t reach ≡ true → IsInObround o p
 obround_near o reach i j f t p x y some x_is y_is near e g =
@@ -198,7 +170,9 @@ pub obround_holds : HoldsCoveredHoles IsInObround obround_covers
 obround_holds o ring h ends p n =
     let reach : ℕ = h.radius + ring in
     let e = ends_covered obround_covers ring h o ends in
-    obround_near o reach n.on_line.first n.on_line.second h.from h.to p n.x n.y (some_part h reach p n) n.on_line.x_is n.on_line.y_is (by_parts h reach p n) e.0 e.1
+    let x : ℤ = pos n.first *ℤ h.from.x +ℤ pos n.second *ℤ h.to.x in
+    let y : ℤ = pos n.first *ℤ h.from.y +ℤ pos n.second *ℤ h.to.y in
+    obround_near o reach n.first n.second h.from h.to p x y n.some refl refl n.near e.0 e.1
 
 -- ---- plain pads
 

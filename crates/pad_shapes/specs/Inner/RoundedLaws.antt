@@ -12,9 +12,10 @@ use Rattle.grid_units.specs.Points.{GridPoint, abs_diff, square, square_distance
 use Rattle.std.proofs.lemmas.Nat.{mul-le}
 use Rattle.grid_units.proofs.TriangleInequalities.{le_of_squares, square-le}
 use Rattle.pad_shapes.specs.Shapes.{IsAxisAligned, IsInBox, ContainsCovered, ContainsCoveredSlots, CoveredIsBetween, HasExtent, covers_both_ends}
-use Rattle.pad_shapes.specs.Rounded.{GridRounded, WeightedPoint, total_weight, weighted_sum, IsNear, IsInRounded, IsInSlot, corners, Edge, edges, cross, along, square_edge, is_deep_left, has_area, is_deep_inside, is_near_corner, is_beside, is_near_rim, is_deep_left_of_all, is_beside_some, CoversLess, rounded_covers, least_corner, greatest_corner, rounded_left, rounded_right}
+use Rattle.pad_shapes.specs.Rounded.{GridRounded, WeightedPoint, total_weight, weighted_sum, IsNear, IsInRounded, IsInSlot, corners, Edge, edges, cross, along, square_edge, is_deep_left, has_area, is_deep_inside, is_near_corner, is_beside, is_near_rim, is_deep_left_of_all, is_beside_some, CoversLess, rounded_covers, box_corner, rounded_left, rounded_right}
 use Rattle.pad_shapes.specs.Inner.Identities.{is_z, is_n, is_add, is_sub, is_mul, same, of_natural, scaled-le, area-le, length_is, times-le, untimes-le}
 use Rattle.pad_shapes.specs.Inner.Means.{IsNearMean, IsMean, HoldsRound, length_same, near_round, near_deep, near_point, near_means}
+use Rattle.pad_shapes.specs.Inner.ShapeLaws.{by_order, other_side-le, side-le}
 use Rattle.pad_shapes.specs.Inner.Fan.{edge, turn, each_edge, some_edge, map_each, map_some, edge_and_ends, fan}
 
 -- ---- inside of each edge by a depth
@@ -252,9 +253,6 @@ rounded_contains_lines r from to reach ends p h =
 
 -- ---- slots along an axis
 
-pub by_order : {P : Type 0} (a b : ℤ) → (a ≤ℤ b → P) → (b ≤ℤ a → P) → P
-by_order a b f g = by_lt_z a b (λ h. f (omega (arith, ints))) g
-
 -- a number between two others divides the way from one to the other
 record Divides (f t c : ℤ) : Type 0 where
   first : ℕ
@@ -412,12 +410,6 @@ sum-le C f high bound (w ∷ ws) all =
     more-le : (w t : ℕ) (high v s : ℤ) → (pos w *ℤ v) ≤ℤ (pos w *ℤ high) → s ≤ℤ (pos t *ℤ high) → (pos w *ℤ v +ℤ s) ≤ℤ (pos (w + t) *ℤ high)
     more-le w t high v s h k = omega (arith, ints, h, k)
 
-side_of-le : (a b n : ℕ) → a * a + b * b ≤ n * n → a ≤ n
-side_of-le a b n h = le_of_squares a n (omega (arith, h))
-
-other_side-le : (a b n : ℕ) → a * a + b * b ≤ n * n → b ≤ n
-other_side-le a b n h = le_of_squares b n (omega (arith, h))
-
 moved_less : (n rho : ℕ) (z : ℤ) → pos n *ℤ (z -ℤ pos rho) ≡ pos n *ℤ z -ℤ pos (n * rho)
 moved_less n rho z = same (is_mul (is_n n) (is_sub (is_z z) (is_n rho))) (is_sub (is_mul (is_n n) (is_z z)) (is_n (n * rho))) (omega arith)
 
@@ -461,6 +453,14 @@ left_by v low n e = omega (arith, ints)
 right_by : (v high : ℤ) (n : ℕ) → v ≡ high → abs_diff (high +ℤ pos n) v ≡ n
 right_by v high n e = omega (arith, ints)
 
+-- the least of one coordinate of the corners
+abbrev least_corner : (GridPoint → ℤ) → GridRounded → ℤ
+least_corner f r = fold (λ least v. int_min least (f v)) (f r.first) r.others
+
+-- the greatest of one coordinate of the corners
+abbrev greatest_corner : (GridPoint → ℤ) → GridRounded → ℤ
+greatest_corner f r = fold (λ greatest v. int_max greatest (f v)) (f r.first) r.others
+
 -- one coordinate of a point that is no further than the radius from a mean of corners
 above_least : (r : GridRounded) (f : GridPoint → ℤ) (parts : List WeightedPoint) (p : ℤ) → All (λ w. Contains (corners r) w.point) parts → 1 ≤ total_weight parts → unsigned_abs (pos (total_weight parts) *ℤ p -ℤ weighted_sum f parts) ≤ total_weight parts * r.radius → (least_corner f r -ℤ pos r.radius) ≤ℤ p
 above_least r f parts p each some near =
@@ -478,7 +478,7 @@ below_greatest r f parts p each some near =
 
 near_x : (r : GridRounded) (p : GridPoint) (h : IsInRounded r p) → unsigned_abs (pos (total_weight h.parts) *ℤ p.x -ℤ weighted_sum (λ v. v.x) h.parts) ≤ total_weight h.parts * r.radius
 near_x r p h =
-    side_of-le (unsigned_abs (pos (total_weight h.parts) *ℤ p.x -ℤ weighted_sum (λ v. v.x) h.parts)) (unsigned_abs (pos (total_weight h.parts) *ℤ p.y -ℤ weighted_sum (λ v. v.y) h.parts)) (total_weight h.parts * r.radius) h.near
+    side-le (unsigned_abs (pos (total_weight h.parts) *ℤ p.x -ℤ weighted_sum (λ v. v.x) h.parts)) (unsigned_abs (pos (total_weight h.parts) *ℤ p.y -ℤ weighted_sum (λ v. v.y) h.parts)) (total_weight h.parts * r.radius) h.near
 
 near_y : (r : GridRounded) (p : GridPoint) (h : IsInRounded r p) → unsigned_abs (pos (total_weight h.parts) *ℤ p.y -ℤ weighted_sum (λ v. v.y) h.parts) ≤ total_weight h.parts * r.radius
 near_y r p h =
@@ -486,8 +486,8 @@ near_y r p h =
 
 pub rounded_extent : HasExtent IsInRounded rounded_left rounded_right
 rounded_extent r =
-    let low = least_corner (λ v. v.x) r in
-    let high = greatest_corner (λ v. v.x) r in
+    let low = (box_corner int_min r).x in
+    let high = (box_corner int_max r).x in
     let left = reached r low (least_reached r.first.x r.others) in
     let right = reached r high (greatest_reached r.first.x r.others) in
     record {
@@ -514,20 +514,20 @@ rounded_between r c reach e =
 
 -- the points that are the reach to the left, to the right, above and below a covered centre are points of the shape
 pub rounded_bounds : (r : GridRounded) (c : GridPoint) (reach n : ℕ) → reach ≤ n → rounded_covers r c n ≡ true
-    → ((((least_corner (λ v. v.x) r -ℤ pos r.radius) +ℤ pos reach) ≤ℤ c.x) × (c.x ≤ℤ ((greatest_corner (λ v. v.x) r +ℤ pos r.radius) -ℤ pos reach)))
-    × ((((least_corner (λ v. v.y) r -ℤ pos r.radius) +ℤ pos reach) ≤ℤ c.y) × (c.y ≤ℤ ((greatest_corner (λ v. v.y) r +ℤ pos r.radius) -ℤ pos reach)))
+    → (((((box_corner int_min r).x -ℤ pos r.radius) +ℤ pos reach) ≤ℤ c.x) × (c.x ≤ℤ (((box_corner int_max r).x +ℤ pos r.radius) -ℤ pos reach)))
+    × (((((box_corner int_min r).y -ℤ pos r.radius) +ℤ pos reach) ≤ℤ c.y) × (c.y ≤ℤ (((box_corner int_max r).y +ℤ pos r.radius) -ℤ pos reach)))
 rounded_bounds r c reach n less e =
     let left = rounded_contains_covered r c n e (record { x = c.x -ℤ pos n; y = c.y }) (aside (c.x -ℤ pos n) c.x c.y n (left_by c.x c.x n refl)) in
     let right = rounded_contains_covered r c n e (record { x = c.x +ℤ pos n; y = c.y }) (aside (c.x +ℤ pos n) c.x c.y n (right_by c.x c.x n refl)) in
     let bottom = rounded_contains_covered r c n e (record { x = c.x; y = c.y -ℤ pos n }) (upright (c.y -ℤ pos n) c.y c.x n (left_by c.y c.y n refl)) in
     let top = rounded_contains_covered r c n e (record { x = c.x; y = c.y +ℤ pos n }) (upright (c.y +ℤ pos n) c.y c.x n (right_by c.y c.y n refl)) in (
       (
-        low (least_corner (λ v. v.x) r -ℤ pos r.radius) c.x (above_least r (λ v. v.x) left.parts (c.x -ℤ pos n) left.of_points left.some (near_x r (record { x = c.x -ℤ pos n; y = c.y }) left)),
-        high (greatest_corner (λ v. v.x) r +ℤ pos r.radius) c.x (below_greatest r (λ v. v.x) right.parts (c.x +ℤ pos n) right.of_points right.some (near_x r (record { x = c.x +ℤ pos n; y = c.y }) right)),
+        low ((box_corner int_min r).x -ℤ pos r.radius) c.x (above_least r (λ v. v.x) left.parts (c.x -ℤ pos n) left.of_points left.some (near_x r (record { x = c.x -ℤ pos n; y = c.y }) left)),
+        high ((box_corner int_max r).x +ℤ pos r.radius) c.x (below_greatest r (λ v. v.x) right.parts (c.x +ℤ pos n) right.of_points right.some (near_x r (record { x = c.x +ℤ pos n; y = c.y }) right)),
       ),
       (
-        low (least_corner (λ v. v.y) r -ℤ pos r.radius) c.y (above_least r (λ v. v.y) bottom.parts (c.y -ℤ pos n) bottom.of_points bottom.some (near_y r (record { x = c.x; y = c.y -ℤ pos n }) bottom)),
-        high (greatest_corner (λ v. v.y) r +ℤ pos r.radius) c.y (below_greatest r (λ v. v.y) top.parts (c.y +ℤ pos n) top.of_points top.some (near_y r (record { x = c.x; y = c.y +ℤ pos n }) top)),
+        low ((box_corner int_min r).y -ℤ pos r.radius) c.y (above_least r (λ v. v.y) bottom.parts (c.y -ℤ pos n) bottom.of_points bottom.some (near_y r (record { x = c.x; y = c.y -ℤ pos n }) bottom)),
+        high ((box_corner int_max r).y +ℤ pos r.radius) c.y (below_greatest r (λ v. v.y) top.parts (c.y +ℤ pos n) top.of_points top.some (near_y r (record { x = c.x; y = c.y +ℤ pos n }) top)),
       ),
     )
   where

@@ -1,18 +1,19 @@
 -- Proofs of the laws that the trait asks of each shape. Shapes.antt states what they prove.
-use Rattle.std.proofs.Common.{◌≡◌, ℕ, ℤ, pos, ◌+◌, ◌-◌, ◌*◌, ◌≤◌, ◌<◌, ◌+ℤ◌, ◌-ℤ◌, ◌≤ℤ◌, ◌⊎◌, Bool, true, false, inl, inr, refl, ap, subst, arith}
+use Rattle.std.proofs.Common.{◌≡◌, ℕ, ℤ, pos, ◌+◌, ◌-◌, ◌*◌, ◌≤◌, ◌<◌, ◌+ℤ◌, ◌-ℤ◌, ◌≤ℤ◌, ◌⊎◌, Bool, true, false, inl, inr, ap, subst, arith}
 use Rattle.std.specs.Prelude.{◌&&◌, nat_le}
 use Rattle.std.proofs.lemmas.Int.{ints, clamps, by_lt_z}
 use Rattle.std.proofs.lemmas.Bool.{cases_lt}
 use Rattle.std.proofs.lemmas.Bool.Decides.{nat_tests}
 use Rattle.grid_units.specs.Holes.{IsBetween}
 use Rattle.grid_units.specs.Points.{GridPoint, abs_diff, square, square_distance}
+use Rattle.grid_units.proofs.BoolLemmas.{both_true}
 use Rattle.grid_units.proofs.TriangleInequalities.{abs_diff_triangle, square-le, le_of_squares, two_steps-le, square_distance-le}
 use Rattle.pad_shapes.specs.Shapes.{GridObround, IsInDisc, IsInRect, IsInObround, end_radius, square_axis_distance, disc_covers, rect_covers, obround_covers, IsAxisAligned, IsInBox, ContainsCovered, ContainsCoveredSlots, CoveredIsBetween, HasExtent, RectIsTight}
 use Rattle.pad_shapes.specs.declared.pad.Pad.TheVariants.{Disc, Rect, Obround}
 use Rattle.pad_shapes.specs.Pads.{IsInPad, pad_covers, pad_left, pad_right}
 
 -- two tests that both passed
-both_le : (a b c d : ℕ) → (nat_le a b && nat_le c d) ≡ true → (a ≤ b) × (c ≤ d)
+pub both_le : (a b c d : ℕ) → (nat_le a b && nat_le c d) ≡ true → (a ≤ b) × (c ≤ d)
 both_le a b c d e = (grind (arith, nat_tests), grind (arith, nat_tests))
 
 -- one of two tests failed
@@ -23,23 +24,23 @@ not_both_le a b c d e = elim (cases_lt b a) [
 ]
 
 -- a side of a right triangle is no longer than a bound on the longest one
-side-le : (a b n : ℕ) → a * a + b * b ≤ n * n → a ≤ n
+pub side-le : (a b n : ℕ) → a * a + b * b ≤ n * n → a ≤ n
 side-le a b n h = le_of_squares a n (omega (arith, h))
 
-other_side-le : (a b n : ℕ) → a * a + b * b ≤ n * n → b ≤ n
+pub other_side-le : (a b n : ℕ) → a * a + b * b ≤ n * n → b ≤ n
 other_side-le a b n h = le_of_squares b n (omega (arith, h))
 
 -- a bound on the square of a distance, from the two distances along the axes
-square_distance_of : (p q : GridPoint) (a b n : ℕ) → abs_diff p.x q.x ≡ a → abs_diff p.y q.y ≡ b → square a + square b ≤ square n → square_distance p q ≤ square n
+pub square_distance_of : (p q : GridPoint) (a b n : ℕ) → abs_diff p.x q.x ≡ a → abs_diff p.y q.y ≡ b → square a + square b ≤ square n → square_distance p q ≤ square n
 square_distance_of p q a b n x y h = omega (arith, ap square x, ap square y, h)
 
 within_bounds : (z c : ℤ) (n : ℕ) → abs_diff z c ≤ n → ((c -ℤ pos n) ≤ℤ z) × (z ≤ℤ (c +ℤ pos n))
 within_bounds z c n h = (omega (arith, ints), omega (arith, ints))
 
-apart_below : (c : ℤ) (n : ℕ) → abs_diff (c -ℤ pos n) c ≡ n
+pub apart_below : (c : ℤ) (n : ℕ) → abs_diff (c -ℤ pos n) c ≡ n
 apart_below c n = omega (arith, ints)
 
-apart_above : (c : ℤ) (n : ℕ) → abs_diff (c +ℤ pos n) c ≡ n
+pub apart_above : (c : ℤ) (n : ℕ) → abs_diff (c +ℤ pos n) c ≡ n
 apart_above c n = omega (arith, ints)
 
 apart_self : (c : ℤ) → abs_diff c c ≡ 0
@@ -86,13 +87,13 @@ rect_extent r = record {
 }
 
 -- the distance from a point past an end to that end, along one axis
-apart_past_above : (z c : ℤ) (a : ℕ) → c ≤ℤ z → a ≤ abs_diff z c → abs_diff z (c +ℤ pos a) ≡ abs_diff z c - a
+pub apart_past_above : (z c : ℤ) (a : ℕ) → c ≤ℤ z → a ≤ abs_diff z c → abs_diff z (c +ℤ pos a) ≡ abs_diff z c - a
 apart_past_above z c a h k = omega (arith, ints)
 
-apart_past_below : (z c : ℤ) (a : ℕ) → z ≤ℤ c → a ≤ abs_diff z c → abs_diff z (c -ℤ pos a) ≡ abs_diff z c - a
+pub apart_past_below : (z c : ℤ) (a : ℕ) → z ≤ℤ c → a ≤ abs_diff z c → abs_diff z (c -ℤ pos a) ≡ abs_diff z c - a
 apart_past_below z c a h k = omega (arith, ints)
 
-by_order : {P : Type 0} (a b : ℤ) → (a ≤ℤ b → P) → (b ≤ℤ a → P) → P
+pub by_order : {P : Type 0} (a b : ℤ) → (a ≤ℤ b → P) → (b ≤ℤ a → P) → P
 by_order a b f g = by_lt_z a b (λ h. f (omega (arith, ints))) g
 
 -- the point of a line that is nearest, along one axis: the line reaches this far from its middle to both sides
@@ -105,7 +106,7 @@ nearest z o a = elim (cases_lt a (abs_diff z o)) [
 ]
 
 -- a point that is no further from the axis than the radius is in the obround
-near_axis : (o : GridObround) (p : GridPoint) → square_axis_distance o p ≤ square (end_radius o) → IsInObround o p
+pub near_axis : (o : GridObround) (p : GridPoint) → square_axis_distance o p ≤ square (end_radius o) → IsInObround o p
 near_axis o p h =
     let x = nearest p.x o.centre.x (o.half_x - end_radius o) in
     let y = nearest p.y o.centre.y (o.half_y - end_radius o) in
@@ -197,11 +198,6 @@ nearer_end o from to c along h = elim along [
   | inr lying ↦ let y = same_side from.y to.y o.y c.y lying h.1 in
       elim (nearer_side from.x to.x o.x c.x h.0) [ inl first ↦ inl (first, y.0) | inr second ↦ inr (second, y.1) ]
 ]
-
-both_true : (a b : Bool) → (a && b) ≡ true → (a ≡ true) × (b ≡ true)
-both_true true true e = (refl, refl)
-both_true true false e = absurd cc
-both_true false b e = absurd cc
 
 -- a shape that covers nearer centres holds slots
 holds_slots : {S : Type 0} (middle : S → GridPoint) (points : S → GridPoint → Type 0) (covers : S → GridPoint → ℕ → Bool) → ContainsCovered points covers → CoversMonotone middle covers → ContainsCoveredSlots points covers

@@ -5,8 +5,8 @@ use Rattle.json.specs.Print.{quoted}
 use Rattle.grid_units.specs.declared.profile.Profile.{Profile}
 use Rattle.std.specs.Borrow.{Bor}
 use Rattle.report.specs.declared.Measure.{Measure}
-use Rattle.package_check.specs.Boards.{BoardView}
-use Rattle.package_check.specs.declared.FileSum.{FileSum}
+use Rattle.board.specs.Boards.{BoardView}
+use Rattle.board.specs.declared.FileSum.{FileSum}
 use Rattle.report.specs.Causes.{flash_of, lack_of, ring_of}
 use Rattle.report.specs.declared.RingCause.{RingCause}
 use Rattle.report.specs.declared.BoardReport.{BoardReport}

@@ -52,8 +52,8 @@ const FILES: [(&str, &str); 4] = [
     ("top.gbr", LAYER),
 ];
 
-/// Words, the status of the run, and what it prints.
-const ANSWERS: [(&[&str], Status, &str); 17] = [
+/// Words, the status of the run, and what it prints. It says nothing beside that.
+const ANSWERS: [(&[&str], Status, &str); 10] = [
     (
         &["report", "--ring", "0.125", "--gap", "0.25", "boards"],
         Status::Device,
@@ -63,22 +63,6 @@ const ANSWERS: [(&[&str], Status, &str); 17] = [
         &["measure", "boards/"],
         Status::Device,
         "device\n  boards/ is a folder, but ringcheck reads files: name the files in it, as in ringcheck manifest boards/*\n",
-    ),
-    (
-        &["measure", "--format", "json", "boards"],
-        Status::Device,
-        "{\"format\":\"ringcheck\",\"version\":3,\"result\":\"device\"}\n",
-    ),
-    (
-        &["check", "--ring", "0.125", "--gap", "0.25", "boards"],
-        Status::Device,
-        "device\n",
-    ),
-    (&["draw", "boards"], Status::Device, "device\n"),
-    (
-        &["show", "--kind", "layer", "boards"],
-        Status::Device,
-        "device\n",
     ),
     (
         &[
@@ -91,21 +75,6 @@ const ANSWERS: [(&[&str], Status, &str); 17] = [
         &["measure", "f.csv"],
         Status::Device,
         "device file=1 name=top\n  boards, the file of top, is a folder: a manifest must name files\n",
-    ),
-    (
-        &["check", "--ring", "0.125", "--gap", "0.25", "a.zip"],
-        Status::Refused,
-        "refused manifest place=1 reason=BadManifest\n",
-    ),
-    (
-        &["draw", "a.zip"],
-        Status::Refused,
-        "refused manifest place=1 reason=BadManifest\n",
-    ),
-    (
-        &["measure", "--format", "json", "a.zip"],
-        Status::Refused,
-        "{\"format\":\"ringcheck\",\"version\":3,\"result\":\"refused\",\"place\":1,\"reason\":\"BadManifest\"}\n",
     ),
     (
         &["manifest", "boards"],
@@ -139,31 +108,76 @@ const ANSWERS: [(&[&str], Status, &str); 17] = [
     ),
 ];
 
-/// Whether a run over these files and folders ends with this status and prints just this.
-fn answers(alloc: Global, words: &[&str], status: Status, text: &str) -> bool {
+const NO_MANIFEST: &str = "refused manifest place=1 reason=BadManifest\n";
+
+/// Words of which the answer goes to a program or into a file, with a folder in place of what they name, and what the run prints.
+const FOLDERS: [(&[&str], &str); 4] = [
+    (
+        &["measure", "--format", "json", "boards"],
+        "{\"format\":\"ringcheck\",\"version\":3,\"result\":\"device\"}\n",
+    ),
+    (
+        &["check", "--ring", "0.125", "--gap", "0.25", "boards"],
+        "device\n",
+    ),
+    (&["draw", "boards"], "device\n"),
+    (&["show", "--kind", "layer", "boards"], "device\n"),
+];
+
+/// The same with a zip archive.
+const ARCHIVES: [(&[&str], &str); 3] = [
+    (
+        &["check", "--ring", "0.125", "--gap", "0.25", "a.zip"],
+        NO_MANIFEST,
+    ),
+    (&["draw", "a.zip"], NO_MANIFEST),
+    (
+        &["measure", "--format", "json", "a.zip"],
+        "{\"format\":\"ringcheck\",\"version\":3,\"result\":\"refused\",\"place\":1,\"reason\":\"BadManifest\"}\n",
+    ),
+];
+
+/// Whether a run over these files and folders ends with this status, prints just this text, and says just this beside it.
+fn answers(alloc: Global, words: &[&str], status: Status, text: &str, said: &str) -> bool {
     let mut shelf = FolderShelf {
         shelf: Shelf::new(&FILES),
         folders: &["boards", "boards/"],
     };
-    prints(alloc, &mut shelf, words, status, text)
+    prints(alloc, &mut shelf, words, status, text, said)
 }
 
 #[test]
 fn folders_and_archives_are_told(rt: HostRuntime) {
     for &(words, status, text) in &ANSWERS {
-        assert!(rt; answers(rt.alloc(), words, status, text), "{words:?}");
+        assert!(rt; answers(rt.alloc(), words, status, text, ""), "{words:?}");
+    }
+}
+
+#[test]
+fn folders_are_told_beside_an_answer(rt: HostRuntime) {
+    let said =
+        "  boards is a folder, but ringcheck reads files: name the files in it, as in ringcheck manifest boards/*\n";
+    for &(words, text) in &FOLDERS {
+        let is_told = answers(rt.alloc(), words, Status::Device, text, said);
+        assert!(rt; is_told, "{words:?}");
+    }
+}
+
+#[test]
+fn archives_are_told_beside_an_answer(rt: HostRuntime) {
+    let said = "  a.zip is a zip archive: unpack it, and name the files in it\n";
+    for &(words, text) in &ARCHIVES {
+        let is_told = answers(rt.alloc(), words, Status::Refused, text, said);
+        assert!(rt; is_told, "{words:?}");
     }
 }
 
 /// Words with an archive in place of a table, and the line of its refusal.
 const REFUSED: [(&[&str], &str); 3] = [
-    (
-        &["measure", "a.zip"],
-        "refused manifest place=1 reason=BadManifest\n",
-    ),
+    (&["measure", "a.zip"], NO_MANIFEST),
     (
         &["report", "--ring", "0.125", "--gap", "0.25", "a.zip"],
-        "refused manifest place=1 reason=BadManifest\n",
+        NO_MANIFEST,
     ),
     (
         &[
@@ -193,7 +207,7 @@ fn refused_archives_are_told(rt: HostRuntime) -> Result<(), Failure> {
     for &(words, line) in &REFUSED {
         let text = with_archive(rt.alloc(), line, page)?;
         assert!(rt;
-            answers(rt.alloc(), words, Status::Refused, text.as_str()),
+            answers(rt.alloc(), words, Status::Refused, text.as_str(), ""),
             "{words:?}"
         );
     }

@@ -5,8 +5,8 @@ use std::fmt::Write as FmtWrite;
 use std::io::{self, Write};
 use std::test::Fail as Failure;
 
-/// A call of the loader that fails, what a check prints, and what a measure prints below it. The drill file is loaded before the copper
-/// files.
+/// A call of the loader that fails, the line that is printed, and what cannot be read: a measure says so below the line, and a check
+/// beside it. The drill file is loaded before the copper files.
 const CALLS: [(u64, &str, &str); 4] = [
     (1, "device\n", "the manifest m.csv"),
     (2, "device file=3 name=pth\n", "pth.drl, the file of pth"),
@@ -14,8 +14,8 @@ const CALLS: [(u64, &str, &str); 4] = [
     (4, "device file=2 name=bot\n", "bot.gbr, the file of bot"),
 ];
 
-/// Whether a run prints just this where the call of the loader with this number fails.
-fn fails_at(alloc: Global, words: &[&str], call: u64, text: &str) -> bool {
+/// Whether a run prints just this text, and says just this beside it, where the call of the loader with this number fails.
+fn fails_at(alloc: Global, words: &[&str], call: u64, text: &str, said: &str) -> bool {
     let files = &[
         ("m.csv", THREE),
         ("top.gbr", LAYER),
@@ -24,7 +24,7 @@ fn fails_at(alloc: Global, words: &[&str], call: u64, text: &str) -> bool {
     ];
     let mut shelf = Shelf::new(files);
     shelf.fails_at = call;
-    prints(alloc, &mut shelf, words, Status::Device, text) && shelf.failures() == 1
+    prints(alloc, &mut shelf, words, Status::Device, text, said) && shelf.failures() == 1
 }
 
 /// A line, and below it that this cannot be read.
@@ -37,12 +37,12 @@ fn with_sentence(alloc: Global, line: &str, what: &str) -> Result<String, AllocE
 #[test]
 fn a_loader_that_fails_is_told_at_each_call(rt: HostRuntime) -> Result<(), Failure> {
     for &(call, line, what) in &CALLS {
+        let said = with_sentence(rt.alloc(), "", what)?;
         let text = with_sentence(rt.alloc(), line, what)?;
-        assert!(rt; fails_at(rt.alloc(), &WORDS, call, line), "{line}");
-        assert!(rt;
-            fails_at(rt.alloc(), &MEASURE, call, text.as_str()),
-            "{text}"
-        );
+        let is_told = fails_at(rt.alloc(), &WORDS, call, line, said.as_str());
+        assert!(rt; is_told, "{line}");
+        let is_told = fails_at(rt.alloc(), &MEASURE, call, text.as_str(), "");
+        assert!(rt; is_told, "{text}");
     }
     Ok(())
 }
@@ -55,29 +55,30 @@ const REFUSED_LAYER: [(&str, &str); 4] = [
     ("pth.drl", DRILL),
 ];
 
-/// The call of the loader that fails, if one does, and the status and the text of a check of this package.
-const AFTER_ALL_FILES: [(u64, Status, &str); 3] = [
-    (2, Status::Device, "device file=3 name=pth\n"),
-    (4, Status::Device, "device file=2 name=bot\n"),
-    (
-        0,
-        Status::Refused,
-        "refused file=1 place=1 byte=0 reason=NoFormat name=top\n",
-    ),
+/// A call of the loader that fails, the line that a check of this package then prints, and what cannot be read.
+const AFTER_ALL_FILES: [(u64, &str, &str); 2] = [
+    (2, "device file=3 name=pth\n", "pth.drl, the file of pth"),
+    (4, "device file=2 name=bot\n", "bot.gbr, the file of bot"),
 ];
 
-/// Whether a check of this package loads all files, and prints just this.
-fn ends_after_all(alloc: Global, call: u64, status: Status, text: &str) -> bool {
+/// Whether a check of this package, in which the call of this number fails, loads all files, prints just this text, and says just this
+/// beside it.
+fn ends_after_all(alloc: Global, call: u64, status: Status, text: &str, said: &str) -> bool {
     let mut shelf = Shelf::new(&REFUSED_LAYER);
     shelf.fails_at = call;
-    prints(alloc, &mut shelf, &WORDS, status, text) && shelf.calls == 4
+    prints(alloc, &mut shelf, &WORDS, status, text, said) && shelf.calls == 4
 }
 
 #[test]
-fn a_file_that_is_not_loaded_is_told_before_a_refusal(rt: HostRuntime) {
-    for &(call, status, text) in &AFTER_ALL_FILES {
-        assert!(rt; ends_after_all(rt.alloc(), call, status, text), "{text}");
+fn a_file_that_is_not_loaded_is_told_before_a_refusal(rt: HostRuntime) -> Result<(), Failure> {
+    for &(call, line, what) in &AFTER_ALL_FILES {
+        let said = with_sentence(rt.alloc(), "", what)?;
+        let is_told = ends_after_all(rt.alloc(), call, Status::Device, line, said.as_str());
+        assert!(rt; is_told, "{line}");
     }
+    let refusal = "refused file=1 place=1 byte=0 reason=NoFormat name=top\n";
+    assert!(rt; ends_after_all(rt.alloc(), 0, Status::Refused, refusal, ""));
+    Ok(())
 }
 
 #[test]
@@ -88,7 +89,7 @@ fn a_file_that_is_too_long_is_told_before_a_refusal(rt: HostRuntime) {
         length: 268_435_457,
     };
     let text = "refused file=3 place=0 byte=0 reason=TooLong name=pth\n";
-    assert!(rt; prints(rt.alloc(), &mut shelf, &WORDS, Status::Refused, text));
+    assert!(rt; prints(rt.alloc(), &mut shelf, &WORDS, Status::Refused, text, ""));
 }
 
 /// A drill file of so many holes, a millimetre apart.
@@ -139,32 +140,37 @@ impl Write for Narrow {
     }
 }
 
-/// How a run over these files ends each of whose writers fails at its call numbered `fails_at`, and how many calls the busier one got.
-fn narrowed(alloc: Global, files: &[(&str, &str)], words: &[&str], fails_at: u64) -> (Status, u64) {
-    let mut to = Streams {
-        out: Narrow { calls: 0, fails_at },
-        err: Narrow { calls: 0, fails_at },
-    };
-    let status = run(alloc, words, &mut Shelf::new(files), &mut to);
-    (status, to.out.calls.max(to.err.calls))
+/// A writer whose call of this number fails; none where it is 0.
+fn failing_at(fails_at: u64) -> Narrow {
+    Narrow { calls: 0, fails_at }
 }
 
-/// Whether a run whose writer fails at this call ends there.
+/// How a run over these files ends whose writers `out` and `err` fail at their calls of these numbers, and how many calls each got.
+fn narrowed(
+    alloc: Global,
+    files: &[(&str, &str)],
+    words: &[&str],
+    out_fails_at: u64,
+    err_fails_at: u64,
+) -> (Status, u64, u64) {
+    let (out, err) = (failing_at(out_fails_at), failing_at(err_fails_at));
+    let mut to = Streams { out, err };
+    let status = run(alloc, words, &mut Shelf::new(files), &mut to);
+    (status, to.out.calls, to.err.calls)
+}
+
+/// Whether a run in which this call of `out` alone fails ends there.
 fn ends_at(alloc: Global, files: &[(&str, &str)], words: &[&str], call: u64) -> bool {
-    narrowed(alloc, files, words, call) == (Status::Device, call)
+    let (status, calls, _) = narrowed(alloc, files, words, call, 0);
+    status == Status::Device && calls == call
 }
 
 /// Whether a check of these holes prints just this, and ends where a call fails: the first, one between, and the last.
 fn is_reported(alloc: Global, drill: &str, text: &str) -> bool {
     let files = [("m.csv", MANIFEST), ("top.gbr", LAYER), ("pth.drl", drill)];
-    let (status, calls) = narrowed(alloc, &files, &WORDS, 0);
-    let is_whole = prints(
-        alloc,
-        &mut Shelf::new(&files),
-        &WORDS,
-        Status::Findings,
-        text,
-    );
+    let (status, calls, _) = narrowed(alloc, &files, &WORDS, 0, 0);
+    let mut shelf = Shelf::new(&files);
+    let is_whole = prints(alloc, &mut shelf, &WORDS, Status::Findings, text, "");
     is_whole
         && status == Status::Findings
         && calls > 1_700
@@ -228,7 +234,8 @@ fn is_measured(alloc: Global, drill: &str, text: &str) -> bool {
         ("bot.gbr", LAYER),
         ("pth.drl", drill),
     ];
-    let is_whole = prints(alloc, &mut Shelf::new(&files), &MEASURE, Status::Pass, text);
+    let mut shelf = Shelf::new(&files);
+    let is_whole = prints(alloc, &mut shelf, &MEASURE, Status::Pass, text, "");
     is_whole
         && ends_at(alloc, &files, &MEASURE, 1)
         && ends_at(alloc, &files, &MEASURE, 4)
@@ -245,7 +252,7 @@ fn a_long_measure_is_written_in_parts(rt: HostRuntime) -> Result<(), Failure> {
 
 const PACKAGE: [(&str, &str); 3] = [("m.csv", MANIFEST), ("top.gbr", LAYER), ("pth.drl", DRILL)];
 
-/// Two commands that pass, and three of which a sentence is said, and their statuses.
+/// Two commands that pass, and three of which a sentence is said beside the answer, and their statuses.
 const COMMANDS: [(&[&str], Status); 5] = [
     (&WORDS, Status::Pass),
     (&MEASURE, Status::Pass),
@@ -254,15 +261,25 @@ const COMMANDS: [(&[&str], Status); 5] = [
     (&["show", "--kind", "layer", "none"], Status::Device),
 ];
 
-/// Whether a run ends with this status after more than three calls of a writer, and ends at each of them that fails.
+/// Whether a run in which this call of `err` alone fails ends there.
+fn ends_at_of_err(alloc: Global, words: &[&str], call: u64) -> bool {
+    let (status, _, calls) = narrowed(alloc, &PACKAGE, words, 0, call);
+    status == Status::Device && calls == call
+}
+
+/// Whether a run ends with this status after more than three calls of a writer, calls `err` just where it does not pass, and ends at each
+/// call of `out`, and at each of `err`, that alone fails.
 fn ends_at_each(alloc: Global, words: &[&str], wanted: Status) -> bool {
-    let (status, calls) = narrowed(alloc, &PACKAGE, words, 0);
+    let (status, out_calls, err_calls) = narrowed(alloc, &PACKAGE, words, 0, 0);
+    let calls = out_calls.max(err_calls);
     for call in 1..=calls {
-        if !ends_at(alloc, &PACKAGE, words, call) {
+        let out_ends = call > out_calls || ends_at(alloc, &PACKAGE, words, call);
+        let err_ends = call > err_calls || ends_at_of_err(alloc, words, call);
+        if !out_ends || !err_ends {
             return false;
         }
     }
-    status == wanted && calls >= 4
+    status == wanted && calls >= 4 && (err_calls == 0) == (wanted == Status::Pass)
 }
 
 #[test]

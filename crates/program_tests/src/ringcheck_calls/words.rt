@@ -13,7 +13,7 @@ fn words_that_name_no_file_are_told(rt: HostRuntime) {
     for &word in &NO_NAMES {
         let words = ["manifest", "top.gbr", word];
         let mut shelf = Shelf::new(&[("top.gbr", LAYER)]);
-        assert!(rt; prints(rt.alloc(), &mut shelf, &words, Status::Usage, refusal));
+        assert!(rt; prints(rt.alloc(), &mut shelf, &words, Status::Usage, refusal, ""));
     }
 }
 
@@ -75,7 +75,7 @@ fn refusal_with_page(alloc: Global, page: &str) -> Result<String, AllocError> {
 fn refuses_bare(alloc: Global, text: &str) -> bool {
     let files = &[("m.csv", MANIFEST), ("top.gbr", BARE), ("pth.drl", DRILL)];
     let mut shelf = Shelf::new(files);
-    prints(alloc, &mut shelf, &REPORT_WORDS, Status::Refused, text)
+    prints(alloc, &mut shelf, &REPORT_WORDS, Status::Refused, text, "")
 }
 
 /// A report's refusal has the page of its reason below.
@@ -89,8 +89,8 @@ fn refusals_come_with_their_page(rt: HostRuntime) -> Result<(), Failure> {
 
 const NO_PROFILES: [&str; 6] = ["", "Strict", "WIDE", "loose", "wide ", "strict,wide"];
 
-/// Whether a check refuses the word of a profile, and loads no file.
-fn refuses_profile(alloc: Global, word: &str) -> bool {
+/// Whether a check refuses the word of a profile, says just this beside its line, and loads no file.
+fn refuses_profile(alloc: Global, word: &str, said: &str) -> bool {
     let mut shelf = Shelf::new(&[("m.csv", MANIFEST)]);
     let words = [
         "check",
@@ -103,32 +103,34 @@ fn refuses_profile(alloc: Global, word: &str) -> bool {
         "m.csv",
     ];
     let text = "usage reason=BadRole\n";
-    prints(alloc, &mut shelf, &words, Status::Usage, text) && shelf.calls == 0
+    prints(alloc, &mut shelf, &words, Status::Usage, text, said) && shelf.calls == 0
+}
+
+/// A line, and below it what is said where a word names no profile.
+fn with_profile(alloc: Global, line: &str, word: &str) -> Result<String, AllocError> {
+    format!(in alloc; "{line}  --profile must be strict or wide, not {word}\n")
 }
 
 #[test]
-fn a_profile_is_read_before_the_rules(rt: HostRuntime) {
+fn a_profile_is_read_before_the_rules(rt: HostRuntime) -> Result<(), Failure> {
     for &word in &NO_PROFILES {
-        assert!(rt; refuses_profile(rt.alloc(), word), "{word}");
+        let said = with_profile(rt.alloc(), "", word)?;
+        assert!(rt; refuses_profile(rt.alloc(), word, said.as_str()), "{word}");
     }
+    Ok(())
 }
 
 /// Whether a table in the profile of a word, of a kind that there is not, prints just this as usage, and loads no file.
 fn refuses_table(alloc: Global, word: &str, text: &str) -> bool {
     let mut shelf = Shelf::new(&[("top.gbr", LAYER)]);
     let words = ["show", "--kind", "via", "--profile", word, "top.gbr"];
-    prints(alloc, &mut shelf, &words, Status::Usage, text) && shelf.calls == 0
-}
-
-/// What is printed where a word names no profile.
-fn profile_refusal(alloc: Global, word: &str) -> Result<String, AllocError> {
-    format!(in alloc; "usage reason=BadRole\n  --profile must be strict or wide, not {word}\n")
+    prints(alloc, &mut shelf, &words, Status::Usage, text, "") && shelf.calls == 0
 }
 
 #[test]
 fn the_profile_of_a_table_is_read_before_its_kind(rt: HostRuntime) -> Result<(), Failure> {
     for &word in &NO_PROFILES {
-        let text = profile_refusal(rt.alloc(), word)?;
+        let text = with_profile(rt.alloc(), "usage reason=BadRole\n", word)?;
         assert!(rt; refuses_table(rt.alloc(), word, text.as_str()), "{word}");
     }
     assert!(rt; refuses_table(rt.alloc(), "wide", "usage reason=BadRole\n"));
@@ -139,13 +141,13 @@ fn the_profile_of_a_table_is_read_before_its_kind(rt: HostRuntime) -> Result<(),
 fn refuses_manifest(alloc: Global, word: &str, text: &str) -> bool {
     let mut shelf = Shelf::new(&[("top.gbr", LAYER)]);
     let words = ["manifest", "--profile", word, "top.gbr", ""];
-    prints(alloc, &mut shelf, &words, Status::Usage, text) && shelf.calls == 0
+    prints(alloc, &mut shelf, &words, Status::Usage, text, "") && shelf.calls == 0
 }
 
 #[test]
 fn the_profile_of_a_manifest_is_read_before_its_names(rt: HostRuntime) -> Result<(), Failure> {
     for &word in &NO_PROFILES {
-        let text = profile_refusal(rt.alloc(), word)?;
+        let text = with_profile(rt.alloc(), "usage reason=BadRole\n", word)?;
         assert!(rt; refuses_manifest(rt.alloc(), word, text.as_str()), "{word}");
     }
     let names =
@@ -187,7 +189,7 @@ fn a_manifest_is_proposed_in_the_profile_that_is_named(rt: HostRuntime) {
     for &(words, text) in &MANIFESTS {
         let mut shelf = Shelf::new(&[("top.gbr", LAYER), ("all.drl", MERGED)]);
         assert!(rt;
-            prints(rt.alloc(), &mut shelf, words, Status::Pass, text),
+            prints(rt.alloc(), &mut shelf, words, Status::Pass, text, ""),
             "{words:?}"
         );
     }
@@ -196,7 +198,8 @@ fn a_manifest_is_proposed_in_the_profile_that_is_named(rt: HostRuntime) {
 /// Whether a run asks once for its file, which is not there, and says so.
 fn lacks_file(alloc: Global, words: &[&str]) -> bool {
     let mut shelf = Shelf::new(&[]);
-    prints(alloc, &mut shelf, words, Status::Device, "device\n")
+    let said = "  cannot read file: file names are taken from the working directory\n";
+    prints(alloc, &mut shelf, words, Status::Device, "device\n", said)
         && shelf.calls == 1
         && shelf.failures() == 1
 }

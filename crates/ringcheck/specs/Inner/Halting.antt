@@ -62,7 +62,7 @@ IsUnreadAt _ index = ⊥
 -- just the text of something that cannot be read was written in this style, and beside it its sentence; it was looked for by this name
 abbrev pub PrintsUnread : RefusalStyle → Subject → List ℕ → Written → Written → Type 0
 PrintsUnread refusal_style what path before after =
-    (sought : Sought) × (sought.path.now ≡ path) × Appends before.0 after.0 (unread_text refusal_style what sought) × Says (beside refusal_style (Some (unread_words what sought))) before after
+    (sought : Sought) × (sought.path.now ≡ path) × Appends before.0 after.0 (unread_text refusal_style what sought) × Says (beside refusal_style (Some (unread_words what sought))) before.1 after.1
 
 -- what a status says where a halt was printed in this style; what cannot be read was looked for by this name
 abbrev pub AfterHalt : RefusalStyle → Halt → List ℕ → Written → Written → Status → Type 0

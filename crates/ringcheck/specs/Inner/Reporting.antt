@@ -2,7 +2,8 @@
 use Rattle.std.specs.Prelude.{◌≡◌, true, List}
 use Rattle.board_report.specs.BoardReport.{AgreesWithCheck, IsBoardReport}
 use Rattle.grid_units.specs.Holes.{GridRules}
-use Rattle.package_check.specs.Boards.{BoardView, IsDrawnBoard, IsFlashedBoard}
+use Rattle.board.specs.Boards.{BoardView}
+use Rattle.package_check.specs.Boards.{IsDrawnBoard, IsFlashedBoard}
 use Rattle.package_check.specs.Package.{FileView}
 use Rattle.package_check.specs.Soundness.{IsSound}
 use Rattle.report.specs.declared.BoardReport.{BoardReport}

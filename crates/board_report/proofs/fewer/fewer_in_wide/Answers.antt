@@ -2,7 +2,7 @@ use Rattle.board_report.proofs.Common.{◌≡◌, ◌+◌, ◌-◌, ℕ, List, i
 use Rattle.std.specs.List.{filter, list_any}
 use Rattle.std.proofs.lemmas.Slice.Zip.{AllZip-long}
 use Rattle.ring_rules.specs.Findings.{gap_findings, ring_findings}
-use Rattle.package_check.specs.WiderProfile.{contradicts_role, is_gap, wide_rings}
+use Rattle.package_check.specs.WiderProfile.{is_called_plated, is_gap, wide_rings}
 use Rattle.package_check.proofs.WiderFindings.{gaps_among, gaps_are, rings_are}
 use Rattle.board_report.proofs.fewer.fewer_in_wide.Goals as goal
 
@@ -10,10 +10,10 @@ use Rattle.board_report.proofs.fewer.fewer_in_wide.Goals as goal
 less_both : (a b n : ℕ) → a - b ≡ (a + n) - (b + n)
 less_both a b n = omega arith
 
-pub returns-then-some_contradict : goal.returns-then-some_contradict
-returns-then-some_contradict c all flashed is =
+pub returns-then-some_are_called_plated : goal.returns-then-some_are_called_plated
+returns-then-some_are_called_plated c all flashed is =
     let answers = c.wide_answers_by_board.ensures all c.args.report.now.rules c.args.board.now flashed in
-    inr (refl, answers.refuses (sym (ap (list_any contradicts_role) c.files.ensures.sums) ∙ (sym c.some_contradict.ensures ∙ c.if-some_contradict.true)))
+    inr (refl, answers.refuses (sym (ap (list_any is_called_plated) c.files.ensures.sums) ∙ (sym c.some_are_called_plated.ensures ∙ c.if-some_are_called_plated.true)))
 
 pub returns : goal.returns
 returns c all flashed is =
@@ -21,7 +21,7 @@ returns c all flashed is =
     let report = c.args.report.now in
     let rules = report.rules in
     let answers = c.wide_answers_by_board.ensures all rules board flashed in
-    let (wide, read, found) = answers.reads (sym (ap (list_any contradicts_role) c.files.ensures.sums) ∙ (sym c.some_contradict.ensures ∙ c.if-some_contradict.false)) in
+    let (wide, read, found) = answers.reads (sym (ap (list_any is_called_plated) c.files.ensures.sums) ∙ (sym c.some_are_called_plated.ensures ∙ c.if-some_are_called_plated.false)) in
     let gaps = gap_findings rules.gap board.holes in
     let all_gaps : filter is_gap (board_findings rules board) ≡ gaps =
     gaps_among (ring_findings wide_pad_covers rules.profile rules.ring board.layers board.holes) gaps (rings_are wide_pad_covers rules.profile rules.ring board.layers board.holes) (gaps_are rules.gap board.holes) in

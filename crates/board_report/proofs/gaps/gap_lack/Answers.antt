@@ -1,7 +1,7 @@
 use Rattle.board_report.proofs.Common.{◌≡◌, ◌∙◌, rules, sym, subst, w64, GridHole, hole_at}
 use mir.Val.{to_z, of_z}
 use Rattle.std.proofs.lemmas.Int.{to_z-of_z}
-use Rattle.margins.specs.Gaps.{IsGap}
+use Rattle.board.specs.Gaps.{IsGap}
 use Rattle.board_report.proofs.gaps.gap_lack.Goals as goal
 
 pub returns : goal.returns

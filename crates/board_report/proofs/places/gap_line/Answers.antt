@@ -1,5 +1,5 @@
 use Rattle.board_report.proofs.Common.{subst}
-use Rattle.margins.specs.NearestHoles.{IsNearestOf, IsPair}
+use Rattle.board.specs.NearestHoles.{IsNearestOf, IsPair}
 use Rattle.board_report.proofs.HolePlacesLemmas.{no_pair}
 use Rattle.board_report.proofs.places.gap_line.Goals as goal
 

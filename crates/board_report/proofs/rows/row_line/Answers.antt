@@ -1,5 +1,5 @@
 use Rattle.board_report.proofs.Common.{◌≡◌, ◌<◌, ◌*◌, pos, ℕ, List, length, get_or, subst, sym, ap, ◌∙◌, arith, rules, Drilled, row_of, get_or_default, hole_at, default_hole}
-use Rattle.margins.specs.Rows.{IsRingRow}
+use Rattle.board.specs.Rows.{IsRingRow}
 use Rattle.board_report.proofs.RowLinesLemmas.{doubled, least_inside, least_is_numbered, radius_of}
 use Rattle.board_report.proofs.rows.row_line.Goals as goal
 

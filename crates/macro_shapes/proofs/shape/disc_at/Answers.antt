@@ -1,4 +1,4 @@
-use Rattle.macro_shapes.proofs.Common.{◌≡◌, List, ap, ◌∙◌, arith, take_all, disc_in_turn, Primitive}
+use Rattle.macro_shapes.proofs.Common.{List, ap, ◌∙◌, arith, take_all, disc_in_turn, Primitive}
 use Rattle.macro_shapes.proofs.BordersInTurn.{disc_is}
 use Rattle.macro_shapes.proofs.shape.disc_at.Goals as goal
 

@@ -1,4 +1,4 @@
-use Rattle.macro_shapes.proofs.Common.{◌≡◌, List, ap, ◌∙◌, arith, take_all, Edge, line_in_turn, Primitive}
+use Rattle.macro_shapes.proofs.Common.{List, ap, ◌∙◌, arith, take_all, Edge, line_in_turn, Primitive}
 use Rattle.macro_shapes.proofs.BordersInTurn.{line_is}
 use Rattle.macro_shapes.proofs.shape.line_along.Goals as goal
 

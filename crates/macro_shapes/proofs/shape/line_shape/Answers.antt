@@ -1,4 +1,4 @@
-use Rattle.macro_shapes.proofs.Common.{◌≡◌, List, Option, sym, ap, ◌∙◌, IfOk-weaker, GridPoint, GridRounded, rounded_of, rectangle_along, rounded_or_along, line_shape}
+use Rattle.macro_shapes.proofs.Common.{◌≡◌, List, sym, ap, ◌∙◌, IfOk-weaker, GridPoint, rounded_of, rectangle_along, rounded_or_along, line_shape}
 use Rattle.macro_shapes.proofs.BordersInTurn.{line_shape_is}
 use Rattle.macro_shapes.proofs.shape.line_shape.Goals as goal
 

@@ -1,5 +1,4 @@
-use Rattle.package_check.proofs.Common.{Setting, layer_count, file_view, file_views_in, refl}
-use Rattle.package_check.proofs.NoObliqueSlots.{passed_straight}
+use Rattle.package_check.proofs.Common.{file_views_in}
 use Rattle.package_check.proofs.AnswerLemmas.{just, legal, named, passed}
 use Rattle.package_check.proofs.package.check_bytes.Goals as goal
 
@@ -14,9 +13,3 @@ returns-clause-legal c = legal (file_views_in c.args.rules.profile c.args.files.
 
 pub returns-clause-sound : goal.returns-clause-sound
 returns-clause-sound c = passed (file_views_in c.args.rules.profile c.args.files.now) c.args.rules c.passing_is_sound.ensures c.report_of.result c.report_of.ensures
-
-pub returns-clause-straight : goal.returns-clause-straight
-returns-clause-straight c = λ strict.
-    let files = c.args.files.now in
-    let setting : Setting = record { layers = layer_count files; profile = c.args.rules.profile } in
-    passed_straight (file_view setting) (λ file. file.role) setting (λ file. refl) (λ file. refl) c.files_say_once.ensures.holes c.passing_is_sound.ensures c.args.rules files c.report_of.result strict strict refl c.report_of.ensures

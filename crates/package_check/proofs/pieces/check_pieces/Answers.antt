@@ -1,5 +1,4 @@
-use Rattle.package_check.proofs.Common.{pieced_layer_count, pieced_file_view, pieced_file_views, Setting, refl}
-use Rattle.package_check.proofs.NoObliqueSlots.{passed_straight}
+use Rattle.package_check.proofs.Common.{pieced_file_views}
 use Rattle.package_check.proofs.AnswerLemmas.{just, legal, named, passed}
 use Rattle.package_check.proofs.pieces.check_pieces.Goals as goal
 
@@ -14,9 +13,3 @@ returns-clause-legal c = legal (pieced_file_views c.args.rules.profile c.args.fi
 
 pub returns-clause-sound : goal.returns-clause-sound
 returns-clause-sound c = passed (pieced_file_views c.args.rules.profile c.args.files.now) c.args.rules c.passing_is_sound.ensures c.report_of.result c.report_of.ensures
-
-pub returns-clause-straight : goal.returns-clause-straight
-returns-clause-straight c = λ strict.
-    let files = c.args.files.now in
-    let setting : Setting = record { layers = pieced_layer_count files; profile = c.args.rules.profile } in
-    passed_straight (pieced_file_view setting) (λ file. file.role) setting (λ file. refl) (λ file. refl) c.files_say_once.ensures.holes c.passing_is_sound.ensures c.args.rules files c.report_of.result strict strict refl c.report_of.ensures

@@ -1,4 +1,4 @@
-use Rattle.package_check.proofs.Common.{◌≡◌, ◌∙◌, List, [], Ok, sym, subst, err_from_is_err_and, Profile, WidePad, has_forgotten, left_pads, ReadsKeptIn, Draws, HasLayerView, HasShown, copper_keep}
+use Rattle.package_check.proofs.Common.{◌≡◌, List, [], Ok, sym, subst, err_from_is_err_and, Profile, WidePad, has_forgotten, left_pads, ReadsKeptIn, Draws, HasLayerView, HasShown, copper_keep}
 use Rattle.layer_image.proofs.Pieces.{none_left}
 use Rattle.package_check.proofs.OpenFiles.{layer_fault}
 use Rattle.package_check.proofs.readers.read_layer_view.Goals as goal

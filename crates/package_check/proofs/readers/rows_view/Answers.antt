@@ -1,7 +1,6 @@
-use Rattle.package_check.proofs.Common.{◌≡◌, List, ap, ◌∙◌, Profile, without_places, uncleared_drawn, keeps_drawn, keeps_rows, FeatureCounts, Drawn, Feature, is_copper_function}
+use Rattle.package_check.proofs.Common.{◌≡◌, ap, ◌∙◌, Profile, without_places, uncleared_drawn, keeps_drawn, keeps_rows, FeatureCounts, Drawn, WidePad, is_copper_function}
 use Rattle.layer_features.specs.Features.{counts_of, features_of, pads_of, rows_of, uncounted_contours, uncounted_macros, view_in, wide_features_of}
 use Rattle.std.specs.Global.{Vec}
-use Rattle.layer_image.specs.declared.rows.Uncounted.{Uncounted}
 use Rattle.package_check.proofs.ShownLemmas.{counted_in, features_kept, parts_kept}
 use Rattle.package_check.proofs.readers.rows_view.Goals as goal
 
@@ -27,8 +26,8 @@ returns-clause-rows c of entries is rows viewed =
     let wide = c.into_rows-features.ensures.features ∙ features_kept (keeps_rows of) (wide_features_of cs) c.args.image.features rows is.features in
     record {
       rows = c.in_ok-show_rows.ensures.rows ∙ ap rows_of features;
-      macros = ap (λ (u : Uncounted). u.macros.items) c.show_rows.ensures.uncounted ∙ c.in_ok-features.ensures.macros ∙ ap (uncounted_macros c.args.profile) wide;
-      contours = ap (λ (u : Uncounted). u.contours.items) c.show_rows.ensures.uncounted ∙ c.in_ok-features.ensures.contours ∙ ap (uncounted_contours c.args.profile) wide;
+      macros = ap (λ (v : Vec WidePad). v.items) c.show_rows.ensures.macros ∙ c.in_ok-features.ensures.macros ∙ ap (uncounted_macros c.args.profile) wide;
+      contours = ap (λ (v : Vec WidePad). v.items) c.show_rows.ensures.contours ∙ c.in_ok-features.ensures.contours ∙ ap (uncounted_contours c.args.profile) wide;
     }
 
 pub returns-clause-drawn : goal.returns-clause-drawn

@@ -1,4 +1,4 @@
-use Rattle.package_check.proofs.Common.{◌≡◌, ◌∙◌, List, [], sym, subst, keeps_rows, Keep, copper_keep}
+use Rattle.package_check.proofs.Common.{◌∙◌, [], sym, subst, keeps_rows, Keep, copper_keep}
 use Rattle.layer_image.specs.Kept.{IsKeptOf}
 use Rattle.package_check.proofs.ShownLemmas.{drawn_too, drawn_viewed, not_both, ok_more, on_more, pads_else, rows_too, rows_where_drawn, viewed}
 use Rattle.package_check.proofs.readers.view.Goals as goal

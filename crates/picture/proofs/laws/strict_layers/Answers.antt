@@ -1,4 +1,4 @@
-use Rattle.picture.proofs.StrictLemmas.{points_of_crosses, strict_plain, strict_rounded, strict_text}
+use Rattle.picture.proofs.StrictLemmas.{strict_plain, strict_rounded, strict_text}
 use Rattle.picture.proofs.laws.strict_layers.Goals as goal
 
 pub returns-clause-pads : goal.returns-clause-pads
@@ -6,9 +6,6 @@ returns-clause-pads c = strict_plain
 
 pub returns-clause-rounded : goal.returns-clause-rounded
 returns-clause-rounded c = strict_rounded
-
-pub returns-clause-crosses : goal.returns-clause-crosses
-returns-clause-crosses c = points_of_crosses
 
 pub returns-clause-text : goal.returns-clause-text
 returns-clause-text c = strict_text

@@ -1,5 +1,5 @@
 use Rattle.print_json.proofs.Common.{◌≡◌, drop}
-use Rattle.package_check.specs.Boards.{holes_before}
+use Rattle.board.specs.Boards.{holes_before}
 use Rattle.print_json.proofs.measured.holes_from.Given as goal
 
 abbrev pub invariant-loop-before : goal.invariant-loop-before

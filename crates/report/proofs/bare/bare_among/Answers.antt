@@ -1,5 +1,5 @@
 use Rattle.report.proofs.Common.{◌≡◌, ◌&&◌, Option, get_or, ap, ◌∙◌, arith, count_by, take_all, is_round, Drilled, BestPad, is_bare}
-use Rattle.margins.specs.Rows.{has_no_best_pad}
+use Rattle.board.specs.Rows.{has_no_best_pad}
 use Rattle.report.proofs.BareLemmas.{bare_more, bare_still}
 use Rattle.report.proofs.bare.bare_among.Goals as goal
 use Rattle.report.proofs.bare.bare_among.Goals.{then-is_bare, else-is_bare}

@@ -1,5 +1,5 @@
 use Rattle.report.proofs.Common.{ap, ◌∙◌, scaled}
-use Rattle.margins.proofs.PassedIntegers.{same}
+use Rattle.board.proofs.PassedIntegers.{same}
 use Rattle.report.proofs.RescaledCounts.{placed_at}
 use Rattle.report.proofs.scaled.scaled_point.Goals as goal
 

@@ -1,4 +1,4 @@
-use Rattle.package_check.proofs.Common.{◌≡◌, ◌∙◌, ◌++◌, List, Bool, [], map, ap, subst, sym, if◌then◌else◌, err_from_is_err_and, GridRules, Profile, WidePad, LayerStands, standing_pads, plain, HasTriedIn}
+use Rattle.package_check.proofs.Common.{◌≡◌, ◌∙◌, ◌++◌, List, [], map, ap, subst, sym, if◌then◌else◌, err_from_is_err_and, GridRules, Profile, WidePad, LayerStands, standing_pads, plain, HasTriedIn}
 use Rattle.layer_features.specs.declared.keep.Keep.TheVariants as keep
 use Rattle.package_check.proofs.indexed_holes.IndexedHoles.feed_chunk.Goals as goal
 

@@ -1,4 +1,4 @@
-use Rattle.package_check.proofs.Common.{◌≡◌, ◌∙◌, Bool, List, [], Ok, ap, subst, sym, if◌then◌else◌, err_from_is_err_and, GridRules, Answers, Profile, left_pads, ReadsKeptIn, Drilled, HasTriedIn, JudgesCopper, Judged}
+use Rattle.package_check.proofs.Common.{Bool, List, [], Ok, ap, subst, sym, if◌then◌else◌, err_from_is_err_and, GridRules, Answers, Profile, left_pads, ReadsKeptIn, Drilled, HasTriedIn, JudgesCopper, Judged}
 use Rattle.layer_features.specs.declared.keep.Keep.TheVariants as keep
 use Rattle.package_check.proofs.JudgedCopper.{rest_fault}
 use Rattle.package_check.proofs.indexed_holes.IndexedHoles.judge.Goals as goal

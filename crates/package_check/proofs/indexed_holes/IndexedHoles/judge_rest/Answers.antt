@@ -1,5 +1,5 @@
-use Rattle.package_check.proofs.Common.{◌≡◌, ◌∙◌, ◌++◌, map, ap, sym, plain, FeatureCounts, is_copper_function}
-use Rattle.package_check.specs.declared.FileSum.TheVariants as sum
+use Rattle.package_check.proofs.Common.{◌∙◌, ◌++◌, map, ap, sym, plain, FeatureCounts, is_copper_function}
+use Rattle.board.specs.declared.FileSum.TheVariants as sum
 use Rattle.package_check.proofs.JudgedCopper.{is_left, refused_as_no_copper, rings_there}
 use Rattle.package_check.proofs.indexed_holes.IndexedHoles.judge_rest.Goals as goal
 

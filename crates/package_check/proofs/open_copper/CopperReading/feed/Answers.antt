@@ -1,4 +1,4 @@
-use Rattle.package_check.proofs.Common.{◌++◌, ap, refl, subst, sym, GridRules, HasReadCopper}
+use Rattle.package_check.proofs.Common.{◌++◌, refl, subst, HasReadCopper}
 use Rattle.manifest.specs.declared.Role.TheVariants as role
 use Rattle.package_check.specs.declared.open_copper.CopperReading.{CopperReading}
 use Rattle.package_check.proofs.CopperPieces.{no_span}

@@ -1,5 +1,0 @@
-use Rattle.gerber_items.proofs.Exact.{word_exact, one_spelling}
-use Rattle.gerber_items.proofs.laws.exact_words.Goals as goal
-
-pub returns : goal.returns
-returns c = record { read = word_exact; unique = one_spelling }

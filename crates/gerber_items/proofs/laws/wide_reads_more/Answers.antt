@@ -1,5 +1,0 @@
-use Rattle.gerber_items.proofs.ProfileLemmas.{wide_reads_more}
-use Rattle.gerber_items.proofs.laws.wide_reads_more.Goals as goal
-
-pub returns : goal.returns
-returns c = wide_reads_more

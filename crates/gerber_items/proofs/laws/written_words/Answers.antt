@@ -1,5 +1,0 @@
-use Rattle.gerber_items.proofs.WrittenWords.{word_written}
-use Rattle.gerber_items.proofs.laws.written_words.Goals as goal
-
-pub returns : goal.returns
-returns c = word_written

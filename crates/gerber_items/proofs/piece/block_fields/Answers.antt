@@ -1,7 +1,0 @@
-use Rattle.std.proofs.Common.{refl}
-use Rattle.gerber_items.specs.Pieces.{block_fields}
-use Rattle.gerber_items.proofs.piece.block_fields.Goals as goal
-
-pub returns : goal.returns
-unfolding block_fields
-returns c = rw (c.both.ensures, c.counts_of.ensures, c.steps_of.ensures) refl

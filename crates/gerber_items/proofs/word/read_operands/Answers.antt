@@ -1,7 +1,0 @@
-use Rattle.std.proofs.Common.{refl}
-use Rattle.gerber_items.specs.Words.{operands}
-use Rattle.gerber_items.proofs.word.read_operands.Goals as goal
-
-pub returns : goal.returns
-unfolding operands
-returns c = rw (c.both.ensures, c.word_action.ensures, c.has_offsets.ensures, c.both-coordinates.ensures, c.pair_of.ensures, c.pair_of-2.ensures) refl

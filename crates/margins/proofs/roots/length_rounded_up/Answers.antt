@@ -1,9 +1,0 @@
-use Rattle.margins.proofs.Common.{◌≤◌, ◌*◌, arith, ints}
-use Rattle.std.proofs.lemmas.Nat.{mul-le}
-use Rattle.margins.proofs.roots.length_rounded_up.Goals as goal
-
-pub returns-clause-in_range : goal.returns-clause-in_range
-returns-clause-in_range c =
-    let x : c.args.dx * c.args.dx ≤ 20000000000000 * 20000000000000 = mul-le c.args.dx c.args.dx 20000000000000 20000000000000 c.requires.x c.requires.x in
-    let y : c.args.dy * c.args.dy ≤ 20000000000000 * 20000000000000 = mul-le c.args.dy c.args.dy 20000000000000 20000000000000 c.requires.y c.requires.y in
-    (c.ceiling_root.ensures 30000000000000).0 (omega (arith, ints, c.square_length.ensures, x, y))
