@@ -1,5 +1,5 @@
 -- The best pads of holes, where pads are tried in any order.
-use Rattle.board.proofs.Common.{◌≡◌, ◌↔◌, ℕ, ℤ, pos, negsuc, ◌+◌, ◌<◌, ◌≤◌, ◌≤ℤ◌, ◌<ℤ◌, ◌⊎◌, inl, inr, Bool, true, false, Option, Some, None, List, [], ◌∷◌, ◌++◌, length, get_or, set, refl, sym, subst, ap, ◌∙◌, w64, to_z, of_z, arith, unsigned_abs, Contains, ints, cases_lt, cases_eq, nat_tests, get_or-set_same, get_or-set_other, length-set, length-append, get_or_append_left, get_or_push, get_or_default, GridPoint, GridHole, both_true, either, covers_both_ends, IsInZone, CoversNone, Zone, hole_at, entry_at, Drilled, CoversLess, IsBestPad, AreBestPads, one_unless_before, required, IsNoBetter, IsDepthInPad, Improves, IsTriedAt, AllImprove, IsNoBetterAt, IsNoBetterForAll, AreTriedOrLarge, AreAllCovered, BestPad}
+use Rattle.board.proofs.Common.{◌≡◌, ◌↔◌, ℕ, ℤ, pos, negsuc, ◌+◌, ◌<◌, ◌≤◌, ◌≤ℤ◌, ◌<ℤ◌, ◌⊎◌, inl, inr, Bool, true, false, Option, Some, None, List, [], ◌∷◌, ◌++◌, length, get_or, set, refl, sym, subst, ap, ◌∙◌, w64, to_z, of_z, arith, unsigned_abs, Contains, ints, cases_lt, cases_eq, nat_tests, get_or-set_same, get_or-set_other, length-set, length-append, get_or_append_left, get_or_push, get_or_default, GridPoint, GridHole, both_true, either, covers_both_ends, IsInZone, CoversNone, Zone, hole_at, entry_at, Drilled, CoversLess, IsBestPad, AreBestPads, one_unless_before, required_depth, IsNoBetter, IsDepthInPad, Improves, IsTriedAt, AllImprove, IsNoBetterAt, IsNoBetterForAll, AreTriedOrLarge, AreAllCovered, BestPad}
 use Rattle.board.proofs.PassedIntegers.{natural}
 
 not_both : {P : Type 0} (b : Bool) → b ≡ true → b ≡ false → P
@@ -22,7 +22,7 @@ one_at_most place other = elim (cases_lt place other) [
 ]
 
 -- what is asked of a better shape, once one was better
-pub asks_more : (best : Option BestPad) (now : BestPad) → required best now.pad ≤ now.depth → (other : ℕ) → required best other ≤ required (Some now) other
+pub asks_more : (best : Option BestPad) (now : BestPad) → required_depth best now.pad ≤ now.depth → (other : ℕ) → required_depth best other ≤ required_depth (Some now) other
 asks_more None now deep other = omega arith
 asks_more (Some best) now deep other = elim (cases_lt now.pad best.pad) [
   | inl less ↦
@@ -65,13 +65,13 @@ module _ {S : Type 0} (covers : S → GridPoint → ℕ → Bool) (pads : List S
   still_no_better place h a b more was s reach e = (let l = was s reach e in let m = more.more place in omega (arith, l, m))
 
   -- a shape that covers a hole so deep is better, and none is deeper than itself
-  module _ (place : ℕ) (pad : S) (h : GridHole) (best : Option BestPad) (deep : ℤ) (now : BestPad) (is : (s : S) → get_or pads place s ≡ pad) (exact : (reach : ℕ) → (covers_both_ends covers pad h.from h.to reach ≡ true) ↔ (pos reach ≤ℤ deep)) (bound : deep <ℤ pos 20000000000000) (at : now.pad ≡ place) (depth : now.depth ≡ unsigned_abs (to_z w64 (of_z w64 deep))) (better : covers_both_ends covers pad h.from h.to (required best place) ≡ true) where
+  module _ (place : ℕ) (pad : S) (h : GridHole) (best : Option BestPad) (deep : ℤ) (now : BestPad) (is : (s : S) → get_or pads place s ≡ pad) (exact : (reach : ℕ) → (covers_both_ends covers pad h.from h.to reach ≡ true) ↔ (pos reach ≤ℤ deep)) (bound : deep <ℤ pos 20000000000000) (at : now.pad ≡ place) (depth : now.depth ≡ unsigned_abs (to_z w64 (of_z w64 deep))) (better : covers_both_ends covers pad h.from h.to (required_depth best place) ≡ true) where
     deep_is : deep ≡ pos now.depth
-    deep_is = depth_is deep now.depth (required best place) depth ((exact (required best place)).0 better) bound
+    deep_is = depth_is deep now.depth (required_depth best place) depth ((exact (required_depth best place)).0 better) bound
 
-    pub taken_more : (other : ℕ) → required best other ≤ required (Some now) other
+    pub taken_more : (other : ℕ) → required_depth best other ≤ required_depth (Some now) other
     taken_more = asks_more best now
-        (let d = deep_is in let low : pos (required best place) ≤ℤ deep = (exact (required best place)).0 better in let e : required best now.pad ≡ required best place = ap (required best) at in omega (arith, ints, d, low, e))
+        (let d = deep_is in let low : pos (required_depth best place) ≤ℤ deep = (exact (required_depth best place)).0 better in let e : required_depth best now.pad ≡ required_depth best place = ap (required_depth best) at in omega (arith, ints, d, low, e))
 
   -- once all shapes are tried
   pub best_of_all : CoversLess covers → (h : GridHole) (best : Option BestPad) → Improves covers pads h None best → ((place : ℕ) → place < length pads → IsNoBetter covers pads place h best) → IsBestPad covers pads h best

@@ -9,7 +9,7 @@ pub use Rattle.board.specs.BestPads.{AreBare, AreBestPads, IsBare, IsBestPad}
 pub use Rattle.board.specs.Depths.{CoversLess, IsDepth, IsDepthOfHole}
 pub use Rattle.board.specs.Gaps.{IsGap}
 pub use Rattle.board.specs.Hulls.{IsDeepIn, IsHullOf, IsWiderThan}
-pub use Rattle.board.specs.Inner.BestPads.{AllImprove, AreAllCovered, AreGroups, AreNoBetter, AreTriedOrLarge, HoldsNone, Improves, IsDepthInPad, IsGroup, IsInGroup, IsNoBetter, IsNoBetterAt, IsNoBetterForAll, IsTriedAt, one_unless_before, required}
+pub use Rattle.board.specs.Inner.BestPads.{AllImprove, AreAllCovered, AreGroups, AreNoBetter, AreTriedOrLarge, HoldsNone, Improves, IsDepthInPad, IsGroup, IsInGroup, IsNoBetter, IsNoBetterAt, IsNoBetterForAll, IsTriedAt, one_unless_before, required_depth}
 pub use Rattle.board.specs.Inner.Meets.{NeedsRingBefore, NeedsRingOn, with_length, with_length_in_pads}
 pub use Rattle.board.specs.Inner.NearestHoles.{IsGapOf, IsNearerPair, IsNearestAmong, IsNearestForAll, IsNearestForHole, IsNearestForLater, IsPairAt, IsPairInRange}
 pub use Rattle.board.specs.Meets.{AreLeast, GapsPassExactly, HasGap, HasLeast, HasLeastInPads, HasRing, IsLeast, IsLeastInPads, IsRing, IsRingOf, LacksAll, MeetsGaps, NeedsRing, RingsPassExactly, needs_ring}

@@ -1,5 +1,5 @@
 -- Hulls of shapes, and hulls about other hulls.
-use Rattle.board.proofs.Common.{◌≡◌, ℕ, ◌+◌, ◌-◌, ◌*◌, ◌≤◌, min, Bool, true, subst, ap, ◌∙◌, arith, nat_le, nat_tests, both_true, GridPoint, abs_diff, square, square_distance, abs_diff_triangle, abs_diff_comm, square-le, le_of_squares, two_steps-le, GridDisc, GridRect, GridObround, end_radius, square_axis_distance, disc_covers, rect_covers, obround_covers, IsDeepIn, IsHullOf, IsWiderThan}
+use Rattle.board.proofs.Common.{◌≡◌, ℕ, ◌+◌, ◌-◌, ◌*◌, ◌≤◌, min, ap, ◌∙◌, arith, GridPoint, abs_diff, square, square_distance, abs_diff_triangle, abs_diff_comm, square-le, le_of_squares, two_steps-le, GridDisc, GridRect, GridObround, end_radius, square_axis_distance, disc_covers, rect_covers, obround_covers, IsDeepIn, IsHullOf, IsWiderThan}
 use Rattle.board.specs.Inner.DepthLaws.{both_le}
 use Rattle.board.specs.declared.hull.Hull.{Hull}
 

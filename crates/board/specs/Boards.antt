@@ -49,8 +49,8 @@ numbered_from file [] holes = []
 numbered_from file (one ∷ files) holes = numbered_in file (take (hole_count one) holes) ++ numbered_from (file + 1) files (drop (hole_count one) holes)
 
 -- the holes of a board with their places: the index of the file, from 0, and the number in it, from 1
-abbrev pub numbered : BoardView → List Numbered
-numbered board = numbered_from 0 board.files board.holes
+abbrev pub holes_with_places : BoardView → List Numbered
+holes_with_places board = numbered_from 0 board.files board.holes
 
 -- what the rules find on a board: first the rings that are lacking, then the gaps
 abbrev pub board_findings : GridRules → BoardView → List Finding

@@ -2,7 +2,7 @@
 
 ghost use Rattle.std.specs.Prelude.{◌≡◌, ◌<◌, ◌≤◌, ℕ, Some, true, pos, length, get_or};
 ghost use Rattle.pad_shapes.specs.Shapes.{covers_both_ends, IsReach};
-ghost use Rattle.board.specs.Inner.BestPads.{required, IsDepthInPad, IsNoBetter, Improves, IsTriedAt};
+ghost use Rattle.board.specs.Inner.BestPads.{required_depth, IsDepthInPad, IsNoBetter, Improves, IsTriedAt};
 
 use crate::best::BestPad;
 use crate::deep::{DepthShape, depth_of_hole};
@@ -11,7 +11,7 @@ use grid_units::Hole;
 /// How deep a hole must lie at least in the pad at a place that is better than its best so far, in pm: deeper than
 /// there, or as deep where the pad comes before it.
 pub(crate) fn required(best: Option<BestPad>, place: usize) -> i64
-    ensures value { result ≡ pos (required best place) }
+    ensures value { result ≡ pos (required_depth best place) }
     ensures in_range { IsReach result }
 {
     match best {
@@ -23,7 +23,7 @@ pub(crate) fn required(best: Option<BestPad>, place: usize) -> i64
 
 /// Whether the pad at a place is better for a hole than its best so far. No root is taken.
 fn is_better<S: DepthShape>(pad: &S, place: usize, hole: &Hole, best: Option<BestPad>) -> bool
-    ensures { result ≡ covers_both_ends S.covers pad.now hole.now.from hole.now.to (required best place) }
+    ensures { result ≡ covers_both_ends S.covers pad.now hole.now.from hole.now.to (required_depth best place) }
 {
     let reach = required(best, place);
     pad.covers(hole.from(), reach) && pad.covers(hole.to(), reach)
@@ -39,9 +39,9 @@ fn best_in<S: DepthShape>(
 ) -> BestPad
     requires listed { (s : S) → get_or pads.now place s ≡ pad.now }
     requires inside { place < length pads.now }
-    requires better { covers_both_ends S.covers pad.now hole.now.from hole.now.to (required best place) ≡ true }
+    requires better { covers_both_ends S.covers pad.now hole.now.from hole.now.to (required_depth best place) ≡ true }
     ensures held { IsDepthInPad S.covers pads.now hole.now result }
-    ensures more { (other : ℕ) → required best other ≤ required (Some result) other }
+    ensures more { (other : ℕ) → required_depth best other ≤ required_depth (Some result) other }
     ensures below { IsNoBetter S.covers pads.now place hole.now (Some result) }
 {
     BestPad {

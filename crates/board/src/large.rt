@@ -5,7 +5,7 @@ ghost use Rattle.std.specs.List.{All, Contains};
 ghost use Rattle.std.specs.List.Sorted.{IsPermutation};
 ghost use Rattle.ring_rules.specs.Places.{hole_at};
 ghost use Rattle.board.specs.Hulls.{IsHullOf, IsWiderThan};
-ghost use Rattle.board.specs.Inner.BestPads.{required, IsNoBetterForAll, Improves, AllImprove, IsGroup, AreGroups, HoldsNone, AreNoBetter};
+ghost use Rattle.board.specs.Inner.BestPads.{required_depth, IsNoBetterForAll, Improves, AllImprove, IsGroup, AreGroups, HoldsNone, AreNoBetter};
 
 use crate::best::BestPad;
 use crate::better::{better, required};
@@ -140,7 +140,7 @@ fn holds_none(hull: &Option<Hull>, hole: &Hole, depth: u64) -> bool
 impl Group {
     /// Whether none of the pads is better for a hole than its best so far. `false` says nothing.
     fn is_no_better(&self, hole: &Hole, best: Option<BestPad>) -> bool
-        ensures { result ≡ true → HoldsNone self.now.hull (required best self.now.first) hole.now }
+        ensures { result ≡ true → HoldsNone self.now.hull (required_depth best self.now.first) hole.now }
     {
         holds_none(&self.hull, hole, required(best, self.first).unsigned_abs())
     }

@@ -1,5 +1,5 @@
 -- The entries of a report and the findings of its check.
-use Rattle.board_report.proofs.Common.{◌≡◌, ◌+◌, ◌∷◌, ℕ, Bool, true, false, List, [], length, refl, sym, subst, ap, ap₂, ◌∙◌, AllZip, filter, Result, Ok, GridRules, Finding, IsReport, BoardView, board_findings, reported, MatchesGap, MatchesRing, ReportAgreesWithCheck, IsGapEntry, IsRingEntry, is_gap}
+use Rattle.board_report.proofs.Common.{◌≡◌, ◌+◌, ◌∷◌, ℕ, Bool, true, false, List, [], length, refl, sym, subst, ap, ap₂, ◌∙◌, AllZip, filter, Result, Ok, GridRules, Finding, IsReport, BoardView, board_findings, report_of_board, MatchesGap, MatchesRing, ReportAgreesWithCheck, IsGapEntry, IsRingEntry, is_gap}
 use Rattle.std.proofs.Common.{not}
 use Rattle.std.proofs.lemmas.List.Filters.{length-filter_both}
 use Rattle.std.proofs.lemmas.Slice.Zip.{AllZip-long}
@@ -53,7 +53,7 @@ ok_same e = cc
 pub report_agrees_with_check : AnswerIsUnique → PassingIsSound → ReportAgreesWithCheck
 report_agrees_with_check one sound sources required output h =
     let board = h.board in
-    let its = reported required board in
+    let its = report_of_board required board in
     let is = reported_on sources required board its h.read.is refl in
     let count = parted _ _ (board_findings required board) output.rings.items output.gaps.items h.is.rings h.is.gaps in
     let same : (report : ReportView) → IsReport sources required report → report ≡ its = λ report k. ok_same (one sources required (Ok report) (Ok its) k is) in

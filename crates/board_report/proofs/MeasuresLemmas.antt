@@ -1,5 +1,5 @@
 -- A package passes under just the rules that it meets.
-use Rattle.board_report.proofs.Common.{◌≡◌, ◌++◌, ℕ, List, [], ◌∷◌, map, Err, IfOk, refl, sym, subst, ap, ◌∙◌, GridRules, Profile, wide_pad_covers, GapsPass, GapsPassExactly, RingsPass, RingsPassExactly, BoardView, reported, IsAnswer, IsReport, FileView, AnswersMeasure, BoardPasses, IsMeasure, MeasuredPasses, PackagePasses, RefusesAlike}
+use Rattle.board_report.proofs.Common.{◌≡◌, ◌++◌, ℕ, List, [], ◌∷◌, map, Err, IfOk, refl, sym, subst, ap, ◌∙◌, GridRules, Profile, wide_pad_covers, GapsPass, GapsPassExactly, RingsPass, RingsPassExactly, BoardView, report_of_board, IsAnswer, IsReport, FileView, AnswersMeasure, BoardPasses, IsMeasure, MeasuredPasses, PackagePasses, RefusesAlike}
 use Rattle.std.proofs.Common.{Result, Ok}
 use Rattle.grid_units.specs.declared.fault.Fault.{Fault}
 use Rattle.ring_rules.specs.Findings.{ring_findings, gap_findings}
@@ -53,10 +53,10 @@ err_same e = cc
 pub measured_passes : RingsPassExactly wide_pad_covers → GapsPassExactly → AnswerIsUnique → MeasuredPasses
 measured_passes rings gaps one profile sources board ring gap is met_rings met_gaps =
     let passes = board_passes profile board ring gap (rings profile board.layers board.holes ring met_rings) (gaps board.holes gap met_gaps) in
-    let its = λ (rules : GridRules). reported_on sources rules board (reported rules board) is refl in
-    let same = λ (rules : GridRules) (report : ReportView) (h : IsReport sources rules report). ok_same (one sources rules (Ok report) (Ok (reported rules board)) h (its rules)) in
+    let its = λ (rules : GridRules). reported_on sources rules board (report_of_board rules board) is refl in
+    let same = λ (rules : GridRules) (report : ReportView) (h : IsReport sources rules report). ok_same (one sources rules (Ok report) (Ok (report_of_board rules board)) h (its rules)) in
     record {
-      reported = λ rules. (reported rules board, its rules);
+      reported = λ rules. (report_of_board rules board, its rules);
       passes = λ rules report in_profile h. (
         λ none. (passes rules in_profile).0 (sym (ap (λ (r : ReportView). r.findings) (same rules report h)) ∙ none),
         λ allowed. ap (λ (r : ReportView). r.findings) (same rules report h) ∙ (passes rules in_profile).1 allowed,
@@ -71,7 +71,7 @@ module _ (profile : Profile) (sources : List FileView) where
   pub refused_alike : AnswerIsUnique → (r : Result Measure PackageFault) → AnswersMeasure profile sources r → (rules : GridRules) (answer : Result ReportView (ℕ × Fault)) → IsAnswer sources rules answer → RefusesAlike answer r
   refused_alike one (Ok measure) h rules (Ok report) k = tt
   refused_alike one (Ok measure) h rules (Err refusal) k =
-      ok_or_err (one sources rules (Ok (reported rules h.board)) (Err refusal) (reported_on sources rules h.board (reported rules h.board) h.read refl) k)
+      ok_or_err (one sources rules (Ok (report_of_board rules h.board)) (Err refusal) (reported_on sources rules h.board (report_of_board rules h.board) h.read refl) k)
   refused_alike one (Err stop.Memory) h rules (Ok report) k = tt
   refused_alike one (Err stop.Memory) h rules (Err refusal) k = tt
   refused_alike one (Err (stop.File index fault)) h rules (Ok report) k = ok_or_err (one sources rules (Ok report) (Err (index, fault)) k h)

@@ -1,5 +1,5 @@
 -- The lines of drill files whose coordinates seem to be off by a factor.
-use Rattle.board_report.proofs.Common.{◌≡◌, ℕ, ◌+◌, ◌-◌, ◌<◌, ◌≤◌, inl, inr, Bool, true, false, Option, Some, None, List, [], ◌∷◌, ◌++◌, length, take, drop, get_or, refl, sym, subst, ap, ◌∙◌, arith, if◌then◌else◌, slice_range, cases_lt, false≢true, append-nil, get_or_append_left, get_or_default, get_or-append_right, length-append, Contains-append_left, Contains-append_right, WidePad, Drilled, BoardView, FileSum, holes_before, AreUnitMistakes, IsUnitMistakeOf, first_pads, holes_in, is_plated, AreSearched, AreFoundMistakes, IsSearched, IsUnitMistakeOfOrNone, listed}
+use Rattle.board_report.proofs.Common.{◌≡◌, ℕ, ◌+◌, ◌-◌, ◌<◌, ◌≤◌, inl, inr, Bool, true, false, Option, Some, None, List, [], ◌∷◌, ◌++◌, length, take, drop, get_or, refl, sym, subst, ap, ◌∙◌, arith, if◌then◌else◌, slice_range, cases_lt, false≢true, append-nil, get_or_append_left, get_or_default, get_or-append_right, length-append, Contains-append_left, Contains-append_right, WidePad, Drilled, BoardView, FileSum, holes_before, AreUnitMistakes, IsUnitMistakeOf, first_pads, holes_in, is_plated, AreSearched, AreFoundMistakes, IsSearched, IsUnitMistakeOfOrNone, mistake_list}
 use Rattle.report.specs.declared.UnitMistake.{UnitMistake}
 use Rattle.report.specs.UnitMistakes.{AreFileRanges, IsUnitMistake, IsUnitMistakeOrNone, bare_count}
 use Rattle.report.specs.UnitMistakes as scales
@@ -93,7 +93,7 @@ module _ (board : BoardView) where
   }
 
   -- one more file
-  pub file_more : (file : ℕ) (old all : List UnitMistake) (line : Option UnitMistake) → all ≡ old ++ listed line → IsUnitMistakeOfOrNone board file line → AreUnitMistakes board file old → AreUnitMistakes board (file + 1) all
+  pub file_more : (file : ℕ) (old all : List UnitMistake) (line : Option UnitMistake) → all ≡ old ++ mistake_list line → IsUnitMistakeOfOrNone board file line → AreUnitMistakes board file old → AreUnitMistakes board (file + 1) all
   file_more file old all None is none was = subst (AreUnitMistakes board (file + 1)) (sym (is ∙ append-nil old)) (record {
     each = λ i d l. (let e = was.each i d l in (omega (arith, e.0), e.1));
     sorted = was.sorted;

@@ -4,7 +4,7 @@ ghost use Rattle.std.specs.Prelude.{◌≡◌, ◌++◌, ◌<◌, length, IfOk, 
 ghost use Rattle.pad_shapes.specs.WidePads.{wide_pad_covers};
 ghost use Rattle.board.specs.BestPads.{AreBestPads};
 ghost use Rattle.board_report.specs.Rows.{AreUnitMistakes, first_pads, is_plated};
-ghost use Rattle.board_report.specs.Inner.Tables.{AreSearched, AreFoundMistakes, IsSearched, IsLayerFileHoles, listed};
+ghost use Rattle.board_report.specs.Inner.Tables.{AreSearched, AreFoundMistakes, IsSearched, IsLayerFileHoles, mistake_list};
 
 use crate::places::end_of;
 use crate::rows::LayerFileHoles;
@@ -61,7 +61,7 @@ fn all_searched(alloc: Global, board: &Board) -> Result<Vec<FileRange>, AllocErr
 }
 
 fn push_line(lines: &mut Vec<UnitMistake>, line: Option<UnitMistake>) -> Result<(), AllocError>
-    ensures { OnOk result (lines.new.items ≡ lines.old.items ++ listed line) }
+    ensures { OnOk result (lines.new.items ≡ lines.old.items ++ mistake_list line) }
 {
     if let Some(line) = line {
         lines.push(line)?;

@@ -1,9 +1,8 @@
 //! The commands of the program, with their help.
 
 ghost use Rattle.std.specs.Prelude.{◌≡◌, IfOk, codes, false, true};
-ghost use Rattle.clap.specs.Words.{App, app_of, new_app, rule_of, with_subcommand};
+ghost use Rattle.clap.specs.Words.{app_of, new_app, rule_of};
 ghost use Rattle.command_line.specs.ProgramArgs.{check_app, draw_app, explain_app, folder_option, manifest_app, optional, optional_option, measure_app, option, positional, program_app, report_app, rewrite_app, ringcheck_app, show_app, one_or_more, flag};
-ghost use Rattle.command_line.specs.Inner.AppParts.{file_commands_of, package_commands_of, report_args_of};
 
 use clap::{Arg, ArgAction, Command};
 use std::alloc::{AllocError, Global};
@@ -27,6 +26,10 @@ const RING: &str = "Minimum annular ring in mm, e.g. 0.125";
 
 const GAP: &str = "Minimum distance between hole edges, in mm, e.g. 0.25";
 
+const KIND: &str = "A Gerber layer or an Excellon drill file";
+
+const PACKAGE: &str = "Manifest of the package: a CSV file, as for check";
+
 const OUTLINE: &str = "Gerber file of the board outline, drawn as a thin line";
 
 const PAGE_OUTLINE: &str = "Gerber file of the board outline, for --format html";
@@ -36,6 +39,10 @@ const FORMAT: &str = "text for people, or json, one JSON object
 
 const REPORT_FORMAT: &str = "text (default), for people; html, a page for browsers;
 json, one object; waivers, a file to write reasons in";
+
+const MAX: &str = "Show at most N findings (default: all)";
+
+const WAIVE: &str = "File of waivers: the findings that are accepted";
 
 const EXIT_ZERO: &str = "Exit with status 0 even if there are findings";
 
@@ -114,8 +121,15 @@ const REWRITE: &str = "Example:  ringcheck rewrite --kind layer top.gbr";
 pub(crate) fn ringcheck<'a>(alloc: Global) -> Result<Command<'a>, AllocError>
     ensures { IfOk result (λ c. app_of c ≡ ringcheck_app) }
 {
-    let with_packages = with_package_commands(alloc, program(alloc))?;
-    with_file_commands(alloc, with_packages)
+    program(alloc)
+        .subcommand(check(alloc)?)?
+        .subcommand(report(alloc)?)?
+        .subcommand(measure(alloc)?)?
+        .subcommand(draw(alloc)?)?
+        .subcommand(manifest(alloc)?)?
+        .subcommand(explain(alloc)?)?
+        .subcommand(show(alloc)?)?
+        .subcommand(rewrite(alloc)?)
 }
 
 /// The program without its commands.
@@ -132,40 +146,6 @@ fn program<'a>(alloc: Global) -> Command<'a>
     .version(VERSION)
     .no_binary_name(true)
     .subcommand_required(true)
-}
-
-/// Adds the commands `check`, `report`, `measure` and `draw`.
-fn with_package_commands<'a>(alloc: Global, program: Command<'a>) -> Result<Command<'a>, AllocError>
-    ensures { IfOk result (λ c. app_of c ≡ package_commands_of (app_of program.entry)) }
-{
-    let program = with_command(program, check(alloc))?;
-    let program = with_command(program, report(alloc))?;
-    let program = with_command(program, measure(alloc))?;
-    with_command(program, draw(alloc))
-}
-
-/// Adds the commands `manifest`, `explain`, `show` and `rewrite`.
-fn with_file_commands<'a>(alloc: Global, program: Command<'a>) -> Result<Command<'a>, AllocError>
-    ensures { IfOk result (λ c. app_of c ≡ file_commands_of (app_of program.entry)) }
-{
-    let program = with_command(program, manifest(alloc))?;
-    let program = with_command(program, explain(alloc))?;
-    let program = with_command(program, show(alloc))?;
-    with_command(program, rewrite(alloc))
-}
-
-/// The program with one more command, if there was memory for that command.
-fn with_command<'a>(
-    program: Command<'a>,
-    command: Result<Command<'a>, AllocError>,
-) -> Result<Command<'a>, AllocError>
-    ensures { (app : App) → IfOk command.entry (λ c. app_of c ≡ app) → app.top.is_plain ≡ true
-        → IfOk result (λ c. app_of c ≡ with_subcommand (app_of program.entry) app.top) }
-{
-    match command {
-        Ok(command) => program.subcommand(command),
-        Err(fault) => Err(fault),
-    }
 }
 
 /// `check --ring MM --gap MM [--profile strict|wide] [--in FOLDER] MANIFEST`
@@ -203,21 +183,16 @@ fn measure<'a>(alloc: Global) -> Result<Command<'a>, AllocError>
         MEASURE,
     )
     .arg(profile_arg(alloc))?
-    .arg(format_arg(alloc))?
+    .arg(optional_option_arg(alloc, "format", "text|json", FORMAT))?
     .arg(folder_arg(alloc))?
-    .arg(required_arg(
-        alloc,
-        "manifest",
-        "MANIFEST",
-        "Manifest of the package: a CSV file, as for check",
-    ))
+    .arg(required_arg(alloc, "manifest", "MANIFEST", PACKAGE))
 }
 
 /// `report --ring MM --gap MM [--profile strict|wide] [--max N] [--waive FILE] [--outline FILE] [--format text|html|json|waivers] [--exit-zero] [--in FOLDER] MANIFEST`
 fn report<'a>(alloc: Global) -> Result<Command<'a>, AllocError>
     ensures { IfOk result (λ c. app_of c ≡ report_app) }
 {
-    let under_rules = new_command(
+    new_command(
         alloc,
         "report",
         "Explain each finding: how far below the rule, and why",
@@ -226,32 +201,14 @@ fn report<'a>(alloc: Global) -> Result<Command<'a>, AllocError>
     )
     .arg(ring_arg(alloc))?
     .arg(gap_arg(alloc))?
-    .arg(optional_option_arg(alloc, "profile", "NAME", REPORT_PROFILE))?;
-    with_report_args(alloc, under_rules)
-}
-
-/// Adds `[--max N] [--waive FILE] [--outline FILE] [--format text|html|json|waivers] [--exit-zero] [--in FOLDER] MANIFEST` to a command.
-fn with_report_args<'a>(alloc: Global, command: Command<'a>) -> Result<Command<'a>, AllocError>
-    ensures { IfOk result (λ c. app_of c ≡ report_args_of (app_of command.entry)) }
-{
-    command
-        .arg(optional_option_arg(alloc, "max", "N", "Show at most N findings (default: all)"))?
-        .arg(optional_option_arg(
-            alloc,
-            "waive",
-            "FILE",
-            "File of waivers: the findings that are accepted",
-        ))?
-        .arg(optional_option_arg(alloc, "outline", "FILE", PAGE_OUTLINE))?
-        .arg(optional_option_arg(alloc, "format", "NAME", REPORT_FORMAT))?
-        .arg(flag_arg(alloc, "exit-zero", EXIT_ZERO))?
-        .arg(folder_arg(alloc))?
-        .arg(required_arg(
-            alloc,
-            "manifest",
-            "MANIFEST",
-            "Manifest of the package: a CSV file, as for check",
-        ))
+    .arg(optional_option_arg(alloc, "profile", "NAME", REPORT_PROFILE))?
+    .arg(optional_option_arg(alloc, "max", "N", MAX))?
+    .arg(optional_option_arg(alloc, "waive", "FILE", WAIVE))?
+    .arg(optional_option_arg(alloc, "outline", "FILE", PAGE_OUTLINE))?
+    .arg(optional_option_arg(alloc, "format", "NAME", REPORT_FORMAT))?
+    .arg(flag_arg(alloc, "exit-zero", EXIT_ZERO))?
+    .arg(folder_arg(alloc))?
+    .arg(required_arg(alloc, "manifest", "MANIFEST", PACKAGE))
 }
 
 /// `draw [--ring MM --gap MM] [--profile strict|wide] [--outline FILE] [--in FOLDER] MANIFEST`
@@ -270,12 +227,7 @@ fn draw<'a>(alloc: Global) -> Result<Command<'a>, AllocError>
     .arg(profile_arg(alloc))?
     .arg(optional_option_arg(alloc, "outline", "FILE", OUTLINE))?
     .arg(folder_arg(alloc))?
-    .arg(required_arg(
-        alloc,
-        "manifest",
-        "MANIFEST",
-        "Manifest of the package: a CSV file, as for check",
-    ))
+    .arg(required_arg(alloc, "manifest", "MANIFEST", PACKAGE))
 }
 
 /// `manifest [--why] [--profile strict|wide] [--in FOLDER] FILE..`
@@ -325,7 +277,7 @@ fn show<'a>(alloc: Global) -> Result<Command<'a>, AllocError>
         SHOW_USAGE,
         SHOW,
     )
-    .arg(kind_arg(alloc))?
+    .arg(required_option_arg(alloc, "kind", "layer|drill", KIND))?
     .arg(profile_arg(alloc))?
     .arg(folder_arg(alloc))?
     .arg(required_arg(alloc, "file", "FILE", "File to read"))
@@ -342,7 +294,7 @@ fn rewrite<'a>(alloc: Global) -> Result<Command<'a>, AllocError>
         "ringcheck rewrite --kind <layer|drill> [--in <FOLDER>] <FILE>",
         REWRITE,
     )
-    .arg(kind_arg(alloc))?
+    .arg(required_option_arg(alloc, "kind", "layer|drill", KIND))?
     .arg(folder_arg(alloc))?
     .arg(required_arg(alloc, "file", "FILE", "File to read"))
 }
@@ -390,49 +342,12 @@ fn optional_option_arg<'a>(alloc: Global, id: &'a str, shown: &'a str, help: &'a
     optional_arg(alloc, id, shown, help).long(id)
 }
 
-/// `--ring MM`
-fn ring_arg<'a>(alloc: Global) -> Arg<'a>
-    ensures rule { rule_of result ≡ option (codes "ring") }
-    ensures global { result.global ≡ false }
-{
-    required_option_arg(alloc, "ring", "MM", RING)
-}
-
-/// `--gap MM`
-fn gap_arg<'a>(alloc: Global) -> Arg<'a>
-    ensures rule { rule_of result ≡ option (codes "gap") }
-    ensures global { result.global ≡ false }
-{
-    required_option_arg(alloc, "gap", "MM", GAP)
-}
-
-/// `--kind layer|drill`
-fn kind_arg<'a>(alloc: Global) -> Arg<'a>
-    ensures rule { rule_of result ≡ option (codes "kind") }
-    ensures global { result.global ≡ false }
-{
-    required_option_arg(
-        alloc,
-        "kind",
-        "layer|drill",
-        "A Gerber layer or an Excellon drill file",
-    )
-}
-
 /// `[--profile strict|wide]`
 fn profile_arg<'a>(alloc: Global) -> Arg<'a>
     ensures rule { rule_of result ≡ optional_option (codes "profile") }
     ensures global { result.global ≡ false }
 {
     optional_option_arg(alloc, "profile", "NAME", PROFILE)
-}
-
-/// `[--format text|json]`
-fn format_arg<'a>(alloc: Global) -> Arg<'a>
-    ensures rule { rule_of result ≡ optional_option (codes "format") }
-    ensures global { result.global ≡ false }
-{
-    optional_option_arg(alloc, "format", "text|json", FORMAT)
 }
 
 /// `[--in FOLDER]`
@@ -449,6 +364,22 @@ fn required_option_arg<'a>(alloc: Global, id: &'a str, shown: &'a str, help: &'a
     ensures global { result.global ≡ false }
 {
     required_arg(alloc, id, shown, help).long(id)
+}
+
+/// `--ring MM`
+fn ring_arg<'a>(alloc: Global) -> Arg<'a>
+    ensures rule { rule_of result ≡ option (codes "ring") }
+    ensures global { result.global ≡ false }
+{
+    required_option_arg(alloc, "ring", "MM", RING)
+}
+
+/// `--gap MM`
+fn gap_arg<'a>(alloc: Global) -> Arg<'a>
+    ensures rule { rule_of result ≡ option (codes "gap") }
+    ensures global { result.global ≡ false }
+{
+    required_option_arg(alloc, "gap", "MM", GAP)
 }
 
 /// One required argument by its position, or more of them.

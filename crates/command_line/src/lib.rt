@@ -282,15 +282,6 @@ fn show_request<'a>(values: &ArgMatches<'a>) -> Option<Request<'a>>
     })
 }
 
-fn rewrite_request<'a>(values: &ArgMatches<'a>) -> Option<Request<'a>>
-    ensures { IfSome result (λ request. IsRequestOf (Some (codes "rewrite", rows_of (found_of values.now))) request) }
-{
-    Some(Request::Rewrite {
-        kind: value(values, "kind")?,
-        file: value(values, "file")?,
-    })
-}
-
 fn manifest_request<'a>(alloc: Global, values: &ArgMatches<'a>) -> Option<Request<'a>>
     ensures { IfSome result (λ request. IsRequestOf (Some (codes "manifest", rows_of (found_of values.now))) request) }
 {
@@ -303,6 +294,15 @@ fn manifest_request<'a>(alloc: Global, values: &ArgMatches<'a>) -> Option<Reques
         why,
         profile,
         files,
+    })
+}
+
+fn rewrite_request<'a>(values: &ArgMatches<'a>) -> Option<Request<'a>>
+    ensures { IfSome result (λ request. IsRequestOf (Some (codes "rewrite", rows_of (found_of values.now))) request) }
+{
+    Some(Request::Rewrite {
+        kind: value(values, "kind")?,
+        file: value(values, "file")?,
     })
 }
 

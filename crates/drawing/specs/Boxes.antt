@@ -31,8 +31,8 @@ extent_round p far_x far_y =
     record { left = p.x -ℤ pos far_x; right = p.x +ℤ pos far_x; bottom = p.y -ℤ pos far_y; top = p.y +ℤ pos far_y }
 
 -- the least extent that holds both
-abbrev pub joined : GridExtent → GridExtent → GridExtent
-joined a b =
+abbrev pub joint_extent : GridExtent → GridExtent → GridExtent
+joint_extent a b =
     record { left = int_min a.left b.left; right = int_max a.right b.right; bottom = int_min a.bottom b.bottom; top = int_max a.top b.top }
 
 -- the extent of a pad of a standard aperture: its half sides round its centre, for a disc the radius
@@ -52,12 +52,12 @@ pad_extent (wide.Rounded r) = rounded_extent r
 
 -- the extent of a hole: its radius round both of its ends
 abbrev pub hole_extent : GridHole → GridExtent
-hole_extent h = joined (extent_round h.from h.radius h.radius) (extent_round h.to h.radius h.radius)
+hole_extent h = joint_extent (extent_round h.from h.radius h.radius) (extent_round h.to h.radius h.radius)
 
 -- the extent so far, if there is one, joined with another
 abbrev pub joined_to : Option GridExtent → GridExtent → Option GridExtent
 joined_to None extent = Some extent
-joined_to (Some all) extent = Some (joined all extent)
+joined_to (Some all) extent = Some (joint_extent all extent)
 
 -- the extents of all pads of some layers, then of some holes
 abbrev pub extents : List (List WidePad) → List Drilled → List GridExtent

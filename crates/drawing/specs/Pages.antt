@@ -22,8 +22,8 @@ use Rattle.drawing.specs.Boxes.{board_extent, outlined_extent}
 use Rattle.drawing.specs.declared.draw.Drawing.{Drawing}
 
 -- words, then a length in millimetres: `h20`
-abbrev pub labelled : List ℕ → ℕ → List ℕ
-labelled words length = words ++ short_millimetres (pos length)
+abbrev pub length_label : List ℕ → ℕ → List ℕ
+length_label words length = words ++ short_millimetres (pos length)
 
 -- words, then a whole number: `" height="1200`
 abbrev pub labelled_count : List ℕ → ℕ → List ℕ
@@ -37,11 +37,11 @@ style_words = codes "<style>text{fill:#222;font-size:1.25px}.title{font-size:1.7
 
 -- the size of the letters, and the page in pixels: ` font-size="2.906666666" width="727" height="1200`
 unfoldable pub sizes_words : ℕ → ℕ → ℕ → List ℕ
-sizes_words size width height = labelled (codes " font-size=\"") size ++ (labelled_count (codes "\" width=\"") width ++ labelled_count (codes "\" height=\"") height)
+sizes_words size width height = length_label (codes " font-size=\"") size ++ (labelled_count (codes "\" width=\"") width ++ labelled_count (codes "\" height=\"") height)
 
 -- the page in millimetres: `" viewBox="0 0 139.51999998 230.207999992">`
 unfoldable pub view_words : ℕ → ℕ → List ℕ
-view_words width height = labelled (codes "\" viewBox=\"0 0 ") width ++ (labelled (codes " ") height ++ codes "\">\n")
+view_words width height = length_label (codes "\" viewBox=\"0 0 ") width ++ (length_label (codes " ") height ++ codes "\">\n")
 
 -- the start of a page: that of the element `svg`, and the style
 abbrev pub page_start : Layout → List ℕ
@@ -62,7 +62,7 @@ profile_words Wide = codes " mm, profile wide: "
 
 -- the rules and the profile: `ring 0.15 mm, gap 0.25 mm, profile strict: `
 unfoldable pub rules_words : ℕ → ℕ → Profile → List ℕ
-rules_words ring gap profile = labelled (codes "ring ") ring ++ (labelled (codes " mm, gap ") gap ++ profile_words profile)
+rules_words ring gap profile = length_label (codes "ring ") ring ++ (length_label (codes " mm, gap ") gap ++ profile_words profile)
 
 -- the words of the title: `ring 0.15 mm, gap 0.25 mm, profile strict: 6 findings`, or `no rules`
 abbrev pub title_words : Option GridRules → ℕ → List ℕ
@@ -71,7 +71,7 @@ title_words (Some rules) count = rules_words rules.ring rules.gap rules.profile 
 
 -- the start of a text after its first words: its place, and the unit that scales its letters: `6.9 6.9) scale(2.3)">`
 unfoldable pub text_start : List ℕ → ℕ → ℕ → ℕ → List ℕ
-text_start words x y unit = labelled words x ++ (labelled (codes " ") y ++ (labelled (codes ") scale(") unit ++ codes ")\">"))
+text_start words x y unit = length_label words x ++ (length_label (codes " ") y ++ (length_label (codes ") scale(") unit ++ codes ")\">"))
 
 -- the end of a text
 abbrev pub text_end : List ℕ
@@ -86,30 +86,25 @@ title l given_rules count =
 
 -- a bar from its left end: `<path class="scale" d="M6.9 213.9h20"/>`
 unfoldable pub bar_at : ℕ → ℕ → ℕ → List ℕ
-bar_at x y bar = labelled (codes "<path class=\"scale\" d=\"M") x ++ (labelled (codes " ") y ++ (labelled (codes "h") bar ++ codes "\"/>\n"))
+bar_at x y bar = length_label (codes "<path class=\"scale\" d=\"M") x ++ (length_label (codes " ") y ++ (length_label (codes "h") bar ++ codes "\"/>\n"))
 
--- the length of a bar, at a place: `<text transform="translate(29.3 214.8) scale(2.3)">20 mm</text>`
-unfoldable pub length_at : ℕ → ℕ → ℕ → ℕ → List ℕ
-length_at x y unit bar = text_start (codes "<text transform=\"translate(") x y unit ++ (labelled (codes "") bar ++ codes " mm</text>\n")
+-- the length of a bar, and the end of its text: `20 mm</text>`
+abbrev pub length_words : ℕ → List ℕ
+length_words bar = short_millimetres (pos bar) ++ codes " mm</text>\n"
 
--- the scale: its bar and the length of the bar
+-- the scale: its bar and the length of the bar, `<text transform="translate(29.3 214.8) scale(2.3)">20 mm</text>`
 abbrev pub scale : Layout → List ℕ
 scale l =
     bar_at (3 * l.pen.unit) (boxes_end l + 3 * l.pen.unit) l.bar
-    ++ length_at (4 * l.pen.unit + l.bar) (boxes_end l + 17 * l.pen.unit / 5) l.pen.unit l.bar
+    ++ (text_start (codes "<text transform=\"translate(") (4 * l.pen.unit + l.bar) (boxes_end l + 17 * l.pen.unit / 5) l.pen.unit ++ length_words l.bar)
 
--- the samples of the legend and their words, in units; then the end of the page
+-- after the start of the legend: its samples and their words, in units, and the end of the page
 unfoldable pub legend_words : List ℕ
-legend_words = codes "<circle class=\"pad\" r=\".6\"/>\n<text x=\"1.2\" y=\".4\">pad</text>\n<path class=\"other\" stroke-width=\".2\" d=\"M-.5 2.5h1M0 2v1\"/>\n<text x=\"1.2\" y=\"2.9\">flash not counted as a pad</text>\n<circle class=\"plated\" cx=\"20\" r=\".5\" stroke-width=\".1\"/>\n<text x=\"21.2\" y=\".4\">plated hole</text>\n<circle class=\"unplated\" cx=\"20\" cy=\"2.5\" r=\".5\" stroke-width=\".1\"/>\n<text x=\"21.2\" y=\"2.9\">unplated hole</text>\n<circle class=\"ring\" cx=\"33\" r=\".6\" stroke-width=\".1\"/>\n<text x=\"34.2\" y=\".4\">ring too small</text>\n<path class=\"gap\" stroke-width=\".3\" d=\"M32.5 2.5h1\"/>\n<text x=\"34.2\" y=\"2.9\">holes too close</text>\n</g>\n</svg>\n"
+legend_words = codes "\n<circle class=\"pad\" r=\".6\"/>\n<text x=\"1.2\" y=\".4\">pad</text>\n<path class=\"other\" stroke-width=\".2\" d=\"M-.5 2.5h1M0 2v1\"/>\n<text x=\"1.2\" y=\"2.9\">flash not counted as a pad</text>\n<circle class=\"plated\" cx=\"20\" r=\".5\" stroke-width=\".1\"/>\n<text x=\"21.2\" y=\".4\">plated hole</text>\n<circle class=\"unplated\" cx=\"20\" cy=\"2.5\" r=\".5\" stroke-width=\".1\"/>\n<text x=\"21.2\" y=\"2.9\">unplated hole</text>\n<circle class=\"ring\" cx=\"33\" r=\".6\" stroke-width=\".1\"/>\n<text x=\"34.2\" y=\".4\">ring too small</text>\n<path class=\"gap\" stroke-width=\".3\" d=\"M32.5 2.5h1\"/>\n<text x=\"34.2\" y=\"2.9\">holes too close</text>\n</g>\n</svg>\n"
 
--- where the legend stands, and its unit: `<g class="legend" font-size="1.25" transform="translate(9.3 220.9) scale(2.3)">`
-unfoldable pub legend_start : ℕ → ℕ → ℕ → List ℕ
-legend_start x y unit =
-    labelled (codes "<g class=\"legend\" font-size=\"1.25\" transform=\"translate(") x ++ (labelled (codes " ") y ++ (labelled (codes ") scale(") unit ++ codes ")\">\n"))
-
--- the legend, and the end of the page
+-- the legend, at its place and with its unit, `<g class="legend" font-size="1.25" transform="translate(9.3 220.9) scale(2.3)">`, and the end of the page
 abbrev pub legend : Layout → List ℕ
-legend l = legend_start (4 * l.pen.unit) (boxes_end l + 6 * l.pen.unit) l.pen.unit ++ legend_words
+legend l = text_start (codes "<g class=\"legend\" font-size=\"1.25\" transform=\"translate(") (4 * l.pen.unit) (boxes_end l + 6 * l.pen.unit) l.pen.unit ++ legend_words
 
 -- ---- the page
 

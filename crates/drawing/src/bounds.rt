@@ -4,10 +4,13 @@ ghost use Rattle.std.specs.Prelude.{◌≡◌, ◌++◌, map};
 ghost use Rattle.std.specs.List.{flat_map, fold};
 ghost use Rattle.drawing.specs.Boxes.{cross_extent, cross_extents, extents, hole_extent, joined_to, pad_extent, whole_extent};
 
-use crate::extent::{Extent, hole_extent, joined_to, pad_extent, point_extent};
+use crate::extent::{Extent, extent_round, hole_extent, joined_to, pad_extent};
 use board::Board;
 use pad_shapes::{FeatureRow, WidePad};
 use ring_rules::Drilled;
+
+/// Half a millimetre in pm: a flash that is no pad reaches this far from its point.
+const HALF_MILLIMETRE: u64 = 500_000_000;
 
 /// The extent so far, joined with those of some pads.
 fn with_pads(before: Option<Extent>, pads: &[WidePad]) -> Option<Extent>
@@ -49,7 +52,10 @@ fn with_row(before: Option<Extent>, row: &FeatureRow) -> Option<Extent>
     if row.what.is_pad() {
         before
     } else {
-        joined_to(before, point_extent(row.at))
+        joined_to(
+            before,
+            extent_round(row.at, HALF_MILLIMETRE, HALF_MILLIMETRE),
+        )
     }
 }
 

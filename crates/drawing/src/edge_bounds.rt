@@ -2,7 +2,7 @@
 
 ghost use Rattle.std.specs.Prelude.{◌≡◌, ◌∷◌, []};
 ghost use Rattle.std.specs.List.{fold};
-ghost use Rattle.drawing.specs.Boxes.{arc_extents, circle_extents, edge_extents, end_extent, joined_to, outlined_extent};
+ghost use Rattle.drawing.specs.Boxes.{arc_extents, edge_extents, end_extent, joined_to, outlined_extent};
 
 use crate::extent::{Extent, extent_round, joined_to};
 use grid_units::Point;
@@ -26,20 +26,7 @@ fn with_ends(before: Option<Extent>, from: &Point, to: &Point) -> Option<Extent>
     joined_to(joined_to(before, end_extent(from)), end_extent(to))
 }
 
-/// The extent so far, joined with a circle, if there is one.
-fn with_circle(before: Option<Extent>, centre: &Point, radius: Option<u64>) -> Option<Extent>
-    ensures { result ≡ fold joined_to before (circle_extents centre.now radius) }
-{
-    match radius {
-        Some(radius) => {
-            let far = radius.min(RADIUS_LIMIT);
-            joined_to(before, extent_round(*centre, far, far))
-        }
-        None => before,
-    }
-}
-
-/// The extent so far, joined with that of an arc.
+/// The extent so far, joined with that of an arc: both ends, and where it is half a circle or longer also its whole circle.
 fn with_arc(
     before: Option<Extent>,
     from: &Point,
@@ -49,8 +36,14 @@ fn with_arc(
 ) -> Option<Extent>
     ensures { result ≡ fold joined_to before (arc_extents from.now to.now centre.now clockwise) }
 {
-    let radius = long_radius(from, to, centre, clockwise);
-    with_circle(with_ends(before, from, to), centre, radius)
+    let ends = with_ends(before, from, to);
+    match long_radius(from, to, centre, clockwise) {
+        Some(radius) => {
+            let far = radius.min(RADIUS_LIMIT);
+            joined_to(ends, extent_round(*centre, far, far))
+        }
+        None => ends,
+    }
 }
 
 /// The extent so far, joined with that of a part of an outline.
@@ -65,14 +58,14 @@ fn with_part(before: Option<Extent>, part: &Drawn) -> Option<Extent>
             centre,
             clockwise,
             ..
-        } => with_arc(before, from, to, centre, *clockwise),
-        Drawn::Corner(at) => joined_to(before, end_extent(at)),
-        Drawn::Bend {
+        }
+        | Drawn::Bend {
             from,
             to,
             centre,
             clockwise,
         } => with_arc(before, from, to, centre, *clockwise),
+        Drawn::Corner(at) => joined_to(before, end_extent(at)),
         Drawn::Flash { .. } | Drawn::Contour(_) => before,
     }
 }

@@ -2,14 +2,11 @@
 
 ghost use Rattle.std.specs.Prelude.{◌≡◌, ◌≤◌, ◌^◌, ◌*◌, ◌+ℤ◌, ◌-ℤ◌, pos, unsigned_abs};
 ghost use Rattle.std.specs.Int.{int_min, int_max};
-ghost use Rattle.drawing.specs.Boxes.{extent_round, hole_extent, joined, joined_to, pad_extent, plain_extent, rounded_extent};
+ghost use Rattle.drawing.specs.Boxes.{extent_round, hole_extent, joint_extent, joined_to, pad_extent, plain_extent, rounded_extent};
 
 use grid_units::{Hole, Point};
 use pad_shapes::{Pad, PlacedRounded, WidePad};
 use std::marker::Model;
-
-/// Half a millimetre in pm.
-const HALF_MILLIMETRE: u64 = 500_000_000;
 
 /// How far something reaches along both axes, in pm.
 #[derive(Clone, Copy)]
@@ -68,7 +65,7 @@ impl Extent {
 
     /// The least extent that holds both.
     fn joined(&self, other: &Extent) -> Extent
-        ensures { result ≡ joined self.now other.now }
+        ensures { result ≡ joint_extent self.now other.now }
     {
         Extent {
             left: lesser(self.left, other.left),
@@ -97,22 +94,16 @@ fn greater(first: i64, second: i64) -> i64
     first.max(second)
 }
 
-fn less(at: i64, far: u64) -> i64
+/// The least and the greatest coordinate this far from another.
+fn around(at: i64, far: u64) -> (i64, i64)
     requires at { unsigned_abs at ≤ 10 ^ 13 }
     requires far { far ≤ 10000000000000 }
-    ensures value { result ≡ at -ℤ pos far }
-    ensures near { unsigned_abs result ≤ 2 * 10 ^ 13 }
+    ensures least { result.0 ≡ at -ℤ pos far }
+    ensures greatest { result.1 ≡ at +ℤ pos far }
+    ensures near { unsigned_abs result.0 ≤ 2 * 10 ^ 13 }
+    ensures also { unsigned_abs result.1 ≤ 2 * 10 ^ 13 }
 {
-    at - far as i64
-}
-
-fn more(at: i64, far: u64) -> i64
-    requires at { unsigned_abs at ≤ 10 ^ 13 }
-    requires far { far ≤ 10000000000000 }
-    ensures value { result ≡ at +ℤ pos far }
-    ensures near { unsigned_abs result ≤ 2 * 10 ^ 13 }
-{
-    at + far as i64
+    (at - far as i64, at + far as i64)
 }
 
 /// The extent that reaches this far from a point along each axis, in pm.
@@ -121,11 +112,13 @@ pub(crate) fn extent_round(centre: Point, far_x: u64, far_y: u64) -> Extent
     requires y { far_y ≤ 10000000000000 }
     ensures { result ≡ extent_round centre far_x far_y }
 {
+    let (left, right) = around(centre.x(), far_x);
+    let (bottom, top) = around(centre.y(), far_y);
     Extent {
-        left: less(centre.x(), far_x),
-        right: more(centre.x(), far_x),
-        bottom: less(centre.y(), far_y),
-        top: more(centre.y(), far_y),
+        left,
+        right,
+        bottom,
+        top,
     }
 }
 
@@ -180,13 +173,6 @@ pub(crate) fn hole_extent(hole: &Hole) -> Extent
 {
     let radius = hole.radius().unsigned_abs();
     extent_round(hole.from(), radius, radius).joined(&extent_round(hole.to(), radius, radius))
-}
-
-/// The extent of a flash that is no pad: half a millimetre round its point.
-pub(crate) fn point_extent(at: Point) -> Extent
-    ensures { result ≡ extent_round at (5 * 10 ^ 8) (5 * 10 ^ 8) }
-{
-    extent_round(at, HALF_MILLIMETRE, HALF_MILLIMETRE)
 }
 
 /// The extent so far, if there is one, joined with another.

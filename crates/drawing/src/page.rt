@@ -6,8 +6,8 @@ ghost use Rattle.drawing.specs.Pages.{legend, page_start, scale, title, title_wo
 
 use crate::layout::Layout;
 use crate::words::{
-    legend, style, write_bar, write_found, write_legend_start, write_length, write_rules,
-    write_sizes, write_text_start, write_view,
+    legend, style, write_bar, write_found, write_length, write_rules, write_sizes,
+    write_text_start, write_view,
 };
 use grid_units::Rules;
 use std::fmt;
@@ -67,15 +67,11 @@ pub(crate) fn write_title<W: fmt::Write>(
 pub(crate) fn write_scale<W: fmt::Write>(f: &mut Formatter<W>, layout: &Layout) -> fmt::Result
     ensures { DisplaysOnOk W.write_str_gives f.old result (Some (scale layout.now)) f.new }
 {
-    let (unit, end) = (layout.pen.unit, layout.boxes_end());
-    write_bar(f, 3 * unit, end + 3 * unit, layout.bar)?;
-    write_length(
-        f,
-        4 * unit + layout.bar,
-        end + 17 * unit / 5,
-        unit,
-        layout.bar,
-    )
+    let (unit, end, bar) = (layout.pen.unit, layout.boxes_end(), layout.bar);
+    let (x, y) = (4 * unit + bar, end + 17 * unit / 5);
+    write_bar(f, 3 * unit, end + 3 * unit, bar)?;
+    write_text_start(f, "<text transform=\"translate(", x, y, unit)?;
+    write_length(f, bar)
 }
 
 /// Writes the legend and the end of the page.
@@ -83,6 +79,7 @@ pub(crate) fn write_legend<W: fmt::Write>(f: &mut Formatter<W>, layout: &Layout)
     ensures { DisplaysOnOk W.write_str_gives f.old result (Some (legend layout.now)) f.new }
 {
     let (unit, end) = (layout.pen.unit, layout.boxes_end());
-    write_legend_start(f, 4 * unit, end + 6 * unit, unit)?;
+    let words = "<g class=\"legend\" font-size=\"1.25\" transform=\"translate(";
+    write_text_start(f, words, 4 * unit, end + 6 * unit, unit)?;
     f.write_str(legend())
 }

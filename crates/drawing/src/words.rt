@@ -2,7 +2,7 @@
 
 ghost use Rattle.std.specs.Prelude.{◌≡◌, ◌<◌, ◌^◌, Some, pos};
 ghost use Rattle.std.specs.Fmt.{DisplaysOnOk};
-ghost use Rattle.drawing.specs.Pages.{bar_at, found_words, legend_start, legend_words, length_at, profile_words, rules_words, sizes_words, style_words, text_start, view_words};
+ghost use Rattle.drawing.specs.Pages.{bar_at, found_words, legend_words, length_words, profile_words, rules_words, sizes_words, style_words, text_start, view_words};
 
 use grid_units::{Profile, ShortMillimetres};
 use std::fmt;
@@ -131,47 +131,18 @@ pub(crate) fn write_bar<W: fmt::Write>(
     write!(f, "<path class=\"scale\" d=\"M{x} {y}h{bar}\"/>\n")
 }
 
-/// Writes the length of the bar.
-#[tactic(auto, unfolding(crate::specs::Pages::length_at))]
-pub(crate) fn write_length<W: fmt::Write>(
-    f: &mut Formatter<W>,
-    x: u64,
-    y: u64,
-    unit: u64,
-    bar: u64,
-) -> fmt::Result
-    requires x { x < 2 ^ 63 }
-    requires y { y < 2 ^ 63 }
-    requires unit { unit < 2 ^ 63 }
-    requires bar { bar < 2 ^ 63 }
-    ensures { DisplaysOnOk W.write_str_gives f.old result (Some (length_at x y unit bar)) f.new }
+/// Writes the length of the bar, and the end of its text.
+pub(crate) fn write_length<W: fmt::Write>(f: &mut Formatter<W>, bar: u64) -> fmt::Result
+    requires { bar < 2 ^ 63 }
+    ensures { DisplaysOnOk W.write_str_gives f.old result (Some (length_words bar)) f.new }
 {
-    write_text_start(f, "<text transform=\"translate(", x, y, unit)?;
     write!(f, "{} mm</text>\n", millimetres(bar))
 }
 
-/// Writes where the legend stands, and its unit.
-#[tactic(auto, unfolding(crate::specs::Pages::legend_start))]
-pub(crate) fn write_legend_start<W: fmt::Write>(
-    f: &mut Formatter<W>,
-    x: u64,
-    y: u64,
-    unit: u64,
-) -> fmt::Result
-    requires x { x < 2 ^ 63 }
-    requires y { y < 2 ^ 63 }
-    requires unit { unit < 2 ^ 63 }
-    ensures { DisplaysOnOk W.write_str_gives f.old result (Some (legend_start x y unit)) f.new }
-{
-    let (x, y, unit) = (millimetres(x), millimetres(y), millimetres(unit));
-    f.write_str("<g class=\"legend\" font-size=\"1.25\" transform=\"translate(")?;
-    write!(f, "{x} {y}) scale({unit})\">\n")
-}
-
-/// The samples of the legend, and the end of the page.
+/// The rest of the legend after its start: its samples, and the end of the page.
 #[tactic(auto, unfolding(crate::specs::Pages::legend_words))]
 pub(crate) fn legend() -> &'static str
     ensures { result.now ≡ legend_words }
 {
-    "<circle class=\"pad\" r=\".6\"/>\n<text x=\"1.2\" y=\".4\">pad</text>\n<path class=\"other\" stroke-width=\".2\" d=\"M-.5 2.5h1M0 2v1\"/>\n<text x=\"1.2\" y=\"2.9\">flash not counted as a pad</text>\n<circle class=\"plated\" cx=\"20\" r=\".5\" stroke-width=\".1\"/>\n<text x=\"21.2\" y=\".4\">plated hole</text>\n<circle class=\"unplated\" cx=\"20\" cy=\"2.5\" r=\".5\" stroke-width=\".1\"/>\n<text x=\"21.2\" y=\"2.9\">unplated hole</text>\n<circle class=\"ring\" cx=\"33\" r=\".6\" stroke-width=\".1\"/>\n<text x=\"34.2\" y=\".4\">ring too small</text>\n<path class=\"gap\" stroke-width=\".3\" d=\"M32.5 2.5h1\"/>\n<text x=\"34.2\" y=\"2.9\">holes too close</text>\n</g>\n</svg>\n"
+    "\n<circle class=\"pad\" r=\".6\"/>\n<text x=\"1.2\" y=\".4\">pad</text>\n<path class=\"other\" stroke-width=\".2\" d=\"M-.5 2.5h1M0 2v1\"/>\n<text x=\"1.2\" y=\"2.9\">flash not counted as a pad</text>\n<circle class=\"plated\" cx=\"20\" r=\".5\" stroke-width=\".1\"/>\n<text x=\"21.2\" y=\".4\">plated hole</text>\n<circle class=\"unplated\" cx=\"20\" cy=\"2.5\" r=\".5\" stroke-width=\".1\"/>\n<text x=\"21.2\" y=\"2.9\">unplated hole</text>\n<circle class=\"ring\" cx=\"33\" r=\".6\" stroke-width=\".1\"/>\n<text x=\"34.2\" y=\".4\">ring too small</text>\n<path class=\"gap\" stroke-width=\".3\" d=\"M32.5 2.5h1\"/>\n<text x=\"34.2\" y=\"2.9\">holes too close</text>\n</g>\n</svg>\n"
 }

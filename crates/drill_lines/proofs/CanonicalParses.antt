@@ -10,7 +10,7 @@ use Rattle.grid_units.specs.declared.lengths.Unit.TheVariants.{Inch, Millimetre}
 use Rattle.grid_units.specs.declared.zero_filling.Zeros.{Zeros}
 use Rattle.grid_units.specs.declared.zero_filling.Zeros.TheVariants.{Leading, Trailing, Full}
 use Rattle.grid_units.specs.Numbers.{is_digit, is_number_char, parse_zero_filled}
-use Rattle.grid_units.specs.Spellings.{pointed}
+use Rattle.grid_units.specs.Spellings.{spelling_with_point}
 use Rattle.grid_units.proofs.SpellingsLemmas.{length-zeros, digit_number, spells_decimal}
 use Rattle.drill_lines.specs.declared.command.Coordinates.{Coordinates}
 use Rattle.drill_lines.specs.declared.command.Part.{Part}
@@ -21,7 +21,7 @@ use Rattle.drill_lines.specs.declared.command.DrillCommand.TheVariants.{Comment,
 use Rattle.drill_lines.specs.Formats.{Digits, AreDigitCounts}
 use Rattle.drill_lines.specs.Grammar.{fixed_lines, unit_words, zeros_words, IsNumber, IsCoordinate, IsPointText, IsLine}
 use Rattle.drill_lines.specs.HoleLines.{format_in, zeros_in, coordinate_of}
-use Rattle.drill_lines.specs.Lines.{is_blank, trimmed}
+use Rattle.drill_lines.specs.Lines.{is_blank, without_end_blanks}
 use Rattle.drill_lines.specs.Meaning.{meaning}
 use Rattle.drill_lines.specs.Writing.{unit_word, zeros_text, pattern_text, coordinate_text, point_text, canonical, is_comment_text, can_give_zeros, has_coordinate, is_sayable, IsOptionalDec, IsPoint, IsInRange}
 use Rattle.drill_lines.proofs.Answered.{shows, pattern_numbers, written_is_answered}
@@ -61,7 +61,7 @@ unfolding coordinate_of
 coordinate_written s letter None t = refl
 coordinate_written s letter (Some v) t =
     let run = pointed_run v t in
-    (pointed v, refl, λ i. cond (run.point i) (run.reads i) (parse_zero_filled (pointed v) (format_in s).whole (format_in s).decimals (zeros_in s)))
+    (spelling_with_point v, refl, λ i. cond (run.point i) (run.reads i) (parse_zero_filled (spelling_with_point v) (format_in s).whole (format_in s).decimals (zeros_in s)))
 
 point_written : (s : Settings) (p : Coordinates) → IsPoint p → has_coordinate p ≡ true → IsPointText s (point_text p) p
 point_written s p t h = (coordinate_text 88 p.x, coordinate_text 89 p.y, refl, coordinate_written s 88 p.x t.0, coordinate_written s 89 p.y t.1, h)
@@ -78,8 +78,8 @@ canonical_written part.Header s (UnitLine unit zeros format) e h t =
 canonical_written part.Header s (Tool n diameter) e h t =
     let k = both_true (leb 1 n) (leb n 999) h in
     let run = pointed_run diameter t in
-    let whole : 84 ∷ (decimal n ++ 67 ∷ pointed diameter) ≡ 84 ∷ (decimal n ++ 67 ∷ (pointed diameter ++ [])) = ap (λ (l : List ℕ). 84 ∷ (decimal n ++ 67 ∷ l)) (sym (append-nil (pointed diameter))) in
-    (e, (decimal n, [], pointed diameter, [], whole ∙ sym (nested (codes "T") (decimal n) [] (codes "C") (pointed diameter) []), number_written n (leb-true n 999 k.1), leb-true 1 n k.0, (refl, refl), (refl, refl), run.point, run.reads))
+    let whole : 84 ∷ (decimal n ++ 67 ∷ spelling_with_point diameter) ≡ 84 ∷ (decimal n ++ 67 ∷ (spelling_with_point diameter ++ [])) = ap (λ (l : List ℕ). 84 ∷ (decimal n ++ 67 ∷ l)) (sym (append-nil (spelling_with_point diameter))) in
+    (e, (decimal n, [], spelling_with_point diameter, [], whole ∙ sym (nested (codes "T") (decimal n) [] (codes "C") (spelling_with_point diameter) []), number_written n (leb-true n 999 k.1), leb-true 1 n k.0, (refl, refl), (refl, refl), run.point, run.reads))
 canonical_written part.Header s HeaderEnd e h t = listed s part.Header (codes "%", Some HeaderEnd) e (1, omega arith, refl)
 canonical_written part.Header s (UnitCode Millimetre) e h t = listed s part.Header (codes "M71", Some (UnitCode Millimetre)) e (3, omega arith, refl)
 canonical_written part.Header s (UnitCode Inch) e h t = listed s part.Header (codes "M72", Some (UnitCode Inch)) e (4, omega arith, refl)
@@ -100,7 +100,7 @@ numbers_solid xs h = list_all_weaker is_number_char is_no_blank_or_break solid_n
 
 coordinate_solid : (letter : ℕ) (v : Option ℤ) → is_no_blank_or_break letter ≡ true → IsOptionalDec v → list_all is_no_blank_or_break (coordinate_text letter v) ≡ true
 coordinate_solid letter None h t = refl
-coordinate_solid letter (Some v) h t = and_true (is_no_blank_or_break letter) (list_all is_no_blank_or_break (pointed v)) h (numbers_solid (pointed v) (pointed_run v t).numbers)
+coordinate_solid letter (Some v) h t = and_true (is_no_blank_or_break letter) (list_all is_no_blank_or_break (spelling_with_point v)) h (numbers_solid (spelling_with_point v) (pointed_run v t).numbers)
 
 point_solid : (p : Coordinates) → IsPoint p → list_all is_no_blank_or_break (point_text p) ≡ true
 unfolding is_no_blank_or_break
@@ -135,7 +135,7 @@ solid_line part.Header (Comment text) h t = inr (text, refl, h)
 solid_line part.Header (UnitLine unit zeros format) h t = inl (list_all_append is_no_blank_or_break (unit_word unit) (zeros_text zeros ++ pattern_text format) (unit_solid unit) (list_all_append is_no_blank_or_break (zeros_text zeros) (pattern_text format) (zeros_solid zeros) (pattern_solid format)))
 solid_line part.Header (Tool number diameter) h t =
     let n = both_true (leb 1 number) (leb number 999) h in
-    inl (list_all_append is_no_blank_or_break (decimal number) (67 ∷ pointed diameter) (decimal_solid number (leb-true number 999 n.1)) (numbers_solid (pointed diameter) (pointed_run diameter t).numbers))
+    inl (list_all_append is_no_blank_or_break (decimal number) (67 ∷ spelling_with_point diameter) (decimal_solid number (leb-true number 999 n.1)) (numbers_solid (spelling_with_point diameter) (pointed_run diameter t).numbers))
 solid_line part.Header HeaderEnd h t = inl refl
 solid_line part.Header (UnitCode Inch) h t = inl refl
 solid_line part.Header (UnitCode Millimetre) h t = inl refl
@@ -149,17 +149,17 @@ solid_line part.Body Finish h t = inl refl
 solid_line p c h t = absurd cc
 
 -- a text that trimming leaves as long is left unchanged
-trimmed_first : (t : Bool) (x : ℕ) (xs : List ℕ) → (length (trimmed xs) ≡ length xs → trimmed xs ≡ xs) → length (cond t [] (x ∷ trimmed xs)) ≡ suc (length xs) → cond t [] (x ∷ trimmed xs) ≡ x ∷ xs
+trimmed_first : (t : Bool) (x : ℕ) (xs : List ℕ) → (length (without_end_blanks xs) ≡ length xs → without_end_blanks xs ≡ xs) → length (cond t [] (x ∷ without_end_blanks xs)) ≡ suc (length xs) → cond t [] (x ∷ without_end_blanks xs) ≡ x ∷ xs
 trimmed_first true x xs rest k = absurd (omega (arith, k))
 trimmed_first false x xs rest k = ap (λ (l : List ℕ). x ∷ l) (rest (omega (arith, k)))
 
-trimmed_whole : (xs : List ℕ) → length (trimmed xs) ≡ length xs → trimmed xs ≡ xs
+trimmed_whole : (xs : List ℕ) → length (without_end_blanks xs) ≡ length xs → without_end_blanks xs ≡ xs
 trimmed_whole [] h = refl
-trimmed_whole (x ∷ xs) h = trimmed_first (is_blank x && eqb (length (trimmed xs)) 0) x xs (trimmed_whole xs) h
+trimmed_whole (x ∷ xs) h = trimmed_first (is_blank x && eqb (length (without_end_blanks xs)) 0) x xs (trimmed_whole xs) h
 
 -- the canonical line of a command that this part can have: kept whole, without LF, and spelling it
 pub record CanonicalParses (s : Settings) (c : DrillCommand) : Type 0 where
-  pub spells : meaning s (trimmed (canonical c)) ≡ Ok (Some c)
+  pub spells : meaning s (without_end_blanks (canonical c)) ≡ Ok (Some c)
   pub inside : list_all (λ b. not (eqb b 10)) (canonical c) ≡ true
   pub short : length (canonical c) ≤ 1048576
 
@@ -199,8 +199,8 @@ pattern_short unit zeros (Some f) t = omega (arith, length-append {A = ℕ} (rep
 
 comment_short : (text : List ℕ) → is_comment_text text ≡ true → length (59 ∷ text) ≤ 1048576
 comment_short text h =
-    let k = both_true (not (list_any (λ b. eqb b 10) text)) (eqb (length (trimmed text)) (length text) && ltb (length text) 1048576) h in
-    let l = both_true (eqb (length (trimmed text)) (length text)) (ltb (length text) 1048576) k.1 in
+    let k = both_true (not (list_any (λ b. eqb b 10) text)) (eqb (length (without_end_blanks text)) (length text) && ltb (length text) 1048576) h in
+    let l = both_true (eqb (length (without_end_blanks text)) (length text)) (ltb (length text) 1048576) k.1 in
     omega (arith, ltb-true _ _ l.1)
 
 line_short : (p : Part) (c : DrillCommand) → is_sayable p c ≡ true → IsInRange c → length (canonical c) ≤ 1048576
@@ -210,7 +210,7 @@ line_short part.Header (Comment text) h t = comment_short text h
 line_short part.Header (UnitLine unit zeros format) h t = omega (arith, length-append (unit_word unit) (zeros_text zeros ++ pattern_text format), length-append (zeros_text zeros) (pattern_text format), unit_short unit, zeros_short zeros, pattern_short unit zeros format t)
 line_short part.Header (Tool number diameter) h t =
     let n = both_true (leb 1 number) (leb number 999) h in
-    omega (arith, length-append (decimal number) (67 ∷ pointed diameter), number_short number (leb-true number 999 n.1), pointed_short diameter t)
+    omega (arith, length-append (decimal number) (67 ∷ spelling_with_point diameter), number_short number (leb-true number 999 n.1), pointed_short diameter t)
 line_short part.Header HeaderEnd h t = lit≤ tt
 line_short part.Header (UnitCode Inch) h t = lit≤ tt
 line_short part.Header (UnitCode Millimetre) h t = lit≤ tt
@@ -236,9 +236,9 @@ parses s c h t = let answered = written_is_answered s (canonical c) (Some c) (ca
   }
   | inr comment ↦ (
       let text = comment.0 in
-      let k = both_true (not (list_any (λ b. eqb b 10) text)) (eqb (length (trimmed text)) (length text) && ltb (length text) 1048576) comment.2 in
-      let l = both_true (eqb (length (trimmed text)) (length text)) (ltb (length text) 1048576) k.1 in
-      let kept : trimmed (canonical c) ≡ canonical c = ap trimmed comment.1 ∙ (ap (λ (x : List ℕ). 59 ∷ x) (trimmed_whole text (eqb-true _ _ l.0)) ∙ sym comment.1) in
+      let k = both_true (not (list_any (λ b. eqb b 10) text)) (eqb (length (without_end_blanks text)) (length text) && ltb (length text) 1048576) comment.2 in
+      let l = both_true (eqb (length (without_end_blanks text)) (length text)) (ltb (length text) 1048576) k.1 in
+      let kept : without_end_blanks (canonical c) ≡ canonical c = ap without_end_blanks comment.1 ∙ (ap (λ (x : List ℕ). 59 ∷ x) (trimmed_whole text (eqb-true _ _ l.0)) ∙ sym comment.1) in
       record {
         spells = ap (meaning s) kept ∙ answered;
         inside = ap (list_all (λ b. not (eqb b 10))) comment.1 ∙ no_breaks text k.0;

@@ -12,7 +12,7 @@ use Rattle.grid_units.specs.declared.fault.Reason.TheVariants.{BadNumber, TooFar
 use Rattle.grid_units.specs.declared.zero_filling.Zeros.{Zeros}
 use Rattle.grid_units.specs.Results.{◌>>=◌}
 use Rattle.grid_units.specs.Rows.{strip_prefix}
-use Rattle.grid_units.specs.Numbers.{is_digit, is_digits, is_number_char, value, without_sign, signed, to_units, whole, fraction, is_decimal, fits_eight_decimals, value_without_point, parse_decimal, zeros_to_fill, zero_filled, parse_zero_filled}
+use Rattle.grid_units.specs.Numbers.{is_digit, is_digits, is_number_char, value, without_sign, signed_value, to_units, whole, fraction, is_decimal, fits_eight_decimals, value_without_point, parse_decimal, zeros_to_fill, zero_filled, parse_zero_filled}
 use Rattle.drill_lines.specs.declared.command.Settings.{Settings}
 use Rattle.drill_lines.specs.Tools.{is_point}
 use Rattle.drill_lines.specs.HoleLines.{format_in, zeros_in, coordinate_of}
@@ -118,14 +118,14 @@ passed false r d v h = absurd cc
 pub decimal_numbers : (run : List ℕ) (v : ℤ) → parse_decimal run ≡ Ok v → list_all is_number_char run ≡ true
 unfolding parse_decimal
 decimal_numbers run v h =
-    let d = passed (is_decimal run) (cond (fits_eight_decimals (fraction run)) (cond (ltb 999999 (value (whole run))) (Err TooFar) (Ok (signed run (to_units (value_without_point run) (length (fraction run)))))) (Err TooFine)) BadNumber v h in
+    let d = passed (is_decimal run) (cond (fits_eight_decimals (fraction run)) (cond (ltb 999999 (value (whole run))) (Err TooFar) (Ok (signed_value run (to_units (value_without_point run) (length (fraction run)))))) (Err TooFine)) BadNumber v h in
     let parts = both_true (list_all is_digit (whole run)) (list_all is_digit (fraction run)) (both_true (list_all is_digit (whole run) && list_all is_digit (fraction run)) (not (eqb (length (whole run) + length (fraction run)) 0)) d.0).0 in
     with_sign run (parts_numbers (without_sign run) parts.0 parts.1)
 
 pub zero_filled_numbers : (run : List ℕ) (i d : ℕ) (zeros : Zeros) (v : ℤ) → parse_zero_filled run i d zeros ≡ Ok v → list_all is_number_char run ≡ true
 unfolding parse_zero_filled
 zero_filled_numbers run i d zeros v h =
-    let t = passed (is_digits (without_sign run)) (zeros_to_fill zeros (i + d) (length (without_sign run)) >>= λ k. Ok (signed run (to_units (zero_filled (without_sign run) k) d))) BadNumber v h in
+    let t = passed (is_digits (without_sign run)) (zeros_to_fill zeros (i + d) (length (without_sign run)) >>= λ k. Ok (signed_value run (to_units (zero_filled (without_sign run) k) d))) BadNumber v h in
     with_sign run (digits_numbers (without_sign run) (both_true (not (eqb (length (without_sign run)) 0)) (list_all is_digit (without_sign run)) t.0).1)
 
 -- the run of a coordinate

@@ -13,7 +13,7 @@ use Rattle.drill_lines.specs.declared.command.Part.TheVariants as part
 use Rattle.drill_lines.specs.declared.command.Settings.{Settings}
 use Rattle.drill_lines.specs.declared.command.DrillCommand.{DrillCommand}
 use Rattle.drill_lines.specs.declared.command.DrillCommand.TheVariants.{Comment, UnitLine, Tool, Pick, Hit, Slot}
-use Rattle.drill_lines.specs.Lines.{trimmed}
+use Rattle.drill_lines.specs.Lines.{without_end_blanks}
 use Rattle.drill_lines.specs.Meaning.{meaning}
 use Rattle.drill_lines.specs.Grammar.{fixed_lines, zeros_words, IsLine}
 use Rattle.drill_lines.specs.Writing.{can_give_zeros, is_comment_text, is_sayable}
@@ -45,10 +45,10 @@ no_break : (text : List ℕ) → list_all (λ b. not (eqb b 10)) text ≡ true �
 no_break [] h = refl
 no_break (b ∷ text) h = let k = both_true (not (eqb b 10)) (list_all (λ c. not (eqb c 10)) text) h in λ i. not_true (eqb b 10) k.0 i || no_break text k.1 i
 
-comment_text : (text : List ℕ) → trimmed (59 ∷ text) ≡ 59 ∷ text → list_all (λ b. not (eqb b 10)) text ≡ true → length (59 ∷ text) ≤ 1048576 → is_comment_text text ≡ true
+comment_text : (text : List ℕ) → without_end_blanks (59 ∷ text) ≡ 59 ∷ text → list_all (λ b. not (eqb b 10)) text ≡ true → length (59 ∷ text) ≤ 1048576 → is_comment_text text ≡ true
 comment_text text kept inside short =
-    let same : trimmed text ≡ text = let whole : 59 ∷ trimmed text ≡ 59 ∷ text = kept in cc in
-    λ i. not (no_break text inside i) && (eq-eqb (length (trimmed text)) (length text) (ap length same) i && lt-ltb (length text) 1048576 (omega (arith, short)) i)
+    let same : without_end_blanks text ≡ text = let whole : 59 ∷ without_end_blanks text ≡ 59 ∷ text = kept in cc in
+    λ i. not (no_break text inside i) && (eq-eqb (length (without_end_blanks text)) (length text) (ap length same) i && lt-ltb (length text) 1048576 (omega (arith, short)) i)
 
 comment_sayable : (p : Part) (text : List ℕ) → p ≢ part.After → is_comment_text text ≡ true → is_sayable p (Comment text) ≡ true
 comment_sayable part.Before text h k = k
@@ -59,9 +59,9 @@ comment_sayable part.After text h k = absurd (h refl)
 -- ---- lines
 
 -- a command that a line is written for, without blanks at its end or LF, and within the limit
-written_sayable : (s : Settings) (line : List ℕ) (c : DrillCommand) → IsLine s line (Some c) → trimmed line ≡ line → list_all (λ b. not (eqb b 10)) line ≡ true → length line ≤ 1048576 → is_sayable s.part c ≡ true
+written_sayable : (s : Settings) (line : List ℕ) (c : DrillCommand) → IsLine s line (Some c) → without_end_blanks line ≡ line → list_all (λ b. not (eqb b 10)) line ≡ true → length line ≤ 1048576 → is_sayable s.part c ≡ true
 written_sayable s line (Comment text) h kept inside short =
-    comment_sayable s.part text h.0 (comment_text text (ap trimmed (sym h.1) ∙ (kept ∙ h.1)) (ap (list_all (λ b. not (eqb b 10))) (sym h.1) ∙ inside) (omega (arith, short, ap length h.1)))
+    comment_sayable s.part text h.0 (comment_text text (ap without_end_blanks (sym h.1) ∙ (kept ∙ h.1)) (ap (list_all (λ b. not (eqb b 10))) (sym h.1) ∙ inside) (omega (arith, short, ap length h.1)))
 written_sayable s line (UnitLine unit zeros format) h kept inside short = ap (λ p. is_sayable p (UnitLine unit zeros format)) h.0 ∙ zeros_given h.1.1 zeros h.1.4
 written_sayable s line (Tool n diameter) h kept inside short = ap (λ p. is_sayable p (Tool n diameter)) h.0 ∙ (λ i. le-leb 1 n h.1.6 i && le-leb n 999 h.1.5.2 i)
 written_sayable s line (Pick n) h kept inside short = ap (λ p. is_sayable p (Pick n)) h.0 ∙ le-leb n 999 h.1.3.2
@@ -70,8 +70,8 @@ written_sayable s line (Slot from to) h kept inside short = ap (λ p. is_sayable
 written_sayable s line c h kept inside short = listed_sayable s.part line c h
 
 -- the command that a line without LF spells is sayable
-pub line_sayable : (s : Settings) (line : List ℕ) (c : DrillCommand) → list_all (λ b. not (eqb b 10)) line ≡ true → length line ≤ 1048576 → meaning s (trimmed line) ≡ Ok (Some c) → is_sayable s.part c ≡ true
+pub line_sayable : (s : Settings) (line : List ℕ) (c : DrillCommand) → list_all (λ b. not (eqb b 10)) line ≡ true → length line ≤ 1048576 → meaning s (without_end_blanks line) ≡ Ok (Some c) → is_sayable s.part c ≡ true
 line_sayable s line c inside short e =
     let front = trimmed_front line in
-    let parts = both_true (list_all (λ b. not (eqb b 10)) (trimmed line)) (list_all (λ b. not (eqb b 10)) front.0) (sym (list_all-append (λ b. not (eqb b 10)) (trimmed line) front.0) ∙ (ap (list_all (λ b. not (eqb b 10))) (sym front.1) ∙ inside)) in
-    written_sayable s (trimmed line) c (answers_are_written s (trimmed line) (Some c) e) (trimmed_twice line) parts.0 (omega (arith, short, ap length front.1, length-append (trimmed line) front.0))
+    let parts = both_true (list_all (λ b. not (eqb b 10)) (without_end_blanks line)) (list_all (λ b. not (eqb b 10)) front.0) (sym (list_all-append (λ b. not (eqb b 10)) (without_end_blanks line) front.0) ∙ (ap (list_all (λ b. not (eqb b 10))) (sym front.1) ∙ inside)) in
+    written_sayable s (without_end_blanks line) c (answers_are_written s (without_end_blanks line) (Some c) e) (trimmed_twice line) parts.0 (omega (arith, short, ap length front.1, length-append (without_end_blanks line) front.0))

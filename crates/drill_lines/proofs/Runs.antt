@@ -7,9 +7,9 @@ use Rattle.std.proofs.lemmas.Bool.Decides.{nat_tests}
 use Rattle.std.proofs.lemmas.Fmt.{length-decimal-le}
 use Rattle.grid_units.proofs.TrailingZeros.{length-places}
 use Rattle.grid_units.specs.Numbers.{is_digit, is_number_char, parse_decimal, max_units}
-use Rattle.grid_units.specs.Spellings.{minus, decimals, fraction_text_or_zero, pointed, places}
+use Rattle.grid_units.specs.Spellings.{minus, decimals, fraction_text_or_zero, spelling_with_point, places}
 use Rattle.grid_units.proofs.SpellingsLemmas.{spells_decimal, digits-places, trims, pointed_reads, digit_number, minus_numbers, minus_short}
-use Rattle.drill_lines.specs.Lines.{is_blank, trimmed}
+use Rattle.drill_lines.specs.Lines.{is_blank, without_end_blanks}
 use Rattle.drill_lines.specs.Tools.{is_point}
 use Rattle.grid_units.proofs.BoolLemmas.{and_true, both_true}
 use Rattle.grid_units.proofs.ListLemmas.{list_all_weaker, list_all_append}
@@ -41,8 +41,8 @@ tail_point : (fs : List ℕ) → list_any is_point (fraction_text_or_zero fs) �
 tail_point [] = refl
 tail_point (f ∷ fs) = refl
 
-pub pointed_run : (v : ℤ) → unsigned_abs v ≤ max_units → IsRun v (pointed v)
-unfolding pointed
+pub pointed_run : (v : ℤ) → unsigned_abs v ≤ max_units → IsRun v (spelling_with_point v)
+unfolding spelling_with_point
 pointed_run v h =
     let n = unsigned_abs v in
     let whole : n / 10 ^ 8 < 2 ^ 64 = omega (arith, h) in
@@ -66,7 +66,7 @@ unfolding is_no_blank_or_break
 solid_number b h = grind (arith, nat_tests)
 
 -- a line without blanks is kept whole
-pub solid_kept : (xs : List ℕ) → list_all is_no_blank_or_break xs ≡ true → trimmed xs ≡ xs
+pub solid_kept : (xs : List ℕ) → list_all is_no_blank_or_break xs ≡ true → without_end_blanks xs ≡ xs
 unfolding is_no_blank_or_break
 solid_kept [] h = refl
 solid_kept (x ∷ xs) h =
@@ -74,7 +74,7 @@ solid_kept (x ∷ xs) h =
     let c = both_true (not (is_blank x)) (not (eqb x 10)) b.0 in
     no_blank (is_blank x) c.0 ∙ ap (λ (l : List ℕ). x ∷ l) (solid_kept xs b.1)
   where
-    no_blank : (t : Bool) → not t ≡ true → cond (t && eqb (length (trimmed xs)) 0) [] (x ∷ trimmed xs) ≡ x ∷ trimmed xs
+    no_blank : (t : Bool) → not t ≡ true → cond (t && eqb (length (without_end_blanks xs)) 0) [] (x ∷ without_end_blanks xs) ≡ x ∷ without_end_blanks xs
     no_blank true e = absurd cc
     no_blank false e = refl
 
@@ -88,8 +88,8 @@ tail_short : (fs : List ℕ) → length fs ≤ 8 → length (fraction_text_or_ze
 tail_short [] h = lit≤ tt
 tail_short (f ∷ fs) h = omega (arith, h)
 
-pub pointed_short : (v : ℤ) → unsigned_abs v ≤ max_units → length (pointed v) ≤ 16
-unfolding pointed
+pub pointed_short : (v : ℤ) → unsigned_abs v ≤ max_units → length (spelling_with_point v) ≤ 16
+unfolding spelling_with_point
 pointed_short v h =
     let n = unsigned_abs v in
     let fs = decimals n in

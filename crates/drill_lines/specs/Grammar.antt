@@ -20,13 +20,13 @@ use Rattle.drill_lines.specs.Writing.{pattern_text}
 
 -- ---- lines that are always written alike
 
--- those of both the header and the body, each with the command that it spells, if any: `M71`, `G90`
+-- the lines of both the header and the body that are always written alike, each with the command that it spells, if any: `M71`, `G90`
 abbrev pub shared_lines : List (List ℕ × Option DrillCommand)
 shared_lines =
     (codes "M71", Some (UnitCode Millimetre)) ∷ (codes "M72", Some (UnitCode Inch))
     ∷ (codes "G90", None) ∷ (codes "G05", None) ∷ (codes "FMAT,2", None) ∷ (codes "VER,1", None) ∷ (codes "ICI,OFF", None) ∷ []
 
--- those of each part of the file: `M48` before the header, `%` and `M71` in it, `M30` in the body
+-- the lines of each part of the file that are always written alike: `M48` before the header, `%` and `M71` in it, `M30` in the body
 abbrev pub fixed_lines : Part → List (List ℕ × Option DrillCommand)
 fixed_lines part.Before = (codes "M48", Some Start) ∷ (codes "%", None) ∷ []
 fixed_lines part.Header = (codes "%", Some HeaderEnd) ∷ (codes "M95", Some HeaderEnd) ∷ shared_lines

@@ -7,6 +7,6 @@ abbrev pub is_blank : ℕ → Bool
 is_blank b = (b == ascii.space) || ((b == ascii.tab) || (b == ascii.carriage_return))
 
 -- a line without the blanks at its end: `M30` of `M30`, CR. Blanks at its start stay
-abbrev pub trimmed : List ℕ → List ℕ
-trimmed [] = []
-trimmed (b ∷ bs) = if is_blank b && (length (trimmed bs) == 0) then [] else b ∷ trimmed bs
+abbrev pub without_end_blanks : List ℕ → List ℕ
+without_end_blanks [] = []
+without_end_blanks (b ∷ bs) = if is_blank b && (length (without_end_blanks bs) == 0) then [] else b ∷ without_end_blanks bs

@@ -6,14 +6,14 @@ use Rattle.grid_units.specs.declared.lengths.Unit.TheVariants.{Inch, Millimetre}
 use Rattle.grid_units.specs.declared.zero_filling.Zeros.{Zeros}
 use Rattle.grid_units.specs.declared.zero_filling.Zeros.TheVariants.{Leading, Trailing, Full}
 use Rattle.grid_units.specs.Numbers.{max_units}
-use Rattle.grid_units.specs.Spellings.{pointed}
+use Rattle.grid_units.specs.Spellings.{spelling_with_point}
 use Rattle.drill_lines.specs.declared.command.Coordinates.{Coordinates}
 use Rattle.drill_lines.specs.declared.command.Part.{Part}
 use Rattle.drill_lines.specs.declared.command.Part.TheVariants as part
 use Rattle.drill_lines.specs.declared.command.DrillCommand.{DrillCommand}
 use Rattle.drill_lines.specs.declared.command.DrillCommand.TheVariants.{Comment, Start, UnitLine, Tool, HeaderEnd, UnitCode, Pick, Hit, Slot, Finish}
 use Rattle.drill_lines.specs.Formats.{Digits, AreDigitCounts}
-use Rattle.drill_lines.specs.Lines.{trimmed}
+use Rattle.drill_lines.specs.Lines.{without_end_blanks}
 use Rattle.grid_units.specs.Limits.{line_limit}
 use Rattle.grid_units.specs.Ascii as ascii
 
@@ -44,7 +44,7 @@ unit_code Inch = codes "M72"
 -- a coordinate after its letter, as `X1.0`; nothing where it is left out
 abbrev pub coordinate_text : ℕ → Option ℤ → List ℕ
 coordinate_text letter None = []
-coordinate_text letter (Some v) = letter ∷ pointed v
+coordinate_text letter (Some v) = letter ∷ spelling_with_point v
 
 -- the coordinates of a point, of those that stand: `X1.0Y-0.5`, `Y1.0`
 abbrev pub point_text : Coordinates → List ℕ
@@ -55,7 +55,7 @@ abbrev pub canonical : DrillCommand → List ℕ
 canonical (Comment text) = ascii.semicolon ∷ text
 canonical Start = codes "M48"
 canonical (UnitLine unit zeros format) = unit_word unit ++ (zeros_text zeros ++ pattern_text format)
-canonical (Tool number diameter) = ascii.upper_t ∷ (decimal number ++ ascii.upper_c ∷ pointed diameter)
+canonical (Tool number diameter) = ascii.upper_t ∷ (decimal number ++ ascii.upper_c ∷ spelling_with_point diameter)
 canonical HeaderEnd = codes "%"
 canonical (UnitCode unit) = unit_code unit
 canonical (Pick number) = ascii.upper_t ∷ decimal number
@@ -67,7 +67,7 @@ canonical Finish = codes "M30"
 
 -- the text of a comment: without LF, with no blank at its end, and shorter than 1,048,576 bytes
 abbrev pub is_comment_text : List ℕ → Bool
-is_comment_text text = not (list_any (λ b. b == ascii.line_feed) text) && ((length (trimmed text) == length text) && nat_lt (length text) line_limit)
+is_comment_text text = not (list_any (λ b. b == ascii.line_feed) text) && ((length (without_end_blanks text) == length text) && nat_lt (length text) line_limit)
 
 -- zeros that a unit line can give: leading, trailing or none (docs/FORMATS.md, Drill lines)
 abbrev pub can_give_zeros : Option Zeros → Bool

@@ -2,7 +2,7 @@
 
 ghost use Rattle.std.specs.Prelude.{◌≡◌, ◌++◌, ◌∷◌, ◌==◌, OnOk, decimal, replicate};
 ghost use Rattle.std.specs.List.{list_any};
-ghost use Rattle.grid_units.specs.Spellings.{pointed};
+ghost use Rattle.grid_units.specs.Spellings.{spelling_with_point};
 ghost use Rattle.drill_lines.specs.declared.command.Part.TheVariants as part;
 ghost use Rattle.drill_lines.specs.declared.command.DrillCommand.TheVariants as command;
 ghost use Rattle.drill_lines.specs.Formats.{AreDigitCounts};
@@ -16,7 +16,7 @@ use std::alloc::AllocError;
 
 /// Appends a decimal in its pointed spelling, as `1.0`.
 fn put_dec(text: &mut Vec<u8>, value: Dec) -> Result<(), AllocError>
-    ensures items { OnOk result (text.new.items ≡ text.old.items ++ pointed value) }
+    ensures items { OnOk result (text.new.items ≡ text.old.items ++ spelling_with_point value) }
     ensures typed { IsDec value }
 {
     text.extend_from_slice(value.write_pointed().as_bytes())
@@ -123,7 +123,7 @@ fn put_point(text: &mut Vec<u8>, point: &Coordinates) -> Result<(), AllocError>
 
 /// Appends a tool's definition, as `T1C0.4`.
 fn put_tool(text: &mut Vec<u8>, number: u16, diameter: Dec) -> Result<(), AllocError>
-    ensures items { OnOk result (text.new.items ≡ text.old.items ++ (84 ∷ (decimal number ++ 67 ∷ pointed diameter))) }
+    ensures items { OnOk result (text.new.items ≡ text.old.items ++ (84 ∷ (decimal number ++ 67 ∷ spelling_with_point diameter))) }
     ensures typed { OnOk result (IsDec diameter) }
 {
     text.push(b'T')?;

@@ -6,7 +6,7 @@ ghost use Rattle.grid_units.specs.declared.fault.Reason.TheVariants.{OldFormat, 
 ghost use Rattle.grid_units.specs.Rows.{first_match_or, literal_row, prefix_row};
 ghost use Rattle.grid_units.specs.Results.{Gives};
 ghost use Rattle.drill_lines.specs.declared.command.DrillCommand.TheVariants.{Finish};
-ghost use Rattle.drill_lines.specs.Lines.{is_blank, trimmed};
+ghost use Rattle.drill_lines.specs.Lines.{is_blank, without_end_blanks};
 ghost use Rattle.drill_lines.specs.Meaning.{meaning, lines_before, common_lines, common_rows, header_ends, header_rows, body_prefixes, body_rows, line_in, begins_comment};
 
 use crate::command::{DrillCommand, Part, Settings};
@@ -25,7 +25,7 @@ fn is_blank(byte: u8) -> bool
 /// How many bytes a line has without the blanks at its end.
 pub(crate) fn trimmed_len(line: &[u8]) -> usize
     ensures within { result ≤ length line.now }
-    ensures exact { take result line.now ≡ trimmed line.now }
+    ensures exact { take result line.now ≡ without_end_blanks line.now }
 {
     let mut len = line.len();
     while len > 0 && is_blank(line[len - 1]) {
@@ -233,7 +233,7 @@ pub fn read_line(
     settings: Settings,
     line: &[u8],
 ) -> Result<Option<DrillCommand>, ItemFail>
-    ensures { Gives result (meaning settings (trimmed line.now)) }
+    ensures { Gives result (meaning settings (without_end_blanks line.now)) }
 {
     read_trimmed(alloc, settings, &line[..trimmed_len(line)])
 }

@@ -22,7 +22,7 @@ impl LineReader {
     ghost use Rattle.grid_units.specs.declared.profile.Profile.{Profile as TheProfile};
     ghost use Rattle.grid_units.specs.declared.profile.Profile.TheVariants as profile;
     ghost use Rattle.drill_lines.specs.declared.route.Route.TheVariants as route;
-    ghost use Rattle.drill_lines.specs.Lines.{trimmed};
+    ghost use Rattle.drill_lines.specs.Lines.{without_end_blanks};
     ghost use Rattle.drill_lines.specs.LineReading.{HasReadLines, ReadsLine};
 
     /// A reader that has read no line.
@@ -53,7 +53,7 @@ impl LineReader {
         settings: Settings,
         line: &[u8],
     ) -> Result<Option<DrillCommand>, ItemFail>
-        ensures { (profile : TheProfile) (earlier : List (List ℕ)) → HasReadLines self.old profile settings earlier → ReadsLine result self.new profile settings earlier (trimmed line.now) }
+        ensures { (profile : TheProfile) (earlier : List (List ℕ)) → HasReadLines self.old profile settings earlier → ReadsLine result self.new profile settings earlier (without_end_blanks line.now) }
     {
         match self.profile {
             Profile::Strict => read_line(self.alloc, settings, line),

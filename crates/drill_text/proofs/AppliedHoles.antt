@@ -1,5 +1,5 @@
 -- A state that drilled knows one command more.
-use Rattle.drill_text.proofs.Common.{◌≡◌, ℕ, ℤ, true, false, cond, inl, inr, List, [], ◌∷◌, ◌++◌, length, Option, None, Some, nat_eq, Result, Ok, Err, sym, ap, ◌∙◌, option_map, option_or, option_to_list, get, GridHole, ItemFail, Coordinates, DrillCommand, PlatingKind, DrillState, tool_defined, DrillPath, hole_of, diameters, calls_plated, plating_set, tool_made, drills, first_broken, state_of, IsStateAfter, AppliesOrRefuses, DrillsOrRefuses, after, heard, moved, drill_path, hole_in, mark_of, picked_plating, plating_in}
+use Rattle.drill_text.proofs.Common.{◌≡◌, ℕ, ℤ, true, false, cond, inl, inr, List, [], ◌∷◌, ◌++◌, length, Option, None, Some, nat_eq, Result, Ok, Err, sym, ap, ◌∙◌, option_map, option_or, option_to_list, get, GridHole, ItemFail, Coordinates, DrillCommand, PlatingKind, DrillState, tool_defined, DrillPath, hole_of, diameters, calls_plated, plating_set, tool_made, drills, first_broken, state_of, IsStateAfter, AppliesOrRefuses, DrillsOrRefuses, after, heard, at_last_point, drill_path, hole_in, mark_of, picked_plating, plating_in}
 use Rattle.std.proofs.Common.{append-nil}
 use Rattle.grid_units.specs.declared.item_fail.ItemFail.TheVariants as stops
 use Rattle.drill_text.proofs.Lookbacks.{breaks_first, breaks_none, breaks_own, knows_more}
@@ -10,7 +10,7 @@ use Rattle.drill_text.proofs.PlatingLemmas.{own_hole}
 pub record IsDrilling (state : DrillState) (c : DrillCommand) (p q : Coordinates) (d : DrillPath) : Type 0 where
   pub path : drill_path (state_of state) c ≡ Some d
   pub rule : hole_in (state_of state) (length state.holes.items) p q ≡ ok_unless (first_broken (state_of state) (length state.holes.items) (drill_path (state_of state) c) c) (hole_of d)
-  pub moves : moved q (moved p (state_of state)) ≡ after c (state_of state)
+  pub moves : at_last_point q (at_last_point p (state_of state)) ≡ after c (state_of state)
   pub defines : tool_defined c ≡ None
   pub makes : (number : ℕ) → tool_made number state.words.said c ≡ None
   pub drilled : drills c ≡ true

@@ -6,7 +6,7 @@ pub use Rattle.drill_lines.specs.HoleLines.{Runs, field, format_in, runs_of, zer
 unfoldable pub use Rattle.drill_lines.specs.HoleLines.{coordinate, coordinate_of, coordinates, hole_from, hole_line, slot_line}
 pub use Rattle.drill_lines.specs.Inner.RouteSteps.{IsFree, IsRouteAfter}
 pub use Rattle.drill_lines.specs.LineReading.{HasReadLines, IsLater, ReadsLine}
-pub use Rattle.drill_lines.specs.Lines.{is_blank, trimmed}
+pub use Rattle.drill_lines.specs.Lines.{is_blank, without_end_blanks}
 pub use Rattle.drill_lines.specs.Meaning.{begins_comment, body_rows, common_rows, header_rows, one_command}
 unfoldable pub use Rattle.drill_lines.specs.Meaning.{body_prefixes, common_lines, header_ends, line_in, lines_before, meaning}
 pub use Rattle.drill_lines.specs.RouteGrammar.{IsAlone, IsRoute}
@@ -22,19 +22,19 @@ pub use Rattle.drill_text.specs.Grammar.{AreEntries, IsEntry, IsText, lines_of}
 pub use Rattle.drill_text.specs.Holding.{Advances, HasFault, Holds, Refuses, RefusesText}
 pub use Rattle.drill_text.specs.Holes.{DrillPath, coordinate_in, diameter_after, hole_of, holes_at, holes_of, path_at, point_at, unit_after, unit_or}
 pub use Rattle.drill_text.specs.Inner.FastPath.{HasLeadingDecimal, HasLeadingHit, HasLineEnd}
-pub use Rattle.drill_text.specs.Inner.StateSteps.{Applies, AppliesOrRefuses, AreWordsAfter, DrillsOrRefuses, IsStateAfter, IsWidth, after, drill_path, given_last, heard, hole_between, hole_in, hole_rule, length_in, mark_of, moved, no_point, own_broken, path_between, picked_plating, plating_in, point_in, resolved_point, round_hole, settings_with, state_of, width_in, width_of}
+pub use Rattle.drill_text.specs.Inner.StateSteps.{Applies, AppliesOrRefuses, AreWordsAfter, DrillsOrRefuses, IsStateAfter, IsWidth, after, drill_path, given_last, heard, hole_between, hole_in, hole_rule, length_in, mark_of, at_last_point, no_point, own_broken, path_between, picked_plating, plating_in, point_in, resolved_point, round_hole, settings_with, state_of, width_in, width_of}
 pub use Rattle.drill_text.specs.Keeping.{HasReadIn, ResultsIn, ResultsInLine}
 pub use Rattle.drill_text.specs.Laws.{DrilledHolesAreListed, DrillsAtMostOneList, IsTextOfAtMostOne, IsWithinLimits, ListedHolesAreDrilled, ReadIsWritten, SpelledIsWritten, WideHolesAreDrilled, WrittenIsRead}
 pub use Rattle.drill_text.specs.Lines.{HasNoBreak, Splits, bytes_of, ended_line}
 pub use Rattle.drill_text.specs.Lookback.{StateView, diameter_set, ends_header, format_set, header, part_after, part_set, points_in, points_of, settings_after, state_after, tool_defined, tool_set, tools_of, unit_set, x_set, y_set, zeros_set}
 pub use Rattle.drill_text.specs.Outcome.{DrillFile, commands_in, diameter_of_tool, diameters, file_of, kept_platings}
 pub use Rattle.drill_text.specs.Plating.{IsCalled, calls_plated, calls_unplated, contradiction_rule, is_plated, is_unsaid, lacks_plating, own_rule, plated_at, plating_after, plating_of_tool, plating_rule, plating_set, rule_in, said_after, tool_made}
-pub use Rattle.drill_text.specs.Profiles.{Kind, Reads, ReadsAsBy, ReadsAsIn, ReadsBy, ReadsIn, Shows, ShowsBy, add_unless, checked, checked_by, commands_by, ended, is_finish, place_after, place_after_count, plain, read_by, shown_by, shown_within, spelled_in, with_rest}
+pub use Rattle.drill_text.specs.Profiles.{Kind, Reads, ReadsAsBy, ReadsAsIn, ReadsBy, ReadsIn, Shows, ShowsBy, add_unless, commands_with, checked_by, commands_by, commands_at_end, is_finish, place_after, place_after_count, plain, read_by, shown_by, shown_within, spelled_in, with_rest}
 unfoldable pub use Rattle.drill_text.specs.Profiles.{step_in}
 pub use Rattle.drill_text.specs.Rules.{applies, broken_rule, drills, has_bad_size, has_no_tool, lacks_unit, max_holes, redefines_tool}
 unfoldable pub use Rattle.drill_text.specs.Rules.{first_broken}
 pub use Rattle.drill_text.specs.Texts.{AreWithinLimit, IsDrillText, ReadsAs, SpellsText, spelled_after}
-pub use Rattle.drill_text.specs.Writing.{are_sayable, canonical_lines, drill_sayable, is_after_end, part_from, part_with, vec_bytes, written}
+pub use Rattle.drill_text.specs.Writing.{are_sayable, canonical_lines, drill_sayable, is_after_end, part_from, part_with, vec_bytes, rewritten_text}
 pub use Rattle.drill_text.specs.declared.kept.Keep.{Keep}
 pub use Rattle.drill_text.specs.declared.kept.Keep.TheVariants.{Commands}
 pub use Rattle.drill_text.specs.declared.platings.PlatingKind.{PlatingKind}
@@ -47,7 +47,7 @@ pub use Rattle.grid_units.proofs.ResultLemmas.{bind_Ok, bind_assoc, bind_cong, b
 pub use Rattle.grid_units.specs.Holes.{GridHole}
 pub use Rattle.grid_units.specs.Limits.{line_limit, text_limit}
 pub use Rattle.grid_units.specs.Lists.{IsLegal, last_set, violation_at, violations, with_prefixes, with_prefixes_from}
-pub use Rattle.grid_units.specs.Numbers.{fits_eight_decimals, fraction, is_decimal, is_digits, is_number_char, is_too_far, picometres, signed, to_units, value, value_without_point, whole, without_sign, zero_filled, zeros_to_fill}
+pub use Rattle.grid_units.specs.Numbers.{fits_eight_decimals, fraction, is_decimal, is_digits, is_number_char, is_too_far, picometres, signed_value, to_units, value, value_without_point, whole, without_sign, zero_filled, zeros_to_fill}
 unfoldable pub use Rattle.grid_units.specs.Numbers.{parse_decimal, parse_zero_filled, within_limit}
 pub use Rattle.grid_units.specs.Results.{Answers, IfFault, IsRefusedAs, both, fault, with_place, ◌>>=◌}
 pub use Rattle.grid_units.specs.declared.fault.Fail.{Fail}

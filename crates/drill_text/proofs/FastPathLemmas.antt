@@ -1,5 +1,5 @@
 -- Those hits that are read by the fast path.
-use Rattle.drill_text.proofs.Common.{◌≡◌, ◌≤◌, ◌+◌, ◌-◌, ℕ, ℤ, true, not, eqb, cond, List, [], ◌∷◌, ◌++◌, length, Option, Some, None, Result, Ok, refl, sym, ap, ◌∙◌, arith, append_assoc, false≢true, list_all, append-nil, length-append, Reason, is_number_char, ◌>>=◌, both, is_blank, trimmed, one_command, meaning, line_in, begins_comment, Settings, coordinate, coordinates, coordinate_of, field, hole_from, hole_line, HasLeadingDecimal, HasLineEnd, HasLeadingHit, both_true}
+use Rattle.drill_text.proofs.Common.{◌≡◌, ◌≤◌, ◌+◌, ◌-◌, ℕ, ℤ, true, not, eqb, cond, List, [], ◌∷◌, ◌++◌, length, Option, Some, None, Result, Ok, refl, sym, ap, ◌∙◌, arith, append_assoc, false≢true, list_all, append-nil, length-append, Reason, is_number_char, ◌>>=◌, both, is_blank, without_end_blanks, one_command, meaning, line_in, begins_comment, Settings, coordinate, coordinates, coordinate_of, field, hole_from, hole_line, HasLeadingDecimal, HasLineEnd, HasLeadingHit, both_true}
 use Rattle.std.specs.Prelude.{IfSome, is_some}
 use Rattle.drill_lines.specs.declared.command.Part.TheVariants as part
 use Rattle.drill_lines.specs.declared.command.DrillCommand.TheVariants as command
@@ -36,8 +36,8 @@ unfolding is_no_blank_or_break
 line_solid xs ys nx ny = list_all_append is_no_blank_or_break xs (89 ∷ ys) (numbers_solid xs nx) (numbers_solid ys ny)
 
 -- blanks at the end are dropped
-trim_blanks : (xs bs : List ℕ) → list_all is_blank bs ≡ true → length bs ≤ 1 → trimmed (xs ++ bs) ≡ trimmed xs
-trim_blanks xs [] h le = ap trimmed (append-nil xs)
+trim_blanks : (xs bs : List ℕ) → list_all is_blank bs ≡ true → length bs ≤ 1 → without_end_blanks (xs ++ bs) ≡ without_end_blanks xs
+trim_blanks xs [] h le = ap without_end_blanks (append-nil xs)
 trim_blanks xs (b ∷ []) h le = trim_blank xs b (both_true (is_blank b) true h).0
 trim_blanks xs (b ∷ c ∷ bs) h le = absurd (omega arith)
 

@@ -1,5 +1,5 @@
 -- A text has a fault exactly where it is its first one.
-use Rattle.drill_text.proofs.Common.{◌≡◌, ◌⊎◌, inl, inr, ℕ, suc, ◌<◌, ◌≤◌, Bool, true, false, cond, eqb, ltb, List, [], ◌∷◌, ◌++◌, length, take, Option, None, Some, Result, Ok, Err, refl, sym, ap, ◌∙◌, append_assoc, list_any, option_to_list, append-nil, le-ltb, lt-ltb, ltb-true, ltb-false, eqb-true, eqb-false, Fault, Reason, TooLong, Truncated, ◌>>=◌, fault, with_place, bind_cong, bind_ok, bind_err, Strict, DrillCommand, trimmed, meaning, bytes_of, Splits, settings_after, broken_rule, Kind, Reads, ReadsBy, add_unless, checked, commands_by, ended, is_finish, place_after, plain, read_by, shown_by, spelled_in, step_in, spelled_after, AreWithinLimit, text_limit, line_limit, IsLegal}
+use Rattle.drill_text.proofs.Common.{◌≡◌, ◌⊎◌, inl, inr, ℕ, suc, ◌<◌, ◌≤◌, Bool, true, false, cond, eqb, ltb, List, [], ◌∷◌, ◌++◌, length, take, Option, None, Some, Result, Ok, Err, refl, sym, ap, ◌∙◌, append_assoc, list_any, option_to_list, append-nil, le-ltb, lt-ltb, ltb-true, ltb-false, eqb-true, eqb-false, Fault, Reason, TooLong, Truncated, ◌>>=◌, fault, with_place, bind_cong, bind_ok, bind_err, Strict, DrillCommand, without_end_blanks, meaning, bytes_of, Splits, settings_after, broken_rule, Kind, Reads, ReadsBy, add_unless, commands_with, commands_by, commands_at_end, is_finish, place_after, plain, read_by, shown_by, spelled_in, step_in, spelled_after, AreWithinLimit, text_limit, line_limit, IsLegal}
 use Rattle.drill_text.specs.Faults.{SpellLegally, IsRefused, HasRefusedLine, HasFaultWithin, HasFaultBeyond, IsFirstFault, HasAnswer}
 use Rattle.drill_text.proofs.ProfileLemmas.{commands_by-append, commands_by-push, show_by_err, show_by_long, show_by_ok, shown_by_err, shown_by_ok, too_long}
 use Rattle.drill_text.proofs.SpellsTextLemmas.{all_kept, all_spelled, last_short, reads_drill_text, strict_rest}
@@ -10,7 +10,7 @@ at_err place byte (Err r) f e = let same : fault place byte r ≡ f = cc in (ap 
 
 -- ---- one line
 
-judged_err : (before : List DrillCommand) (command : Option DrillCommand) (r : Reason) → checked before command ≡ Err r → (c : DrillCommand) × (command ≡ Some c) × (broken_rule before c ≡ Some r)
+judged_err : (before : List DrillCommand) (command : Option DrillCommand) (r : Reason) → commands_with before command ≡ Err r → (c : DrillCommand) × (command ≡ Some c) × (broken_rule before c ≡ Some r)
 judged_err before None r e = absurd cc
 judged_err before (Some c) r e = by (broken_rule before c) refl e
   where
@@ -22,22 +22,22 @@ step_err : (earlier : List (List ℕ)) (before : List DrillCommand) (line : List
 unfolding step_in
 step_err earlier before line r e = by (ltb line_limit (length line)) refl e
   where
-    by : (t : Bool) → ltb line_limit (length line) ≡ t → cond t (Err TooLong) (meaning (settings_after before) (trimmed line) >>= checked before) ≡ Err r → IsRefused before line r
+    by : (t : Bool) → ltb line_limit (length line) ≡ t → cond t (Err TooLong) (meaning (settings_after before) (without_end_blanks line) >>= commands_with before) ≡ Err r → IsRefused before line r
     by true long k = let same : TooLong ≡ r = cc in inl (ltb-true _ _ long, sym same)
     by false short k =
-        elim (bind_err (meaning (settings_after before) (trimmed line)) (checked before) r k) [
+        elim (bind_err (meaning (settings_after before) (without_end_blanks line)) (commands_with before) r k) [
           | inl h ↦ inr (ltb-false _ _ short, inl h)
           | inr h ↦ (let j = judged_err before h.0 r h.2 in inr (ltb-false _ _ short, inr (j.0, h.1 ∙ ap (λ (o : Option DrillCommand). Ok o) j.1, j.2)))
         ]
 
 refused_err : (earlier : List (List ℕ)) (before : List DrillCommand) (line : List ℕ) (r : Reason) → IsRefused before line r → step_in (plain Strict) earlier before line ≡ Err r
 unfolding step_in
-refused_err earlier before line r (inl h) = ap (λ t. cond t (Err TooLong) (meaning (settings_after before) (trimmed line) >>= checked before)) (lt-ltb _ _ h.0) ∙ ap (λ (x : Reason). Err x) (sym h.1)
+refused_err earlier before line r (inl h) = ap (λ t. cond t (Err TooLong) (meaning (settings_after before) (without_end_blanks line) >>= commands_with before)) (lt-ltb _ _ h.0) ∙ ap (λ (x : Reason). Err x) (sym h.1)
 refused_err earlier before line r (inr h) =
-    ap (λ t. cond t (Err TooLong) (meaning (settings_after before) (trimmed line) >>= checked before)) (le-ltb _ _ h.0)
+    ap (λ t. cond t (Err TooLong) (meaning (settings_after before) (without_end_blanks line) >>= commands_with before)) (le-ltb _ _ h.0)
     ∙ elim h.1 [
-      | inl k ↦ ap (λ x. x >>= checked before) k
-      | inr k ↦ (ap (λ x. x >>= checked before) k.1 ∙ ap (λ o. add_unless o before k.0) k.2)
+      | inl k ↦ ap (λ x. x >>= commands_with before) k
+      | inr k ↦ (ap (λ x. x >>= commands_with before) k.1 ∙ ap (λ o. add_unless o before k.0) k.2)
     ]
 
 -- ---- lines
@@ -85,7 +85,7 @@ next_refused earlier line lines start next f e r =
   where
     first_spelled : (start : List DrillCommand) (line : List ℕ) (lines : List (List ℕ)) (next : List DrillCommand) → spelled_after start (line ∷ []) ≡ Ok next → spelled_after start (line ∷ lines) ≡ spelled_after next lines
     first_spelled start line lines next e =
-        let b = bind_ok (meaning (settings_after start) (trimmed line)) (λ command. spelled_after (start ++ option_to_list command) []) next e in
+        let b = bind_ok (meaning (settings_after start) (without_end_blanks line)) (λ command. spelled_after (start ++ option_to_list command) []) next e in
         let same : start ++ option_to_list b.0 ≡ next = let k = b.2 in cc in
         ap (λ x. x >>= λ command. spelled_after (start ++ option_to_list command) lines) b.1 ∙ ap (λ (x : List DrillCommand). spelled_after x lines) same
 
@@ -152,12 +152,12 @@ lines_legal lines cs s = all_spelled [] lines [] cs s.short s.spelling s.legal
 -- ---- texts
 
 last_place : ℕ → List (List ℕ) → List ℕ → List DrillCommand → Result (List DrillCommand) Fault
-last_place len lines rest cs = strict_line lines rest cs >>= ended len lines rest
+last_place len lines rest cs = strict_line lines rest cs >>= commands_at_end len lines rest
 
 -- what a text is read as, its rest as a line
 strictly_read : (len : ℕ) (lines : List (List ℕ)) (rest : List ℕ) → read_by (plain Strict) len lines rest ≡ (strictly_shown lines rest >>= λ commands. cond (ltb text_limit len) (Err (fault (suc (length lines)) text_limit TooLong)) (last_place len lines rest commands))
 unfolding last_place
-strictly_read len lines rest = bind_cong (strictly_shown lines rest) _ _ (λ commands. ap (λ r. cond (ltb text_limit len) (Err (fault (suc (length lines)) text_limit TooLong)) (r >>= ended len lines rest)) (strict_rest lines rest commands))
+strictly_read len lines rest = bind_cong (strictly_shown lines rest) _ _ (λ commands. ap (λ r. cond (ltb text_limit len) (Err (fault (suc (length lines)) text_limit TooLong)) (r >>= commands_at_end len lines rest)) (strict_rest lines rest commands))
 
 -- the same of a text within the limit, or above it
 read_within : (len : ℕ) (lines : List (List ℕ)) (rest : List ℕ) → len ≤ text_limit → read_by (plain Strict) len lines rest ≡ (strictly_shown lines rest >>= last_place len lines rest)
@@ -173,7 +173,7 @@ all_lines lines rest cs e = commands_by-push (plain Strict) [] lines rest [] ∙
 prefix_err : (lines : List (List ℕ)) (rest : List ℕ) (f : Fault) → strict_from [] lines [] ≡ Err f → strict_from [] (lines ++ rest ∷ []) [] ≡ Err f
 prefix_err lines rest f e = commands_by-push (plain Strict) [] lines rest [] ∙ ap (λ x. x >>= strict_line lines rest) e
 
-ended_err : (len : ℕ) (lines : List (List ℕ)) (rest : List ℕ) (cs : List DrillCommand) (f : Fault) → ended len lines rest cs ≡ Err f → (list_any is_finish cs ≡ false) × (f ≡ fault (place_after lines rest) len Truncated)
+ended_err : (len : ℕ) (lines : List (List ℕ)) (rest : List ℕ) (cs : List DrillCommand) (f : Fault) → commands_at_end len lines rest cs ≡ Err f → (list_any is_finish cs ≡ false) × (f ≡ fault (place_after lines rest) len Truncated)
 ended_err len lines rest cs f e = by (list_any is_finish cs) refl e
   where
     by : (t : Bool) → list_any is_finish cs ≡ t → cond t (Ok cs) (Err (fault (place_after lines rest) len Truncated)) ≡ Err f → (list_any is_finish cs ≡ false) × (f ≡ fault (place_after lines rest) len Truncated)
@@ -190,7 +190,7 @@ within_err text lines rest f le e =
         | inr k ↦ inl (has_refused (lines ++ rest ∷ []) f (all_lines lines rest k.0 k.1 ∙ (too_long (plain Strict) lines rest k.0 k.2 ∙ ap (λ (g : Fault). Err g) k.3)))
       ]
       | inr h ↦ (let first = (shown_by_ok (plain Strict) lines rest h.0 h.1).0 in
-          elim (bind_err (strict_line lines rest h.0) (ended (length text) lines rest) f h.2) [
+          elim (bind_err (strict_line lines rest h.0) (commands_at_end (length text) lines rest) f h.2) [
             | inl k ↦ inl (has_refused (lines ++ rest ∷ []) f (all_lines lines rest h.0 first ∙ k))
             | inr k ↦ (let done = ended_err (length text) lines rest k.0 f k.2 in inr (k.0, legal_lines (lines ++ rest ∷ []) k.0 (all_lines lines rest h.0 first ∙ k.1), done.0, done.1))
           ])
@@ -232,7 +232,7 @@ refused_within text lines rest f le e =
         let lt = ltb-true _ _ long in
         ap (λ x. x >>= last_place (length text) lines rest) (show_by_long (plain Strict) lines rest cs first lt) ∙ (sym (too_long (plain Strict) lines rest cs lt) ∙ last)
     by_rest cs first last false short =
-        ap (λ x. x >>= last_place (length text) lines rest) (show_by_ok (plain Strict) lines rest cs first (ltb-false _ _ short)) ∙ ap (λ x. x >>= ended (length text) lines rest) last
+        ap (λ x. x >>= last_place (length text) lines rest) (show_by_ok (plain Strict) lines rest cs first (ltb-false _ _ short)) ∙ ap (λ x. x >>= commands_at_end (length text) lines rest) last
 
 truncated_within : (text : List ℕ) (lines : List (List ℕ)) (rest : List ℕ) (cs : List DrillCommand) → length text ≤ text_limit → SpellLegally (lines ++ rest ∷ []) cs → list_any is_finish cs ≡ false
     → read_by (plain Strict) (length text) lines rest ≡ Err (fault (place_after lines rest) (length text) Truncated)
@@ -241,7 +241,7 @@ truncated_within text lines rest cs le s none =
     let b = bind_ok (strict_from [] lines []) (strict_line lines rest) cs (sym (commands_by-push (plain Strict) [] lines rest []) ∙ lines_legal (lines ++ rest ∷ []) cs s) in
     read_within (length text) lines rest le
     ∙ (ap (λ x. x >>= last_place (length text) lines rest) (show_by_ok (plain Strict) lines rest b.0 b.1 (last_short lines rest s.short))
-    ∙ (ap (λ x. x >>= ended (length text) lines rest) b.2 ∙ ap (λ t. cond t (Ok cs) (Err (fault (place_after lines rest) (length text) Truncated))) none))
+    ∙ (ap (λ x. x >>= commands_at_end (length text) lines rest) b.2 ∙ ap (λ t. cond t (Ok cs) (Err (fault (place_after lines rest) (length text) Truncated))) none))
 
 beyond_is : (text : List ℕ) (lines : List (List ℕ)) (rest : List ℕ) (r : Result (List DrillCommand) Fault) → text_limit < length text → strictly_shown lines rest ≡ r → read_by (plain Strict) (length text) lines rest ≡ (r >>= λ commands. Err (fault (suc (length lines)) text_limit TooLong))
 beyond_is text lines rest r lt e = read_beyond (length text) lines rest lt ∙ ap (λ x. x >>= λ commands. Err (fault (suc (length lines)) text_limit TooLong)) e

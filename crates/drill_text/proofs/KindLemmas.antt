@@ -1,5 +1,5 @@
 -- A file of each kind is read as one of the same commands whose role is believed, but for the rule that the kind has beside the others.
-use Rattle.drill_text.proofs.Common.{◌≡◌, ℕ, suc, Bool, true, false, cond, ltb, ◌||◌, List, [], ◌∷◌, ◌++◌, length, map, Option, None, Some, Ok, Err, refl, sym, ap, subst, ◌∙◌, append_assoc, cons_option, filter_map, list_any, option_map, option_or, option_to_list, append-nil, line_limit, IsLegal, violation_at, with_prefixes_from, ◌>>=◌, with_place, Reason, PlatingConflict, TooLong, violations-more, bind_ok, trimmed, meaning_in, DrillCommand, bytes_of, settings_after, calls_plated, contradiction_rule, own_rule, rule_in, PlatingKind, Kind, ReadsBy, ReadsIn, add_unless, checked, checked_by, commands_by, plain, spelled_in, step_in, with_rest, broken_rule}
+use Rattle.drill_text.proofs.Common.{◌≡◌, ℕ, suc, Bool, true, false, cond, ltb, ◌||◌, List, [], ◌∷◌, ◌++◌, length, map, Option, None, Some, Ok, Err, refl, sym, ap, subst, ◌∙◌, append_assoc, cons_option, filter_map, list_any, option_map, option_or, option_to_list, append-nil, line_limit, IsLegal, violation_at, with_prefixes_from, ◌>>=◌, with_place, Reason, PlatingConflict, TooLong, violations-more, bind_ok, without_end_blanks, meaning_in, DrillCommand, bytes_of, settings_after, calls_plated, contradiction_rule, own_rule, rule_in, PlatingKind, Kind, ReadsBy, ReadsIn, add_unless, commands_with, checked_by, commands_by, plain, spelled_in, step_in, with_rest, broken_rule}
 use Rattle.drill_text.specs.MixedLaws.{KindsReadTheSame, UncontradictedIsLegal}
 use Rattle.drill_text.proofs.PlatingLemmas.{rules_are}
 use Rattle.drill_text.proofs.ProfileLemmas.{at_ok, ending, guarded, read_alike}
@@ -9,7 +9,7 @@ use Rattle.drill_text.proofs.SpellsTextLemmas.{judged_ok, last_keeps, legal_star
 
 -- what a command leaves, where it breaks no rule of its kind of file
 judged_same : (plating : PlatingKind) (before : List DrillCommand) (command : Option DrillCommand) (new : List DrillCommand) → checked_by (rule_in plating) before command ≡ Ok new
-    → (checked before command ≡ Ok new) × (IsLegal (own_rule plating) before → IsLegal (own_rule plating) new)
+    → (commands_with before command ≡ Ok new) × (IsLegal (own_rule plating) before → IsLegal (own_rule plating) new)
 judged_same plating before None new e = let same : before ≡ new = cc in (e, λ legal. subst (IsLegal (own_rule plating)) same legal)
 judged_same plating before (Some c) new e = by (broken_rule before c) (own_rule plating before c) refl refl (sym (ap (λ o. add_unless o before c) (rules_are plating before c)) ∙ e)
   where
@@ -21,7 +21,7 @@ judged_same plating before (Some c) new e = by (broken_rule before c) (own_rule 
     by (Some r) p is own k = absurd cc
 
 -- a command of a file whose role is believed leaves the same in another kind, if it breaks no rule of that
-judged_back : (plating : PlatingKind) (before : List DrillCommand) (command : Option DrillCommand) (new : List DrillCommand) → checked before command ≡ Ok new → IsLegal (own_rule plating) new → checked_by (rule_in plating) before command ≡ Ok new
+judged_back : (plating : PlatingKind) (before : List DrillCommand) (command : Option DrillCommand) (new : List DrillCommand) → commands_with before command ≡ Ok new → IsLegal (own_rule plating) new → checked_by (rule_in plating) before command ≡ Ok new
 judged_back plating before None new e legal = e
 judged_back plating before (Some c) new e legal = by (broken_rule before c) refl e
   where
@@ -41,27 +41,27 @@ module _ (kind : Kind) where
   step_same : (earlier : List (List ℕ)) (line : List ℕ) (before new : List DrillCommand) → step_in kind earlier before line ≡ Ok new → (step_in (plain kind.profile) earlier before line ≡ Ok new) × (IsLegal own before → IsLegal own new)
   unfolding step_in
   step_same earlier line before new e =
-      let spelt = meaning_in kind.profile (map trimmed earlier) (settings_after before) (trimmed line) in
+      let spelt = meaning_in kind.profile (map without_end_blanks earlier) (settings_after before) (without_end_blanks line) in
       let g = guarded (ltb line_limit (length line)) TooLong (spelt >>= checked_by (rule_in kind.plating) before) new e in
       let b = bind_ok spelt (checked_by (rule_in kind.plating) before) new g.1 in
       let j = judged_same kind.plating before b.0 new b.2 in
-      (ap (λ t. cond t (Err TooLong) (spelt >>= checked before)) g.0 ∙ (ap (λ m. m >>= checked before) b.1 ∙ j.0), j.1)
+      (ap (λ t. cond t (Err TooLong) (spelt >>= commands_with before)) g.0 ∙ (ap (λ m. m >>= commands_with before) b.1 ∙ j.0), j.1)
 
   step_back : (earlier : List (List ℕ)) (line : List ℕ) (before new : List DrillCommand) → step_in (plain kind.profile) earlier before line ≡ Ok new → IsLegal own new → step_in kind earlier before line ≡ Ok new
   unfolding step_in
   step_back earlier line before new e legal =
-      let spelt = meaning_in kind.profile (map trimmed earlier) (settings_after before) (trimmed line) in
-      let g = guarded (ltb line_limit (length line)) TooLong (spelt >>= checked before) new e in
-      let b = bind_ok spelt (checked before) new g.1 in
+      let spelt = meaning_in kind.profile (map without_end_blanks earlier) (settings_after before) (without_end_blanks line) in
+      let g = guarded (ltb line_limit (length line)) TooLong (spelt >>= commands_with before) new e in
+      let b = bind_ok spelt (commands_with before) new g.1 in
       ap (λ t. cond t (Err TooLong) (spelt >>= checked_by (rule_in kind.plating) before)) g.0 ∙ (ap (λ m. m >>= checked_by (rule_in kind.plating) before) b.1 ∙ judged_back kind.plating before b.0 new b.2 legal)
 
   -- what a line leaves begins with what stood before it
   step_more : (earlier : List (List ℕ)) (line : List ℕ) (before new : List DrillCommand) → step_in (plain kind.profile) earlier before line ≡ Ok new → (more : List DrillCommand) × (before ++ more ≡ new)
   unfolding step_in
   step_more earlier line before new e =
-      let spelt = meaning_in kind.profile (map trimmed earlier) (settings_after before) (trimmed line) in
-      let g = guarded (ltb line_limit (length line)) TooLong (spelt >>= checked before) new e in
-      let b = bind_ok spelt (checked before) new g.1 in
+      let spelt = meaning_in kind.profile (map without_end_blanks earlier) (settings_after before) (without_end_blanks line) in
+      let g = guarded (ltb line_limit (length line)) TooLong (spelt >>= commands_with before) new e in
+      let b = bind_ok spelt (commands_with before) new g.1 in
       (option_to_list b.0, (judged_ok before b.0 new b.2).0)
 
   line_same : (earlier : List (List ℕ)) (line : List ℕ) (before new : List DrillCommand) → spelled_in kind earlier line before ≡ Ok new → (spelled_in (plain kind.profile) earlier line before ≡ Ok new) × (IsLegal own before → IsLegal own new)

@@ -1,5 +1,5 @@
 -- What one more command changes of the words that look back.
-use Rattle.drill_text.proofs.Common.{◌≡◌, ℕ, ℤ, List, [], ◌∷◌, ◌++◌, length, Option, None, Some, unwrap_or, Bool, true, false, cond, ◌||◌, refl, sym, ap, subst, ◌∙◌, flat_map-append, filter_map-append, option_or, option_map, option_to_list, list_any, cons_option, last_set, option_or_none, option_or_assoc, unwrap_or_or, last_set-append, last_set-more, list_any-more, flat_positions-more, Coordinates, DrillCommand, Reason, PlatingKind, DrillState, own_rule, rule_in, tool_made, StateView, state_after, settings_after, header, ends_header, part_set, unit_set, zeros_set, format_set, diameter_set, tool_set, tool_defined, tools_of, points_in, points_of, x_set, y_set, unit_after, point_at, coordinate_in, diameter_after, path_at, hole_of, holes_at, holes_of, broken_rule, drills, first_broken, redefines_tool, state_of, AreWordsAfter, IsStateAfter, Applies, mark_of, own_broken, picked_plating, after, settings_with, given_last, moved, no_point, drill_path, resolved_point}
+use Rattle.drill_text.proofs.Common.{◌≡◌, ℕ, ℤ, List, [], ◌∷◌, ◌++◌, length, Option, None, Some, unwrap_or, Bool, true, false, cond, ◌||◌, refl, sym, ap, subst, ◌∙◌, flat_map-append, filter_map-append, option_or, option_map, option_to_list, list_any, cons_option, last_set, option_or_none, option_or_assoc, unwrap_or_or, last_set-append, last_set-more, list_any-more, flat_positions-more, Coordinates, DrillCommand, Reason, PlatingKind, DrillState, own_rule, rule_in, tool_made, StateView, state_after, settings_after, header, ends_header, part_set, unit_set, zeros_set, format_set, diameter_set, tool_set, tool_defined, tools_of, points_in, points_of, x_set, y_set, unit_after, point_at, coordinate_in, diameter_after, path_at, hole_of, holes_at, holes_of, broken_rule, drills, first_broken, redefines_tool, state_of, AreWordsAfter, IsStateAfter, Applies, mark_of, own_broken, picked_plating, after, settings_with, given_last, at_last_point, no_point, drill_path, resolved_point}
 use Rattle.std.proofs.Common.{append-nil}
 use Rattle.grid_units.specs.declared.lengths.Unit.{Unit as Units}
 use Rattle.drill_lines.specs.declared.command.DrillCommand.TheVariants as command
@@ -149,7 +149,7 @@ knows_more old new kind before c is_state not_redefined takes = record {
 
 -- ---- the arms of a hit and a slot
 
-pub moved_two : (p q : Coordinates) (s : StateView) → moved q (moved p s) ≡ after (command.Slot p q) s
+pub moved_two : (p q : Coordinates) (s : StateView) → at_last_point q (at_last_point p s) ≡ after (command.Slot p q) s
 moved_two p q s = λ i. record {
   settings = s.settings;
   header_ended = s.header_ended;
@@ -159,5 +159,5 @@ moved_two p q s = λ i. record {
   y = sym (option_or_assoc q.y p.y s.y) i;
 }
 
-pub moved_one : (p : Coordinates) (s : StateView) → moved no_point (moved p s) ≡ after (command.Hit p) s
+pub moved_one : (p : Coordinates) (s : StateView) → at_last_point no_point (at_last_point p s) ≡ after (command.Hit p) s
 moved_one p s = refl

@@ -1,5 +1,5 @@
 -- What lines and texts spell in a profile.
-use Rattle.drill_text.proofs.Common.{◌≡◌, ℕ, suc, ◌<◌, ◌≤◌, ◌⊎◌, inl, inr, Bool, true, false, cond, ltb, List, [], ◌∷◌, ◌++◌, length, map, Option, Result, Ok, Err, refl, sym, ap, subst, ◌∙◌, append_assoc, list_any, append-nil, take_all, lt-ltb, le-ltb, ltb-true, ltb-false, Reason, TooLong, Truncated, Fault, ◌>>=◌, fault, with_place, bind_ok, bind_err, bind_assoc, bind_cong, bind_Ok, guard_ok, guard_err, line_limit, text_limit, DrillCommand, trimmed, meaning_in, bytes_of, Splits, settings_after, rule_in, Kind, ReadsBy, checked_by, commands_by, ended, is_finish, place_after, shown_by, spelled_in, step_in, with_rest}
+use Rattle.drill_text.proofs.Common.{◌≡◌, ℕ, suc, ◌<◌, ◌≤◌, ◌⊎◌, inl, inr, Bool, true, false, cond, ltb, List, [], ◌∷◌, ◌++◌, length, map, Option, Result, Ok, Err, refl, sym, ap, subst, ◌∙◌, append_assoc, list_any, append-nil, take_all, lt-ltb, le-ltb, ltb-true, ltb-false, Reason, TooLong, Truncated, Fault, ◌>>=◌, fault, with_place, bind_ok, bind_err, bind_assoc, bind_cong, bind_Ok, guard_ok, guard_err, line_limit, text_limit, DrillCommand, without_end_blanks, meaning_in, bytes_of, Splits, settings_after, rule_in, Kind, ReadsBy, checked_by, commands_by, commands_at_end, is_finish, place_after, shown_by, spelled_in, step_in, with_rest}
 
 -- ---- tests
 
@@ -85,14 +85,14 @@ too_long kind lines line before lt = rw (lt-ltb _ _ lt) refl
 
 -- a line that spells this is judged so
 pub spelled_in_is : (kind : Kind) (earlier : List (List ℕ)) (line : List ℕ) (before : List DrillCommand) (r : Result (Option DrillCommand) Reason) → length line ≤ line_limit
-    → meaning_in kind.profile (map trimmed earlier) (settings_after before) (trimmed line) ≡ r → spelled_in kind earlier line before ≡ with_place (suc (length earlier)) (length (bytes_of earlier)) (r >>= checked_by (rule_in kind.plating) before)
+    → meaning_in kind.profile (map without_end_blanks earlier) (settings_after before) (without_end_blanks line) ≡ r → spelled_in kind earlier line before ≡ with_place (suc (length earlier)) (length (bytes_of earlier)) (r >>= checked_by (rule_in kind.plating) before)
 unfolding step_in
 spelled_in_is kind earlier line before r le e = rw (le-ltb _ _ le) (ap (λ m. with_place (suc (length earlier)) (length (bytes_of earlier)) (m >>= checked_by (rule_in kind.plating) before)) e)
 
 -- ---- texts
 
 ends_by : Kind → ℕ → List (List ℕ) → List ℕ → List DrillCommand → Result (List DrillCommand) Fault
-ends_by kind len lines rest cs = cond (ltb text_limit len) (Err (fault (suc (length lines)) text_limit TooLong)) (with_rest kind lines rest cs >>= ended len lines rest)
+ends_by kind len lines rest cs = cond (ltb text_limit len) (Err (fault (suc (length lines)) text_limit TooLong)) (with_rest kind lines rest cs >>= commands_at_end len lines rest)
 
 -- How a text ends that is read as commands: its lines spell the first of them, and the rest the others.
 pub record Ending (kind : Kind) (text : List ℕ) (cs : List DrillCommand) : Type 0 where
@@ -113,8 +113,8 @@ ending kind text cs r =
     let rest = r.rest in
     let len = length text in
     let b = bind_ok (shown_by kind lines rest) (ends_by kind len lines rest) cs (sym r.answer_is) in
-    let g = guarded (ltb text_limit len) (fault (suc (length lines)) text_limit TooLong) (with_rest kind lines rest b.0 >>= ended len lines rest) cs b.2 in
-    let c = bind_ok (with_rest kind lines rest b.0) (ended len lines rest) cs g.1 in
+    let g = guarded (ltb text_limit len) (fault (suc (length lines)) text_limit TooLong) (with_rest kind lines rest b.0 >>= commands_at_end len lines rest) cs b.2 in
+    let c = bind_ok (with_rest kind lines rest b.0) (commands_at_end len lines rest) cs g.1 in
     let e = with_end (list_any is_finish c.0) (fault (place_after lines rest) len Truncated) c.0 cs c.2 in
     let shown = shown_by_ok kind lines rest b.0 b.1 in
     let le : length text ≤ text_limit = ltb-false _ _ g.0 in
@@ -142,8 +142,8 @@ ended_so kind text cs e =
       rest = rest;
       splits = subst (λ (t : List ℕ). Splits t lines rest) (sym (take_all text_limit text e.within)) e.splits;
       answer_is = sym (ap (λ s. s >>= ends_by kind len lines rest) (show_by_ok kind lines rest e.first e.shown e.short)
-          ∙ (ap (λ t. cond t (Err (fault (suc (length lines)) text_limit TooLong)) (with_rest kind lines rest e.first >>= ended len lines rest)) (le-ltb _ _ e.within)
-          ∙ (ap (λ s. s >>= ended len lines rest) e.last ∙ ap (λ t. cond t (Ok cs) (Err (fault (place_after lines rest) len Truncated))) e.ends)));
+          ∙ (ap (λ t. cond t (Err (fault (suc (length lines)) text_limit TooLong)) (with_rest kind lines rest e.first >>= commands_at_end len lines rest)) (le-ltb _ _ e.within)
+          ∙ (ap (λ s. s >>= commands_at_end len lines rest) e.last ∙ ap (λ t. cond t (Ok cs) (Err (fault (place_after lines rest) len Truncated))) e.ends)));
     }
 
 -- a text that ends alike in another kind of file is read as the same commands in it

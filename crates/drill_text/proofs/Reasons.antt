@@ -1,5 +1,5 @@
 -- A drill text has a fault of one of its own reasons.
-use Rattle.drill_text.proofs.Common.{◌≡◌, ◌⊎◌, inl, inr, ℕ, ℤ, Bool, true, false, cond, ◌&&◌, eqb, leb, ltb, List, [], ◌∷◌, ◌++◌, length, drop, Option, None, Some, Result, Ok, Err, refl, ap, subst, ◌∙◌, codes, list_all, list_any, find, prefix_len, AllByRecursion, option_map, Fault, Reason, Inch, Millimetre, ◌>>=◌, both, is_digits, is_number_char, without_sign, is_decimal, fits_eight_decimals, fraction, whole, value, value_without_point, signed, to_units, parse_decimal, zeros_to_fill, zero_filled, parse_zero_filled, Part, Settings, DrillCommand, Comment, UnitLine, Finish, Tool, Pick, Hit, Slot, trimmed, format_in, zeros_in, coordinate_of, coordinate, Runs, runs_of, coordinates, slot_line, hole_from, hole_line, one_command, lines_before, common_lines, common_rows, header_ends, header_rows, body_prefixes, body_rows, line_in, begins_comment, meaning, settings_after, state_after, path_at, holes_of, applies, first_broken, broken_rule, Reads}
+use Rattle.drill_text.proofs.Common.{◌≡◌, ◌⊎◌, inl, inr, ℕ, ℤ, Bool, true, false, cond, ◌&&◌, eqb, leb, ltb, List, [], ◌∷◌, ◌++◌, length, drop, Option, None, Some, Result, Ok, Err, refl, ap, subst, ◌∙◌, codes, list_all, list_any, find, prefix_len, AllByRecursion, option_map, Fault, Reason, Inch, Millimetre, ◌>>=◌, both, is_digits, is_number_char, without_sign, is_decimal, fits_eight_decimals, fraction, whole, value, value_without_point, signed_value, to_units, parse_decimal, zeros_to_fill, zero_filled, parse_zero_filled, Part, Settings, DrillCommand, Comment, UnitLine, Finish, Tool, Pick, Hit, Slot, without_end_blanks, format_in, zeros_in, coordinate_of, coordinate, Runs, runs_of, coordinates, slot_line, hole_from, hole_line, one_command, lines_before, common_lines, common_rows, header_ends, header_rows, body_prefixes, body_rows, line_in, begins_comment, meaning, settings_after, state_after, path_at, holes_of, applies, first_broken, broken_rule, Reads}
 use Rattle.grid_units.specs.declared.fault.Reason.TheVariants as reason
 use Rattle.grid_units.specs.declared.lengths.Unit.{Unit as Units}
 use Rattle.grid_units.specs.declared.zero_filling.Zeros.{Zeros}
@@ -44,7 +44,7 @@ reasons_both (Err a) (Err b) h k = by (leb (reason_number a) (reason_number b))
 dec_reasons : (text : List ℕ) → DrillReasons (parse_decimal text)
 unfolding DrillReasons parse_decimal
 dec_reasons text =
-    let read : Result ℤ Reason = Ok (signed text (to_units (value_without_point text) (length (fraction text)))) in
+    let read : Result ℤ Reason = Ok (signed_value text (to_units (value_without_point text) (length (fraction text)))) in
     let near : Result ℤ Reason = cond (ltb 999999 (value (whole text))) (Err reason.TooFar) read in
     let coarse : Result ℤ Reason = cond (fits_eight_decimals (fraction text)) near (Err reason.TooFine) in
     reasons_cond (is_decimal text) coarse (Err reason.BadNumber) (reasons_cond (fits_eight_decimals (fraction text)) near (Err reason.TooFine) (reasons_cond (ltb 999999 (value (whole text))) (Err reason.TooFar) read refl tt) refl) refl
@@ -58,7 +58,7 @@ missing_reasons Full places n = reasons_cond (eqb n places) (Ok 0) (Err reason.N
 zeros_reasons : (text : List ℕ) (i d : ℕ) (zeros : Zeros) → DrillReasons (parse_zero_filled text i d zeros)
 unfolding DrillReasons parse_zero_filled
 zeros_reasons text i d zeros =
-    reasons_cond (is_digits (without_sign text)) _ (Err reason.BadNumber) (reasons_bind (zeros_to_fill zeros _ (length (without_sign text))) (λ k. Ok (signed text (to_units (zero_filled (without_sign text) k) d))) (missing_reasons zeros _ (length (without_sign text))) (λ k. tt)) refl
+    reasons_cond (is_digits (without_sign text)) _ (Err reason.BadNumber) (reasons_bind (zeros_to_fill zeros _ (length (without_sign text))) (λ k. Ok (signed_value text (to_units (zero_filled (without_sign text) k) d))) (missing_reasons zeros _ (length (without_sign text))) (λ k. tt)) refl
 
 -- ---- tools
 
@@ -206,8 +206,8 @@ refused_reasons : (before : List DrillCommand) (line : List ℕ) (r : Reason) �
 refused_reasons before line r (inl h) = ap is_drill_reason h.1
 refused_reasons before line r (inr h) = by h.1
   where
-    by : ((meaning (settings_after before) (trimmed line) ≡ Err r) ⊎ ((c : DrillCommand) × (meaning (settings_after before) (trimmed line) ≡ Ok (Some c)) × (broken_rule before c ≡ Some r))) → is_drill_reason r ≡ true
-    by (inl k) = reasons_is (meaning (settings_after before) (trimmed line)) r (line_reasons (settings_after before) (trimmed line)) k
+    by : ((meaning (settings_after before) (without_end_blanks line) ≡ Err r) ⊎ ((c : DrillCommand) × (meaning (settings_after before) (without_end_blanks line) ≡ Ok (Some c)) × (broken_rule before c ≡ Some r))) → is_drill_reason r ≡ true
+    by (inl k) = reasons_is (meaning (settings_after before) (without_end_blanks line)) r (line_reasons (settings_after before) (without_end_blanks line)) k
     by (inr k) = rule_reasons before k.0 r k.2
 
 line_reason : (lines : List (List ℕ)) (f : Fault) → HasRefusedLine lines f → is_drill_reason f.reason ≡ true

@@ -4,7 +4,7 @@ use Rattle.std.proofs.Common.{append-nil}
 use Rattle.drill_lines.specs.declared.command.Part.TheVariants as part
 use Rattle.drill_lines.specs.declared.command.DrillCommand.TheVariants as command
 use Rattle.drill_lines.proofs.CanonicalParses.{parses}
-use Rattle.drill_text.specs.Writing.{part_with, part_from, are_sayable, is_after_end, drill_sayable, canonical_lines, written as written_result}
+use Rattle.drill_text.specs.Writing.{part_with, part_from, are_sayable, is_after_end, drill_sayable, canonical_lines, rewritten_text}
 use Rattle.drill_text.proofs.SplitsLemmas.{AllR-append, bytes_of-push}
 
 pub AreTyped : List DrillCommand → Type 0
@@ -91,10 +91,10 @@ text_prefix cs n =
     ap canonical_lines (sym (take-append-drop n cs)) ∙ (ap bytes_of (map-append canonical (take n cs) (drop n cs)) ∙ flat_map-append ended_line (map canonical (take n cs)) (map canonical (drop n cs))) in
     omega (arith, ap length joined, length-append (canonical_lines (take n cs)) (canonical_lines (drop n cs)))
 
-pub written_long : (cs : List DrillCommand) → text_limit < length (canonical_lines cs) → Err (fault 0 0 TooLong) ≡ written_result cs
+pub written_long : (cs : List DrillCommand) → text_limit < length (canonical_lines cs) → Err (fault 0 0 TooLong) ≡ rewritten_text cs
 written_long cs h = sym (ap (λ t. cond t (Err (fault 0 0 TooLong)) (Ok (canonical_lines cs))) (lt-ltb _ _ h))
 
-pub written_short : (cs : List DrillCommand) (text : List ℕ) → text ≡ canonical_lines cs → length text ≤ text_limit → Ok text ≡ written_result cs
+pub written_short : (cs : List DrillCommand) (text : List ℕ) → text ≡ canonical_lines cs → length text ≤ text_limit → Ok text ≡ rewritten_text cs
 written_short cs text e h =
     let short : length (canonical_lines cs) ≤ text_limit = subst (λ (x : List ℕ). length x ≤ text_limit) e h in
     ap (λ (x : List ℕ). Ok x) e ∙ sym (ap (λ t. cond t (Err (fault 0 0 TooLong)) (Ok (canonical_lines cs))) (le-ltb _ _ short))

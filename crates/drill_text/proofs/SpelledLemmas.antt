@@ -1,5 +1,5 @@
 -- A line that is read and judged.
-use Rattle.drill_text.proofs.Common.{◌≡◌, ℕ, ◌<◌, List, [], ◌∷◌, ◌++◌, length, map, None, Some, Result, Ok, Err, sym, ap, subst, ◌∙◌, refl, arith, map-append, Reason, Fault, Fail, fault, with_place, IfFault, DrillCommand, Settings, trimmed, HasReadLines, PlatingKind, DrillState, Keep, StateView, settings_after, rule_in, Kind, add_unless, checked_by, spelled_in, with_rest, IsStateAfter, ResultsIn, ResultsInLine}
+use Rattle.drill_text.proofs.Common.{◌≡◌, ℕ, ◌<◌, List, [], ◌∷◌, ◌++◌, length, map, None, Some, Result, Ok, Err, sym, ap, subst, ◌∙◌, refl, arith, map-append, Reason, Fault, Fail, fault, with_place, IfFault, DrillCommand, Settings, without_end_blanks, HasReadLines, PlatingKind, DrillState, Keep, StateView, settings_after, rule_in, Kind, add_unless, checked_by, spelled_in, with_rest, IsStateAfter, ResultsIn, ResultsInLine}
 use Rattle.grid_units.specs.declared.profile.Profile.{Profile}
 use Rattle.drill_lines.specs.declared.line_reader.LineReader.{LineReader}
 use Rattle.drill_text.specs.declared.kept.KeptCommands.{KeptCommands}
@@ -15,16 +15,16 @@ pub settings_are : (state : DrillState) (plating : PlatingKind) (before : List D
 settings_are state plating before h = ap (λ (s : StateView). s.settings) h.state_after
 
 -- one more line without the blanks at its end
-pub trimmed_more : (earlier : List (List ℕ)) (line : List ℕ) → map trimmed (earlier ++ line ∷ []) ≡ map trimmed earlier ++ trimmed line ∷ []
-trimmed_more earlier line = map-append trimmed earlier (line ∷ [])
+pub trimmed_more : (earlier : List (List ℕ)) (line : List ℕ) → map without_end_blanks (earlier ++ line ∷ []) ≡ map without_end_blanks earlier ++ without_end_blanks line ∷ []
+trimmed_more earlier line = map-append without_end_blanks earlier (line ∷ [])
 
 -- lines that were read, with one more
-pub lines_more : (reader : LineReader) (p : Profile) (s : Settings) (earlier : List (List ℕ)) (line : List ℕ) → HasReadLines reader p s (map trimmed earlier ++ trimmed line ∷ []) → HasReadLines reader p s (map trimmed (earlier ++ line ∷ []))
+pub lines_more : (reader : LineReader) (p : Profile) (s : Settings) (earlier : List (List ℕ)) (line : List ℕ) → HasReadLines reader p s (map without_end_blanks earlier ++ without_end_blanks line ∷ []) → HasReadLines reader p s (map without_end_blanks (earlier ++ line ∷ []))
 lines_more reader p s earlier line h = subst (λ (e : List (List ℕ)). HasReadLines reader p s e) (sym (trimmed_more earlier line)) h
 
 -- the judged command of a line that was read
 pub line_results : {X : Type 0} (result : Result X Fail) (reader : LineReader) (state : DrillState) (kept : KeptCommands) (p : Kind) (keep : Keep) (earlier : List (List ℕ)) (line : List ℕ) (judged read : Result (List DrillCommand) Fault)
-    → read ≡ judged → ((after : List DrillCommand) → HasReadLines reader p.profile (settings_after after) (map trimmed (earlier ++ line ∷ []))) → ResultsIn result state kept p.plating keep judged → ResultsInLine result reader state kept p keep earlier line read
+    → read ≡ judged → ((after : List DrillCommand) → HasReadLines reader p.profile (settings_after after) (map without_end_blanks (earlier ++ line ∷ []))) → ResultsIn result state kept p.plating keep judged → ResultsInLine result reader state kept p keep earlier line read
 line_results (Ok x) reader state kept p keep earlier line judged read same lines h = (h.0, same ∙ h.1, record { lines = lines h.0; has_read = h.2 })
 line_results (Err e) reader state kept p keep earlier line judged read same lines h = subst (λ r. IfFault (λ f. r ≡ Err f) e) (sym same) h
 

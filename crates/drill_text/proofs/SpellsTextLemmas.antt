@@ -1,5 +1,5 @@
 -- A text is read where its lines spell a legal list of commands.
-use Rattle.drill_text.proofs.Common.{◌≡◌, ℕ, suc, ◌≤◌, Bool, true, false, cond, ltb, List, [], ◌∷◌, ◌++◌, length, Option, None, Some, Result, Ok, Err, refl, sym, ap, subst, ◌∙◌, append_assoc, filter_map, cons_option, option_to_list, option_map, ltb-false, Fail, Reason, TooLong, Strict, ◌>>=◌, with_place, Answers, violations, violation_at, with_prefixes_from, IsLegal, line_limit, bind_ok, violations-more, violations-append, DrillCommand, trimmed, meaning, bytes_of, settings_after, broken_rule, Reads, ReadsAsIn, add_unless, checked, commands_by, plain, spelled_in, step_in, with_rest, spelled_after, AreWithinLimit, IsDrillText, ReadsAs}
+use Rattle.drill_text.proofs.Common.{◌≡◌, ℕ, suc, ◌≤◌, Bool, true, false, cond, ltb, List, [], ◌∷◌, ◌++◌, length, Option, None, Some, Result, Ok, Err, refl, sym, ap, subst, ◌∙◌, append_assoc, filter_map, cons_option, option_to_list, option_map, ltb-false, Fail, Reason, TooLong, Strict, ◌>>=◌, with_place, Answers, violations, violation_at, with_prefixes_from, IsLegal, line_limit, bind_ok, violations-more, violations-append, DrillCommand, without_end_blanks, meaning, bytes_of, settings_after, broken_rule, Reads, ReadsAsIn, add_unless, commands_with, commands_by, plain, spelled_in, step_in, with_rest, spelled_after, AreWithinLimit, IsDrillText, ReadsAs}
 use Rattle.std.proofs.Common.{append-nil}
 use Rattle.grid_units.specs.declared.fault.Fail.TheVariants as fails
 use Rattle.drill_text.proofs.ProfileLemmas.{at_ok, commands_by-push, ended_so, ending, spelled_in_is}
@@ -10,11 +10,11 @@ use Rattle.drill_text.proofs.ProfileLemmas.{at_ok, commands_by-push, ended_so, e
 record KeptCommands (before : List DrillCommand) (line : List ℕ) (new : List DrillCommand) : Type 0 where
   command : Option DrillCommand
   short : length line ≤ line_limit
-  parses : meaning (settings_after before) (trimmed line) ≡ Ok command
+  parses : meaning (settings_after before) (without_end_blanks line) ≡ Ok command
   new_is : before ++ option_to_list command ≡ new
   keeps : IsLegal broken_rule before → IsLegal broken_rule new
 
-pub judged_ok : (before : List DrillCommand) (command : Option DrillCommand) (new : List DrillCommand) → checked before command ≡ Ok new → (before ++ option_to_list command ≡ new) × (IsLegal broken_rule before → IsLegal broken_rule new)
+pub judged_ok : (before : List DrillCommand) (command : Option DrillCommand) (new : List DrillCommand) → commands_with before command ≡ Ok new → (before ++ option_to_list command ≡ new) × (IsLegal broken_rule before → IsLegal broken_rule new)
 judged_ok before None new e = let same : before ≡ new = cc in (append-nil before ∙ same, λ legal. subst (IsLegal broken_rule) same legal)
 judged_ok before (Some c) new e = by (broken_rule before c) refl e
   where
@@ -26,10 +26,10 @@ kept : (earlier : List (List ℕ)) (before : List DrillCommand) (line : List ℕ
 unfolding step_in
 kept earlier before line new e = by (ltb line_limit (length line)) refl e
   where
-    by : (t : Bool) → ltb line_limit (length line) ≡ t → cond t (Err TooLong) (meaning (settings_after before) (trimmed line) >>= checked before) ≡ Ok new → KeptCommands before line new
+    by : (t : Bool) → ltb line_limit (length line) ≡ t → cond t (Err TooLong) (meaning (settings_after before) (without_end_blanks line) >>= commands_with before) ≡ Ok new → KeptCommands before line new
     by true long k = absurd cc
     by false short k =
-        let b = bind_ok (meaning (settings_after before) (trimmed line)) (checked before) new k in
+        let b = bind_ok (meaning (settings_after before) (without_end_blanks line)) (commands_with before) new k in
         let j = judged_ok before b.0 new b.2 in
         record { command = b.0; short = ltb-false _ _ short; parses = b.1; new_is = j.0; keeps = j.1 }
 
@@ -63,7 +63,7 @@ legal_prefix = legal_start broken_rule
 pub spelled_more : (before : List DrillCommand) (lines : List (List ℕ)) (new : List DrillCommand) → spelled_after before lines ≡ Ok new → (more : List DrillCommand) × (new ≡ before ++ more)
 spelled_more before [] new e = let same : before ≡ new = cc in ([], sym same ∙ sym (append-nil before))
 spelled_more before (line ∷ lines) new e =
-    let b = bind_ok (meaning (settings_after before) (trimmed line)) (λ command. spelled_after (before ++ option_to_list command) lines) new e in
+    let b = bind_ok (meaning (settings_after before) (without_end_blanks line)) (λ command. spelled_after (before ++ option_to_list command) lines) new e in
     let rest = spelled_more (before ++ option_to_list b.0) lines new b.2 in
     (option_to_list b.0 ++ rest.0, rest.1 ∙ append_assoc before (option_to_list b.0) rest.0)
 
@@ -84,11 +84,11 @@ pub last_legal : (before : List DrillCommand) (c : DrillCommand) → IsLegal bro
 last_legal = last_keeps broken_rule
 
 -- a command that is judged is kept, if the list with it is legal
-pub keeps_judged : (before : List DrillCommand) (command : Option DrillCommand) → IsLegal broken_rule (before ++ option_to_list command) → checked before command ≡ Ok (before ++ option_to_list command)
+pub keeps_judged : (before : List DrillCommand) (command : Option DrillCommand) → IsLegal broken_rule (before ++ option_to_list command) → commands_with before command ≡ Ok (before ++ option_to_list command)
 keeps_judged before None legal = ap (λ (x : List DrillCommand). Ok x) (sym (append-nil before))
 keeps_judged before (Some c) legal = ap (λ o. add_unless o before c) (last_legal before c legal)
 
-keeps_line : (earlier : List (List ℕ)) (before : List DrillCommand) (line : List ℕ) (command : Option DrillCommand) → length line ≤ line_limit → meaning (settings_after before) (trimmed line) ≡ Ok command → IsLegal broken_rule (before ++ option_to_list command)
+keeps_line : (earlier : List (List ℕ)) (before : List DrillCommand) (line : List ℕ) (command : Option DrillCommand) → length line ≤ line_limit → meaning (settings_after before) (without_end_blanks line) ≡ Ok command → IsLegal broken_rule (before ++ option_to_list command)
     → spelled_in (plain Strict) earlier line before ≡ Ok (before ++ option_to_list command)
 keeps_line earlier before line command short parses legal =
     spelled_in_is (plain Strict) earlier line before (Ok command) short parses ∙ ap (with_place (suc (length earlier)) (length (bytes_of earlier))) (keeps_judged before command legal)
@@ -97,7 +97,7 @@ pub all_spelled : (earlier lines : List (List ℕ)) (before new : List DrillComm
 all_spelled earlier [] before new short e legal = let same : before ≡ new = cc in ap (λ (x : List DrillCommand). Ok x) same
 all_spelled earlier (line ∷ lines) before new short e legal =
     let next : List (List ℕ) = earlier ++ line ∷ [] in
-    let b = bind_ok (meaning (settings_after before) (trimmed line)) (λ command. spelled_after (before ++ option_to_list command) lines) new e in
+    let b = bind_ok (meaning (settings_after before) (without_end_blanks line)) (λ command. spelled_after (before ++ option_to_list command) lines) new e in
     let more = spelled_more (before ++ option_to_list b.0) lines new b.2 in
     let now = keeps_line earlier before line b.0 short.0 b.1 (legal_prefix (before ++ option_to_list b.0) more.0 (subst (IsLegal broken_rule) more.1 legal)) in
     ap (λ r. r >>= commands_by (plain Strict) next lines) now ∙ all_spelled next lines (before ++ option_to_list b.0) new short.1 b.2 legal

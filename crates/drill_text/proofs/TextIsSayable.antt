@@ -1,5 +1,5 @@
 -- The commands that a text spells are sayable.
-use Rattle.drill_text.proofs.Common.{◌≡◌, ◌≢◌, ℕ, Bool, true, false, not, eqb, List, [], ◌∷◌, ◌++◌, Option, None, Some, Result, Ok, Err, IfOk, refl, sym, ap, subst, ◌∙◌, append_assoc, list_any, list_all, AllByRecursion, option_to_list, eqb-true, Fail, Answers, bind_ok, Strict, Part, DrillCommand, trimmed, meaning, is_sayable, HasNoBreak, settings_after, part_after, Reads, is_finish, plain, spelled_after, AreWithinLimit, SpellsText, IsDrillText, ReadsAs, part_with, part_from, are_sayable, is_after_end, drill_sayable, Commands, Stated, DrillFile, commands_in, file_of, both_true, and_true}
+use Rattle.drill_text.proofs.Common.{◌≡◌, ◌≢◌, ℕ, Bool, true, false, not, eqb, List, [], ◌∷◌, ◌++◌, Option, None, Some, Result, Ok, Err, IfOk, refl, sym, ap, subst, ◌∙◌, append_assoc, list_any, list_all, AllByRecursion, option_to_list, eqb-true, Fail, Answers, bind_ok, Strict, Part, DrillCommand, without_end_blanks, meaning, is_sayable, HasNoBreak, settings_after, part_after, Reads, is_finish, plain, spelled_after, AreWithinLimit, SpellsText, IsDrillText, ReadsAs, part_with, part_from, are_sayable, is_after_end, drill_sayable, Commands, Stated, DrillFile, commands_in, file_of, both_true, and_true}
 use Rattle.std.proofs.Common.{append-nil}
 use Rattle.grid_units.specs.declared.fault.Fail.TheVariants as fails
 use Rattle.drill_lines.specs.declared.command.Part.TheVariants as part
@@ -35,7 +35,7 @@ sayable_next before new (Some c) h k = record {
 spelled_sayable : (before new : List DrillCommand) (lines : List (List ℕ)) → AllByRecursion HasNoBreak lines → AreWithinLimit lines → spelled_after before lines ≡ Ok new → SayableAfter before new
 spelled_sayable before new [] inside short e = let same : before ≡ new = cc in record { more = []; whole = sym same ∙ sym (append-nil before); said = refl }
 spelled_sayable before new (line ∷ lines) inside short e =
-    let b = bind_ok (meaning (settings_after before) (trimmed line)) (λ command. spelled_after (before ++ option_to_list command) lines) new e in
+    let b = bind_ok (meaning (settings_after before) (without_end_blanks line)) (λ command. spelled_after (before ++ option_to_list command) lines) new e in
     sayable_next before new b.0 (λ c k. line_sayable (settings_after before) line c (no_break line inside.0) short.0 (b.1 ∙ ap (λ (o : Option DrillCommand). Ok o) k))
     (spelled_sayable (before ++ option_to_list b.0) new lines inside.1 short.1 b.2)
 

@@ -1,5 +1,5 @@
 -- The legal commands of a wide text drill in the body alone, and so they drill the holes that are listed of them.
-use Rattle.drill_text.proofs.Common.{◌≡◌, ℕ, Bool, true, List, [], ◌∷◌, ◌++◌, Option, None, Some, inl, inr, refl, sym, subst, ◌∙◌, append_assoc, option_to_list, Part, Settings, DrillCommand, Wide, trimmed, IsAlone, is_routing, settings_after, part_after, drills, AreEntries, IsEntry, WideHolesAreDrilled}
+use Rattle.drill_text.proofs.Common.{◌≡◌, ℕ, Bool, true, List, [], ◌∷◌, ◌++◌, Option, None, Some, inl, inr, refl, sym, subst, ◌∙◌, append_assoc, option_to_list, Part, Settings, DrillCommand, Wide, without_end_blanks, IsAlone, is_routing, settings_after, part_after, drills, AreEntries, IsEntry, WideHolesAreDrilled}
 use Rattle.std.proofs.Common.{append-nil}
 use Rattle.drill_lines.specs.declared.command.Part.TheVariants as part
 use Rattle.drill_lines.specs.declared.command.DrillCommand.TheVariants as command
@@ -31,7 +31,7 @@ alone_in_body settings routing line c h d = absurd cc
 
 -- and so do the lines of a route
 entry_in_body : (earlier : List (List ℕ)) (settings : Settings) (entry : List (List ℕ)) (c : DrillCommand) → IsEntry Wide earlier settings entry (Some c) → drills c ≡ true → settings.part ≡ part.Body
-entry_in_body earlier settings (line ∷ []) c h d = alone_in_body settings (is_routing (map trimmed earlier)) (trimmed line) c h d
+entry_in_body earlier settings (line ∷ []) c h d = alone_in_body settings (is_routing (map without_end_blanks earlier)) (without_end_blanks line) c h d
 entry_in_body earlier settings (first ∷ second ∷ third ∷ fourth ∷ []) (command.Slot p q) h d = h.in_body
 entry_in_body earlier settings entry c h d = absurd h
 

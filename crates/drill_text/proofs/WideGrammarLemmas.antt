@@ -1,5 +1,5 @@
 -- A text of the wide profile, by its grammar, is read as its commands. By the grammar of each profile a text has one list of commands.
-use Rattle.drill_text.proofs.Common.{◌≡◌, ◌≤◌, ◌⊎◌, inl, inr, ℕ, suc, Bool, true, false, cond, List, [], ◌∷◌, ◌++◌, length, map, Option, None, Some, unwrap_or, Result, Ok, Err, refl, sym, ap, subst, ◌∙◌, arith, append_assoc, option_to_list, append-nil, Reason, Routed, ◌>>=◌, fault, with_place, IsLegal, line_limit, and_false, bind_ok, Coordinates, Part, Settings, DrillCommand, Slot, Strict, Wide, trimmed, meaning, starts, lowers, cuts, last_line, is_routing, second_line, third_line, fourth_line, wide_row, unless_routing, other_line, wide_meaning, IsAlone, IsRoute, IsFree, written_is_answered, bytes_of, settings_after, broken_rule, commands_by, plain, spelled_in, with_rest, AreWithinLimit, spelled_after, AreEntries, IsText, lines_of, IsTextOfAtMostOne, WrittenIsRead}
+use Rattle.drill_text.proofs.Common.{◌≡◌, ◌≤◌, ◌⊎◌, inl, inr, ℕ, suc, Bool, true, false, cond, List, [], ◌∷◌, ◌++◌, length, map, Option, None, Some, unwrap_or, Result, Ok, Err, refl, sym, ap, subst, ◌∙◌, arith, append_assoc, option_to_list, append-nil, Reason, Routed, ◌>>=◌, fault, with_place, IsLegal, line_limit, and_false, bind_ok, Coordinates, Part, Settings, DrillCommand, Slot, Strict, Wide, without_end_blanks, meaning, starts, lowers, cuts, last_line, is_routing, second_line, third_line, fourth_line, wide_row, unless_routing, other_line, wide_meaning, IsAlone, IsRoute, IsFree, written_is_answered, bytes_of, settings_after, broken_rule, commands_by, plain, spelled_in, with_rest, AreWithinLimit, spelled_after, AreEntries, IsText, lines_of, IsTextOfAtMostOne, WrittenIsRead}
 use Rattle.drill_lines.specs.declared.command.Part.TheVariants as part
 use Rattle.drill_lines.proofs.RouteReads.{alone_read, early_end_read, route_read}
 use Rattle.drill_text.proofs.FirstFaults.{cut}
@@ -13,14 +13,14 @@ use Rattle.drill_text.proofs.ProfileLemmas.{commands_by-push, ended_so, spelled_
 -- after earlier lines these commands and those that the lines spell, each by what stands before it
 wide_spelled : List (List ℕ) → List DrillCommand → List (List ℕ) → Result (List DrillCommand) Reason
 wide_spelled e before [] = Ok before
-wide_spelled e before (line ∷ lines) = wide_meaning (map trimmed e) (settings_after before) (trimmed line) >>= λ c. wide_spelled (e ++ line ∷ []) (before ++ option_to_list c) lines
+wide_spelled e before (line ∷ lines) = wide_meaning (map without_end_blanks e) (settings_after before) (without_end_blanks line) >>= λ c. wide_spelled (e ++ line ∷ []) (before ++ option_to_list c) lines
 
-line_spells : (e : List (List ℕ)) (before : List DrillCommand) (line : List ℕ) (lines : List (List ℕ)) (c : Option DrillCommand) → wide_meaning (map trimmed e) (settings_after before) (trimmed line) ≡ Ok c
+line_spells : (e : List (List ℕ)) (before : List DrillCommand) (line : List ℕ) (lines : List (List ℕ)) (c : Option DrillCommand) → wide_meaning (map without_end_blanks e) (settings_after before) (without_end_blanks line) ≡ Ok c
     → wide_spelled e before (line ∷ lines) ≡ wide_spelled (e ++ line ∷ []) (before ++ option_to_list c) lines
 unfolding wide_spelled
 line_spells e before line lines c spells = ap (λ r. r >>= λ o. wide_spelled (e ++ line ∷ []) (before ++ option_to_list o) lines) spells
 
-none_spelled : (e : List (List ℕ)) (before : List DrillCommand) (line : List ℕ) (lines : List (List ℕ)) → wide_meaning (map trimmed e) (settings_after before) (trimmed line) ≡ Ok None → wide_spelled e before (line ∷ lines) ≡ wide_spelled (e ++ line ∷ []) before lines
+none_spelled : (e : List (List ℕ)) (before : List DrillCommand) (line : List ℕ) (lines : List (List ℕ)) → wide_meaning (map without_end_blanks e) (settings_after before) (without_end_blanks line) ≡ Ok None → wide_spelled e before (line ∷ lines) ≡ wide_spelled (e ++ line ∷ []) before lines
 none_spelled e before line lines spells = line_spells e before line lines None spells ∙ ap (λ (cs : List DrillCommand). wide_spelled (e ++ line ∷ []) cs lines) (append-nil before)
 
 alone_spells : (s : Settings) (e : List (List ℕ)) (line : List ℕ) (c : Option DrillCommand) → IsFree e → IsAlone s (is_routing e) line c → (wide_meaning e s line ≡ Ok c) × IsFree (e ++ line ∷ [])
@@ -35,32 +35,32 @@ four_more : (e : List (List ℕ)) (a b c d : List ℕ) → (((e ++ a ∷ []) ++ 
 four_more e a b c d = simp append_assoc refl
 
 -- the four lines of a route spell a slot
-route_spelled : (e : List (List ℕ)) (before : List DrillCommand) (a b c d : List ℕ) (from to : Coordinates) (rest : List (List ℕ)) → IsFree (map trimmed e) → IsRoute (settings_after before) (trimmed a) (trimmed b) (trimmed c) (trimmed d) from to
-    → (wide_spelled e before (a ∷ b ∷ c ∷ d ∷ rest) ≡ wide_spelled (e ++ (a ∷ b ∷ c ∷ d ∷ [])) (before ++ Slot from to ∷ []) rest) × IsFree (map trimmed (e ++ (a ∷ b ∷ c ∷ d ∷ [])))
+route_spelled : (e : List (List ℕ)) (before : List DrillCommand) (a b c d : List ℕ) (from to : Coordinates) (rest : List (List ℕ)) → IsFree (map without_end_blanks e) → IsRoute (settings_after before) (without_end_blanks a) (without_end_blanks b) (without_end_blanks c) (without_end_blanks d) from to
+    → (wide_spelled e before (a ∷ b ∷ c ∷ d ∷ rest) ≡ wide_spelled (e ++ (a ∷ b ∷ c ∷ d ∷ [])) (before ++ Slot from to ∷ []) rest) × IsFree (map without_end_blanks (e ++ (a ∷ b ∷ c ∷ d ∷ [])))
 route_spelled e before a b c d from to rest free is =
     let s = settings_after before in
     let e1 : List (List ℕ) = e ++ a ∷ [] in
     let e2 : List (List ℕ) = e1 ++ b ∷ [] in
     let e3 : List (List ℕ) = e2 ++ c ∷ [] in
-    let r = route_read s (map trimmed e) (trimmed a) (trimmed b) (trimmed c) (trimmed d) from to free is in
-    let m1 : map trimmed e1 ≡ map trimmed e ++ trimmed a ∷ [] = trimmed_more e a in
-    let m2 : map trimmed e2 ≡ (map trimmed e ++ trimmed a ∷ []) ++ trimmed b ∷ [] = trimmed_more e1 b ∙ ap (λ (l : List (List ℕ)). l ++ trimmed b ∷ []) m1 in
-    let m3 : map trimmed e3 ≡ ((map trimmed e ++ trimmed a ∷ []) ++ trimmed b ∷ []) ++ trimmed c ∷ [] = trimmed_more e2 c ∙ ap (λ (l : List (List ℕ)). l ++ trimmed c ∷ []) m2 in
-    let m4 : map trimmed (e3 ++ d ∷ []) ≡ (((map trimmed e ++ trimmed a ∷ []) ++ trimmed b ∷ []) ++ trimmed c ∷ []) ++ trimmed d ∷ [] = trimmed_more e3 d ∙ ap (λ (l : List (List ℕ)). l ++ trimmed d ∷ []) m3 in
+    let r = route_read s (map without_end_blanks e) (without_end_blanks a) (without_end_blanks b) (without_end_blanks c) (without_end_blanks d) from to free is in
+    let m1 : map without_end_blanks e1 ≡ map without_end_blanks e ++ without_end_blanks a ∷ [] = trimmed_more e a in
+    let m2 : map without_end_blanks e2 ≡ (map without_end_blanks e ++ without_end_blanks a ∷ []) ++ without_end_blanks b ∷ [] = trimmed_more e1 b ∙ ap (λ (l : List (List ℕ)). l ++ without_end_blanks b ∷ []) m1 in
+    let m3 : map without_end_blanks e3 ≡ ((map without_end_blanks e ++ without_end_blanks a ∷ []) ++ without_end_blanks b ∷ []) ++ without_end_blanks c ∷ [] = trimmed_more e2 c ∙ ap (λ (l : List (List ℕ)). l ++ without_end_blanks c ∷ []) m2 in
+    let m4 : map without_end_blanks (e3 ++ d ∷ []) ≡ (((map without_end_blanks e ++ without_end_blanks a ∷ []) ++ without_end_blanks b ∷ []) ++ without_end_blanks c ∷ []) ++ without_end_blanks d ∷ [] = trimmed_more e3 d ∙ ap (λ (l : List (List ℕ)). l ++ without_end_blanks d ∷ []) m3 in
     let whole = four_more e a b c d in (
       none_spelled e before a (b ∷ c ∷ d ∷ rest) r.one
-          ∙ (none_spelled e1 before b (c ∷ d ∷ rest) (ap (λ (l : List (List ℕ)). wide_meaning l s (trimmed b)) m1 ∙ r.two)
-          ∙ (none_spelled e2 before c (d ∷ rest) (ap (λ (l : List (List ℕ)). wide_meaning l s (trimmed c)) m2 ∙ r.three)
-          ∙ (line_spells e3 before d rest (Some (Slot from to)) (ap (λ (l : List (List ℕ)). wide_meaning l s (trimmed d)) m3 ∙ r.four)
+          ∙ (none_spelled e1 before b (c ∷ d ∷ rest) (ap (λ (l : List (List ℕ)). wide_meaning l s (without_end_blanks b)) m1 ∙ r.two)
+          ∙ (none_spelled e2 before c (d ∷ rest) (ap (λ (l : List (List ℕ)). wide_meaning l s (without_end_blanks c)) m2 ∙ r.three)
+          ∙ (line_spells e3 before d rest (Some (Slot from to)) (ap (λ (l : List (List ℕ)). wide_meaning l s (without_end_blanks d)) m3 ∙ r.four)
           ∙ ap (λ (l : List (List ℕ)). wide_spelled l (before ++ Slot from to ∷ []) rest) whole))),
-      subst (λ (l : List (List ℕ)). IsFree (map trimmed l)) whole (subst IsFree (sym m4) r.free),
+      subst (λ (l : List (List ℕ)). IsFree (map without_end_blanks l)) whole (subst IsFree (sym m4) r.free),
     )
 
-entries_spell : (e : List (List ℕ)) (before : List DrillCommand) (entries : List (List (List ℕ))) (cs : List DrillCommand) → IsFree (map trimmed e) → AreEntries Wide e before entries cs → wide_spelled e before (lines_in entries) ≡ Ok cs
+entries_spell : (e : List (List ℕ)) (before : List DrillCommand) (entries : List (List (List ℕ))) (cs : List DrillCommand) → IsFree (map without_end_blanks e) → AreEntries Wide e before entries cs → wide_spelled e before (lines_in entries) ≡ Ok cs
 unfolding wide_spelled
 entries_spell e before [] cs free h = ap (λ (x : List DrillCommand). Ok x) (sym h)
 entries_spell e before ((line ∷ []) ∷ entries) cs free (spelled, is, rest) =
-    let k = alone_spells (settings_after before) (map trimmed e) (trimmed line) spelled free is in
+    let k = alone_spells (settings_after before) (map without_end_blanks e) (without_end_blanks line) spelled free is in
     line_spells e before line (lines_in entries) spelled k.0 ∙ entries_spell (e ++ line ∷ []) (before ++ option_to_list spelled) entries cs (subst IsFree (sym (trimmed_more e line)) k.1) rest
 entries_spell e before ((a ∷ b ∷ c ∷ d ∷ []) ∷ entries) cs free (Some (Slot from to), is, rest) =
     let k = route_spelled e before a b c d from to (lines_in entries) free is in
@@ -74,7 +74,7 @@ spelled_begins : (e : List (List ℕ)) (before : List DrillCommand) (lines : Lis
 unfolding wide_spelled
 spelled_begins e before [] cs h = let same : before ≡ cs = cc in ([], sym same ∙ sym (append-nil before))
 spelled_begins e before (line ∷ lines) cs h =
-    let b = bind_ok (wide_meaning (map trimmed e) (settings_after before) (trimmed line)) (λ c. wide_spelled (e ++ line ∷ []) (before ++ option_to_list c) lines) cs h in
+    let b = bind_ok (wide_meaning (map without_end_blanks e) (settings_after before) (without_end_blanks line)) (λ c. wide_spelled (e ++ line ∷ []) (before ++ option_to_list c) lines) cs h in
     let k = spelled_begins (e ++ line ∷ []) (before ++ option_to_list b.0) lines cs b.2 in
     (option_to_list b.0 ++ k.0, k.1 ∙ append_assoc before (option_to_list b.0) k.0)
 
@@ -82,7 +82,7 @@ spelled_read : (e : List (List ℕ)) (before : List DrillCommand) (lines : List 
 unfolding wide_spelled
 spelled_read e before [] cs short h legal = let same : before ≡ cs = cc in ap (λ (x : List DrillCommand). Ok x) same
 spelled_read e before (line ∷ lines) cs short h legal =
-    let b = bind_ok (wide_meaning (map trimmed e) (settings_after before) (trimmed line)) (λ c. wide_spelled (e ++ line ∷ []) (before ++ option_to_list c) lines) cs h in
+    let b = bind_ok (wide_meaning (map without_end_blanks e) (settings_after before) (without_end_blanks line)) (λ c. wide_spelled (e ++ line ∷ []) (before ++ option_to_list c) lines) cs h in
     let now : List DrillCommand = before ++ option_to_list b.0 in
     let more = spelled_begins (e ++ line ∷ []) now lines cs b.2 in
     let kept = keeps_judged before b.0 (legal_prefix now more.0 (subst (IsLegal broken_rule) more.1 legal)) in
@@ -110,7 +110,7 @@ empty_spells e s = by (starts (last_line e)) (lowers (last_line e)) (cuts (last_
 
 rest_read : (lines : List (List ℕ)) (rest : List ℕ) (before cs : List DrillCommand) → spelled_in (plain Wide) lines rest before ≡ Ok cs → with_rest (plain Wide) lines rest before ≡ Ok cs
 rest_read lines (b ∷ bs) before cs e = e
-rest_read lines [] before cs e = elim (empty_spells (map trimmed lines) (settings_after before)) [
+rest_read lines [] before cs e = elim (empty_spells (map without_end_blanks lines) (settings_after before)) [
   | inl h ↦ sym (spelled_in_is (plain Wide) lines [] before (Ok None) (le_zero line_limit) h) ∙ e
   | inr h ↦ absurd (never (sym (spelled_in_is (plain Wide) lines [] before (Err Routed) (le_zero line_limit) h) ∙ e))
 ]

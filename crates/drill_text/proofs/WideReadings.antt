@@ -1,5 +1,5 @@
 -- A text that is read in the wide profile is a wide text, by its grammar, of what it is read as.
-use Rattle.drill_text.proofs.Common.{◌≡◌, ◌≤◌, inl, inr, ℕ, suc, Bool, true, false, ltb, ◌||◌, List, [], ◌∷◌, ◌++◌, length, map, Option, None, Some, Ok, refl, sym, ap, subst, ◌∙◌, arith, append_assoc, codes, list_any, option_to_list, ltb-false, append-nil, flat_map-append, TooLong, ◌>>=◌, IsLegal, line_limit, and_false, last_or-more, list_any-more, bind_ok, Coordinates, Part, Settings, DrillCommand, Wide, trimmed, line_in, is_routing, wide_meaning, IsAlone, IsRoute, IsLater, IsRouteAfter, read_in_part, means, written_is_answered, bytes_of, part_set, part_after, settings_after, broken_rule, checked, commands_by, is_finish, plain, spelled_in, step_in, with_rest, AreWithinLimit, IsEntry, AreEntries, lines_of, ReadIsWritten}
+use Rattle.drill_text.proofs.Common.{◌≡◌, ◌≤◌, inl, inr, ℕ, suc, Bool, true, false, ltb, ◌||◌, List, [], ◌∷◌, ◌++◌, length, map, Option, None, Some, Ok, refl, sym, ap, subst, ◌∙◌, arith, append_assoc, codes, list_any, option_to_list, ltb-false, append-nil, flat_map-append, TooLong, ◌>>=◌, IsLegal, line_limit, and_false, last_or-more, list_any-more, bind_ok, Coordinates, Part, Settings, DrillCommand, Wide, without_end_blanks, line_in, is_routing, wide_meaning, IsAlone, IsRoute, IsLater, IsRouteAfter, read_in_part, means, written_is_answered, bytes_of, part_set, part_after, settings_after, broken_rule, commands_with, commands_by, is_finish, plain, spelled_in, step_in, with_rest, AreWithinLimit, IsEntry, AreEntries, lines_of, ReadIsWritten}
 use Rattle.drill_lines.specs.declared.command.Part.TheVariants as part
 use Rattle.drill_lines.specs.declared.command.DrillCommand.TheVariants as command
 use Rattle.drill_lines.specs.declared.route.Route.{Route}
@@ -45,9 +45,9 @@ record IsCut (s : Settings) (third : List ℕ) (to : Coordinates) : Type 0 where
 
 abbrev Waits : Route → Settings → List (List ℕ) → Type 0
 Waits (route.Free routing) s pending = pending ≡ []
-Waits (route.Started from) s pending = (a : List ℕ) × (pending ≡ a ∷ []) × IsBegun s (trimmed a) from
-Waits (route.Lowered from) s pending = (a b : List ℕ) × (pending ≡ a ∷ b ∷ []) × IsBegun s (trimmed a) from × (trimmed b ≡ codes "M15")
-Waits (route.Cut from to) s pending = (a b c : List ℕ) × (pending ≡ a ∷ b ∷ c ∷ []) × IsBegun s (trimmed a) from × (trimmed b ≡ codes "M15") × IsCut s (trimmed c) to
+Waits (route.Started from) s pending = (a : List ℕ) × (pending ≡ a ∷ []) × IsBegun s (without_end_blanks a) from
+Waits (route.Lowered from) s pending = (a b : List ℕ) × (pending ≡ a ∷ b ∷ []) × IsBegun s (without_end_blanks a) from × (without_end_blanks b ≡ codes "M15")
+Waits (route.Cut from to) s pending = (a b c : List ℕ) × (pending ≡ a ∷ b ∷ c ∷ []) × IsBegun s (without_end_blanks a) from × (without_end_blanks b ≡ codes "M15") × IsCut s (without_end_blanks c) to
 
 -- the lines are entries that spell these commands, and lines that wait
 record IsGrouped (earlier : List (List ℕ)) (before : List DrillCommand) (r : Route) : Type 0 where
@@ -74,12 +74,12 @@ closes earlier before line c next after entries pending is lines spells entry = 
   waits = refl;
 })
 
-grouped_more : (r : Route) (earlier : List (List ℕ)) (before : List DrillCommand) (line : List ℕ) (c : Option DrillCommand) (next : Route) → IsGrouped earlier before r → IsRouteAfter r (settings_after before) (map trimmed earlier)
-    → IsWritten r (settings_after before) (trimmed line) c next → IsGrouped (earlier ++ line ∷ []) (before ++ option_to_list c) next
+grouped_more : (r : Route) (earlier : List (List ℕ)) (before : List DrillCommand) (line : List ℕ) (c : Option DrillCommand) (next : Route) → IsGrouped earlier before r → IsRouteAfter r (settings_after before) (map without_end_blanks earlier)
+    → IsWritten r (settings_after before) (without_end_blanks line) c next → IsGrouped (earlier ++ line ∷ []) (before ++ option_to_list c) next
 grouped_more (route.Free routing) earlier before line c next g at (inl (after, is, alone)) =
     let whole : earlier ≡ lines_in g.entries = g.lines ∙ (ap (λ (p : List (List ℕ)). lines_in g.entries ++ p) g.waits ∙ append-nil (lines_in g.entries)) in
-    let here : is_routing (map trimmed (lines_in g.entries)) ≡ routing = ap (λ (l : List (List ℕ)). is_routing (map trimmed l)) (sym whole) ∙ at.1 in
-    closes earlier before line c next after g.entries [] is (whole ∙ sym (append-nil (lines_in g.entries))) g.spells (subst (λ b. IsAlone (settings_after before) b (trimmed line) c) (sym here) alone)
+    let here : is_routing (map without_end_blanks (lines_in g.entries)) ≡ routing = ap (λ (l : List (List ℕ)). is_routing (map without_end_blanks l)) (sym whole) ∙ at.1 in
+    closes earlier before line c next after g.entries [] is (whole ∙ sym (append-nil (lines_in g.entries))) g.spells (subst (λ b. IsAlone (settings_after before) b (without_end_blanks line) c) (sym here) alone)
 grouped_more (route.Free routing) earlier before line c next g at (inr (from, start, body, first_is, from_is, none, is)) =
     let whole : earlier ≡ lines_in g.entries = g.lines ∙ (ap (λ (p : List (List ℕ)). lines_in g.entries ++ p) g.waits ∙ append-nil (lines_in g.entries)) in
     waits_on earlier before line c next (route.Started from) none is (record {
@@ -117,7 +117,7 @@ grouped_more (route.Cut from to) earlier before line c next g at (fourth_is, som
     let begun = g.waits.4 in
     let cut = g.waits.6 in
     let s = settings_after before in
-    let is_route : IsRoute s (trimmed x) (trimmed y) (trimmed z) (trimmed line) from to = record {
+    let is_route : IsRoute s (without_end_blanks x) (without_end_blanks y) (without_end_blanks z) (without_end_blanks line) from to = record {
       in_body = begun.in_body;
       start = begun.start;
       first_is = begun.first_is;
@@ -138,10 +138,10 @@ unfolding read_in_part line_in
 nothing_after s [] d h = absurd cc
 nothing_after s (b ∷ bs) d h = absurd cc
 
-never_after : (r : Route) (before : List DrillCommand) (line : List ℕ) (d : DrillCommand) (next : Route) (pending : List (List ℕ)) → Waits r (settings_after before) pending → IsWritten r (settings_after before) (trimmed line) (Some d) next → part_after before ≡ part.After → ⊥
+never_after : (r : Route) (before : List DrillCommand) (line : List ℕ) (d : DrillCommand) (next : Route) (pending : List (List ℕ)) → Waits r (settings_after before) pending → IsWritten r (settings_after before) (without_end_blanks line) (Some d) next → part_after before ≡ part.After → ⊥
 never_after (route.Free routing) before line d next pending w (inl (after, is, inl alone)) h =
     let s = settings_after before in
-    nothing_after s (trimmed line) d (ap (λ (p : Part). read_in_part p s (trimmed line)) (sym h) ∙ (sym (means s (trimmed line)) ∙ written_is_answered s (trimmed line) (Some d) alone.0))
+    nothing_after s (without_end_blanks line) d (ap (λ (p : Part). read_in_part p s (without_end_blanks line)) (sym h) ∙ (sym (means s (without_end_blanks line)) ∙ written_is_answered s (without_end_blanks line) (Some d) alone.0))
 never_after (route.Free routing) before line d next pending w (inl (after, is, inr alone)) h = let no : part.Before ≡ part.After = sym alone.0 ∙ h in absurd cc
 never_after (route.Free routing) before line d next pending w (inr (from, start, body, first_is, from_is, none, is)) h = absurd cc
 never_after (route.Started from) before line d next pending w (second_is, none, is) h = absurd cc
@@ -164,7 +164,7 @@ ends_more before d h not_after some = by (is_finish d) refl
 record IsParsed (earlier : List (List ℕ)) (before : List DrillCommand) : Type 0 where
   r : Route
   grouped : IsGrouped earlier before r
-  at : IsRouteAfter r (settings_after before) (map trimmed earlier)
+  at : IsRouteAfter r (settings_after before) (map without_end_blanks earlier)
   short : AreWithinLimit earlier
   legal : IsLegal broken_rule before
   ends : EndsPart before
@@ -181,11 +181,11 @@ parsed_more : (earlier : List (List ℕ)) (before after : List DrillCommand) (li
 unfolding step_in
 parsed_more earlier before after line h e =
     let s = settings_after before in
-    let g = guarded (ltb line_limit (length line)) TooLong (wide_meaning (map trimmed earlier) s (trimmed line) >>= checked before) after e in
-    let b = bind_ok (wide_meaning (map trimmed earlier) s (trimmed line)) (checked before) after g.1 in
+    let g = guarded (ltb line_limit (length line)) TooLong (wide_meaning (map without_end_blanks earlier) s (without_end_blanks line) >>= commands_with before) after e in
+    let b = bind_ok (wide_meaning (map without_end_blanks earlier) s (without_end_blanks line)) (commands_with before) after g.1 in
     let c = b.0 in
     let j = judged_ok before c after b.2 in
-    let k = reads_on h.r s (map trimmed earlier) (trimmed line) c h.at b.1 in
+    let k = reads_on h.r s (map without_end_blanks earlier) (without_end_blanks line) c h.at b.1 in
     let now : List DrillCommand = before ++ option_to_list c in
     subst (IsParsed (earlier ++ line ∷ [])) j.0 (record {
       r = k.next;
@@ -193,7 +193,7 @@ parsed_more earlier before after line h e =
       at = subst (λ (l : List (List ℕ)). IsRouteAfter k.next (settings_after now) l) (sym (trimmed_more earlier line)) (k.after (settings_after now) (later_settings before c));
       short = AllR-append (λ l. length l ≤ line_limit) earlier (line ∷ []) h.short (ltb-false _ _ g.0, tt);
       legal = subst (IsLegal broken_rule) (sym j.0) (j.1 h.legal);
-      ends = ends_after before c h.ends (λ d same. never_after h.r before line d k.next h.grouped.pending h.grouped.waits (subst (λ (o : Option DrillCommand). IsWritten h.r s (trimmed line) o k.next) same k.written));
+      ends = ends_after before c h.ends (λ d same. never_after h.r before line d k.next h.grouped.pending h.grouped.waits (subst (λ (o : Option DrillCommand). IsWritten h.r s (without_end_blanks line) o k.next) same k.written));
     })
 
 line_parsed : (earlier : List (List ℕ)) (before after : List DrillCommand) (line : List ℕ) → IsParsed earlier before → spelled_in (plain Wide) earlier line before ≡ Ok after → IsParsed (earlier ++ line ∷ []) after
@@ -234,7 +234,7 @@ empty_entry : (lines : List (List ℕ)) (cs : List DrillCommand) → IsParsed li
 empty_entry lines cs h some =
     let f = free_at_end h.r cs h.grouped.pending h.grouped.waits (h.ends some) in
     let s = settings_after cs in
-    let at : IsRouteAfter (route.Free f.0) s (map trimmed lines) = subst (λ (r : Route). IsRouteAfter r s (map trimmed lines)) f.1 h.at in
+    let at : IsRouteAfter (route.Free f.0) s (map without_end_blanks lines) = subst (λ (r : Route). IsRouteAfter r s (map without_end_blanks lines)) f.1 h.at in
     let grouped : IsGrouped lines cs (route.Free f.0) = subst (IsGrouped lines cs) f.1 h.grouped in
     let alone : IsAlone s f.0 [] None = inl ((0, omega arith, refl), and_false f.0) in
     let more = grouped_more (route.Free f.0) lines cs [] None (route.Free f.0) grouped at (inl (f.0, refl, alone)) in
@@ -247,8 +247,8 @@ empty_entry lines cs h some =
       ends = h.ends;
     }
   where
-    after_empty : (lines : List (List ℕ)) (s : Settings) (routing : Bool) → IsRouteAfter (route.Free routing) s (map trimmed lines) → IsRouteAfter (route.Free routing) s (map trimmed (lines ++ [] ∷ []))
-    after_empty lines s routing at = subst (λ (l : List (List ℕ)). IsRouteAfter (route.Free routing) s l) (sym (trimmed_more lines [])) (empty_line s (map trimmed lines) routing at)
+    after_empty : (lines : List (List ℕ)) (s : Settings) (routing : Bool) → IsRouteAfter (route.Free routing) s (map without_end_blanks lines) → IsRouteAfter (route.Free routing) s (map without_end_blanks (lines ++ [] ∷ []))
+    after_empty lines s routing at = subst (λ (l : List (List ℕ)). IsRouteAfter (route.Free routing) s l) (sym (trimmed_more lines [])) (empty_line s (map without_end_blanks lines) routing at)
 
 rest_parsed : (lines : List (List ℕ)) (rest : List ℕ) (before cs : List DrillCommand) → IsParsed lines before → with_rest (plain Wide) lines rest before ≡ Ok cs → list_any is_finish cs ≡ true → IsParsed (lines ++ rest ∷ []) cs
 rest_parsed lines [] before cs h e some = let same : before ≡ cs = cc in empty_entry lines cs (subst (IsParsed lines) same h) some

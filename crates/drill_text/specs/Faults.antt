@@ -7,7 +7,7 @@ use Rattle.grid_units.specs.declared.fault.Reason.TheVariants.{TooLong, Truncate
 use Rattle.grid_units.specs.declared.fault.Fault.{Fault}
 use Rattle.grid_units.specs.Results.{fault}
 use Rattle.drill_lines.specs.declared.command.DrillCommand.{DrillCommand}
-use Rattle.drill_lines.specs.Lines.{trimmed}
+use Rattle.drill_lines.specs.Lines.{without_end_blanks}
 use Rattle.drill_lines.specs.Meaning.{meaning}
 use Rattle.drill_text.specs.Lines.{bytes_of, Splits}
 use Rattle.drill_text.specs.Lookback.{settings_after}
@@ -28,8 +28,8 @@ pub record SpellLegally (lines : List (List ℕ)) (commands : List DrillCommand)
 abbrev pub IsRefused : List DrillCommand → List ℕ → Reason → Type 0
 IsRefused before line why =
     ((line_limit < length line) × (why ≡ TooLong))
-    ⊎ ((length line ≤ line_limit) × ((meaning (settings_after before) (trimmed line) ≡ Err why)
-    ⊎ ((c : DrillCommand) × (meaning (settings_after before) (trimmed line) ≡ Ok (Some c)) × (broken_rule before c ≡ Some why))))
+    ⊎ ((length line ≤ line_limit) × ((meaning (settings_after before) (without_end_blanks line) ≡ Err why)
+    ⊎ ((c : DrillCommand) × (meaning (settings_after before) (without_end_blanks line) ≡ Ok (Some c)) × (broken_rule before c ≡ Some why))))
 
 -- One of these lines has this fault: the lines before its place spell legal commands, and the line at its place, which begins at
 -- its byte, is refused for its reason.

@@ -6,7 +6,7 @@ use Rattle.std.specs.Option.{option_to_list}
 use Rattle.drill_lines.specs.declared.command.Settings.{Settings}
 use Rattle.drill_lines.specs.declared.command.DrillCommand.{DrillCommand}
 use Rattle.drill_lines.specs.declared.command.DrillCommand.TheVariants.{Slot, Finish}
-use Rattle.drill_lines.specs.Lines.{trimmed}
+use Rattle.drill_lines.specs.Lines.{without_end_blanks}
 use Rattle.drill_lines.specs.Grammar.{IsLine}
 use Rattle.drill_lines.specs.Routes.{is_routing}
 use Rattle.drill_lines.specs.RouteGrammar.{IsAlone, IsRoute}
@@ -22,12 +22,12 @@ lines_of text = slice_split (λ b. b == ascii.line_feed) text
 -- after these lines, lines that spell at most one command together, without the blanks at their ends: one by itself, as `METRIC` spells UnitLine(Millimetre);
 -- in the wide profile also the four of a route
 abbrev pub IsEntry : Profile → List (List ℕ) → Settings → List (List ℕ) → Option DrillCommand → Type 0
-IsEntry Strict earlier settings (line ∷ []) spelled = IsLine settings (trimmed line) spelled
-IsEntry Wide earlier settings (line ∷ []) spelled = IsAlone settings (is_routing (map trimmed earlier)) (trimmed line) spelled
-IsEntry Wide earlier settings (a ∷ b ∷ c ∷ d ∷ []) (Some (Slot from to)) = IsRoute settings (trimmed a) (trimmed b) (trimmed c) (trimmed d) from to
+IsEntry Strict earlier settings (line ∷ []) spelled = IsLine settings (without_end_blanks line) spelled
+IsEntry Wide earlier settings (line ∷ []) spelled = IsAlone settings (is_routing (map without_end_blanks earlier)) (without_end_blanks line) spelled
+IsEntry Wide earlier settings (a ∷ b ∷ c ∷ d ∷ []) (Some (Slot from to)) = IsRoute settings (without_end_blanks a) (without_end_blanks b) (without_end_blanks c) (without_end_blanks d) from to
 IsEntry profile earlier settings lines spelled = ⊥
 
--- These commands after the lines before, and then those that the entries spell in order, each by the settings that the commands before it leave.
+-- The commands that stand before, and then those that the entries spell in order, each by the settings that the commands before it leave.
 abbrev pub AreEntries : Profile → List (List ℕ) → List DrillCommand → List (List (List ℕ)) → List DrillCommand → Type 0
 AreEntries profile earlier before [] commands = commands ≡ before
 AreEntries profile earlier before (entry ∷ entries) commands = (spelled : Option DrillCommand)

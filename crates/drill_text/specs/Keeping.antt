@@ -6,7 +6,7 @@ use Rattle.grid_units.specs.declared.fault.Fault.{Fault}
 use Rattle.grid_units.specs.declared.fault.Fail.{Fail}
 use Rattle.drill_lines.specs.declared.command.DrillCommand.{DrillCommand}
 use Rattle.drill_lines.specs.declared.line_reader.LineReader.{LineReader}
-use Rattle.drill_lines.specs.Lines.{trimmed}
+use Rattle.drill_lines.specs.Lines.{without_end_blanks}
 use Rattle.drill_lines.specs.LineReading.{HasReadLines}
 use Rattle.drill_text.specs.declared.platings.PlatingKind.{PlatingKind}
 use Rattle.drill_text.specs.declared.state.DrillState.{DrillState}
@@ -37,7 +37,7 @@ ResultsIn (Err e) state kept plating keep read = IfFault (λ f. read ≡ Err f) 
 
 -- these lines of a file of this kind were read, the state is that after just these commands, and what was asked for is kept of them
 pub record HasReadIn (reader : LineReader) (state : DrillState) (kept : KeptCommands) (kind : Kind) (keep : Keep) (earlier : List (List ℕ)) (commands : List DrillCommand) : Type 0 where
-  pub lines : HasReadLines reader kind.profile (settings_after commands) (map trimmed earlier)
+  pub lines : HasReadLines reader kind.profile (settings_after commands) (map without_end_blanks earlier)
   pub has_read : HasRead state kept kind.plating keep commands
 
 -- The line was read and judged: the state is now that after the commands after it; or this is its fault, or memory ran out.

@@ -27,7 +27,7 @@ plating_set _ = None
 abbrev pub said_after : List DrillCommand → Plating
 said_after before = unwrap_or (last_set plating_set before) plating.Unsaid
 
--- what a command makes this tool where this was said last: just that, where it defines the tool
+-- the plating that a command gives this tool: what was said last, where it defines the tool
 abbrev pub tool_made : ℕ → Plating → DrillCommand → Option Plating
 tool_made number said (command.Tool other diameter) = if other == number then Some said else None
 tool_made number said _ = None

@@ -11,7 +11,7 @@ use Rattle.drill_lines.specs.declared.command.DrillCommand.{DrillCommand}
 use Rattle.drill_lines.specs.declared.command.DrillCommand.TheVariants.{Finish}
 use Rattle.grid_units.specs.declared.profile.Profile.{Profile}
 use Rattle.grid_units.specs.declared.profile.Profile.TheVariants.{Strict}
-use Rattle.drill_lines.specs.Lines.{trimmed}
+use Rattle.drill_lines.specs.Lines.{without_end_blanks}
 use Rattle.drill_lines.specs.Routes.{meaning_in}
 use Rattle.drill_text.specs.declared.platings.PlatingKind.{PlatingKind}
 use Rattle.drill_text.specs.declared.platings.PlatingKind.TheVariants as plating
@@ -51,15 +51,15 @@ checked_by rule before None = Ok before
 checked_by rule before (Some c) = add_unless (rule before c) before c
 
 -- the same by the rules of every drill file
-abbrev pub checked : List DrillCommand → Option DrillCommand → Result (List DrillCommand) Reason
-checked before = checked_by broken_rule before
+abbrev pub commands_with : List DrillCommand → Option DrillCommand → Result (List DrillCommand) Reason
+commands_with before = checked_by broken_rule before
 
 -- one more line after these, which spell these commands: TooLong above 1,048,576 bytes; else it is read by what stands before it, and
 -- its command is judged
 unfoldable pub step_in : Kind → List (List ℕ) → List DrillCommand → List ℕ → Result (List DrillCommand) Reason
 step_in kind earlier before line =
     if nat_lt line_limit (length line) then Err TooLong
-    else (meaning_in kind.profile (map trimmed earlier) (settings_after before) (trimmed line) >>= checked_by (rule_in kind.plating) before)
+    else (meaning_in kind.profile (map without_end_blanks earlier) (settings_after before) (without_end_blanks line) >>= checked_by (rule_in kind.plating) before)
 
 -- one more line after these; a refusal is its fault, at the number of the line, from 1, and at the offset of its first byte
 abbrev pub spelled_in : Kind → List (List ℕ) → List ℕ → List DrillCommand → Result (List DrillCommand) Fault
@@ -105,8 +105,8 @@ abbrev pub place_after : List (List ℕ) → List ℕ → ℕ
 place_after lines rest = place_after_count (length lines) rest
 
 -- the commands of a text that ends here; without `M30` it is Truncated after its last line, at the text's length
-abbrev pub ended : ℕ → List (List ℕ) → List ℕ → List DrillCommand → Result (List DrillCommand) Fault
-ended len lines rest commands = if list_any is_finish commands then Ok commands else Err (fault (place_after lines rest) len Truncated)
+abbrev pub commands_at_end : ℕ → List (List ℕ) → List ℕ → List DrillCommand → Result (List DrillCommand) Fault
+commands_at_end len lines rest commands = if list_any is_finish commands then Ok commands else Err (fault (place_after lines rest) len Truncated)
 
 -- the rest after the last LF is a line too, if it has a byte
 abbrev pub with_rest : Kind → List (List ℕ) → List ℕ → List DrillCommand → Result (List DrillCommand) Fault
@@ -117,7 +117,7 @@ with_rest kind lines (b ∷ bs) commands = spelled_in kind lines (b ∷ bs) comm
 abbrev pub read_by : Kind → ℕ → List (List ℕ) → List ℕ → Result (List DrillCommand) Fault
 read_by kind len lines rest = shown_by kind lines rest >>= λ commands.
     if nat_lt text_limit len then Err (fault (suc (length lines)) text_limit TooLong)
-    else (with_rest kind lines rest commands >>= ended len lines rest)
+    else (with_rest kind lines rest commands >>= commands_at_end len lines rest)
 
 -- A whole text that is read so spells these commands, which are legal, or has this as its first fault.
 pub record ReadsBy (kind : Kind) (text : List ℕ) (answer : Result (List DrillCommand) Fault) : Type 0 where

@@ -7,7 +7,7 @@ use Rattle.grid_units.specs.declared.fault.Fault.{Fault}
 use Rattle.grid_units.specs.Results.{◌>>=◌}
 use Rattle.grid_units.specs.Lists.{IsLegal}
 use Rattle.drill_lines.specs.declared.command.DrillCommand.{DrillCommand}
-use Rattle.drill_lines.specs.Lines.{trimmed}
+use Rattle.drill_lines.specs.Lines.{without_end_blanks}
 use Rattle.drill_lines.specs.Meaning.{meaning}
 use Rattle.drill_text.specs.Lines.{Splits}
 use Rattle.drill_text.specs.Lookback.{settings_after}
@@ -18,7 +18,7 @@ use Rattle.drill_text.specs.Rules.{broken_rule}
 -- these commands and those that the lines after them spell, each line by the settings of the commands before it
 abbrev pub spelled_after : List DrillCommand → List (List ℕ) → Result (List DrillCommand) Reason
 spelled_after before [] = Ok before
-spelled_after before (line ∷ lines) = meaning (settings_after before) (trimmed line) >>= λ command. spelled_after (before ++ option_to_list command) lines
+spelled_after before (line ∷ lines) = meaning (settings_after before) (without_end_blanks line) >>= λ command. spelled_after (before ++ option_to_list command) lines
 
 -- no line has more than 1,048,576 bytes (docs/FORMATS.md, Limits)
 abbrev pub AreWithinLimit : List (List ℕ) → Type 0

@@ -45,8 +45,8 @@ abbrev pub text_or_fault : List ℕ → Result (List ℕ) Fault
 text_or_fault bytes = if nat_lt text_limit (length bytes) then Err (fault 0 0 TooLong) else Ok bytes
 
 -- the canonical text, unless it is too long
-abbrev pub written : List DrillCommand → Result (List ℕ) Fault
-written commands = text_or_fault (canonical_lines commands)
+abbrev pub rewritten_text : List DrillCommand → Result (List ℕ) Fault
+rewritten_text commands = text_or_fault (canonical_lines commands)
 
 -- the bytes that a vector holds, in order
 abbrev pub vec_bytes : Vec ℕ → List ℕ

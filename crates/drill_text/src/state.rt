@@ -46,7 +46,7 @@ impl DrillState {
     ghost use Rattle.drill_text.specs.declared.platings.PlatingKind.{PlatingKind as TheKind};
     ghost use Rattle.drill_text.specs.Rules.{first_broken, applies, rules, differs, same_unit, same_zeros, same_format, picks_unknown_tool, drills, has_no_tool};
     ghost use Rattle.drill_text.specs.Holes.{unit_or};
-    ghost use Rattle.drill_text.specs.Inner.StateSteps.{state_of, AddsOrRefuses, IsStateAfter, Applies, AppliesOrRefuses, DrillsOrRefuses, MarksOrRefuses, own_broken, picked_plating, given, moved, drill_path, length_in, point_in, width_of, IsWidth, no_point, hole_between, hole_in, round_hole};
+    ghost use Rattle.drill_text.specs.Inner.StateSteps.{state_of, AddsOrRefuses, IsStateAfter, Applies, AppliesOrRefuses, DrillsOrRefuses, MarksOrRefuses, own_broken, picked_plating, after_format, at_last_point, drill_path, length_in, point_in, width_of, IsWidth, no_point, hole_between, hole_in, round_hole};
 
     /// The state before the first command, in a file whose platings are known so.
     pub(crate) fn new(alloc: Global, kind: PlatingKind) -> DrillState
@@ -294,7 +294,7 @@ impl DrillState {
         zeros: Option<Zeros>,
         format: Option<DrillFormat>,
     )
-        ensures state_of { state_of self.new ≡ given unit zeros format (state_of self.old) }
+        ensures state_of { state_of self.new ≡ after_format unit zeros format (state_of self.old) }
         ensures holes { self.new.holes ≡ self.old.holes }
         ensures plated { self.new.plated ≡ self.old.plated }
         ensures tools { self.new.tools ≡ self.old.tools }
@@ -428,7 +428,7 @@ impl DrillState {
 
     /// Makes this the last point. A coordinate that it leaves out stays.
     fn move_to(&mut self, point: &Coordinates)
-        ensures state_of { state_of self.new ≡ moved point.now (state_of self.old) }
+        ensures state_of { state_of self.new ≡ at_last_point point.now (state_of self.old) }
         ensures holes { self.new.holes ≡ self.old.holes }
         ensures plated { self.new.plated ≡ self.old.plated }
         ensures tools { self.new.tools ≡ self.old.tools }

@@ -6,7 +6,7 @@ ghost use Rattle.grid_units.specs.declared.fault.Fail.TheVariants.{Refused};
 ghost use Rattle.grid_units.specs.declared.fault.Reason.TheVariants.{TooLong};
 ghost use Rattle.drill_lines.specs.Writing.{canonical, IsInRange};
 ghost use Rattle.drill_text.specs.Texts.{SpellsText};
-ghost use Rattle.drill_text.specs.Writing.{part_with, is_after_end, drill_sayable, written, vec_bytes};
+ghost use Rattle.drill_text.specs.Writing.{part_with, is_after_end, drill_sayable, rewritten_text, vec_bytes};
 
 use drill_lines::{DrillCommand, Part, is_sayable, write_line};
 use grid_units::{Fail, Fault, Reason, TEXT_LIMIT};
@@ -73,7 +73,7 @@ pub(crate) fn too_long() -> Fail
 /// [`Reason::TooLong`] at place 0 and byte 0 where the text would be above 268,435,456 bytes, or `Memory`.
 pub fn write_drill(alloc: Global, commands: &[DrillCommand]) -> Result<Vec<u8>, Fail>
     requires { drill_sayable commands.now ≡ true }
-    ensures exact { Answers vec_bytes (λ answer. answer ≡ written commands.now) result }
+    ensures exact { Answers vec_bytes (λ answer. answer ≡ rewritten_text commands.now) result }
     ensures reads_back { IfOk result (λ text. SpellsText text.items commands.now) }
 {
     let mut text = Vec::new(alloc);

@@ -6,7 +6,7 @@ use Rattle.std.proofs.lemmas.Bool.{eqb-true, false≢true}
 use Rattle.std.proofs.lemmas.List.Folds.{list_any-append}
 use Rattle.grid_units.specs.declared.fault.Reason.{Reason}
 use Rattle.grid_units.specs.declared.fault.Reason.TheVariants.{BadNumber, TooManyDigits}
-use Rattle.grid_units.specs.Numbers.{is_digit, is_digits, is_number_char, value, without_sign, signed}
+use Rattle.grid_units.specs.Numbers.{is_digit, is_digits, is_number_char, value, without_sign, signed_value}
 use Rattle.grid_units.specs.Results.{◌>>=◌}
 use Rattle.gerber_commands.specs.Numbers.{int_of, nat_of, significant_digits}
 use Rattle.gerber_commands.specs.Rows.{field as split_field}
@@ -44,7 +44,7 @@ pub int_numbers : (run : List ℕ) (v : ℤ) → int_of run ≡ Ok v → list_al
 unfolding int_of
 int_numbers run v e =
     let u = without_sign run in
-    let t = let_through (is_digits u) (cond (ltb 12 (length (significant_digits u))) (Err TooManyDigits) (Ok (signed run (value u)))) v BadNumber e in
+    let t = let_through (is_digits u) (cond (ltb 12 (length (significant_digits u))) (Err TooManyDigits) (Ok (signed_value run (value u)))) v BadNumber e in
     signed_numbers run (both_true (not (eqb (length u) 0)) (list_all is_digit u) t).1
 
 pub nat_digits : (digits : List ℕ) (n : ℕ) → nat_of digits ≡ Ok n → list_all is_digit digits ≡ true

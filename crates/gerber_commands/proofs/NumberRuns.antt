@@ -6,7 +6,7 @@ use Rattle.std.proofs.lemmas.List.Sums.{prefix_len_stops, split_at_first}
 use Rattle.std.proofs.lemmas.Bool.{eqb-true, ltb-true, ltb-false}
 use Rattle.std.proofs.lemmas.Bool.Decides.{nat_tests}
 use Rattle.grid_units.specs.declared.fault.Reason.TheVariants.{BadNumber, TooFine, TooFar}
-use Rattle.grid_units.specs.Numbers.{is_digit, is_digits, is_number_char, value, without_sign, signed, to_units, whole, fraction, is_decimal, fits_eight_decimals, value_without_point, parse_decimal}
+use Rattle.grid_units.specs.Numbers.{is_digit, is_digits, is_number_char, value, without_sign, signed_value, to_units, whole, fraction, is_decimal, fits_eight_decimals, value_without_point, parse_decimal}
 use Rattle.gerber_commands.specs.Numbers.{nat_of}
 use Rattle.gerber_commands.specs.Pieces.{split_by}
 use Rattle.gerber_commands.specs.PieceGrammar.{HasNo}
@@ -56,7 +56,7 @@ unfolding parse_decimal
 decimal_numbers run v e =
     let w = whole run in
     let f = fraction run in
-    let a = allowed (is_decimal run) (cond (fits_eight_decimals f) (cond (ltb 999999 (value w)) (Err TooFar) (Ok (signed run (to_units (value_without_point run) (length f))))) (Err TooFine)) v BadNumber e in
+    let a = allowed (is_decimal run) (cond (fits_eight_decimals f) (cond (ltb 999999 (value w)) (Err TooFar) (Ok (signed_value run (to_units (value_without_point run) (length f))))) (Err TooFine)) v BadNumber e in
     let digits = both_true (list_all is_digit w) (list_all is_digit f) (both_true (list_all is_digit w && list_all is_digit f) (not (eqb (length w + length f) 0)) a.0).0 in
     signed_numbers run (unsigned_numbers (without_sign run) digits.0 digits.1)
 

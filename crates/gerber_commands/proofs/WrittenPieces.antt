@@ -27,7 +27,7 @@ use Rattle.gerber_commands.specs.declared.command.Template.TheVariants as templa
 use Rattle.gerber_commands.specs.Numbers.{nat_of}
 use Rattle.gerber_commands.specs.Rows.{first_match, field}
 use Rattle.gerber_commands.specs.Negative.{is_negative_image}
-use Rattle.gerber_commands.specs.Pieces.{split_by, last_byte, before_last, refused_format_row, format, format_fields, format_row, unit_piece_row, is_name, standard_template, min_sizes, max_sizes, all_values, are_sizes, sizes_of, aperture_number, define_standard, define_named, define_template, before_comma, after_comma, define, definition, define_row, macro_of, macro_definition, polarity_row, mirror_row, run_after, turn, scale, transform_row, block_fields, repeat, repeat_fields, repeat_start, repeat_row, file_attribute, attribute, removal, has_value, is_omitted_or, is_zero_rotation, axes_equal, has_no_effect, no_effect_piece_row, neutral_axes_row, negative_row, deprecated_piece_row, block_aperture_row, pieces, piece, extended}
+use Rattle.gerber_commands.specs.Pieces.{split_by, last_byte, before_last, refused_format_row, format, format_fields, format_row, unit_piece_row, is_name, standard_template, min_sizes, max_sizes, all_values, are_sizes, sizes_of, aperture_number, define_standard, define_named, define_template, before_comma, after_comma, define, definition, define_row, macro_of, macro_definition, polarity_row, mirror_row, run_after, turn, scale, transform_row, block_fields, repeat, repeat_fields, repeat_start, repeat_row, file_attribute, attribute, removal, has_value, is_omitted_or, is_zero_rotation, axes_equal, has_no_effect, no_effect_piece_row, neutral_axes_row, negative_row, deprecated_piece_row, block_aperture_row, pieces, piece, extended_meaning}
 use Rattle.gerber_commands.specs.PieceGrammar.{HasNo, fixed_pieces, standards, IsMacroName, IsTemplate, IsMacro, SpellsOne, IsOmittedOr, neutral_values, HasNoEffect, IsPiece}
 use Rattle.gerber_commands.specs.PieceGrammar as grammar
 use Rattle.gerber_commands.specs.PieceLaws.{AnswersAreWritten, ItemsAreWritten}
@@ -499,7 +499,7 @@ answers_are_written text cs e = piece_by text cs (list_any (λ b. eqb b 42) text
 
 -- and what stands between two `%`
 pub items_are_written : ItemsAreWritten
-unfolding extended
+unfolding extended_meaning
 items_are_written item cs e =
     let a = allowed (bytes_eq (last_byte item) (codes "*")) (piece (before_last item)) cs BadWord e in
     (before_last item, sym (take-append-drop (length item - 1) item) ∙ ap (λ (l : List ℕ). before_last item ++ l) (bytes_are (last_byte item) (codes "*") a.0), answers_are_written (before_last item) cs a.1)

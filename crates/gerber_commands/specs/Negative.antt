@@ -1,4 +1,4 @@
--- Which attributes make the image of a layer negative (docs/FORMATS.md, Words).
+-- Which attributes make the image of a layer negative (docs/FORMATS.md, Names, first fields, negative images).
 use Rattle.std.specs.Prelude.{ℕ, Bool, false, not, ◌==◌, List, drop, unwrap_or, codes}
 use Rattle.std.specs.Option.{option_map}
 use Rattle.std.specs.List.{prefix_len, take_while}
@@ -18,6 +18,6 @@ is_negative_image attribute = unwrap_or (option_map (λ value. bytes_eq (first_f
 abbrev pub after_spaces : List ℕ → List ℕ
 after_spaces text = drop (prefix_len (λ b. b == ascii.space) text) text
 
--- a comment with such an attribute: ` #@! TF.FilePolarity,Negative` (Gerber format, Attributes in comments)
+-- a comment with an attribute that makes the image negative: ` #@! TF.FilePolarity,Negative` (Gerber format, Attributes in comments)
 abbrev pub is_negative_comment : List ℕ → Bool
 is_negative_comment text = unwrap_or (option_map is_negative_image (strip_prefix (codes "#@! TF") (after_spaces text))) false

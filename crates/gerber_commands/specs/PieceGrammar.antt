@@ -1,4 +1,4 @@
--- The grammar of extended items: what is written between `%` and `*%` for which commands. Why any other text is refused, the rows of Pieces say.
+-- The grammar of extended items: what is written between `%` and `*%` for which commands. The rows of Pieces say why any other text is refused.
 use Rattle.std.specs.Prelude.{◌≡◌, ◌≢◌, ◌≤◌, ◌<◌, ◌+◌, ◌⊎◌, ℕ, ℤ, pos, true, false, ◌==◌, List, [], ◌∷◌, ◌++◌, length, map, Option, None, Some, Ok, codes, decimal}
 use Rattle.std.specs.List.{Contains, All, list_any, join_with_byte}
 use Rattle.std.specs.Option.{option_map}
@@ -46,7 +46,7 @@ standards = (codes "C", Circle, 1, 3) ∷ (codes "R", Rectangle, 2, 4) ∷ (code
 abbrev pub IsMacroName : List ℕ → Type 0
 IsMacroName name = (is_name name ≡ true) × All (λ s. s.0 ≢ name) standards
 
--- what stands after `ADD` and a number: a standard aperture with as many runs as it takes, or the name of a macro (Gerber format, Aperture definition AD): `C,0.5`
+-- what stands after `ADD` and a number: a standard aperture with as many runs as it takes, or the name of a macro and a text after a comma, if any (Gerber format, Aperture definition AD): `C,0.5`
 abbrev pub IsTemplate : List ℕ → Template → Type 0
 IsTemplate text (templates.Standard aperture sizes) =
     (letter : List ℕ) × (least most : ℕ) × (runs : List (List ℕ)) × Contains standards (letter, aperture, least, most) × (text ≡ letter ++ codes "," ++ join_with_byte ascii.upper_x runs)
@@ -96,7 +96,7 @@ IsOmittedOr v run = (run ≡ None) ⊎ (option_map parse_decimal run ≡ Some (O
 abbrev pub neutral_values : List (List ℕ × ℤ)
 neutral_values = (codes "OF", pos 0) ∷ (codes "MI", pos 0) ∷ (codes "SF", pos 100000000) ∷ []
 
--- a name, a rotation of 0, or a neutral value on each axis that stands (Gerber format, Deprecated commands): `INTop`, `IR0`, `OFA0B0`
+-- a name, a rotation of 0, or a neutral value on each axis that is named (Gerber format, Deprecated commands): `INTop`, `IR0`, `OFA0B0`
 abbrev pub HasNoEffect : List ℕ → Type 0
 HasNoEffect text =
     ((name : List ℕ) × ((text ≡ codes "IN" ++ name) ⊎ (text ≡ codes "LN" ++ name)))

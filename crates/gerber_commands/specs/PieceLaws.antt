@@ -1,7 +1,7 @@
 -- What the rows of extended items and their grammar say of each other.
 use Rattle.std.specs.Prelude.{◌≡◌, ℕ, List, ◌++◌, Ok, codes}
 use Rattle.gerber_commands.specs.declared.command.Command.{Command}
-use Rattle.gerber_commands.specs.Pieces.{piece, extended}
+use Rattle.gerber_commands.specs.Pieces.{piece, extended_meaning}
 use Rattle.gerber_commands.specs.PieceGrammar.{IsPiece}
 
 -- what the rows answer is so written
@@ -18,8 +18,8 @@ PiecesSpellOneList = (text : List ℕ) (a b : List Command) → IsPiece text a �
 
 -- what stands between two `%` and spells commands is a piece so written, and `*`
 abbrev pub ItemsAreWritten : Type 0
-ItemsAreWritten = (item : List ℕ) (commands : List Command) → extended item ≡ Ok commands → (text : List ℕ) × (item ≡ text ++ codes "*") × IsPiece text commands
+ItemsAreWritten = (item : List ℕ) (commands : List Command) → extended_meaning item ≡ Ok commands → (text : List ℕ) × (item ≡ text ++ codes "*") × IsPiece text commands
 
 -- a piece so written, and `*`, spells its commands
 abbrev pub ItemsAreAnswered : Type 0
-ItemsAreAnswered = (text : List ℕ) (commands : List Command) → IsPiece text commands → extended (text ++ codes "*") ≡ Ok commands
+ItemsAreAnswered = (text : List ℕ) (commands : List Command) → IsPiece text commands → extended_meaning (text ++ codes "*") ≡ Ok commands

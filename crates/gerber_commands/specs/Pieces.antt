@@ -74,7 +74,7 @@ unit_piece_row text = literal_row ((codes "MOIN", Ok (UnitIs Inch ∷ [])) ∷ (
 abbrev pub is_name_start : ℕ → Bool
 is_name_start b = (nat_le ascii.upper_a b && nat_le b ascii.upper_z) || ((nat_le ascii.lower_a b && nat_le b ascii.lower_z) || ((b == ascii.underscore) || ((b == ascii.point) || (b == ascii.dollar))))
 
--- a byte inside a name: one of these, a digit or `-` (docs/FORMATS.md, Names, first fields, negative images)
+-- a byte inside a name: one that a name may begin with, a digit or `-` (docs/FORMATS.md, Names, first fields, negative images)
 abbrev pub is_name_byte : ℕ → Bool
 is_name_byte b = is_name_start b || (is_digit b || (b == ascii.minus))
 
@@ -359,5 +359,5 @@ unfoldable pub piece : List ℕ → Meaning
 piece text = if has_several_pieces text then Err SeveralInOne else first_match (pieces text)
 
 -- An extended item between its two `%`, as `MOMM*`: BadWord unless it ends with `*`.
-unfoldable pub extended : List ℕ → Meaning
-extended text = if bytes_eq (last_byte text) (codes "*") then piece (before_last text) else Err BadWord
+unfoldable pub extended_meaning : List ℕ → Meaning
+extended_meaning text = if bytes_eq (last_byte text) (codes "*") then piece (before_last text) else Err BadWord

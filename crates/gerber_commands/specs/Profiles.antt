@@ -6,7 +6,7 @@ use Rattle.gerber_commands.specs.declared.command.Command.TheVariants.{Clear}
 use Rattle.grid_units.specs.declared.profile.Profile.{Profile}
 use Rattle.grid_units.specs.declared.profile.Profile.TheVariants.{Strict, Wide}
 use Rattle.gerber_commands.specs.Rows.{Meaning, Row}
-use Rattle.gerber_commands.specs.Pieces.{extended}
+use Rattle.gerber_commands.specs.Pieces.{extended_meaning}
 use Rattle.gerber_commands.specs.PieceGrammar.{IsPiece}
 
 -- the item that only the wide profile reads: `LPC*`, clear polarity (Gerber format, Load polarity LP)
@@ -15,8 +15,8 @@ wide_row text = literal_row ((codes "LPC*", Ok (Clear ∷ [])) ∷ []) text
 
 -- an extended item between its two `%`, as `LPC*`, in the profile: each but that one is read as in the strict profile
 abbrev pub extended_in : Profile → List ℕ → Meaning
-extended_in Strict text = extended text
-extended_in Wide text = unwrap_or (wide_row text) (extended text)
+extended_in Strict text = extended_meaning text
+extended_in Wide text = unwrap_or (wide_row text) (extended_meaning text)
 
 -- what stands between `%` and `*%` in the profile, and what it spells: in the wide one `LPC` too (Gerber format, Load polarity LP)
 abbrev pub IsPieceIn : Profile → List ℕ → List Command → Type 0
@@ -33,4 +33,4 @@ ItemsAreAnsweredIn = (profile : Profile) (text : List ℕ) (commands : List Comm
 
 -- an item that spells commands in the strict profile spells the same ones in the wide one
 abbrev pub WideReadsMore : Type 0
-WideReadsMore = (item : List ℕ) (commands : List Command) → extended item ≡ Ok commands → extended_in Wide item ≡ Ok commands
+WideReadsMore = (item : List ℕ) (commands : List Command) → extended_meaning item ≡ Ok commands → extended_in Wide item ≡ Ok commands

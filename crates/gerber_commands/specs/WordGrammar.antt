@@ -80,7 +80,7 @@ pub record IsOperation (plotting : Bool) (word : List ℕ) (commands : List Comm
 
 -- ---- words
 
--- a word without its `*` is written for these commands, where the last operation before it is a plot or not: `X5` for a plot, where it is
+-- a word without its `*` is written for these commands, where the last operation before it is a plot or not: `X5` only where that operation is a plot
 abbrev pub IsWord : Bool → List ℕ → List Command → Type 0
 IsWord plotting word commands =
     Contains fixed_words (word, commands) ⊎ (Contains modes (word, commands) ⊎ (IsComment word commands ⊎ (IsSelection word commands ⊎ IsOperation plotting word commands)))

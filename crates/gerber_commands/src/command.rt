@@ -1,6 +1,6 @@
 //! The commands of a Gerber text.
 
-ghost use Rattle.std.specs.Prelude.{◌≡◌, ◌≢◌, Some, None, IfSome, IfNone, IfOk};
+ghost use Rattle.std.specs.Prelude.{◌≡◌, IfOk};
 
 use grid_units::{Dec, OptionalInteger, Reason, Text, Unit};
 use std::alloc::{AllocError, Global};

@@ -2,7 +2,7 @@
 
 ghost use Rattle.std.specs.Prelude.{◌≡◌, ◌≢◌, IfOk, IfSome, ◌<◌, ◌^◌, ◌≤◌, ◌==◌, length, take, All, true, neg_ℤ, pos, if◌then◌else◌};
 ghost use Rattle.std.specs.List.{list_all, prefix_len};
-ghost use Rattle.grid_units.specs.Numbers.{is_digit, omitted, value};
+ghost use Rattle.grid_units.specs.Numbers.{is_digit, omitted_integer, value};
 ghost use Rattle.gerber_commands.specs.Numbers.{int_of, nat_of};
 
 use grid_units::Reason;
@@ -96,7 +96,7 @@ pub fn first_digits(bytes: &[u8]) -> (u64, usize)
 #[tactic(auto, unfolding(crate::specs::Numbers::int_of))]
 pub fn read_int(run: &[u8]) -> Result<i64, Reason>
     ensures value { result ≡ int_of run.now }
-    ensures kept { IfOk result (λ n. n ≢ omitted) }
+    ensures kept { IfOk result (λ n. n ≢ omitted_integer) }
 {
     let digits = without_sign(run);
     let (magnitude, len) = first_digits(digits);
@@ -117,7 +117,7 @@ pub fn read_int(run: &[u8]) -> Result<i64, Reason>
 pub fn signed(negative: bool, magnitude: u64) -> i64
     requires { magnitude < 10 ^ 12 }
     ensures value { result ≡ (if negative then neg_ℤ (pos magnitude) else pos magnitude) }
-    ensures kept { result ≢ omitted }
+    ensures kept { result ≢ omitted_integer }
 {
     if negative {
         -(magnitude as i64)

@@ -11,7 +11,7 @@ ghost use Rattle.grid_units.specs.Rows.{strip_prefix};
 ghost use Rattle.gerber_commands.specs.Rows.{first_match};
 ghost use Rattle.grid_units.specs.declared.profile.Profile.TheVariants.{Wide};
 ghost use Rattle.gerber_commands.specs.Profiles.{extended_in};
-ghost use Rattle.gerber_commands.specs.Pieces.{refused_format_row, format, format_fields, format_row, unit_piece_row, polarity_row, mirror_row, run_after, turn, scale, transform_row, block_fields, repeat, repeat_start, repeat_row, file_attribute, attribute, removal, is_omitted_or, is_zero_rotation, axes_equal, has_no_effect, no_effect_piece_row, neutral_axes_row, negative_row, deprecated_piece_row, block_aperture_row, deprecated_pieces, pieces_from_attributes, pieces_from_polarity, has_several_pieces, last_byte, before_last, pieces, piece, extended};
+ghost use Rattle.gerber_commands.specs.Pieces.{refused_format_row, format, format_fields, format_row, unit_piece_row, polarity_row, mirror_row, run_after, turn, scale, transform_row, block_fields, repeat, repeat_start, repeat_row, file_attribute, attribute, removal, is_omitted_or, is_zero_rotation, axes_equal, has_no_effect, no_effect_piece_row, neutral_axes_row, negative_row, deprecated_piece_row, block_aperture_row, deprecated_pieces, pieces_from_attributes, pieces_from_polarity, has_several_pieces, last_byte, before_last, pieces, piece, extended_meaning};
 
 use crate::aperture::{read_define, read_macro};
 use crate::command::{AttributeKind, Command, Format, ItemCommands, ItemRow, StepRepeat};
@@ -489,9 +489,9 @@ fn before_asterisk(text: &[u8]) -> Option<&[u8]>
 }
 
 /// Reads what stands between the two `%` of an extended item in the strict profile.
-#[tactic(auto, unfolding(crate::specs::Pieces::extended))]
+#[tactic(auto, unfolding(crate::specs::Pieces::extended_meaning))]
 pub fn read_extended(alloc: Global, text: &[u8]) -> Result<ItemCommands, ItemFail>
-    ensures { Gives result (extended text.now) }
+    ensures { Gives result (extended_meaning text.now) }
 {
     match before_asterisk(text) {
         Some(prefix) => read_piece(alloc, prefix),

@@ -286,9 +286,10 @@ fn is_operation(f: &Runs<'_>) -> bool
         && (f.x.is_some() || f.y.is_some() || f.i.is_some() || f.j.is_some() || is_action_code(f.d))
 }
 
-/// The values of X and Y, of I and J, and the operation.
+/// The values of two coordinates, each of which may be left out.
 type CoordinatePair = (OptionalInteger, OptionalInteger);
 
+/// The values of X and Y, of I and J, and the operation.
 type Operands = ((CoordinatePair, CoordinatePair), Action);
 
 /// The values of two coordinates, or the first reason in the reading order.

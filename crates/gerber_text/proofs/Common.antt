@@ -19,7 +19,7 @@ pub use Rattle.gerber_commands.specs.declared.command.Template.{Template}
 pub use Rattle.gerber_commands.proofs.RowLemmas.{IsPlain, block_fields_are, bytes_are}
 pub use Rattle.gerber_commands.specs.PieceGrammar.{HasNo, IsMacro, IsMacroName, IsPiece, IsTemplate, SpellsOne, fixed_pieces, standards}
 pub use Rattle.gerber_commands.specs.Pieces.{after_comma, all_values, are_sizes, before_comma, before_last, define_template, format_fields, has_several_pieces, is_name_byte, is_name_start, last_byte, macro_of, max_sizes, min_sizes, pieces, repeat_fields, split_by, standard_template}
-unfoldable pub use Rattle.gerber_commands.specs.Pieces.{aperture_number, attribute, block_aperture_row, block_fields, define, define_named, define_standard, definition, deprecated_piece_row, extended, file_attribute, format_row, is_name, macro_definition, mirror_row, negative_row, neutral_axes_row, no_effect_piece_row, piece, polarity_row, refused_format_row, removal, repeat, repeat_row, repeat_start, scale, sizes_of, transform_row, turn, unit_piece_row}
+unfoldable pub use Rattle.gerber_commands.specs.Pieces.{aperture_number, attribute, block_aperture_row, block_fields, define, define_named, define_standard, definition, deprecated_piece_row, extended_meaning, file_attribute, format_row, is_name, macro_definition, mirror_row, negative_row, neutral_axes_row, no_effect_piece_row, piece, polarity_row, refused_format_row, removal, repeat, repeat_row, repeat_start, scale, sizes_of, transform_row, turn, unit_piece_row}
 pub use Rattle.gerber_commands.specs.Profiles.{IsPieceIn, extended_in}
 pub use Rattle.gerber_commands.specs.WordGrammar.{IsOperation, IsWord, NamesInt, fixed_words, modes}
 pub use Rattle.gerber_commands.specs.Words.{Fields, action, action_with, is_plot, words}
@@ -33,7 +33,7 @@ pub use Rattle.gerber_text.specs.Inner.Bytes.{HasLeadingItem, IsInside, may_foll
 pub use Rattle.gerber_text.specs.Items.{IsItem, IsUnfinished, after_percent, end_byte, is_end_item, is_line_break}
 pub use Rattle.gerber_text.specs.Meaning.{without_end}
 unfoldable pub use Rattle.gerber_text.specs.Meaning.{meaning_in}
-pub use Rattle.gerber_text.specs.Reading.{Entries, ReadsIn, ReadsUpToFault, ResultsIn, ShowsIn, SpellsBeforeFaultIn, SpellsPrefixIn, SpellsTextIn, after_end, commands_by, ended, entries_after, entries_of, is_blank, is_plotting, may_follow, placed, plot_of, read_by, shown_by, shown_within}
+pub use Rattle.gerber_text.specs.Reading.{Entries, ReadsIn, ReadsUpToFault, ResultsIn, ShowsIn, SpellsBeforeFaultIn, SpellsPrefixIn, SpellsTextIn, after_end, commands_by, entries_at_end, entries_after, entries_of, is_blank, is_plotting, may_follow, item_entries, plot_of, read_by, shown_by, shown_within}
 unfoldable pub use Rattle.gerber_text.specs.Reading.{spelled_in}
 pub use Rattle.gerber_text.specs.Sayable.{are_parameters, is_aperture_number, is_block, is_dec, is_finish, is_format, is_int, is_macro_name, is_nat, is_operation, is_optional_int, is_optional_text, is_sayable, is_short, is_template, is_text, is_text_byte}
 unfoldable pub use Rattle.gerber_text.specs.Sayable.{has_valid_fields}
@@ -47,7 +47,7 @@ pub use Rattle.grid_units.proofs.LookbackLemmas.{last_or-append, option_or_none}
 pub use Rattle.grid_units.proofs.ReadPrefix.{digits_numbers}
 pub use Rattle.grid_units.proofs.ResultLemmas.{bind_Ok, bind_cong, bind_err, bind_ok, guard_err, guard_ok}
 pub use Rattle.grid_units.specs.Limits.{item_limit, text_limit}
-pub use Rattle.grid_units.specs.Numbers.{fits_eight_decimals, fraction, is_decimal, is_digit, is_digits, is_negative, is_number_char, max_units, signed, to_units, value, value_without_point, whole, without_sign}
+pub use Rattle.grid_units.specs.Numbers.{fits_eight_decimals, fraction, is_decimal, is_digit, is_digits, is_negative, is_number_char, max_units, signed_value, to_units, value, value_without_point, whole, without_sign}
 unfoldable pub use Rattle.grid_units.specs.Numbers.{parse_decimal}
 pub use Rattle.grid_units.specs.Results.{Answers, AnswersAlways, IfFault, both, fault, with_place, ◌>>=◌}
 pub use Rattle.grid_units.specs.declared.fault.Fail.{Fail}

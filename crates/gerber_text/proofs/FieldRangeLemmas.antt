@@ -1,5 +1,5 @@
 -- The ranges of numbers that are read.
-use Rattle.gerber_text.proofs.Common.{◌≡◌, ℕ, zero, suc, ◌+◌, ◌-◌, ◌*◌, ◌<◌, ◌≤◌, ◌^◌, Bool, true, false, cond, not, ◌&&◌, eqb, leb, ltb, List, [], ◌∷◌, length, take, drop, ℤ, pos, Result, Ok, Err, refl, sym, ap, ◌∙◌, arith, unsigned_abs, neg_ℤ, decimal, list_all, prefix_len, AllByRecursion, length-take, All-from_recursion, length-decimal-le, leb-true, le-leb, lt-ltb, ltb-false, Reason, BadNumber, TooManyDigits, TooFine, TooFar, is_digit, is_digits, value, without_sign, is_negative, signed, to_units, whole, fraction, is_decimal, fits_eight_decimals, value_without_point, parse_decimal, max_units, significant_digits, int_of, nat_of, is_nat, is_int, is_dec, and_true, both_true}
+use Rattle.gerber_text.proofs.Common.{◌≡◌, ℕ, zero, suc, ◌+◌, ◌-◌, ◌*◌, ◌<◌, ◌≤◌, ◌^◌, Bool, true, false, cond, not, ◌&&◌, eqb, leb, ltb, List, [], ◌∷◌, length, take, drop, ℤ, pos, Result, Ok, Err, refl, sym, ap, ◌∙◌, arith, unsigned_abs, neg_ℤ, decimal, list_all, prefix_len, AllByRecursion, length-take, All-from_recursion, length-decimal-le, leb-true, le-leb, lt-ltb, ltb-false, Reason, BadNumber, TooManyDigits, TooFine, TooFar, is_digit, is_digits, value, without_sign, is_negative, signed_value, to_units, whole, fraction, is_decimal, fits_eight_decimals, value_without_point, parse_decimal, max_units, significant_digits, int_of, nat_of, is_nat, is_int, is_dec, and_true, both_true}
 use Rattle.std.proofs.Math.Nat.{pow-le-pow_right}
 use Rattle.grid_units.proofs.DigitLemmas.{value_lt, to_units_is, filled_lt}
 use Rattle.gerber_commands.proofs.NumberLemmas.{value_significant}
@@ -70,9 +70,9 @@ pub was_int : (run : List ℕ) (z : ℤ) → int_of run ≡ Ok z → is_int z �
 unfolding int_of
 was_int run z e =
     let u = without_sign run in
-    let a = allowed (is_digits u) (cond (ltb 12 (length (significant_digits u))) (Err TooManyDigits) (Ok (signed run (value u)))) z BadNumber e in
-    let b = refused (ltb 12 (length (significant_digits u))) (Ok (signed run (value u))) z TooManyDigits a.1 in
-    let same : signed run (value u) ≡ z = let o : Ok (signed run (value u)) ≡ Ok z = b.1 in cc in
+    let a = allowed (is_digits u) (cond (ltb 12 (length (significant_digits u))) (Err TooManyDigits) (Ok (signed_value run (value u)))) z BadNumber e in
+    let b = refused (ltb 12 (length (significant_digits u))) (Ok (signed_value run (value u))) z TooManyDigits a.1 in
+    let same : signed_value run (value u) ≡ z = let o : Ok (signed_value run (value u)) ≡ Ok z = b.1 in cc in
     let few : length (significant_digits u) ≤ 12 = ltb-false 12 (length (significant_digits u)) b.0 in
     let d = both_true (not (eqb (length u) 0)) (list_all is_digit u) a.0 in
     let lt : value (significant_digits u) < 10 ^ length (significant_digits u) = value_lt (significant_digits u) (all_recursion (significant_digits u) (all_drop is_digit (prefix_len (λ b. eqb b 48) u) u d.1)) in
@@ -88,10 +88,10 @@ was_dec text v e =
     let w = whole text in
     let f = fraction text in
     let m = to_units (value_without_point text) (length f) in
-    let a = allowed (is_decimal text) (cond (fits_eight_decimals f) (cond (ltb 999999 (value w)) (Err TooFar) (Ok (signed text m))) (Err TooFine)) v BadNumber e in
-    let b = allowed (fits_eight_decimals f) (cond (ltb 999999 (value w)) (Err TooFar) (Ok (signed text m))) v TooFine a.1 in
-    let c = refused (ltb 999999 (value w)) (Ok (signed text m)) v TooFar b.1 in
-    let same : signed text m ≡ v = let o : Ok (signed text m) ≡ Ok v = c.1 in cc in
+    let a = allowed (is_decimal text) (cond (fits_eight_decimals f) (cond (ltb 999999 (value w)) (Err TooFar) (Ok (signed_value text m))) (Err TooFine)) v BadNumber e in
+    let b = allowed (fits_eight_decimals f) (cond (ltb 999999 (value w)) (Err TooFar) (Ok (signed_value text m))) v TooFine a.1 in
+    let c = refused (ltb 999999 (value w)) (Ok (signed_value text m)) v TooFar b.1 in
+    let same : signed_value text m ≡ v = let o : Ok (signed_value text m) ≡ Ok v = c.1 in cc in
     let low : value w ≤ 999999 = ltb-false 999999 (value w) c.0 in
     let digits = both_true (list_all is_digit w && list_all is_digit f) (not (eqb (length w + length f) 0)) a.0 in
     let fds = (both_true (list_all is_digit w) (list_all is_digit f) digits.0).1 in

@@ -1,5 +1,5 @@
 -- What a whole text shows and reads as, from what a reader holds.
-use Rattle.gerber_text.proofs.Common.{◌≡◌, ℕ, suc, ◌+◌, ◌<◌, ◌≤◌, Bool, true, false, cond, ltb, List, [], ◌∷◌, ◌++◌, length, take, Result, Ok, Err, sym, ap, subst, ◌∙◌, arith, append_assoc, inl, inr, list_all, take_all, take_at, length-append, lt-ltb, le-ltb, false≢true, Profile, Fault, Fail, TooLong, Truncated, Progress, OffsetByte, offset_bytes, bytes_of, first_offset, has_end, Splits, ◌>>=◌, fault, Answers, AnswersAlways, Entries, commands_by, shown_by, ShowsIn, ended, ReadsIn, is_blank, SpellsPrefixIn, SpellsBeforeFaultIn, ReadsUpToFault, entries_of, entries_after, Holds, FailsOnBytes, Refuses, FailsWithIn, RefusesText, Ends, bind_err, guard_err, text_limit}
+use Rattle.gerber_text.proofs.Common.{◌≡◌, ℕ, suc, ◌+◌, ◌<◌, ◌≤◌, Bool, true, false, cond, ltb, List, [], ◌∷◌, ◌++◌, length, take, Result, Ok, Err, sym, ap, subst, ◌∙◌, arith, append_assoc, inl, inr, list_all, take_all, take_at, length-append, lt-ltb, le-ltb, false≢true, Profile, Fault, Fail, TooLong, Truncated, Progress, OffsetByte, offset_bytes, bytes_of, first_offset, has_end, Splits, ◌>>=◌, fault, Answers, AnswersAlways, Entries, commands_by, shown_by, ShowsIn, entries_at_end, ReadsIn, is_blank, SpellsPrefixIn, SpellsBeforeFaultIn, ReadsUpToFault, entries_of, entries_after, Holds, FailsOnBytes, Refuses, FailsWithIn, RefusesText, Ends, bind_err, guard_err, text_limit}
 use Rattle.grid_units.specs.declared.fault.Fail.TheVariants as fails
 use Rattle.gerber_text.proofs.ShowsLemmas.{kept_all}
 
@@ -63,7 +63,7 @@ refuses_beyond old left prefix more e len h = λ profile gone text holds.
 -- ---- the end of the text
 
 ends_with : ℕ → List (List OffsetByte) → List OffsetByte → Entries → Result Entries Fault
-ends_with len items rest commands = cond (ltb text_limit len) (Err (fault (suc (length items)) text_limit TooLong)) (ended len items rest commands)
+ends_with len items rest commands = cond (ltb text_limit len) (Err (fault (suc (length items)) text_limit TooLong)) (entries_at_end len items rest commands)
 
 pub reads_ok : (profile : Profile) (text : List ℕ) (items : List (List OffsetByte)) (rest : List OffsetByte) (cs : Entries) → Splits (offset_bytes text) items rest → shown_by profile items rest ≡ Ok cs → has_end items ≡ true → length text ≤ text_limit → ReadsIn profile text (Ok cs)
 unfolding ends_with
@@ -71,7 +71,7 @@ reads_ok profile text items rest cs s e some le = record {
   items = items;
   rest = rest;
   splits = subst (λ (t : List ℕ). Splits (offset_bytes t) items rest) (sym (take_all text_limit text le)) s;
-  answer_is = sym (ap (λ r. r >>= ends_with (length text) items rest) e ∙ (ap (λ t. cond t (Err (fault (suc (length items)) text_limit TooLong)) (ended (length text) items rest cs)) (le-ltb text_limit (length text) le) ∙ ap (λ t. cond t (Ok cs) (Err (fault (suc (length items)) (cond (list_all is_blank (bytes_of rest)) (length text) (first_offset rest)) Truncated))) some));
+  answer_is = sym (ap (λ r. r >>= ends_with (length text) items rest) e ∙ (ap (λ t. cond t (Err (fault (suc (length items)) text_limit TooLong)) (entries_at_end (length text) items rest cs)) (le-ltb text_limit (length text) le) ∙ ap (λ t. cond t (Ok cs) (Err (fault (suc (length items)) (cond (list_all is_blank (bytes_of rest)) (length text) (first_offset rest)) Truncated))) some));
 }
 
 pub reads_truncated : (profile : Profile) (text : List ℕ) (items : List (List OffsetByte)) (rest : List OffsetByte) (cs : Entries) (place byte : ℕ) → Splits (offset_bytes text) items rest → shown_by profile items rest ≡ Ok cs → has_end items ≡ false → length text ≤ text_limit
@@ -81,7 +81,7 @@ reads_truncated profile text items rest cs place byte s e none le place-is byte-
   items = items;
   rest = rest;
   splits = subst (λ (t : List ℕ). Splits (offset_bytes t) items rest) (sym (take_all text_limit text le)) s;
-  answer_is = sym (ap (λ r. r >>= ends_with (length text) items rest) e ∙ (ap (λ t. cond t (Err (fault (suc (length items)) text_limit TooLong)) (ended (length text) items rest cs)) (le-ltb text_limit (length text) le) ∙ (ap (λ t. cond t (Ok cs) (Err (fault (suc (length items)) (cond (list_all is_blank (bytes_of rest)) (length text) (first_offset rest)) Truncated))) none ∙ (ap (λ b. Err (fault (suc (length items)) b Truncated)) byte-is ∙ ap (λ p. Err (fault p byte Truncated)) place-is))));
+  answer_is = sym (ap (λ r. r >>= ends_with (length text) items rest) e ∙ (ap (λ t. cond t (Err (fault (suc (length items)) text_limit TooLong)) (entries_at_end (length text) items rest cs)) (le-ltb text_limit (length text) le) ∙ (ap (λ t. cond t (Ok cs) (Err (fault (suc (length items)) (cond (list_all is_blank (bytes_of rest)) (length text) (first_offset rest)) Truncated))) none ∙ (ap (λ b. Err (fault (suc (length items)) b Truncated)) byte-is ∙ ap (λ p. Err (fault p byte Truncated)) place-is))));
 }
 
 pub stops_at : (t : Bool) (rest : List OffsetByte) (n offset start : ℕ) → list_all is_blank (bytes_of rest) ≡ t → offset ≡ n → (0 < length rest → start ≡ first_offset rest) → cond t n (first_offset rest) ≡ cond t offset start
@@ -99,7 +99,7 @@ shows_reads profile text f s = record {
   answer_is = elim (bind_err (shown_by profile s.items s.rest) (checks_len (length text) s.items) f (sym s.answer_is)) [
     | inl h ↦ sym (ap (λ r. r >>= ends_with (length text) s.items s.rest) h)
     | inr h ↦ (let g = guard_err (ltb text_limit (length text)) (fault (suc (length s.items)) text_limit TooLong) f h.0 h.2 in
-        sym (ap (λ r. r >>= ends_with (length text) s.items s.rest) h.1 ∙ (ap (λ t. cond t (Err (fault (suc (length s.items)) text_limit TooLong)) (ended (length text) s.items s.rest h.0)) g.0 ∙ ap (λ (x : Fault). Err x) g.1)))
+        sym (ap (λ r. r >>= ends_with (length text) s.items s.rest) h.1 ∙ (ap (λ t. cond t (Err (fault (suc (length s.items)) text_limit TooLong)) (entries_at_end (length text) s.items s.rest h.0)) g.0 ∙ ap (λ (x : Fault). Err x) g.1)))
   ];
 }
 

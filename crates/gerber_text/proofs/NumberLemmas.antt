@@ -1,5 +1,5 @@
 -- Numbers as they are written: their bytes, what they are read as, and how long they are.
-use Rattle.gerber_text.proofs.Common.{◌≡◌, ℕ, ◌<◌, ◌≤◌, ◌/◌, ◌%◌, ◌^◌, true, false, cond, not, ◌||◌, ◌&&◌, eqb, leb, ltb, List, [], ◌∷◌, ◌++◌, length, ℤ, pos, negsuc, Ok, Err, refl, ap, ◌∙◌, arith, lit<, lit≤, unsigned_abs, decimal, neg_ℤ, list_all, prefix_len, length-append, length-drop, length-decimal-le, leb-true, le-leb, le-ltb, ltb-true, nat_tests, BadNumber, TooManyDigits, is_digit, is_digits, is_number_char, value, without_sign, signed, parse_decimal, max_units, significant_digits, int_of, nat_of, integer, is_text_byte, is_text, is_nat, is_int, is_dec, and_true, both_true, not_empty, list_all_weaker, list_all_append, digits_numbers}
+use Rattle.gerber_text.proofs.Common.{◌≡◌, ℕ, ◌<◌, ◌≤◌, ◌/◌, ◌%◌, ◌^◌, true, false, cond, not, ◌||◌, ◌&&◌, eqb, leb, ltb, List, [], ◌∷◌, ◌++◌, length, ℤ, pos, negsuc, Ok, Err, refl, ap, ◌∙◌, arith, lit<, lit≤, unsigned_abs, decimal, neg_ℤ, list_all, prefix_len, length-append, length-drop, length-decimal-le, leb-true, le-leb, le-ltb, ltb-true, nat_tests, BadNumber, TooManyDigits, is_digit, is_digits, is_number_char, value, without_sign, signed_value, parse_decimal, max_units, significant_digits, int_of, nat_of, integer, is_text_byte, is_text, is_nat, is_int, is_dec, and_true, both_true, not_empty, list_all_weaker, list_all_append, digits_numbers}
 use Rattle.grid_units.specs.Spellings.{minus, decimals, fraction_text, canonical, places}
 use Rattle.grid_units.proofs.TrailingZeros.{length-places}
 use Rattle.grid_units.proofs.SpellingsLemmas.{IsSpelling, spells_decimal, digits-places, trims, canonical_reads, minus_numbers, minus_short}
@@ -47,7 +47,7 @@ unsigned_is (negsuc n) ds h l = refl
 unsigned_is (pos n) [] h l = refl
 unsigned_is (pos n) (d ∷ ds) h l = ap (λ t. cond t ds (d ∷ ds)) (digit_no_sign d (both_true (is_digit d) (list_all is_digit ds) h).0)
 
-signed_is : (v : ℤ) (ds : List ℕ) → list_all is_digit ds ≡ true → 0 < length ds → signed (minus v ++ ds) (unsigned_abs v) ≡ v
+signed_is : (v : ℤ) (ds : List ℕ) → list_all is_digit ds ≡ true → 0 < length ds → signed_value (minus v ++ ds) (unsigned_abs v) ≡ v
 signed_is (negsuc n) ds h l = refl
 signed_is (pos n) [] h l = refl
 signed_is (pos n) (d ∷ ds) h l = ap (λ t. cond t (neg_ℤ (pos n)) (pos n)) (digit_no_minus d (both_true (is_digit d) (list_all is_digit ds) h).0)
@@ -60,8 +60,8 @@ int_reads v ds s l =
     let d : is_digits (without_sign run) ≡ true = ap is_digits u ∙ and_true (not (eqb (length ds) 0)) (list_all is_digit ds) (not_empty (length ds) s.some) s.digits in
     let few : length (significant_digits (without_sign run)) ≤ 12 = omega (arith, l, ap length u, length-drop (prefix_len (λ b. eqb b 48) (without_sign run)) (without_sign run)) in
     let k : ltb 12 (length (significant_digits (without_sign run))) ≡ false = le-ltb _ _ few in
-    (λ i. cond (d i) (cond (k i) (Err TooManyDigits) (Ok (signed run (value (without_sign run))))) (Err BadNumber))
-    ∙ ap (λ n. Ok (signed run n)) (ap value u ∙ s.value)
+    (λ i. cond (d i) (cond (k i) (Err TooManyDigits) (Ok (signed_value run (value (without_sign run))))) (Err BadNumber))
+    ∙ ap (λ n. Ok (signed_value run n)) (ap value u ∙ s.value)
     ∙ ap (λ (z : ℤ). Ok z) (signed_is v ds s.digits s.some)
 
 -- how a number of at most 12 digits is written

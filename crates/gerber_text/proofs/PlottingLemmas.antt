@@ -1,5 +1,5 @@
 -- Commands that a reader passes: they are gone, and the last operation is that among them, or before them.
-use Rattle.gerber_text.proofs.Common.{◌≡◌, ℕ, Bool, false, [], ◌∷◌, ◌++◌, Option, None, Some, unwrap_or, refl, sym, ap, ◌∙◌, last_or-append, option_or_none, Command, Interpolation, modes_of, Placed, Entries, plot_of, placed, is_plotting}
+use Rattle.gerber_text.proofs.Common.{◌≡◌, ℕ, Bool, false, [], ◌∷◌, ◌++◌, Option, None, Some, unwrap_or, refl, sym, ap, ◌∙◌, last_or-append, option_or_none, Command, Interpolation, modes_of, Placed, Entries, plot_of, item_entries, is_plotting}
 use Rattle.std.proofs.Common.{append-nil}
 use Rattle.grid_units.specs.Lists.{last_set}
 
@@ -13,6 +13,6 @@ plots_on before after added what old new items last held is =
     is ∙ ap (unwrap_or (plot_of what)) held ∙ ap (λ o. unwrap_or o (is_plotting before)) (sym last) ∙ sym (last_or-append (λ entry. plot_of entry.what) false before added) ∙ ap is_plotting (sym items)
 
 -- among the commands of an operation's item, it is the last operation
-pub last_operation : (place byte : ℕ) (mode : Option Interpolation) (what : Command) → last_set (λ (entry : Placed Command). plot_of entry.what) (placed place byte (modes_of mode ++ what ∷ [])) ≡ plot_of what
+pub last_operation : (place byte : ℕ) (mode : Option Interpolation) (what : Command) → last_set (λ (entry : Placed Command). plot_of entry.what) (item_entries place byte (modes_of mode ++ what ∷ [])) ≡ plot_of what
 last_operation place byte None what = refl
 last_operation place byte (Some mode) what = option_or_none (plot_of what)

@@ -1,5 +1,5 @@
 -- Items in the two profiles.
-use Rattle.gerber_text.proofs.Common.{◌≡◌, ℕ, suc, Bool, true, false, cond, eqb, List, [], ◌∷◌, Ok, sym, ap, ◌∙◌, ◌>>=◌, bind_ok, Command, Strict, Wide, word, extended, extended_in, meaning_in, without_end, OffsetByte, bytes_of, first_offset, Entries, is_plotting, spelled_in, commands_by, SpellsTextIn}
+use Rattle.gerber_text.proofs.Common.{◌≡◌, ℕ, suc, Bool, true, false, cond, eqb, List, [], ◌∷◌, Ok, sym, ap, ◌∙◌, ◌>>=◌, bind_ok, Command, Strict, Wide, word, extended_meaning, extended_in, meaning_in, without_end, OffsetByte, bytes_of, first_offset, Entries, is_plotting, spelled_in, commands_by, SpellsTextIn}
 use Rattle.gerber_commands.proofs.ProfileLemmas.{wide_reads_more as extended_reads_more}
 use Rattle.gerber_text.proofs.Items.{spelled_ok}
 use Rattle.gerber_text.proofs.SpelledIsWritten.{added}
@@ -12,7 +12,7 @@ unfolding meaning_in
 means_more plotting [] cs e = absurd cc
 means_more plotting (b ∷ bs) cs e = by (eqb b 37) e
   where
-    by : (t : Bool) → cond t (extended (without_end bs)) (word plotting (without_end (b ∷ bs))) ≡ Ok cs → cond t (extended_in Wide (without_end bs)) (word plotting (without_end (b ∷ bs))) ≡ Ok cs
+    by : (t : Bool) → cond t (extended_meaning (without_end bs)) (word plotting (without_end (b ∷ bs))) ≡ Ok cs → cond t (extended_in Wide (without_end bs)) (word plotting (without_end (b ∷ bs))) ≡ Ok cs
     by true h = extended_reads_more (without_end bs) cs h
     by false h = h
 

@@ -1,5 +1,5 @@
 -- A text that is refused is refused for a reason of reading.
-use Rattle.gerber_text.proofs.Common.{ℕ, suc, Bool, true, false, cond, eqb, ltb, List, [], ◌∷◌, length, drop, Option, None, Some, Result, Ok, Err, unwrap_or, sym, subst, codes, bytes_eq, AllByRecursion, list_any, prefix_len, take_while, option_map, option_or, Reason, Fault, BadWord, ClearPolarity, NegativeImage, Incremental, TrailingZeros, SeveralInOne, BadNumber, TooFine, TooFar, Inch, Millimetre, ◌>>=◌, both, with_place, is_digit, is_number_char, parse_decimal, value, whole, fraction, value_without_point, to_units, signed, is_decimal, fits_eight_decimals, Profile, Strict, Wide, extended_in, Quadrant, RegionStart, RegionEnd, UnitIs, Dark, Clear, Mirror, Macro, RepeatEnd, Single, Multi, Action, Plot, Move, Flash, Standard, Interpolation, int_of, nat_of, Meaning, Row, first_match, field, Fields, no_effect_row, comment, mode_row, quadrant_row, region_row, unit_row, incremental_row, action, d_word, g54_word, select_row, coordinate, action_with, kind, operands, operate, operation_row, finish_row, deprecated_row, words, word, split_by, last_byte, before_last, is_name, standard_template, are_sizes, before_comma, after_comma, has_several_pieces, refused_format_row, format_fields, format_row, unit_piece_row, all_values, sizes_of, aperture_number, define_standard, define_named, define_template, define, definition, macro_of, macro_definition, polarity_row, mirror_row, turn, scale, transform_row, block_fields, repeat, repeat_fields, repeat_start, repeat_row, file_attribute, attribute, removal, no_effect_piece_row, neutral_axes_row, negative_row, deprecated_piece_row, block_aperture_row, pieces, piece, extended, meaning_in, without_end, OffsetByte, Entries, spelled_in, commands_by, after_end, shown_by, read_by, ReadsIn}
+use Rattle.gerber_text.proofs.Common.{ℕ, suc, Bool, true, false, cond, eqb, ltb, List, [], ◌∷◌, length, drop, Option, None, Some, Result, Ok, Err, unwrap_or, sym, subst, codes, bytes_eq, AllByRecursion, list_any, prefix_len, take_while, option_map, option_or, Reason, Fault, BadWord, ClearPolarity, NegativeImage, Incremental, TrailingZeros, SeveralInOne, BadNumber, TooFine, TooFar, Inch, Millimetre, ◌>>=◌, both, with_place, is_digit, is_number_char, parse_decimal, value, whole, fraction, value_without_point, to_units, signed_value, is_decimal, fits_eight_decimals, Profile, Strict, Wide, extended_in, Quadrant, RegionStart, RegionEnd, UnitIs, Dark, Clear, Mirror, Macro, RepeatEnd, Single, Multi, Action, Plot, Move, Flash, Standard, Interpolation, int_of, nat_of, Meaning, Row, first_match, field, Fields, no_effect_row, comment, mode_row, quadrant_row, region_row, unit_row, incremental_row, action, d_word, g54_word, select_row, coordinate, action_with, kind, operands, operate, operation_row, finish_row, deprecated_row, words, word, split_by, last_byte, before_last, is_name, standard_template, are_sizes, before_comma, after_comma, has_several_pieces, refused_format_row, format_fields, format_row, unit_piece_row, all_values, sizes_of, aperture_number, define_standard, define_named, define_template, define, definition, macro_of, macro_definition, polarity_row, mirror_row, turn, scale, transform_row, block_fields, repeat, repeat_fields, repeat_start, repeat_row, file_attribute, attribute, removal, no_effect_piece_row, neutral_axes_row, negative_row, deprecated_piece_row, block_aperture_row, pieces, piece, extended_meaning, meaning_in, without_end, OffsetByte, Entries, spelled_in, commands_by, after_end, shown_by, read_by, ReadsIn}
 use Rattle.std.specs.Prelude.{ℤ, map, is_some, unwrap_or, not, ◌&&◌}
 use Rattle.gerber_commands.specs.declared.command.AttributeKind.{AttributeKind}
 use Rattle.grid_units.specs.Rows.{strip_prefix}
@@ -88,7 +88,7 @@ int_reasons run = reasons_cond _ _ _ (reasons_cond _ _ _ (reasons_err _ _ tt) (r
 dec_reasons : (run : List ℕ) → ReadingReasons (parse_decimal run)
 unfolding parse_decimal
 dec_reasons run =
-    let v = signed run (to_units (value_without_point run) (length (fraction run))) in
+    let v = signed_value run (to_units (value_without_point run) (length (fraction run))) in
     let far : Result ℤ Reason = cond (ltb 999999 (value (whole run))) (Err TooFar) (Ok v) in
     let fine_one : Result ℤ Reason = cond (fits_eight_decimals (fraction run)) far (Err TooFine) in
     reasons_cond (is_decimal run) fine_one (Err BadNumber)
@@ -324,12 +324,12 @@ piece_reasons : (text : List ℕ) → ReadingReasons (piece text)
 unfolding piece
 piece_reasons text = reasons_cond (has_several_pieces text) (Err SeveralInOne) (first_match (pieces text)) (reasons_err _ SeveralInOne tt) (first_reasons (pieces text) (pieces_reasons text))
 
-extended_reasons : (text : List ℕ) → ReadingReasons (extended text)
-unfolding extended
+extended_reasons : (text : List ℕ) → ReadingReasons (extended_meaning text)
+unfolding extended_meaning
 extended_reasons text = reasons_cond (bytes_eq (last_byte text) (codes "*")) (piece (before_last text)) (Err BadWord) (piece_reasons (before_last text)) (reasons_err _ BadWord tt)
 
 -- an extended item in a profile: clear polarity, or one of the strict profile
-wide_by : (t : Bool) (text : List ℕ) → ReadingReasons (unwrap_or (cond t (Some (Ok (Clear ∷ []))) None) (extended text))
+wide_by : (t : Bool) (text : List ℕ) → ReadingReasons (unwrap_or (cond t (Some (Ok (Clear ∷ []))) None) (extended_meaning text))
 wide_by true text = reasons_ok _
 wide_by false text = extended_reasons text
 

@@ -1,5 +1,5 @@
 -- The canonical text of a sayable list spells just this list.
-use Rattle.gerber_text.proofs.Common.{◌≡◌, ℕ, suc, ◌+◌, ◌≤◌, Bool, true, false, cond, not, ◌||◌, ◌&&◌, List, [], ◌∷◌, ◌++◌, length, Ok, refl, sym, ap, subst, ◌∙◌, arith, append_assoc, flat_map, append-nil, length-append, le-ltb, false≢true, ◌>>=◌, Strict, Command, is_line_break, is_end_item, IsItem, canonical, OffsetByte, offset_bytes_from, offset_bytes, bytes_of, first_offset, has_end, AreItems, Splits, spelled_in, Entries, is_plotting, commands_by, placed, without_breaks, Spells, is_sayable, is_finish, lines, sayable, without_places, ReadsAs, text_limit, both_true, not_true}
+use Rattle.gerber_text.proofs.Common.{◌≡◌, ℕ, suc, ◌+◌, ◌≤◌, Bool, true, false, cond, not, ◌||◌, ◌&&◌, List, [], ◌∷◌, ◌++◌, length, Ok, refl, sym, ap, subst, ◌∙◌, arith, append_assoc, flat_map, append-nil, length-append, le-ltb, false≢true, ◌>>=◌, Strict, Command, is_line_break, is_end_item, IsItem, canonical, OffsetByte, offset_bytes_from, offset_bytes, bytes_of, first_offset, has_end, AreItems, Splits, spelled_in, Entries, is_plotting, commands_by, item_entries, without_breaks, Spells, is_sayable, is_finish, lines, sayable, without_places, ReadsAs, text_limit, both_true, not_true}
 use Rattle.gerber_text.proofs.CanonicalParses.{parses as canonical_spells}
 use Rattle.gerber_text.proofs.SpelledCommands.{canonical_ends}
 use Rattle.gerber_text.proofs.OffsetByteLemmas.{offset_bytes_from-append}
@@ -43,7 +43,7 @@ record Found (n place : ℕ) (cs : List Command) (before : Entries) : Type 0 whe
   commands : commands_by Strict place (items_of_lines n cs) before ≡ Ok (before ++ more)
   same : without_places more ≡ cs
 
-parses : (place n : ℕ) (c : Command) (before : Entries) → Spells (canonical c) c → spelled_in Strict place (first_offset (offset_bytes_from n (canonical c))) (bytes_of (offset_bytes_from n (canonical c))) before ≡ Ok (before ++ placed place (first_offset (offset_bytes_from n (canonical c))) (c ∷ []))
+parses : (place n : ℕ) (c : Command) (before : Entries) → Spells (canonical c) c → spelled_in Strict place (first_offset (offset_bytes_from n (canonical c))) (bytes_of (offset_bytes_from n (canonical c))) before ≡ Ok (before ++ item_entries place (first_offset (offset_bytes_from n (canonical c))) (c ∷ []))
 unfolding spelled_in
 parses place n c before s = rw (bytes_of_marks n (canonical c), le-ltb _ _ s.short, s.parses (is_plotting before)) refl
 
@@ -63,7 +63,7 @@ found n place [] before h = absurd h
 found n place (c ∷ []) before h =
     let first = first_offset (offset_bytes_from n (canonical c)) in
     record {
-      more = placed place first (c ∷ []);
+      more = item_entries place first (c ∷ []);
       whole = one_line n (canonical c) [];
       each = (is_one n c h.0, λ _. refl, tt);
       ends = ap (λ (b : List ℕ). is_end_item b || false) (bytes_of_marks n (canonical c)) ∙ ap (λ t. t || false) h.1;
@@ -72,7 +72,7 @@ found n place (c ∷ []) before h =
     }
 found n place (c ∷ d ∷ cs) before h =
     let first = first_offset (offset_bytes_from n (canonical c)) in
-    let now = placed place first (c ∷ []) in
+    let now = item_entries place first (c ∷ []) in
     let rest = found (n + length (canonical c) + 1) (suc place) (d ∷ cs) (before ++ now) h.2 in
     let not_end : is_end_item (bytes_of (offset_bytes_from n (canonical c))) ≡ false = ap is_end_item (bytes_of_marks n (canonical c)) ∙ h.1 in
     record {

@@ -1,5 +1,5 @@
 -- A text that spells commands is written for them.
-use Rattle.gerber_text.proofs.Common.{◌≡◌, ◌≢◌, ℕ, suc, ◌≤◌, Bool, true, false, cond, ◌||◌, ltb, List, [], ◌∷◌, ◌++◌, length, Result, Ok, Err, unwrap_or, refl, sym, ap, subst, ◌∙◌, append_assoc, option_or, flat_map, concat, list_any, AllByRecursion, append-nil, map-append, All-from_recursion, ltb-false, false≢true, Fault, Reason, TooLong, item_limit, ◌>>=◌, with_place, or_is_false, last_or-append, bind_ok, Command, Finish, Profile, IsItem, is_end_item, meaning_in, is_finish, OffsetByte, bytes_of, first_offset, has_end, AreItems, Entries, plot_of, is_plotting, placed, spelled_in, commands_by, may_follow, without_places, AreItemsIn, plots_after, IsEnd}
+use Rattle.gerber_text.proofs.Common.{◌≡◌, ◌≢◌, ℕ, suc, ◌≤◌, Bool, true, false, cond, ◌||◌, ltb, List, [], ◌∷◌, ◌++◌, length, Result, Ok, Err, unwrap_or, refl, sym, ap, subst, ◌∙◌, append_assoc, option_or, flat_map, concat, list_any, AllByRecursion, append-nil, map-append, All-from_recursion, ltb-false, false≢true, Fault, Reason, TooLong, item_limit, ◌>>=◌, with_place, or_is_false, last_or-append, bind_ok, Command, Finish, Profile, IsItem, is_end_item, meaning_in, is_finish, OffsetByte, bytes_of, first_offset, has_end, AreItems, Entries, plot_of, is_plotting, item_entries, spelled_in, commands_by, may_follow, without_places, AreItemsIn, plots_after, IsEnd}
 use Rattle.grid_units.specs.Lists.{last_set}
 use Rattle.gerber_text.specs.Laws.{SpelledTextsAreWrittenIn}
 use Rattle.gerber_text.proofs.GrammarItems.{item_written, is_end, end_means, item_ends}
@@ -12,24 +12,24 @@ pub record Added (profile : Profile) (place byte : ℕ) (bytes : List ℕ) (befo
   pub short : length bytes ≤ item_limit
   pub commands : List Command
   pub spells : meaning_in profile (is_plotting before) bytes ≡ Ok commands
-  pub whole : after ≡ before ++ placed place byte commands
+  pub whole : after ≡ before ++ item_entries place byte commands
 
 at_ok : (place byte : ℕ) (r : Result Entries Reason) (after : Entries) → with_place place byte r ≡ Ok after → r ≡ Ok after
 at_ok place byte (Ok x) after e = let same : x ≡ after = let o : (let r : Result Entries Fault = Ok x in r ≡ Ok after) = e in cc in ap (λ (y : Entries). Ok y) same
 at_ok place byte (Err r) after e = absurd cc
 
-added_by : (profile : Profile) (t : Bool) (place byte : ℕ) (bytes : List ℕ) (before after : Entries) → ltb item_limit (length bytes) ≡ t → cond t (Err TooLong) (meaning_in profile (is_plotting before) bytes >>= λ commands. Ok (before ++ placed place byte commands)) ≡ Ok after → Added profile place byte bytes before after
+added_by : (profile : Profile) (t : Bool) (place byte : ℕ) (bytes : List ℕ) (before after : Entries) → ltb item_limit (length bytes) ≡ t → cond t (Err TooLong) (meaning_in profile (is_plotting before) bytes >>= λ commands. Ok (before ++ item_entries place byte commands)) ≡ Ok after → Added profile place byte bytes before after
 added_by profile true place byte bytes before after e h = absurd cc
 added_by profile false place byte bytes before after e h =
-    let b = bind_ok (meaning_in profile (is_plotting before) bytes) (λ commands. Ok (before ++ placed place byte commands)) after h in
-    record { short = ltb-false item_limit (length bytes) e; commands = b.0; spells = b.1; whole = let same : before ++ placed place byte b.0 ≡ after = let o : (let r : Result Entries Reason = Ok (before ++ placed place byte b.0) in r ≡ Ok after) = b.2 in cc in sym same }
+    let b = bind_ok (meaning_in profile (is_plotting before) bytes) (λ commands. Ok (before ++ item_entries place byte commands)) after h in
+    record { short = ltb-false item_limit (length bytes) e; commands = b.0; spells = b.1; whole = let same : before ++ item_entries place byte b.0 ≡ after = let o : (let r : Result Entries Reason = Ok (before ++ item_entries place byte b.0) in r ≡ Ok after) = b.2 in cc in sym same }
 
 pub added : (profile : Profile) (place byte : ℕ) (bytes : List ℕ) (before after : Entries) → spelled_in profile place byte bytes before ≡ Ok after → Added profile place byte bytes before after
 unfolding spelled_in
 added profile place byte bytes before after e =
-    added_by profile (ltb item_limit (length bytes)) place byte bytes before after refl (at_ok place byte (cond (ltb item_limit (length bytes)) (Err TooLong) (meaning_in profile (is_plotting before) bytes >>= λ commands. Ok (before ++ placed place byte commands))) after e)
+    added_by profile (ltb item_limit (length bytes)) place byte bytes before after refl (at_ok place byte (cond (ltb item_limit (length bytes)) (Err TooLong) (meaning_in profile (is_plotting before) bytes >>= λ commands. Ok (before ++ item_entries place byte commands))) after e)
 
-pub bare : (place byte : ℕ) (cs : List Command) → without_places (placed place byte cs) ≡ cs
+pub bare : (place byte : ℕ) (cs : List Command) → without_places (item_entries place byte cs) ≡ cs
 bare place byte [] = refl
 bare place byte (c ∷ cs) = ap (λ (l : List Command). c ∷ l) (bare place byte cs)
 
@@ -39,12 +39,12 @@ bare_append (x ∷ xs) ys = ap (λ (l : List Command). x.what ∷ l) (bare_appen
 
 -- ---- whether a plot goes on
 
-last_placed : (place byte : ℕ) (cs : List Command) → last_set (λ entry. plot_of entry.what) (placed place byte cs) ≡ last_set plot_of cs
+last_placed : (place byte : ℕ) (cs : List Command) → last_set (λ entry. plot_of entry.what) (item_entries place byte cs) ≡ last_set plot_of cs
 last_placed place byte [] = refl
 last_placed place byte (c ∷ cs) = ap (λ o. option_or o (plot_of c)) (last_placed place byte cs)
 
-pub plots_more : (old : Entries) (place byte : ℕ) (cs : List Command) → is_plotting (old ++ placed place byte cs) ≡ plots_after (is_plotting old) cs
-plots_more old place byte cs = last_or-append (λ entry. plot_of entry.what) false old (placed place byte cs) ∙ ap (λ o. unwrap_or o (is_plotting old)) (last_placed place byte cs)
+pub plots_more : (old : Entries) (place byte : ℕ) (cs : List Command) → is_plotting (old ++ item_entries place byte cs) ≡ plots_after (is_plotting old) cs
+plots_more old place byte cs = last_or-append (λ entry. plot_of entry.what) false old (item_entries place byte cs) ∙ ap (λ o. unwrap_or o (is_plotting old)) (last_placed place byte cs)
 
 -- ---- commands before the end of the text
 
@@ -71,8 +71,8 @@ record Written (profile : Profile) (cut : List (List OffsetByte)) (old after : E
   ends : IsEnd end
   is : without_places after ≡ without_places old ++ (before ++ Finish ∷ [])
 
-added_bare : (place byte : ℕ) (old middle : Entries) (cs : List Command) → middle ≡ old ++ placed place byte cs → without_places middle ≡ without_places old ++ cs
-added_bare place byte old middle cs e = ap without_places e ∙ (bare_append old (placed place byte cs) ∙ ap (λ (l : List Command). without_places old ++ l) (bare place byte cs))
+added_bare : (place byte : ℕ) (old middle : Entries) (cs : List Command) → middle ≡ old ++ item_entries place byte cs → without_places middle ≡ without_places old ++ cs
+added_bare place byte old middle cs e = ap without_places e ∙ (bare_append old (item_entries place byte cs) ∙ ap (λ (l : List Command). without_places old ++ l) (bare place byte cs))
 
 regroup : (a b c d : List Command) → (a ++ b) ++ (c ++ d) ≡ a ++ ((b ++ c) ++ d)
 regroup a b c d = append_assoc a b (c ++ d) ∙ ap (λ (l : List Command). a ++ l) (sym (append_assoc b c d))

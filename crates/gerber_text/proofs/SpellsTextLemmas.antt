@@ -1,5 +1,5 @@
 -- A text reads as commands just where it spells them.
-use Rattle.gerber_text.proofs.Common.{◌≡◌, ℕ, suc, ◌≤◌, Bool, true, false, cond, ltb, List, [], ◌∷◌, length, Result, Ok, Err, refl, sym, ap, subst, ◌∙◌, list_all, AllByRecursion, take_all, ltb-false, Fault, Fail, TooLong, AfterEnd, Truncated, IfOk, Vec, Profile, Command, Placed, fault, Answers, AnswersAlways, bind_ok, OffsetByte, offset_bytes, bytes_of, first_offset, has_end, Splits, Entries, shown_by, ended, ReadsIn, is_blank, may_follow, after_end, SpellsTextIn, entries_of, text_limit}
+use Rattle.gerber_text.proofs.Common.{◌≡◌, ℕ, suc, ◌≤◌, Bool, true, false, cond, ltb, List, [], ◌∷◌, length, Result, Ok, Err, refl, sym, ap, subst, ◌∙◌, list_all, AllByRecursion, take_all, ltb-false, Fault, Fail, TooLong, AfterEnd, Truncated, IfOk, Vec, Profile, Command, Placed, fault, Answers, AnswersAlways, bind_ok, OffsetByte, offset_bytes, bytes_of, first_offset, has_end, Splits, Entries, shown_by, entries_at_end, ReadsIn, is_blank, may_follow, after_end, SpellsTextIn, entries_of, text_limit}
 use Rattle.grid_units.specs.declared.fault.Fail.TheVariants as fails
 use Rattle.gerber_text.proofs.ShowsLemmas.{shown_spelled, shown_ended}
 use Rattle.gerber_text.proofs.UniqueReading.{one_read}
@@ -27,7 +27,7 @@ ok_same : (r : Result Entries Fault) (x y : Entries) → r ≡ Ok x → r ≡ Ok
 ok_same r x y p q = cc
 
 final : ℕ → List (List OffsetByte) → List OffsetByte → Entries → Result Entries Fault
-final len items rest commands = cond (ltb text_limit len) (Err (fault (suc (length items)) text_limit TooLong)) (ended len items rest commands)
+final len items rest commands = cond (ltb text_limit len) (Err (fault (suc (length items)) text_limit TooLong)) (entries_at_end len items rest commands)
 
 -- what stands when the items and what follows them gave a value
 read_ends : (len : ℕ) (items : List (List OffsetByte)) (rest : List OffsetByte) (cs ds : Entries) → final len items rest cs ≡ Ok ds → (ltb text_limit len ≡ false) × (has_end items ≡ true) × (cs ≡ ds)

@@ -1,5 +1,5 @@
 -- A text that is written for commands spells just these, and is written for no others.
-use Rattle.gerber_text.proofs.Common.{◌≡◌, ◌≢◌, inl, inr, ℕ, suc, ◌≤◌, Bool, true, false, ◌||◌, List, [], ◌∷◌, ◌++◌, length, Result, Ok, refl, sym, ap, subst, ◌∙◌, arith, append_assoc, flat_map, concat, list_any, AllByRecursion, append-nil, recursion_from_All, false≢true, Profile, Fault, item_limit, ◌>>=◌, Command, Finish, is_end_item, is_finish, OffsetByte, offset_bytes, bytes_of, first_offset, has_end, AreItems, Entries, is_plotting, placed, commands_by, may_follow, without_places, IsItemIn, AreItemsIn, plots_after, IsEnd}
+use Rattle.gerber_text.proofs.Common.{◌≡◌, ◌≢◌, inl, inr, ℕ, suc, ◌≤◌, Bool, true, false, ◌||◌, List, [], ◌∷◌, ◌++◌, length, Result, Ok, refl, sym, ap, subst, ◌∙◌, arith, append_assoc, flat_map, concat, list_any, AllByRecursion, append-nil, recursion_from_All, false≢true, Profile, Fault, item_limit, ◌>>=◌, Command, Finish, is_end_item, is_finish, OffsetByte, offset_bytes, bytes_of, first_offset, has_end, AreItems, Entries, is_plotting, item_entries, commands_by, may_follow, without_places, IsItemIn, AreItemsIn, plots_after, IsEnd}
 use Rattle.gerber_text.specs.Laws.{WrittenTextsAreSpelledIn, TextsSpellOneListIn}
 use Rattle.gerber_text.proofs.GrammarItems.{item_means, end_means, other, item_ends}
 use Rattle.gerber_text.proofs.Items.{spelled_ok}
@@ -72,20 +72,20 @@ found_last profile place ms old end tail h e =
     record {
       items = d.front ∷ [];
       left = d.back;
-      after = old ++ placed place at (Finish ∷ []);
+      after = old ++ item_entries place at (Finish ∷ []);
       whole = d.whole ∙ ap (λ (l : List OffsetByte). l ++ d.back) (sym (append-nil d.front));
       each = (means.0, λ _. refl, tt);
       ends = ap (λ t. t || false) (ends_text (bytes_of d.front) ends);
       spelled = ap (λ r. r >>= commands_by profile (suc place) []) (spelled_ok profile place at (bytes_of d.front) old (Finish ∷ []) (end_is_short (bytes_of d.front) ends) means.1);
-      is = bare_append old (placed place at (Finish ∷ []));
+      is = bare_append old (item_entries place at (Finish ∷ []));
       left_is = d.back_is;
     }
 
 found_next : (profile : Profile) (place : ℕ) (ms : List OffsetByte) (old : Entries) (item rest tail : List ℕ) (first commands : List Command) (d : Divided ms item rest) → IsItemIn profile (is_plotting old) item first → length item ≤ item_limit → AllByRecursion (λ c. c ≢ Finish) first
-    → Found profile d.back (suc place) (old ++ placed place (first_offset d.front) first) commands tail → Found profile ms place old (first ++ commands) tail
+    → Found profile d.back (suc place) (old ++ item_entries place (first_offset d.front) first) commands tail → Found profile ms place old (first ++ commands) tail
 found_next profile place ms old item rest tail first commands d written short none f =
     let at = first_offset d.front in
-    let now = placed place at first in
+    let now = item_entries place at first in
     let here = subst (λ (l : List ℕ). IsItemIn profile (is_plotting old) l first) (sym d.front_is) written in
     let is = item_means profile (is_plotting old) (bytes_of d.front) first here in
     let not_end = goes_on profile (is_plotting old) (bytes_of d.front) first here none in
@@ -114,7 +114,7 @@ found profile place plotting (item ∷ items) before ms old end tail same h none
     let rest = concat items ++ end ++ tail in
     let parts = all_parts (λ c. c ≢ Finish) first others (subst (AllByRecursion (λ c. c ≢ Finish)) h.2 none) in
     let d = divide ms item rest (e ∙ regroup item (concat items) end tail) in
-    let now = placed place (first_offset d.front) first in
+    let now = item_entries place (first_offset d.front) first in
     let plots : plots_after plotting first ≡ is_plotting (old ++ now) = ap (λ t. plots_after t first) same ∙ sym (plots_more old place (first_offset d.front) first) in
     let more = found profile (suc place) (plots_after plotting first) items others d.back (old ++ now) end tail plots h.5 parts.1 ends d.back_is in
     let written = subst (λ t. IsItemIn profile t item first) same h.4 in

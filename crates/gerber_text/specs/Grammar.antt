@@ -1,4 +1,4 @@
--- The grammar of Gerber texts: the bytes that are written for a list of commands in a profile (docs/FORMATS.md, Cutting; The wide profile). Why and where any other text is refused, Reading says.
+-- The grammar of Gerber texts: the bytes that are written for a list of commands in a profile (docs/FORMATS.md, Cutting; The wide profile). Reading says why and where any other text is refused.
 use Rattle.std.specs.Prelude.{◌≡◌, ◌≢◌, ◌≤◌, ◌⊎◌, ℕ, Bool, true, false, List, [], ◌∷◌, ◌++◌, length, unwrap_or, codes}
 use Rattle.std.specs.List.{All, concat}
 use Rattle.grid_units.specs.Lists.{last_set}

@@ -11,7 +11,7 @@ use Rattle.gerber_text.specs.declared.placed.PassedOperation.{PassedOperation}
 use Rattle.gerber_text.specs.declared.placed.PassedText.{PassedText}
 use Rattle.gerber_text.specs.FastPath.{operation_commands, text_command}
 use Rattle.gerber_text.specs.Cut.{OffsetByte, offset_bytes, bytes_of, first_offset, has_end, Splits}
-use Rattle.gerber_text.specs.Reading.{Entries, placed, commands_by, shown_by, ShowsIn, ReadsIn, SpellsBeforeFaultIn, is_plotting}
+use Rattle.gerber_text.specs.Reading.{Entries, item_entries, commands_by, shown_by, ShowsIn, ReadsIn, SpellsBeforeFaultIn, is_plotting}
 
 -- The reader reads in this profile. The text is cut into items, which spell the commands that are gone and those that the reader holds,
 -- and into a rest, whose bytes are the unfinished item.
@@ -69,8 +69,8 @@ abbrev pub failure : WordReader → Option Fail
 failure reader = reader.failed
 
 -- the commands that a reader holds, without those that it has dropped
-abbrev pub held : WordReader → Entries
-held reader = reader.progress.commands.items
+abbrev pub held_entries : WordReader → Entries
+held_entries reader = reader.progress.commands.items
 
 -- The reader reads in this profile, has read this text, which shows no fault, and has dropped these commands, the first ones.
 pub record StandsIn (reader : WordReader) (profile : Profile) (gone : Entries) (text : List ℕ) : Type 0 where
@@ -84,7 +84,7 @@ pub record FailedIn (reader : WordReader) (profile : Profile) (gone : Entries) (
 
 -- the commands of an operation that a reader has passed, each with the number of the item and the offset of its first byte
 abbrev pub passed_entries : PassedOperation → Entries
-passed_entries passed = placed passed.place passed.byte (operation_commands passed.operation)
+passed_entries passed = item_entries passed.place passed.byte (operation_commands passed.operation)
 
 -- the text of a comment or an attribute that a reader has passed: in the bytes that the reader was given, it stands after three
 abbrev pub passed_text : PassedText → List ℕ → List ℕ
@@ -92,4 +92,4 @@ passed_text passed bytes = take passed.item.text_len (drop 3 bytes)
 
 -- the command of a text that a reader has passed, with the number of the item and the offset of its first byte
 abbrev pub text_entries : PassedText → List ℕ → Entries
-text_entries passed text = placed passed.place passed.byte (text_command passed.item.kind text ∷ [])
+text_entries passed text = item_entries passed.place passed.byte (text_command passed.item.kind text ∷ [])

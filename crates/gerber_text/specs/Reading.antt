@@ -33,14 +33,14 @@ abbrev pub is_plotting : Entries → Bool
 is_plotting before = unwrap_or (last_set (λ entry. plot_of entry.what) before) false
 
 -- the commands of one item, each with the item's number and the offset of its first byte
-abbrev pub placed : ℕ → ℕ → List Command → Entries
-placed place byte commands = map (λ what. record { place = place; byte = byte; what = what }) commands
+abbrev pub item_entries : ℕ → ℕ → List Command → Entries
+item_entries place byte commands = map (λ what. record { place = place; byte = byte; what = what }) commands
 
 -- these commands, and after them those that the item of these bytes spells in the profile; or the item's fault
 unfoldable pub spelled_in : Profile → ℕ → ℕ → List ℕ → Entries → Result Entries Fault
 spelled_in profile place byte bytes before =
     with_place place byte (if nat_lt item_limit (length bytes) then Err TooLong
-    else (meaning_in profile (is_plotting before) bytes >>= λ commands. Ok (before ++ placed place byte commands)))
+    else (meaning_in profile (is_plotting before) bytes >>= λ commands. Ok (before ++ item_entries place byte commands)))
 
 -- What a call leaves is what reading gives, running out of memory aside: the commands after it, or the fault.
 abbrev pub ResultsIn : {X : Type 0} → Result X Fail → Entries → Result Entries Fault → Type 0
@@ -85,15 +85,15 @@ abbrev pub is_blank : ℕ → Bool
 is_blank b = (b == ascii.space) || (b == ascii.tab)
 
 -- the commands of a text that ends here; Truncated without `M02`, at the text's length where only blanks are left over
-abbrev pub ended : ℕ → List (List OffsetByte) → List OffsetByte → Entries → Result Entries Fault
-ended len items rest commands =
+abbrev pub entries_at_end : ℕ → List (List OffsetByte) → List OffsetByte → Entries → Result Entries Fault
+entries_at_end len items rest commands =
     if has_end items then Ok commands
     else Err (fault (suc (length items)) (if list_all is_blank (bytes_of rest) then len else first_offset rest) Truncated)
 
 -- the commands of a whole text of this length, or its first fault
 abbrev pub read_by : Profile → ℕ → List (List OffsetByte) → List OffsetByte → Result Entries Fault
 read_by profile len items rest = shown_by profile items rest >>= λ commands.
-    if nat_lt text_limit len then Err (fault (suc (length items)) text_limit TooLong) else ended len items rest commands
+    if nat_lt text_limit len then Err (fault (suc (length items)) text_limit TooLong) else entries_at_end len items rest commands
 
 -- A whole text spells these commands in the profile, or has this as its first fault.
 pub record ReadsIn (profile : Profile) (text : List ℕ) (answer : Result Entries Fault) : Type 0 where

@@ -3,7 +3,7 @@
 ghost use Rattle.std.specs.Prelude.{◌≡◌, ◌≢◌, ◌++◌, [], ◌∷◌, ◌||◌, not, true, List, ℕ, Some, is_some, IfSome};
 ghost use Rattle.gerber_commands.specs.declared.command.Command.TheVariants.{Operate};
 ghost use Rattle.gerber_commands.specs.Canonical.{action_code};
-ghost use Rattle.grid_units.specs.Numbers.{omitted};
+ghost use Rattle.grid_units.specs.Numbers.{omitted_integer};
 ghost use Rattle.gerber_text.specs.FastPath.{HasLeadingOperation, HasLeadingInt, HasLeadingCoordinate, mode_prefix};
 ghost use Rattle.gerber_commands.specs.Rows.{modes_of};
 ghost use Rattle.gerber_commands.specs.Words.{is_plot};
@@ -27,7 +27,7 @@ pub struct LeadingOperation {
 /// The integer at the start of these bytes, with a sign and at most 12 digits, and the bytes after it.
 fn first_int(bytes: &[u8]) -> Option<(i64, &[u8])>
     ensures value { IfSome result (λ found. HasLeadingInt bytes.now found.0 found.1.now) }
-    ensures kept { IfSome result (λ found. found.0 ≢ omitted) }
+    ensures kept { IfSome result (λ found. found.0 ≢ omitted_integer) }
 {
     let digits = without_sign(bytes);
     let (magnitude, len) = first_digits(digits);
@@ -42,7 +42,7 @@ fn first_int(bytes: &[u8]) -> Option<(i64, &[u8])>
 #[inline(always)]
 fn first_coordinate(letter: u8, bytes: &[u8]) -> Option<(Option<i64>, &[u8])>
     ensures value { IfSome result (λ found. HasLeadingCoordinate letter bytes.now found.0 found.1.now) }
-    ensures kept { IfSome result (λ found. found.0 ≢ Some omitted) }
+    ensures kept { IfSome result (λ found. found.0 ≢ Some omitted_integer) }
 {
     match bytes {
         [first, rest @ ..] if *first == letter => {
@@ -57,7 +57,7 @@ fn first_coordinate(letter: u8, bytes: &[u8]) -> Option<(Option<i64>, &[u8])>
 #[inline(always)]
 fn first_pair(letters: (u8, u8), bytes: &[u8]) -> Option<(Option<i64>, Option<i64>, &[u8])>
     ensures value { IfSome result (λ (first, second, rest). (between : List ℕ) × HasLeadingCoordinate letters.0 bytes.now first between × HasLeadingCoordinate letters.1 between second rest.now) }
-    ensures kept { IfSome result (λ (first, second, _). (first ≢ Some omitted) × (second ≢ Some omitted)) }
+    ensures kept { IfSome result (λ (first, second, _). (first ≢ Some omitted_integer) × (second ≢ Some omitted_integer)) }
 {
     let (first, between) = first_coordinate(letters.0, bytes)?;
     let (second, rest) = first_coordinate(letters.1, between)?;

@@ -9,7 +9,7 @@ ghost use Rattle.gerber_text.specs.Items.{end_byte, is_line_break, IsEnded};
 ghost use Rattle.gerber_commands.specs.Rows.{modes_of};
 ghost use Rattle.gerber_commands.specs.declared.command.Command.TheVariants.{Mode};
 ghost use Rattle.grid_units.specs.declared.profile.Profile.TheVariants.{Strict};
-ghost use Rattle.gerber_text.specs.Reading.{Entries, spelled_in, placed, ResultsIn, plot_of, is_plotting, ReadsIn, SpellsTextIn, ReadsUpToFault, SpellsBeforeFaultIn, entries_of, entries_after, is_blank};
+ghost use Rattle.gerber_text.specs.Reading.{Entries, spelled_in, item_entries, ResultsIn, plot_of, is_plotting, ReadsIn, SpellsTextIn, ReadsUpToFault, SpellsBeforeFaultIn, entries_of, entries_after, is_blank};
 ghost use Rattle.gerber_text.specs.Inner.Bytes.{IsInside, HasLeadingItem, may_follow_end};
 ghost use Rattle.gerber_text.specs.Writing.{without_places, sayable};
 
@@ -138,8 +138,8 @@ fn add(
     spelled: ItemCommands,
     commands: &mut Vec<Placed<Command>>,
 ) -> Result<bool, AllocError>
-    ensures added { OnOk result (commands.new.items ≡ commands.old.items ++ placed place byte spelled) }
-    ensures plotting { (before : Entries) → plotting ≡ is_plotting before → IfOk result (λ new. new ≡ is_plotting (before ++ placed place byte spelled)) }
+    ensures added { OnOk result (commands.new.items ≡ commands.old.items ++ item_entries place byte spelled) }
+    ensures plotting { (before : Entries) → plotting ≡ is_plotting before → IfOk result (λ new. new ≡ is_plotting (before ++ item_entries place byte spelled)) }
     ensures err { OnErr result (commands.new.items ≡ commands.old.items) }
 {
     let (mode, command) = spelled.into_parts();
@@ -162,8 +162,8 @@ fn add_with_mode(
     what: Command,
     commands: &mut Vec<Placed<Command>>,
 ) -> Result<bool, AllocError>
-    ensures added { OnOk result (commands.new.items ≡ commands.old.items ++ placed place byte (modes_of mode ++ what ∷ [])) }
-    ensures plotting { (before : Entries) → plotting ≡ is_plotting before → IfOk result (λ new. new ≡ is_plotting (before ++ placed place byte (modes_of mode ++ what ∷ []))) }
+    ensures added { OnOk result (commands.new.items ≡ commands.old.items ++ item_entries place byte (modes_of mode ++ what ∷ [])) }
+    ensures plotting { (before : Entries) → plotting ≡ is_plotting before → IfOk result (λ new. new ≡ is_plotting (before ++ item_entries place byte (modes_of mode ++ what ∷ []))) }
     ensures err { OnErr result (commands.new.items ≡ commands.old.items) }
 {
     match mode {
@@ -184,8 +184,8 @@ fn add_command(
     what: Command,
     commands: &mut Vec<Placed<Command>>,
 ) -> Result<bool, AllocError>
-    ensures added { OnOk result (commands.new.items ≡ commands.old.items ++ placed place byte (what ∷ [])) }
-    ensures plotting { (before : Entries) → plotting ≡ is_plotting before → IfOk result (λ new. new ≡ is_plotting (before ++ placed place byte (what ∷ []))) }
+    ensures added { OnOk result (commands.new.items ≡ commands.old.items ++ item_entries place byte (what ∷ [])) }
+    ensures plotting { (before : Entries) → plotting ≡ is_plotting before → IfOk result (λ new. new ≡ is_plotting (before ++ item_entries place byte (what ∷ []))) }
     ensures err { OnErr result (commands.new.items ≡ commands.old.items) }
 {
     let plotting = plots_after(plotting, &what);
@@ -202,7 +202,7 @@ fn add_mode_and_command(
     what: Command,
     commands: &mut Vec<Placed<Command>>,
 ) -> Result<(), AllocError>
-    ensures added { OnOk result (commands.new.items ≡ commands.old.items ++ placed place byte (Mode mode ∷ what ∷ [])) }
+    ensures added { OnOk result (commands.new.items ≡ commands.old.items ++ item_entries place byte (Mode mode ∷ what ∷ [])) }
     ensures err { OnErr result (commands.new.items ≡ commands.old.items) }
 {
     let len = commands.len();
@@ -367,7 +367,7 @@ impl Progress {
         requires room { self.old.offset + length bytes.now ≤ text_limit }
         ensures offset { self.new.offset ≡ self.old.offset + operation.now.len }
         ensures held { self.new.commands.items ≡ self.old.commands.items }
-        ensures ok { self.old.commands.items ≡ [] → (profile : TheProfile) (gone : Entries) (text : List ℕ) → Holds self.old profile gone text → Holds self.new profile (gone ++ placed (self.old.items + 1) self.old.offset (operation_commands operation.now)) (text ++ take operation.now.len bytes.now) }
+        ensures ok { self.old.commands.items ≡ [] → (profile : TheProfile) (gone : Entries) (text : List ℕ) → Holds self.old profile gone text → Holds self.new profile (gone ++ item_entries (self.old.items + 1) self.old.offset (operation_commands operation.now)) (text ++ take operation.now.len bytes.now) }
     {
         self.plotting = is_plot(operation.action);
         self.items += 1;
@@ -424,7 +424,7 @@ impl Progress {
         requires room { self.old.offset + length bytes.now ≤ text_limit }
         ensures offset { self.new.offset ≡ self.old.offset + item.len }
         ensures held { self.new.commands.items ≡ self.old.commands.items }
-        ensures ok { self.old.commands.items ≡ [] → (profile : TheProfile) (gone : Entries) (text : List ℕ) → Holds self.old profile gone text → Holds self.new profile (gone ++ placed (self.old.items + 1) self.old.offset (text_command item.kind (take item.text_len (drop 3 bytes.now)) ∷ [])) (text ++ take item.len bytes.now) }
+        ensures ok { self.old.commands.items ≡ [] → (profile : TheProfile) (gone : Entries) (text : List ℕ) → Holds self.old profile gone text → Holds self.new profile (gone ++ item_entries (self.old.items + 1) self.old.offset (text_command item.kind (take item.text_len (drop 3 bytes.now)) ∷ [])) (text ++ take item.len bytes.now) }
     {
         self.items += 1;
         self.offset += item.len as u64;
@@ -720,7 +720,7 @@ impl WordReader {
     ghost use Rattle.grid_units.specs.Results.{AnswersAlways};
     ghost use Rattle.grid_units.specs.declared.profile.Profile.{Profile as TheProfile};
     ghost use Rattle.gerber_text.specs.Reading.{ShowsIn};
-    ghost use Rattle.gerber_text.specs.Holding.{StandsIn, FailedIn, failure, held, passed_entries, passed_text, text_entries};
+    ghost use Rattle.gerber_text.specs.Holding.{StandsIn, FailedIn, failure, held_entries, passed_entries, passed_text, text_entries};
 
     /// A reader that has read nothing.
     pub fn new(alloc: Global) -> WordReader
@@ -778,8 +778,8 @@ impl WordReader {
     #[inline(always)]
     pub fn pass_operation(&mut self, bytes: &[u8]) -> Option<PassedOperation>
         ensures within { IfSome result (λ passed. (0 < passed.len) × (passed.len ≤ length bytes.now)) }
-        ensures held { held self.new ≡ held self.old }
-        ensures some { held self.old ≡ [] → (profile : TheProfile) (gone : Entries) (text : List ℕ) → StandsIn self.old profile gone text → IfSome result (λ passed. StandsIn self.new profile (gone ++ passed_entries passed) (text ++ take passed.len bytes.now)) }
+        ensures held { held_entries self.new ≡ held_entries self.old }
+        ensures some { held_entries self.old ≡ [] → (profile : TheProfile) (gone : Entries) (text : List ℕ) → StandsIn self.old profile gone text → IfSome result (λ passed. StandsIn self.new profile (gone ++ passed_entries passed) (text ++ take passed.len bytes.now)) }
         ensures none { IfNone result (self.new ≡ self.old) }
         ensures failed { failure self.new ≡ failure self.old }
     {
@@ -792,8 +792,8 @@ impl WordReader {
     pub fn pass_text(&mut self, bytes: &[u8]) -> Option<PassedText>
         ensures within { IfSome result (λ passed. (0 < passed.len) × (passed.len ≤ length bytes.now)) }
         ensures text { IfSome result (λ passed. passed.item.text_len + 3 ≤ length bytes.now) }
-        ensures held { held self.new ≡ held self.old }
-        ensures some { held self.old ≡ [] → (profile : TheProfile) (gone : Entries) (text : List ℕ) → StandsIn self.old profile gone text → IfSome result (λ passed. StandsIn self.new profile (gone ++ text_entries passed (passed_text passed bytes.now)) (text ++ take passed.len bytes.now)) }
+        ensures held { held_entries self.new ≡ held_entries self.old }
+        ensures some { held_entries self.old ≡ [] → (profile : TheProfile) (gone : Entries) (text : List ℕ) → StandsIn self.old profile gone text → IfSome result (λ passed. StandsIn self.new profile (gone ++ text_entries passed (passed_text passed bytes.now)) (text ++ take passed.len bytes.now)) }
         ensures none { IfNone result (self.new ≡ self.old) }
         ensures failed { failure self.new ≡ failure self.old }
     {
@@ -827,7 +827,7 @@ impl WordReader {
     /// The commands of the items that have ended so far; after a fault those before its place, and after
     /// running out of memory those of some first items.
     pub fn commands(&self) -> &[Placed<Command>]
-        ensures held { result.now ≡ held self.now }
+        ensures held { result.now ≡ held_entries self.now }
         ensures shown { (profile : TheProfile) (gone : Entries) (text : List ℕ) → StandsIn self.now profile gone text → ShowsIn profile text (Ok (gone ++ result.now)) }
         ensures kept { (profile : TheProfile) (gone : Entries) (text : List ℕ) (e : TheFail) → FailedIn self.now profile gone text e → SpellsBeforeFaultIn profile text e (gone ++ result.now) }
     {
@@ -836,8 +836,8 @@ impl WordReader {
 
     /// Drops the commands so far: from here on [`WordReader::commands`] gives those that come after them.
     pub fn clear_commands(&mut self)
-        ensures none { held self.new ≡ [] }
-        ensures gone { (profile : TheProfile) (gone : Entries) (text : List ℕ) → StandsIn self.old profile gone text → StandsIn self.new profile (gone ++ held self.old) text }
+        ensures none { held_entries self.new ≡ [] }
+        ensures gone { (profile : TheProfile) (gone : Entries) (text : List ℕ) → StandsIn self.old profile gone text → StandsIn self.new profile (gone ++ held_entries self.old) text }
         ensures failed { failure self.new ≡ failure self.old }
     {
         self.progress.commands.clear();
@@ -845,9 +845,9 @@ impl WordReader {
 
     /// The commands so far, which are moved out of the reader.
     pub fn take_commands(&mut self) -> Vec<Placed<Command>>
-        ensures taken { result.items ≡ held self.old }
-        ensures none { held self.new ≡ [] }
-        ensures gone { (profile : TheProfile) (gone : Entries) (text : List ℕ) → StandsIn self.old profile gone text → StandsIn self.new profile (gone ++ held self.old) text }
+        ensures taken { result.items ≡ held_entries self.old }
+        ensures none { held_entries self.new ≡ [] }
+        ensures gone { (profile : TheProfile) (gone : Entries) (text : List ℕ) → StandsIn self.old profile gone text → StandsIn self.new profile (gone ++ held_entries self.old) text }
         ensures failed { failure self.new ≡ failure self.old }
     {
         let alloc = self.progress.alloc;
@@ -861,8 +861,8 @@ impl WordReader {
     /// The first fault of the text. A reader that has failed gives its failure again.
     pub fn finish(self) -> Result<Vec<Placed<Command>>, Fail>
         ensures exact { (profile : TheProfile) (gone : Entries) (text : List ℕ) → StandsIn self profile gone text → AnswersAlways (entries_after gone) (λ answer. ReadsIn profile text answer) result }
-        ensures held { IfOk result (λ v. v.items ≡ held self) }
-        ensures kept { (profile : TheProfile) (gone : Entries) (text : List ℕ) → StandsIn self profile gone text → IfErr result (λ e. SpellsBeforeFaultIn profile text e (gone ++ held self)) }
+        ensures held { IfOk result (λ v. v.items ≡ held_entries self) }
+        ensures kept { (profile : TheProfile) (gone : Entries) (text : List ℕ) → StandsIn self profile gone text → IfErr result (λ e. SpellsBeforeFaultIn profile text e (gone ++ held_entries self)) }
         ensures sayable { (text : List ℕ) → StandsIn self Strict [] text → IfOk result (λ v. sayable (without_places v.items) ≡ true) }
         ensures failed { IfSome (failure self) (λ e. result ≡ Err e) }
     {

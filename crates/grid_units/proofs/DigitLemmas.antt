@@ -11,7 +11,7 @@ use Rattle.std.proofs.Math.IntN.{pos-*ℤ-pos}
 use Rattle.std.proofs.lemmas.List.Elements.{recursion_from_All}
 use Rattle.std.proofs.Common.{pow-add}
 use Rattle.grid_units.specs.declared.fault.Reason.TheVariants.{BadNumber, TooFine, TooFar}
-use Rattle.grid_units.specs.Numbers.{is_digit, is_digits, value, fits_eight_decimals, to_units, signed, is_negative, whole, fraction, is_decimal, value_without_point, parse_decimal}
+use Rattle.grid_units.specs.Numbers.{is_digit, is_digits, value, fits_eight_decimals, to_units, signed_value, is_negative, whole, fraction, is_decimal, value_without_point, parse_decimal}
 use Rattle.grid_units.proofs.BoolLemmas.{both_true}
 
 mul_regroup : (n d p v q : ℕ) → q ≡ p * 10 → (n * 10 + d) * p + v ≡ n * q + ((0 * 10 + d) * p + v)
@@ -78,8 +78,8 @@ signed_product true (suc m) k = refl
 signed_product false m k = pos-*ℤ-pos m k
 
 -- the defining equation of a value with a sign
-pub signed_equation : (text : List ℕ) (v n k m : ℕ) → v * k ≡ n * m → signed text v *ℤ pos k ≡ signed text (n * m)
-signed_equation text v n k m e = signed_product (is_negative text) v k ∙ ap (signed text) e
+pub signed_equation : (text : List ℕ) (v n k m : ℕ) → v * k ≡ n * m → signed_value text v *ℤ pos k ≡ signed_value text (n * m)
+signed_equation text v n k m e = signed_product (is_negative text) v k ∙ ap (signed_value text) e
 
 pub digit_small : (b : ℕ) → is_digit b ≡ true → b - 48 ≤ 9
 digit_small b h = grind (arith, nat_tests)
@@ -130,21 +130,21 @@ value_lt_eight ds h l =
 
 -- ---- a decimal that is read
 
-pub parse_decimal_ok : (text : List ℕ) (v : ℤ) → is_decimal text ≡ true → fits_eight_decimals (fraction text) ≡ true → ltb 999999 (value (whole text)) ≡ false → v ≡ signed text (to_units (value_without_point text) (length (fraction text)))
+pub parse_decimal_ok : (text : List ℕ) (v : ℤ) → is_decimal text ≡ true → fits_eight_decimals (fraction text) ≡ true → ltb 999999 (value (whole text)) ≡ false → v ≡ signed_value text (to_units (value_without_point text) (length (fraction text)))
     → Ok v ≡ parse_decimal text
 unfolding parse_decimal
-parse_decimal_ok text v d c l e = ap (λ (z : ℤ). Ok z) e ∙ sym (λ i. cond (d i) (cond (c i) (cond (l i) (Err TooFar) (Ok (signed text (to_units (value_without_point text) (length (fraction text)))))) (Err TooFine)) (Err BadNumber))
+parse_decimal_ok text v d c l e = ap (λ (z : ℤ). Ok z) e ∙ sym (λ i. cond (d i) (cond (c i) (cond (l i) (Err TooFar) (Ok (signed_value text (to_units (value_without_point text) (length (fraction text)))))) (Err TooFine)) (Err BadNumber))
 
 pub parse_decimal_too_far : (text : List ℕ) → is_decimal text ≡ true → fits_eight_decimals (fraction text) ≡ true → ltb 999999 (value (whole text)) ≡ true → Err TooFar ≡ parse_decimal text
 unfolding parse_decimal
-parse_decimal_too_far text d c l = sym (λ i. cond (d i) (cond (c i) (cond (l i) (Err TooFar) (Ok (signed text (to_units (value_without_point text) (length (fraction text)))))) (Err TooFine)) (Err BadNumber))
+parse_decimal_too_far text d c l = sym (λ i. cond (d i) (cond (c i) (cond (l i) (Err TooFar) (Ok (signed_value text (to_units (value_without_point text) (length (fraction text)))))) (Err TooFine)) (Err BadNumber))
 
 pub parse_decimal_too_fine : (text : List ℕ) → is_decimal text ≡ true → fits_eight_decimals (fraction text) ≡ false → Err TooFine ≡ parse_decimal text
 unfolding parse_decimal
-parse_decimal_too_fine text d c = sym (λ i. cond (d i) (cond (c i) (cond (ltb 999999 (value (whole text))) (Err TooFar) (Ok (signed text (to_units (value_without_point text) (length (fraction text)))))) (Err TooFine)) (Err BadNumber))
+parse_decimal_too_fine text d c = sym (λ i. cond (d i) (cond (c i) (cond (ltb 999999 (value (whole text))) (Err TooFar) (Ok (signed_value text (to_units (value_without_point text) (length (fraction text)))))) (Err TooFine)) (Err BadNumber))
 
 -- the value of the parts that were read
-pub read_value : (text w f : List ℕ) (n : ℕ) → w ≡ whole text → f ≡ fraction text → fits_eight_decimals f ≡ true → n ≡ value w → signed text (n * 10 ^ 8 + value (take 8 f) * 10 ^ (8 - length (take 8 f))) ≡ signed text (to_units (value_without_point text) (length (fraction text)))
+pub read_value : (text w f : List ℕ) (n : ℕ) → w ≡ whole text → f ≡ fraction text → fits_eight_decimals f ≡ true → n ≡ value w → signed_value text (n * 10 ^ 8 + value (take 8 f) * 10 ^ (8 - length (take 8 f))) ≡ signed_value text (to_units (value_without_point text) (length (fraction text)))
 read_value text w f n ws fs c e =
     let here : n * 10 ^ 8 + value (take 8 f) * 10 ^ (8 - length (take 8 f)) ≡ value w * 10 ^ 8 + value (take 8 f) * 10 ^ (8 - length (take 8 f)) = ap (λ m. m * 10 ^ 8 + value (take 8 f) * 10 ^ (8 - length (take 8 f))) e in
-    ap (signed text) (here ∙ sym (to_units_is w f c) ∙ (λ i. to_units (value (ws i ++ fs i)) (length (fs i))))
+    ap (signed_value text) (here ∙ sym (to_units_is w f c) ∙ (λ i. to_units (value (ws i ++ fs i)) (length (fs i))))

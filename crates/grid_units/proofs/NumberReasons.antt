@@ -3,7 +3,7 @@ use Rattle.std.proofs.Common.{ℕ, ℤ, ◌+◌, ◌-◌, List, [], ◌∷◌, l
 use Rattle.std.specs.Prelude.{nat_lt, nat_le, ◌==◌}
 use Rattle.std.specs.List.{Contains}
 use Rattle.grid_units.specs.Laws.{DecimalReasons, CoordinateReasons, LengthReasons}
-use Rattle.grid_units.specs.Numbers.{value_without_point, parse_decimal, to_units, zero_filled, fraction, fits_eight_decimals, is_decimal, is_digits, is_too_far, zeros_to_fill, signed, without_sign, value, whole, within_limit, parse_zero_filled}
+use Rattle.grid_units.specs.Numbers.{value_without_point, parse_decimal, to_units, zero_filled, fraction, fits_eight_decimals, is_decimal, is_digits, is_too_far, zeros_to_fill, signed_value, without_sign, value, whole, within_limit, parse_zero_filled}
 use Rattle.grid_units.specs.Results.{◌>>=◌}
 use Rattle.grid_units.specs.declared.fault.Reason.{Reason}
 use Rattle.grid_units.specs.declared.fault.Reason.TheVariants.{BadNumber, NoZeros, TooManyDigits, TooFine, TooFar}
@@ -23,7 +23,7 @@ pub decimals : DecimalReasons
 unfolding parse_decimal
 decimals text = by (is_decimal text) (fits_eight_decimals (fraction text)) (nat_lt 999999 (value (whole text)))
   where
-    by : (s t u : Bool) → IfErr (cond s (cond t (cond u (Err TooFar) (Ok (signed text (to_units (value_without_point text) (length (fraction text)))))) (Err TooFine)) (Err BadNumber)) (Contains (BadNumber ∷ TooFine ∷ TooFar ∷ []))
+    by : (s t u : Bool) → IfErr (cond s (cond t (cond u (Err TooFar) (Ok (signed_value text (to_units (value_without_point text) (length (fraction text)))))) (Err TooFine)) (Err BadNumber)) (Contains (BadNumber ∷ TooFine ∷ TooFar ∷ []))
     by false t u = first BadNumber (TooFine ∷ TooFar ∷ [])
     by true false u = second BadNumber TooFine (TooFar ∷ [])
     by true true true = third BadNumber TooFine TooFar []
@@ -34,7 +34,7 @@ unfolding parse_zero_filled
 coordinates text i d zeros = by (is_digits (without_sign text)) zeros
   where
     after : ℕ → Result ℤ Reason
-    after k = Ok (signed text (to_units (zero_filled (without_sign text) k) d))
+    after k = Ok (signed_value text (to_units (zero_filled (without_sign text) k) d))
 
     leading : (t : Bool) → IfErr (cond t (Ok (i + d - length (without_sign text))) (Err TooManyDigits) >>= after) (Contains (BadNumber ∷ NoZeros ∷ TooManyDigits ∷ []))
     leading true = tt

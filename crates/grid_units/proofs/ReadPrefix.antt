@@ -7,7 +7,7 @@ use Rattle.std.proofs.lemmas.List.Folds.{list_all-append, list_any-append}
 use Rattle.std.proofs.lemmas.List.Elements.{All-from_recursion}
 use Rattle.std.proofs.lemmas.Bool.{le-ltb}
 use Rattle.std.proofs.Math.Nat.{pow-le-pow_right}
-use Rattle.grid_units.specs.Numbers.{is_digit, is_number_char, value, without_sign, is_negative, signed, to_units, whole, fraction, is_decimal, fits_eight_decimals, value_without_point}
+use Rattle.grid_units.specs.Numbers.{is_digit, is_number_char, value, without_sign, is_negative, signed_value, to_units, whole, fraction, is_decimal, fits_eight_decimals, value_without_point}
 use Rattle.grid_units.specs.ReadPrefix.{IsPrefixDecimal}
 use Rattle.grid_units.proofs.DigitLemmas.{parse_decimal_ok, to_units_is, value_lt, filled_lt}
 use Rattle.grid_units.proofs.SpellingsLemmas.{before_point, fraction_after_point, no_sign, no_minus}
@@ -110,7 +110,7 @@ signed_by t m = cond t (neg_ℤ (pos m)) (pos m)
 
 -- a run of these parts, and what follows it
 pub prefix_is : (bytes ds fs rest : List ℕ) (v : ℤ) → without_sign bytes ≡ ds ++ 46 ∷ (fs ++ rest) → list_all is_digit ds ≡ true → list_all is_digit fs ≡ true → eqb (length ds + length fs) 0 ≡ false → length ds ≤ 6 → length fs ≤ 8
-    → prefix_len is_number_char rest ≡ 0 → v ≡ signed bytes (value ds * 10 ^ 8 + value fs * 10 ^ (8 - length fs)) → IsPrefixDecimal v rest bytes
+    → prefix_len is_number_char rest ≡ 0 → v ≡ signed_value bytes (value ds * 10 ^ 8 + value fs * 10 ^ (8 - length fs)) → IsPrefixDecimal v rest bytes
 unfolding signed_by
 prefix_is bytes ds fs rest v cut dd fd some dl fl ends is =
     let s = has_sign bytes in
@@ -124,7 +124,7 @@ prefix_is bytes ds fs rest v cut dd fd some dl fl ends is =
     let number : is_decimal run ≡ true = (λ i. (list_all is_digit (w i) && list_all is_digit (f i)) && not (eqb (length (w i) + length (f i)) 0)) ∙ and_true _ _ (and_true _ _ dd fd) (ap not some) in
     let low : ltb 999999 (value (whole run)) ≡ false = ap (λ xs. ltb 999999 (value xs)) w ∙ le-ltb _ _ (six_digits ds dd dl) in
     let units : value ds * 10 ^ 8 + value fs * 10 ^ (8 - length fs) ≡ to_units (value (ds ++ fs)) (length fs) = ap (λ xs. value ds * 10 ^ 8 + value xs * 10 ^ (8 - length xs)) (sym (take_all 8 fs fl)) ∙ sym (to_units_is ds fs coarse) in
-    let same : v ≡ signed run (to_units (value_without_point run) (length (fraction run))) = is ∙ (λ i. signed_by (sym n i) (units i)) ∙ ap (signed run) (λ i. to_units (value (sym w i ++ sym f i)) (length (sym f i))) in
+    let same : v ≡ signed_value run (to_units (value_without_point run) (length (fraction run))) = is ∙ (λ i. signed_by (sym n i) (units i)) ∙ ap (signed_value run) (λ i. to_units (value (sym w i ++ sym f i)) (length (sym f i))) in
     record {
       run = run;
       whole = s.1.whole ∙ ap (λ (x : List ℕ). s.0 ++ x) (cut ∙ sym (append_assoc ds (46 ∷ fs) rest)) ∙ sym (append_assoc s.0 body rest);

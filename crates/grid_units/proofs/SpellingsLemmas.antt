@@ -9,8 +9,8 @@ use Rattle.std.proofs.lemmas.Bool.{eqb-true, le-ltb}
 use Rattle.std.proofs.lemmas.Bool.Decides.{nat_tests}
 use Rattle.std.proofs.lemmas.Fmt.{decimal_by_steps}
 use Rattle.std.proofs.Math.Nat.{pow-suc}
-use Rattle.grid_units.specs.Numbers.{is_digit, is_number_char, value, without_sign, is_negative, signed, to_units, whole, fraction, is_decimal, fits_eight_decimals, value_without_point, parse_decimal, max_units}
-use Rattle.grid_units.specs.Spellings.{places, trimmed, minus, decimals, fraction_text, fraction_text_or_zero, signed_whole, canonical, pointed}
+use Rattle.grid_units.specs.Numbers.{is_digit, is_number_char, value, without_sign, is_negative, signed_value, to_units, whole, fraction, is_decimal, fits_eight_decimals, value_without_point, parse_decimal, max_units}
+use Rattle.grid_units.specs.Spellings.{places, without_end_zeros, minus, decimals, fraction_text, fraction_text_or_zero, signed_whole, canonical, spelling_with_point}
 use Rattle.grid_units.proofs.DigitLemmas.{value-append, parse_decimal_ok, to_units_is}
 use Rattle.grid_units.proofs.TrailingZeros.{length-places}
 use Rattle.grid_units.proofs.BoolLemmas.{and_true, both_true}
@@ -74,8 +74,8 @@ minus_short (negsuc n) = lit≤ tt
 
 -- ---- zeros at the end
 
-trimmed_at : (d : ℕ) (ds : List ℕ) → trimmed (d ∷ ds) ≡ cond (eqb d 48 && eqb (length (trimmed ds)) 0) [] (d ∷ trimmed ds)
-unfolding trimmed
+trimmed_at : (d : ℕ) (ds : List ℕ) → without_end_zeros (d ∷ ds) ≡ cond (eqb d 48 && eqb (length (without_end_zeros ds)) 0) [] (d ∷ without_end_zeros ds)
+unfolding without_end_zeros
 trimmed_at d ds = refl
 
 empty_by_length : (xs : List ℕ) → length xs ≡ 0 → xs ≡ []
@@ -83,15 +83,15 @@ empty_by_length [] h = refl
 empty_by_length (x ∷ xs) h = absurd (omega arith)
 
 -- what trimming drops is zeros
-pub trim_rest : (ds : List ℕ) → (k : ℕ) × (ds ≡ trimmed ds ++ replicate k 48)
-unfolding trimmed
+pub trim_rest : (ds : List ℕ) → (k : ℕ) × (ds ≡ without_end_zeros ds ++ replicate k 48)
+unfolding without_end_zeros
 trim_rest [] = (0, refl)
-trim_rest (d ∷ ds) = by (eqb d 48 && eqb (length (trimmed ds)) 0) refl (trim_rest ds)
+trim_rest (d ∷ ds) = by (eqb d 48 && eqb (length (without_end_zeros ds)) 0) refl (trim_rest ds)
   where
-    by : (t : Bool) → (eqb d 48 && eqb (length (trimmed ds)) 0) ≡ t → (k : ℕ) × (ds ≡ trimmed ds ++ replicate k 48) → (k : ℕ) × (d ∷ ds ≡ cond t [] (d ∷ trimmed ds) ++ replicate k 48)
+    by : (t : Bool) → (eqb d 48 && eqb (length (without_end_zeros ds)) 0) ≡ t → (k : ℕ) × (ds ≡ without_end_zeros ds ++ replicate k 48) → (k : ℕ) × (d ∷ ds ≡ cond t [] (d ∷ without_end_zeros ds) ++ replicate k 48)
     by true e rest =
-        let b = both_true (eqb d 48) (eqb (length (trimmed ds)) 0) e in
-        let none : trimmed ds ≡ [] = empty_by_length (trimmed ds) (eqb-true _ 0 b.1) in
+        let b = both_true (eqb d 48) (eqb (length (without_end_zeros ds)) 0) e in
+        let none : without_end_zeros ds ≡ [] = empty_by_length (without_end_zeros ds) (eqb-true _ 0 b.1) in
         (suc rest.0, λ i. eqb-true d 48 b.0 i ∷ (rest.1 ∙ ap (λ l. l ++ replicate rest.0 48) none) i)
     by false e rest = (rest.0, ap (λ l. d ∷ l) rest.1)
 
@@ -109,19 +109,19 @@ pub record IsTrim (ds ts : List ℕ) : Type 0 where
   pub short : length ts ≤ length ds
   pub same : value ts * 10 ^ (length ds - length ts) ≡ value ds
 
-pub trims : (ds : List ℕ) → list_all is_digit ds ≡ true → IsTrim ds (trimmed ds)
+pub trims : (ds : List ℕ) → list_all is_digit ds ≡ true → IsTrim ds (without_end_zeros ds)
 trims ds h =
     let k = (trim_rest ds).0 in
-    let e : ds ≡ trimmed ds ++ replicate k 48 = (trim_rest ds).1 in
-    let len : length ds ≡ length (trimmed ds) + k = ap length e ∙ length-append (trimmed ds) (replicate k 48) ∙ ap (λ n. length (trimmed ds) + n) (length-zeros k) in
-    let left : length ds - length (trimmed ds) ≡ k = omega (arith, len) in
-    let v : value ds ≡ value (trimmed ds) * 10 ^ length (replicate k 48) + value (replicate k 48) = ap value e ∙ value-append (trimmed ds) (replicate k 48) in
+    let e : ds ≡ without_end_zeros ds ++ replicate k 48 = (trim_rest ds).1 in
+    let len : length ds ≡ length (without_end_zeros ds) + k = ap length e ∙ length-append (without_end_zeros ds) (replicate k 48) ∙ ap (λ n. length (without_end_zeros ds) + n) (length-zeros k) in
+    let left : length ds - length (without_end_zeros ds) ≡ k = omega (arith, len) in
+    let v : value ds ≡ value (without_end_zeros ds) * 10 ^ length (replicate k 48) + value (replicate k 48) = ap value e ∙ value-append (without_end_zeros ds) (replicate k 48) in
     let p : 10 ^ length (replicate k 48) ≡ 10 ^ k = ap (λ n. 10 ^ n) (length-zeros k) in
-    let z : value (trimmed ds) * 10 ^ length (replicate k 48) + value (replicate k 48) ≡ value (trimmed ds) * 10 ^ k = (λ i. value (trimmed ds) * p i + value-zeros k i) ∙ omega arith in
+    let z : value (without_end_zeros ds) * 10 ^ length (replicate k 48) + value (replicate k 48) ≡ value (without_end_zeros ds) * 10 ^ k = (λ i. value (without_end_zeros ds) * p i + value-zeros k i) ∙ omega arith in
     record {
-      digits = (both_true (list_all is_digit (trimmed ds)) (list_all is_digit (replicate k 48)) (sym (list_all-append is_digit (trimmed ds) (replicate k 48)) ∙ ap (list_all is_digit) (sym e) ∙ h)).0;
+      digits = (both_true (list_all is_digit (without_end_zeros ds)) (list_all is_digit (replicate k 48)) (sym (list_all-append is_digit (without_end_zeros ds) (replicate k 48)) ∙ ap (list_all is_digit) (sym e) ∙ h)).0;
       short = omega (arith, len);
-      same = ap (λ n. value (trimmed ds) * 10 ^ n) left ∙ sym (v ∙ z);
+      same = ap (λ n. value (without_end_zeros ds) * 10 ^ n) left ∙ sym (v ∙ z);
     }
 
 -- ---- the parts of a spelling
@@ -176,7 +176,7 @@ without_sign-minus : (v : ℤ) (ds tail : List ℕ) → list_all is_digit ds ≡
 without_sign-minus (pos n) ds tail h l = without_sign-digits ds tail h l
 without_sign-minus (negsuc n) ds tail h l = refl
 
-signed-minus : (v : ℤ) (ds tail : List ℕ) → list_all is_digit ds ≡ true → 0 < length ds → signed ((minus v ++ ds) ++ tail) (unsigned_abs v) ≡ v
+signed-minus : (v : ℤ) (ds tail : List ℕ) → list_all is_digit ds ≡ true → 0 < length ds → signed_value ((minus v ++ ds) ++ tail) (unsigned_abs v) ≡ v
 signed-minus (pos n) ds tail h l = ap (λ t. cond t (neg_ℤ (pos n)) (pos n)) (is_negative-digits ds tail h l)
 signed-minus (negsuc n) ds tail h l = refl
 
@@ -199,8 +199,8 @@ reads v fs tail small fds short part t =
     let whole_units : value ds * 10 ^ 8 ≡ n * 10 ^ 8 = ap (λ m. m * 10 ^ 8) s.value in
     let digit_of_char : unsigned_abs v ≡ to_units (value (ds ++ fs)) (length fs) =
     omega (arith, whole_units, part) ∙ ap (λ xs. value ds * 10 ^ 8 + value xs * 10 ^ (8 - length xs)) all ∙ sym (to_units_is ds fs coarse) in
-    let is : v ≡ signed text (to_units (value_without_point text) (length (fraction text))) =
-    sym (signed-minus v ds tail s.digits s.some) ∙ ap (signed text) (digit_of_char ∙ (λ i. to_units (value (sym w i ++ sym f i)) (length (sym f i)))) in
+    let is : v ≡ signed_value text (to_units (value_without_point text) (length (fraction text))) =
+    sym (signed-minus v ds tail s.digits s.some) ∙ ap (signed_value text) (digit_of_char ∙ (λ i. to_units (value (sym w i ++ sym f i)) (length (sym f i)))) in
     sym (parse_decimal_ok text v number (ap fits_eight_decimals f ∙ coarse) low is)
   where
     positive : (m : ℕ) → 0 < m → eqb m 0 ≡ false
@@ -229,8 +229,8 @@ unfolding canonical
 canonical_reads v h = reads v (decimals (unsigned_abs v)) (fraction_text (decimals (unsigned_abs v))) h (decimals_trim (unsigned_abs v)).digits (decimals_short (unsigned_abs v)) (decimals_value (unsigned_abs v)) (tail_of (decimals (unsigned_abs v)))
 
 -- and so does the pointed one
-pub pointed_reads : (v : ℤ) → unsigned_abs v ≤ max_units → parse_decimal (pointed v) ≡ Ok v
-unfolding pointed
+pub pointed_reads : (v : ℤ) → unsigned_abs v ≤ max_units → parse_decimal (spelling_with_point v) ≡ Ok v
+unfolding spelling_with_point
 pointed_reads v h = by (decimals (unsigned_abs v)) (decimals_trim (unsigned_abs v)).digits (decimals_short (unsigned_abs v)) (decimals_value (unsigned_abs v))
   where
     by : (fs : List ℕ) → list_all is_digit fs ≡ true → length fs ≤ 8 → value fs * 10 ^ (8 - length fs) ≡ unsigned_abs v % 10 ^ 8 → parse_decimal (signed_whole (10 ^ 8) v ++ fraction_text_or_zero fs) ≡ Ok v

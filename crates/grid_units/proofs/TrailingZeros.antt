@@ -4,7 +4,7 @@ use Rattle.std.proofs.lemmas.List.{length-append}
 use mathlib.Core.List.{append_assoc}
 use Rattle.std.proofs.lemmas.Bool.{eqb-true}
 use Rattle.std.proofs.Math.Nat.{pow-suc, div-div-eq-div-mul}
-use Rattle.grid_units.specs.Spellings.{places, trimmed, fraction_text, fraction_text_or_zero}
+use Rattle.grid_units.specs.Spellings.{places, without_end_zeros, fraction_text, fraction_text_or_zero}
 
 pub length-places : (w n : ℕ) → length (places w n) ≡ w
 unfolding places
@@ -28,8 +28,8 @@ places_front (suc w) n =
     quotient w n = div-div-eq-div-mul n 10 (10 ^ w) ∙ ap (λ k. n / k) (power w)
 
 -- a zero at the end is dropped
-pub trim_zero : (xs : List ℕ) → trimmed (xs ++ 48 ∷ []) ≡ trimmed xs
-unfolding trimmed
+pub trim_zero : (xs : List ℕ) → without_end_zeros (xs ++ 48 ∷ []) ≡ without_end_zeros xs
+unfolding without_end_zeros
 trim_zero [] = refl
 trim_zero (x ∷ xs) = ap (λ (t : List ℕ). cond (eqb x 48 && eqb (length t) 0) [] (x ∷ t)) (trim_zero xs)
 
@@ -48,17 +48,17 @@ pub keeps : (t : Bool) (x : ℕ) (xs : List ℕ) → 0 < length xs → cond (t &
 keeps t x xs h = skips t (eqb (length xs) 0) x xs (not_zero (length xs) h)
 
 -- digits that end with no zero are kept
-pub trim_kept : (xs : List ℕ) (b : ℕ) → eqb b 48 ≡ false → trimmed (xs ++ b ∷ []) ≡ xs ++ b ∷ []
-unfolding trimmed
+pub trim_kept : (xs : List ℕ) (b : ℕ) → eqb b 48 ≡ false → without_end_zeros (xs ++ b ∷ []) ≡ xs ++ b ∷ []
+unfolding without_end_zeros
 trim_kept [] b h = ap (λ t. cond (t && true) [] (b ∷ [])) h
 trim_kept (x ∷ xs) b h = ap (λ (t : List ℕ). cond (eqb x 48 && eqb (length t) 0) [] (x ∷ t)) (trim_kept xs b h) ∙ keeps (eqb x 48) x (xs ++ b ∷ []) (omega (arith, length-append xs (b ∷ [])))
 
 -- the last digits of a number that ends with a zero
-pub places_zero : (w n : ℕ) → n % 10 ≡ 0 → trimmed (places (suc w) n) ≡ trimmed (places w (n / 10))
+pub places_zero : (w n : ℕ) → n % 10 ≡ 0 → without_end_zeros (places (suc w) n) ≡ without_end_zeros (places w (n / 10))
 unfolding places
-places_zero w n h = ap (λ d. trimmed (places w (n / 10) ++ (48 + d) ∷ [])) h ∙ trim_zero (places w (n / 10))
+places_zero w n h = ap (λ d. without_end_zeros (places w (n / 10) ++ (48 + d) ∷ [])) h ∙ trim_zero (places w (n / 10))
 
-pub places_kept : (w n : ℕ) → 0 < n % 10 → trimmed (places (suc w) n) ≡ places (suc w) n
+pub places_kept : (w n : ℕ) → 0 < n % 10 → without_end_zeros (places (suc w) n) ≡ places (suc w) n
 unfolding places
 places_kept w n h = trim_kept (places w (n / 10)) (48 + n % 10) (by (eqb (48 + n % 10) 48) refl)
   where
@@ -70,18 +70,18 @@ pub places_none : (n : ℕ) → places 0 n ≡ []
 unfolding places
 places_none n = refl
 
-pub trimmed_none : trimmed [] ≡ []
-unfolding trimmed
+pub trimmed_none : without_end_zeros [] ≡ []
+unfolding without_end_zeros
 trimmed_none = refl
 
 -- a width above 0, or nothing left
-pub places_kept_at : (w n : ℕ) → 0 < w → 0 < n % 10 → trimmed (places w n) ≡ places w n
+pub places_kept_at : (w n : ℕ) → 0 < w → 0 < n % 10 → without_end_zeros (places w n) ≡ places w n
 places_kept_at zero n l h = absurd (omega arith)
 places_kept_at (suc w) n l h = places_kept w n h
 
-pub places_zero_at : (w n : ℕ) → 0 < w → n % 10 ≡ 0 → trimmed (places (w - 1) (n / 10)) ≡ trimmed (places w n)
+pub places_zero_at : (w n : ℕ) → 0 < w → n % 10 ≡ 0 → without_end_zeros (places (w - 1) (n / 10)) ≡ without_end_zeros (places w n)
 places_zero_at zero n l h = absurd (omega arith)
-places_zero_at (suc w) n l h = let e : suc w - 1 ≡ w = omega arith in ap (λ k. trimmed (places k (n / 10))) e ∙ sym (places_zero w n h)
+places_zero_at (suc w) n l h = let e : suc w - 1 ≡ w = omega arith in ap (λ k. without_end_zeros (places k (n / 10))) e ∙ sym (places_zero w n h)
 
 pub places_front_at : (w n : ℕ) → 0 < w → places w n ≡ (48 + n / 10 ^ (w - 1) % 10) ∷ places (w - 1) n
 places_front_at zero n l = absurd (omega arith)

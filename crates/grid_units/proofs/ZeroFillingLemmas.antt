@@ -8,7 +8,7 @@ use Rattle.grid_units.specs.declared.fault.Reason.{Reason}
 use Rattle.grid_units.specs.declared.fault.Reason.TheVariants.{BadNumber}
 use Rattle.grid_units.specs.declared.zero_filling.Zeros.{Zeros}
 use Rattle.grid_units.specs.Results.{◌>>=◌}
-use Rattle.grid_units.specs.Numbers.{is_digit, is_digits, value, without_sign, signed, to_units, zeros_to_fill, zero_filled, parse_zero_filled}
+use Rattle.grid_units.specs.Numbers.{is_digit, is_digits, value, without_sign, signed_value, to_units, zeros_to_fill, zero_filled, parse_zero_filled}
 use Rattle.grid_units.proofs.DigitLemmas.{value-append, value_lt}
 use Rattle.grid_units.proofs.SpellingsLemmas.{value-zeros, length-zeros}
 
@@ -62,16 +62,16 @@ wide i j h = pow-le-pow_right {n = 10} (lit< tt) {i = i} {j = j} h
 
 -- ---- a coordinate that is read
 
-pub parse_zero_filled_ok : (text : List ℕ) (i d k : ℕ) (zeros : Zeros) (v : ℤ) → is_digits (without_sign text) ≡ true → zeros_to_fill zeros (i + d) (length (without_sign text)) ≡ Ok k → v ≡ signed text (to_units (zero_filled (without_sign text) k) d)
+pub parse_zero_filled_ok : (text : List ℕ) (i d k : ℕ) (zeros : Zeros) (v : ℤ) → is_digits (without_sign text) ≡ true → zeros_to_fill zeros (i + d) (length (without_sign text)) ≡ Ok k → v ≡ signed_value text (to_units (zero_filled (without_sign text) k) d)
     → Ok v ≡ parse_zero_filled text i d zeros
 unfolding parse_zero_filled
 parse_zero_filled_ok text i d k zeros v ds m e =
-    ap (λ (z : ℤ). Ok z) e ∙ sym (λ j. cond (ds j) (m j >>= λ n. Ok (signed text (to_units (zero_filled (without_sign text) n) d))) (Err BadNumber))
+    ap (λ (z : ℤ). Ok z) e ∙ sym (λ j. cond (ds j) (m j >>= λ n. Ok (signed_value text (to_units (zero_filled (without_sign text) n) d))) (Err BadNumber))
 
 pub parse_zero_filled_err : (text : List ℕ) (i d : ℕ) (zeros : Zeros) (r : Reason) → is_digits (without_sign text) ≡ true → zeros_to_fill zeros (i + d) (length (without_sign text)) ≡ Err r → Err r ≡ parse_zero_filled text i d zeros
 unfolding parse_zero_filled
-parse_zero_filled_err text i d zeros r ds m = sym (λ j. cond (ds j) (m j >>= λ n. Ok (signed text (to_units (zero_filled (without_sign text) n) d))) (Err BadNumber))
+parse_zero_filled_err text i d zeros r ds m = sym (λ j. cond (ds j) (m j >>= λ n. Ok (signed_value text (to_units (zero_filled (without_sign text) n) d))) (Err BadNumber))
 
 pub parse_zero_filled_bad : (text : List ℕ) (i d : ℕ) (zeros : Zeros) → is_digits (without_sign text) ≡ false → Err BadNumber ≡ parse_zero_filled text i d zeros
 unfolding parse_zero_filled
-parse_zero_filled_bad text i d zeros ds = sym (λ j. cond (ds j) (zeros_to_fill zeros (i + d) (length (without_sign text)) >>= λ n. Ok (signed text (to_units (zero_filled (without_sign text) n) d))) (Err BadNumber))
+parse_zero_filled_bad text i d zeros ds = sym (λ j. cond (ds j) (zeros_to_fill zeros (i + d) (length (without_sign text)) >>= λ n. Ok (signed_value text (to_units (zero_filled (without_sign text) n) d))) (Err BadNumber))

@@ -40,10 +40,10 @@ is_negative [] = false
 is_negative (b ∷ bs) = b == ascii.minus
 
 -- n, or minus n where the text begins with `-`
-abbrev pub signed : List ℕ → ℕ → ℤ
-signed text n = if is_negative text then neg_ℤ (pos n) else pos n
+abbrev pub signed_value : List ℕ → ℕ → ℤ
+signed_value text n = if is_negative text then neg_ℤ (pos n) else pos n
 
--- n with k decimals, in units of 10^-8, the v of v * 10^k = n * 10^8: 254 with 2 decimals is 254,000,000
+-- n with k decimals, in units of 10^-8, rounded down where that is not whole, else the v of v * 10^k = n * 10^8: 254 with 2 decimals is 254,000,000
 abbrev pub to_units : ℕ → ℕ → ℕ
 to_units n k = n * 10 ^ 8 / 10 ^ k
 
@@ -73,7 +73,7 @@ value_without_point text = value (whole text ++ fraction text)
 unfoldable pub parse_decimal : List ℕ → Result ℤ Reason
 parse_decimal text =
     if is_decimal text then (if fits_eight_decimals (fraction text) then (if nat_lt 999999 (value (whole text)) then Err TooFar
-    else Ok (signed text (to_units (value_without_point text) (length (fraction text)))))
+    else Ok (signed_value text (to_units (value_without_point text) (length (fraction text)))))
     else Err TooFine)
     else Err BadNumber
 
@@ -82,12 +82,12 @@ abbrev pub max_units : ℕ
 max_units = 99999999999999
 
 -- the integer that is kept for one that is left out: -2^63, the least signed one of 64 bits
-abbrev pub omitted : ℤ
-omitted = negsuc 9223372036854775807
+abbrev pub omitted_integer : ℤ
+omitted_integer = negsuc 9223372036854775807
 
--- the integer that is kept as this one of 64 bits, `None` for `omitted`
-abbrev pub stored : ℤ → Option ℤ
-stored z = if nat_le (unsigned_abs z) 9223372036854775807 then Some z else None
+-- the integer that is kept as this one of 64 bits, `None` for `omitted_integer`, as for each other one above 2^63 - 1 in absolute value
+abbrev pub kept_integer : ℤ → Option ℤ
+kept_integer z = if nat_le (unsigned_abs z) 9223372036854775807 then Some z else None
 
 -- ---- lengths
 
@@ -96,7 +96,7 @@ abbrev pub unit_length : Units → ℕ
 unit_length Inch = 25400000000
 unit_length Millimetre = 1000000000
 
--- a number with so many decimals of a unit, in pm, the p of p * 10^decimals = n * unit: 254 with 2 decimals of 1 mm is 2,540,000,000
+-- a number with so many decimals of a unit, in pm, each decimal rounded down where it is not whole, else the p of p * 10^decimals = n * unit: 254 with 2 decimals of 1 mm is 2,540,000,000
 abbrev pub picometres : Units → ℕ → ℤ → ℤ
 picometres unit decimals n = n *ℤ pos (unit_length unit / 10 ^ decimals)
 
@@ -124,5 +124,5 @@ zero_filled digits zeros = value (digits ++ replicate zeros ascii.digit_zero)
 -- a coordinate without a point in the format i:d, in units of 10^-8: `00254` in 3:3 under `LZ` is 254,000,000, that is 2.54
 unfoldable pub parse_zero_filled : List ℕ → ℕ → ℕ → Zeros → Result ℤ Reason
 parse_zero_filled text i d zeros =
-    if is_digits (without_sign text) then (zeros_to_fill zeros (i + d) (length (without_sign text)) >>= λ k. Ok (signed text (to_units (zero_filled (without_sign text) k) d)))
+    if is_digits (without_sign text) then (zeros_to_fill zeros (i + d) (length (without_sign text)) >>= λ k. Ok (signed_value text (to_units (zero_filled (without_sign text) k) d)))
     else Err BadNumber

@@ -8,9 +8,9 @@ places zero n = []
 places (suc w) n = places w (n / 10) ++ (ascii.digit_zero + n % 10) ∷ []
 
 -- digits without the zeros at their end: `05` of `0500`
-unfoldable pub trimmed : List ℕ → List ℕ
-trimmed [] = []
-trimmed (d ∷ ds) = if (d == ascii.digit_zero) && (length (trimmed ds) == 0) then [] else d ∷ trimmed ds
+unfoldable pub without_end_zeros : List ℕ → List ℕ
+without_end_zeros [] = []
+without_end_zeros (d ∷ ds) = if (d == ascii.digit_zero) && (length (without_end_zeros ds) == 0) then [] else d ∷ without_end_zeros ds
 
 -- `-` below zero, else nothing
 abbrev pub minus : ℤ → List ℕ
@@ -19,7 +19,7 @@ minus (negsuc n) = ascii.minus ∷ []
 
 -- the decimals of a number of 10^-8, without the zeros at their end: `05` of 5,000,000
 abbrev pub decimals : ℕ → List ℕ
-decimals units = trimmed (places 8 (units % 10 ^ 8))
+decimals units = without_end_zeros (places 8 (units % 10 ^ 8))
 
 -- `.` and the decimals, nothing where there are none
 abbrev pub fraction_text : List ℕ → List ℕ
@@ -40,8 +40,8 @@ unfoldable pub canonical : ℤ → List ℕ
 canonical v = signed_whole (10 ^ 8) v ++ fraction_text (decimals (unsigned_abs v))
 
 -- the spelling with a point, `.0` where there is no fraction: `-12.0` of -1,200,000,000
-unfoldable pub pointed : ℤ → List ℕ
-pointed v = signed_whole (10 ^ 8) v ++ fraction_text_or_zero (decimals (unsigned_abs v))
+unfoldable pub spelling_with_point : ℤ → List ℕ
+spelling_with_point v = signed_whole (10 ^ 8) v ++ fraction_text_or_zero (decimals (unsigned_abs v))
 
 -- a length in pm as millimetres with nine decimals: `0.125000000` of 125,000,000
 unfoldable pub millimetres : ℤ → List ℕ

@@ -2,8 +2,8 @@
 
 ghost use Rattle.std.specs.Prelude.{◌≡◌, ◌≤◌, ◌+◌, ◌-◌, ◌*◌, ◌^◌, ◌*ℤ◌, ◌↔◌, ◌&&◌, ◌==◌, not, pos, neg_ℤ, length, take, drop, All, true, IsSome, IfSome, IfOk, unsigned_abs, if◌then◌else◌, ℤ};
 ghost use Rattle.std.specs.List.{list_all, position_or_len};
-ghost use Rattle.grid_units.specs.Numbers.{is_digit, value, whole, fraction, signed, fits_eight_decimals, value_without_point, parse_decimal, max_units, unit_length, picometres, within_limit};
-ghost use Rattle.grid_units.specs.Spellings.{canonical, pointed};
+ghost use Rattle.grid_units.specs.Numbers.{is_digit, value, whole, fraction, signed_value, fits_eight_decimals, value_without_point, parse_decimal, max_units, unit_length, picometres, within_limit};
+ghost use Rattle.grid_units.specs.Spellings.{canonical, spelling_with_point};
 
 use crate::fault::Reason;
 use crate::lengths::{Unit, power_of_ten, units_to_picometres, within_ten_metres};
@@ -45,7 +45,7 @@ impl Dec {
     #[tactic(auto, unfolding(crate::specs::Numbers::parse_decimal))]
     pub fn read(text: &[u8]) -> Result<Dec, Reason>
         ensures exact { result ≡ parse_decimal text.now }
-        ensures equation { IfOk result (λ v. v *ℤ pos (10 ^ length (fraction text.now)) ≡ signed text.now (value_without_point text.now * 10 ^ 8)) }
+        ensures equation { IfOk result (λ v. v *ℤ pos (10 ^ length (fraction text.now)) ≡ signed_value text.now (value_without_point text.now * 10 ^ 8)) }
     {
         let (whole, fraction) = split_at_point(text);
         if !has_only_digits(whole, fraction) {
@@ -94,9 +94,9 @@ impl Dec {
     }
 
     /// The canonical spelling, always with a point: with `.0` where there is no fraction.
-    #[tactic(auto, unfolding(crate::specs::Spellings::pointed))]
+    #[tactic(auto, unfolding(crate::specs::Spellings::spelling_with_point))]
     pub fn write_pointed(self) -> ArrayString<16>
-        ensures spelling { result.bytes ≡ pointed self }
+        ensures spelling { result.bytes ≡ spelling_with_point self }
         ensures reads_back { parse_decimal result.bytes ≡ Ok self }
     {
         let mut text = signed_whole(self.units, 100_000_000);

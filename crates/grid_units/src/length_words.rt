@@ -2,7 +2,7 @@
 
 ghost use Rattle.std.specs.Prelude.{◌≡◌, ◌≤◌, ◌<◌, ◌+◌, ◌++◌, ◌∷◌, ◌/◌, ◌%◌, ◌^◌, [], Some, decimal};
 ghost use Rattle.std.specs.Fmt.{DisplaysOnOk};
-ghost use Rattle.grid_units.specs.Spellings.{fraction_text, millimetres, minus, places, trimmed};
+ghost use Rattle.grid_units.specs.Spellings.{fraction_text, millimetres, minus, places, without_end_zeros};
 ghost use Rattle.grid_units.specs.LengthWords.{short_millimetres};
 
 use crate::{power_of_ten, write_mm};
@@ -47,7 +47,7 @@ impl Display for Millimetres {
 
 /// A number without the zeros at its end, and how many of its nine digits are left.
 fn without_zeros(number: u32) -> (u32, u8)
-    ensures places { places result.1 result.0 ≡ trimmed (places 9 number) }
+    ensures places { places result.1 result.0 ≡ without_end_zeros (places 9 number) }
     ensures width { result.1 ≤ 9 }
 {
     let mut rest = number;
@@ -81,7 +81,7 @@ fn write_places<W: fmt::Write>(f: &mut Formatter<W>, number: u32, width: u8) -> 
 
 /// Writes a point and the decimals of so many pm, less than a millimetre, without the zeros at their end; nothing where none is left.
 fn write_short_decimals<W: fmt::Write>(f: &mut Formatter<W>, below: u32) -> fmt::Result
-    ensures { DisplaysOnOk W.write_str_gives f.old result (Some (fraction_text (trimmed (places 9 below)))) f.new }
+    ensures { DisplaysOnOk W.write_str_gives f.old result (Some (fraction_text (without_end_zeros (places 9 below)))) f.new }
 {
     let (number, width) = without_zeros(below);
     if width == 0 {

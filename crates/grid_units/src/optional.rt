@@ -1,7 +1,7 @@
 //! Integers that may be left out, in eight bytes each.
 
 ghost use Rattle.std.specs.Prelude.{◌≡◌, ◌≢◌, Some, None, IfSome, IfNone};
-ghost use Rattle.grid_units.specs.Numbers.{omitted};
+ghost use Rattle.grid_units.specs.Numbers.{omitted_integer};
 
 use std::marker::Model;
 
@@ -17,22 +17,22 @@ pub struct OptionalInteger {
 
 impl Model for OptionalInteger {
     ghost use Rattle.std.specs.Prelude.{◌≡◌, ℤ, Option, IfNone, unwrap_or};
-    ghost use Rattle.grid_units.specs.Numbers.{stored, omitted};
+    ghost use Rattle.grid_units.specs.Numbers.{kept_integer, omitted_integer};
 
     ghost Value = { Option ℤ };
 
-    ghost view = { λ c. stored c.value };
+    ghost view = { λ c. kept_integer c.value };
 
-    ghost invariant = { λ c. IfNone (stored c.value) (c.value ≡ omitted) };
+    ghost invariant = { λ c. IfNone (kept_integer c.value) (c.value ≡ omitted_integer) };
 
-    ghost inverse = { λ v. record { value = unwrap_or v omitted } };
+    ghost inverse = { λ v. record { value = unwrap_or v omitted_integer } };
 }
 
 impl OptionalInteger {
     /// This integer, or that it is left out; `None` at the least `i64`, which stands for one that is left out.
     pub fn new(value: Option<i64>) -> Option<OptionalInteger>
         ensures some { IfSome result (λ c. c ≡ value) }
-        ensures none { IfNone result (value ≡ Some omitted) }
+        ensures none { IfNone result (value ≡ Some omitted_integer) }
     {
         if value == Some(OMITTED) {
             None
@@ -43,7 +43,7 @@ impl OptionalInteger {
 
     /// This integer, or that it is left out. The value is not the least `i64`.
     pub fn of(value: Option<i64>) -> OptionalInteger
-        requires { value ≢ Some omitted }
+        requires { value ≢ Some omitted_integer }
         ensures { result ≡ value }
     {
         match value {

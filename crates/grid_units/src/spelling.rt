@@ -2,7 +2,7 @@
 
 ghost use Rattle.std.specs.Prelude.{◌≡◌, ◌≤◌, ◌<◌, ◌+◌, ◌^◌, ◌%◌, ◌/◌, ◌++◌, ◌∷◌, [], unsigned_abs, decimal};
 ghost use Rattle.arrayvec.specs.ArrayString.{array_string_len};
-ghost use Rattle.grid_units.specs.Spellings.{places, trimmed, minus, signed_whole, fraction_text, fraction_text_or_zero, millimetres};
+ghost use Rattle.grid_units.specs.Spellings.{places, without_end_zeros, minus, signed_whole, fraction_text, fraction_text_or_zero, millimetres};
 
 use crate::lengths::power_of_ten;
 use arrayvec::ArrayString;
@@ -86,7 +86,7 @@ fn push_places(text: &mut ArrayString<16>, number: u64, width: u8)
 
 /// The number without the zeros at its end, and how many of its last eight digits are left.
 fn without_zeros(number: u64) -> (u64, u8)
-    ensures places { places result.1 result.0 ≡ trimmed (places 8 number) }
+    ensures places { places result.1 result.0 ≡ without_end_zeros (places 8 number) }
     ensures width { result.1 ≤ 8 }
 {
     let mut rest = number;
@@ -102,7 +102,7 @@ fn without_zeros(number: u64) -> (u64, u8)
 /// there are none.
 pub(crate) fn push_decimals(text: &mut ArrayString<16>, fraction: u64)
     requires { array_string_len text.old ≤ 7 }
-    ensures { text.new.bytes ≡ text.old.bytes ++ fraction_text (trimmed (places 8 fraction)) }
+    ensures { text.new.bytes ≡ text.old.bytes ++ fraction_text (without_end_zeros (places 8 fraction)) }
 {
     let (number, width) = without_zeros(fraction);
     if width > 0 {
@@ -114,7 +114,7 @@ pub(crate) fn push_decimals(text: &mut ArrayString<16>, fraction: u64)
 /// Appends a point and the decimals of a number of 10^-8, `.0` where there are none.
 pub(crate) fn push_decimals_or_zero(text: &mut ArrayString<16>, fraction: u64)
     requires { array_string_len text.old ≤ 7 }
-    ensures { text.new.bytes ≡ text.old.bytes ++ fraction_text_or_zero (trimmed (places 8 fraction)) }
+    ensures { text.new.bytes ≡ text.old.bytes ++ fraction_text_or_zero (without_end_zeros (places 8 fraction)) }
 {
     let (number, width) = without_zeros(fraction);
     push_ascii(text, b'.');

@@ -1,7 +1,7 @@
 //! Coordinates of a drill file that are written without a point.
 
 ghost use Rattle.std.specs.Prelude.{◌≡◌, ◌≤◌, ◌<◌, ◌+◌, ◌*◌, ◌^◌, ◌*ℤ◌, pos, length, IfOk, All, true};
-ghost use Rattle.grid_units.specs.Numbers.{is_digit, without_sign, signed, to_units, zeros_to_fill, zero_filled, parse_zero_filled};
+ghost use Rattle.grid_units.specs.Numbers.{is_digit, without_sign, signed_value, to_units, zeros_to_fill, zero_filled, parse_zero_filled};
 
 use crate::decimal::{Dec, signed};
 use crate::fault::Reason;
@@ -32,7 +32,7 @@ pub fn from_zeros(text: &[u8], i: u8, d: u8, zeros: Zeros) -> Result<Dec, Reason
     requires whole { (1 ≤ i) × (i ≤ 6) }
     requires decimals { (1 ≤ d) × (d ≤ 6) }
     ensures exact { result ≡ parse_zero_filled text.now i d zeros }
-    ensures equation { IfOk result (λ v. IfOk (zeros_to_fill zeros (i + d) (length (without_sign text.now))) (λ k. v *ℤ pos (10 ^ d) ≡ signed text.now (zero_filled (without_sign text.now) k * 10 ^ 8))) }
+    ensures equation { IfOk result (λ v. IfOk (zeros_to_fill zeros (i + d) (length (without_sign text.now))) (λ k. v *ℤ pos (10 ^ d) ≡ signed_value text.now (zero_filled (without_sign text.now) k * 10 ^ 8))) }
 {
     let digits = without_sign(text);
     if !is_digits(digits) {

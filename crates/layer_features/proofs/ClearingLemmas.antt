@@ -1,5 +1,5 @@
 -- What one more command changes of the positions that count and of those that do not.
-use Rattle.layer_features.proofs.Common.{◌≡◌, ◌∙◌, ℕ, ◌+◌, ◌&&◌, ◌||◌, Bool, true, false, not, List, [], ◌∷◌, ◌++◌, ◌-◌, cond, drop, take, refl, ap, sym, length, arith, append-nil, append_assoc, length-append, if◌then◌else◌, list_any, prefix_len, reverse-append, take_all, take-append-drop, with_prefixes, with_prefixes_from, last_or-more, list_any-more, with_prefixes-append, Command, after_last, up_to_last, block_after, changes_block, in_open_block, is_repeated, cleared, clears_all, draws, is_clear_after, is_clearing, polarity_set, uncleared, clearing_after, clearing_with}
+use Rattle.layer_features.proofs.Common.{◌≡◌, ◌∙◌, ℕ, ◌+◌, ◌&&◌, ◌||◌, Bool, true, false, not, List, [], ◌∷◌, ◌++◌, ◌-◌, cond, drop, take, refl, ap, sym, length, arith, append-nil, append_assoc, length-append, if◌then◌else◌, list_any, prefix_len, reverse-append, take_all, take-append-drop, with_prefixes, with_prefixes_from, last_or-more, list_any-more, with_prefixes-append, Command, after_last, up_to_last, block_after, changes_block, in_open_block, is_repeated, positions_up_to_clearing, clears_all, draws, is_clear_after, is_clearing, polarity_set, positions_after_clearing, clearing_after, clearing_with}
 use Rattle.std.specs.Prelude.{unwrap_or}
 use Rattle.std.specs.List.{suffix_len}
 use Rattle.std.proofs.lemmas.List.{drop-append-le, drop_all, take-append-le}
@@ -38,7 +38,7 @@ up_to_last-more {A} test xs x = ap (λ n. take (length (xs ++ x ∷ []) - n) (xs
     by false = ap (λ k. take k (xs ++ x ∷ [])) (begins xs x n) ∙ take-append-le (length xs - n) xs (x ∷ []) (omega arith)
 
 -- the positions that do not count with one more command
-pub cleared-more : (before : List Command) (c : Command) → cleared (before ++ c ∷ []) ≡ (if clears_all (before, c) then with_prefixes before ++ (before, c) ∷ [] else cleared before)
+pub cleared-more : (before : List Command) (c : Command) → positions_up_to_clearing (before ++ c ∷ []) ≡ (if clears_all (before, c) then with_prefixes before ++ (before, c) ∷ [] else positions_up_to_clearing before)
 cleared-more before c = ap (up_to_last clears_all) (with_prefixes-append before (c ∷ [])) ∙ up_to_last-more clears_all (with_prefixes before) (before, c)
 
 -- a list is the elements up to the last one that passes, and those after it
@@ -46,7 +46,7 @@ cut : {A : Type 0} (test : A → Bool) (xs : List A) → xs ≡ up_to_last test 
 cut test xs = sym (take-append-drop (length xs - suffix_len (λ x. not (test x)) xs) xs)
 
 -- each position counts or does not
-pub all_positions : (commands : List Command) → with_prefixes commands ≡ cleared commands ++ uncleared commands
+pub all_positions : (commands : List Command) → with_prefixes commands ≡ positions_up_to_clearing commands ++ positions_after_clearing commands
 all_positions commands = cut clears_all (with_prefixes commands)
 
 -- whether something of the open block was drawn in clear polarity, with one more command
@@ -107,7 +107,7 @@ after_last-append {A} test xs (y ∷ ys) h =
     ap (after_last test) (sym (append_assoc xs (y ∷ []) ys)) ∙ after_last-append test (xs ++ y ∷ []) ys both.1 ∙ ap (λ (l : List A). l ++ ys) one ∙ append_assoc (after_last test xs) (y ∷ []) ys
 
 -- without clear polarity all positions count
-pub all_uncleared : (commands : List Command) → list_any is_clear commands ≡ false → uncleared commands ≡ with_prefixes commands
+pub all_uncleared : (commands : List Command) → list_any is_clear commands ≡ false → positions_after_clearing commands ≡ with_prefixes commands
 all_uncleared commands h = after_last-append clears_all [] (with_prefixes commands) (none_from [] commands refl h)
 
 -- polarity stays dark where a command is not `%LPC*%`
@@ -121,5 +121,5 @@ nothing_before xs (y ∷ ys) e =
     absurd (omega (arith, long))
 
 -- without clear polarity no position is taken away
-pub none_cleared : (commands : List Command) → list_any is_clear commands ≡ false → cleared commands ≡ []
-none_cleared commands h = nothing_before (with_prefixes commands) (cleared commands) (all_positions commands ∙ ap (λ (l : List (List Command × Command)). cleared commands ++ l) (all_uncleared commands h))
+pub none_cleared : (commands : List Command) → list_any is_clear commands ≡ false → positions_up_to_clearing commands ≡ []
+none_cleared commands h = nothing_before (with_prefixes commands) (positions_up_to_clearing commands) (all_positions commands ∙ ap (λ (l : List (List Command × Command)). positions_up_to_clearing commands ++ l) (all_uncleared commands h))

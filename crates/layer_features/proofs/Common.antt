@@ -11,15 +11,15 @@ pub use Rattle.grid_units.specs.Points.{GridPoint, square}
 pub use Rattle.grid_units.specs.declared.lengths.Unit.TheVariants.{Millimetre}
 pub use Rattle.layer_features.specs.AfterLast.{up_to_last}
 pub use Rattle.layer_features.specs.Blocks.{block_after, copy_count, in_open_block, is_repeated}
-pub use Rattle.layer_features.specs.Clearing.{cleared, clears_all, draws, is_clear_after, is_clearing, is_drawing, polarity_set, uncleared}
+pub use Rattle.layer_features.specs.Clearing.{positions_up_to_clearing, clears_all, draws, is_clear_after, is_clearing, is_drawing, polarity_set, positions_after_clearing}
 pub use Rattle.layer_features.specs.Contours.{PlotState, contour_of, ends_of, is_clockwise, is_counterclockwise, is_move, part_by, part_of, points_of, polygon_by, region_parts, sides_of, starts_region}
 pub use Rattle.layer_features.specs.CopperLaws.{ContoursAreInsideEdges, FlashedShapesAreInPrimitives, LegalWidePads, UnclearedPositions, WidePadsAreUnique}
-pub use Rattle.layer_features.specs.Drawn.{DrawState, aperture_numbered, decimals_set, draw_state_after, draw_unit, drawn_aperture_set, drawn_by, macro_named, macro_set, mirror_set, mode_set, near, operation_point, point_at, primitives_shape, quadrant_set, stays_near, within_limits}
+pub use Rattle.layer_features.specs.Drawn.{DrawState, aperture_numbered, decimals_set, draw_state_after, draw_unit, drawn_aperture_set, drawn_by, macro_named, macro_set, mirroring_set, mode_set, near, operation_point, point_at, primitives_shape, quadrant_set, stays_near, within_limits}
 pub use Rattle.layer_features.specs.Features.{added_features, contour_count, contour_feature, counts_of, dark_kind, features_at, flash_feature, flashed_count, is_contour, is_flashed_pad, is_other, other_count, pad_in, pads_of, taken_away, taken_kind, wide_features_of}
-pub use Rattle.layer_features.specs.FurtherPads.{CopperState, clearing_after, clears_in, contours_in, copper_state_after, ended_copies, ended_regions, flash_shape, has_room, is_room, macro_shape, macro_why, mirroring_set, plot_state}
+pub use Rattle.layer_features.specs.FurtherPads.{CopperState, clearing_after, clears_in, contours_in, copper_state_after, ended_copies, ended_regions, flash_shape, has_room, is_room, macro_shape, macro_why, plot_state}
 pub use Rattle.layer_features.specs.Inner.Forgetting.{is_over, starts_no_pad, starts_no_polygon}
 pub use Rattle.layer_features.specs.Inner.Pencils.{after_command, draw_state, macro_at}
-pub use Rattle.layer_features.specs.Inner.States.{IsLike, MakeSameContour, after, capped, clearing_with, copper_state, parts_after, with_parts}
+pub use Rattle.layer_features.specs.Inner.States.{IsLike, MakeSameContour, after, with_capped_regions, clearing_with, copper_state, parts_after, with_parts}
 pub use Rattle.layer_features.specs.Inner.Steps.{AreWidePadsOf, changes_block, clockwise_round, counterclockwise_round, in_last_region, is_no_move, leading_sides, macro_len, max_regions, polygon_of_sides}
 pub use Rattle.layer_features.specs.Inner.Turns.{turns_both_ways, turns_left, turns_right}
 pub use Rattle.layer_features.specs.Kept.{KeepsFeatures, first_taken_away, keeps_drawn, keeps_rows, left_pads}

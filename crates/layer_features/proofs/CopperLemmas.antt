@@ -1,5 +1,5 @@
 -- What one more command changes of further copper.
-use Rattle.layer_features.proofs.Common.{◌≡◌, ◌∙◌, ℕ, ℤ, suc, ◌+◌, ◌&&◌, ◌||◌, inl, inr, Bool, true, false, not, map, None, OnOk, Result, Ok, Err, List, [], ◌∷◌, ◌++◌, Option, refl, sym, ap, subst, arith, append-nil, append_assoc, min, if◌then◌else◌, cons_option, filter_map, sum_by, filter_map-append, sum_by_push, with_prefixes, last_or-more, with_prefixes-append, Command, cases_order, option_map_or, GridRounded, Flash, added_flashes, block_set, no_repeat, state_after, DrawState, draw_state_after, draw_unit, drawn_by, after_command, draw_state, Part, block_after, copy_count, is_repeated, clears_all, is_drawing, uncleared, no_mirroring, shapes_at, PlotState, contour_of, in_last_region, part_by, region_parts, starts_region, CopperState, clears_in, contours_in, copper_state_after, ended_copies, ended_regions, has_room, max_regions, mirroring_set, plot_state, Feature, added_features, contour_feature, features_at, flash_feature, taken_away, wide_features_of, KeepsFeatures, keeps_drawn, keeps_rows, WidePad, IsLike, MakeSameContour, after, capped, copper_state, with_parts}
+use Rattle.layer_features.proofs.Common.{◌≡◌, ◌∙◌, ℕ, ℤ, suc, ◌+◌, ◌&&◌, ◌||◌, inl, inr, Bool, true, false, not, map, None, OnOk, Result, Ok, Err, List, [], ◌∷◌, ◌++◌, Option, refl, sym, ap, subst, arith, append-nil, append_assoc, min, if◌then◌else◌, cons_option, filter_map, sum_by, filter_map-append, sum_by_push, with_prefixes, with_prefixes-append, Command, cases_order, option_map_or, GridRounded, Flash, added_flashes, state_after, DrawState, draw_state_after, draw_unit, drawn_by, after_command, draw_state, Part, block_after, copy_count, is_repeated, clears_all, is_drawing, positions_after_clearing, shapes_at, PlotState, contour_of, in_last_region, part_by, region_parts, starts_region, CopperState, clears_in, contours_in, copper_state_after, ended_copies, ended_regions, has_room, max_regions, plot_state, Feature, added_features, contour_feature, features_at, flash_feature, taken_away, wide_features_of, KeepsFeatures, keeps_drawn, keeps_rows, WidePad, IsLike, MakeSameContour, after, with_capped_regions, copper_state, with_parts}
 use Rattle.std.proofs.Common.{nat_le}
 use Rattle.gerber_commands.specs.declared.command.Action.{Action}
 use Rattle.gerber_commands.specs.declared.command.Command.TheVariants as command
@@ -39,11 +39,9 @@ ended_regions-more before c =
     ap (sum_by gives) (with_prefixes-append before (c ∷ [])) ∙ sum_by_push gives (with_prefixes before) (before, c)
 
 -- the state after one more command
-copper_state_after-more : (before : List Command) (c : Command) → capped (copper_state_after (before ++ c ∷ [])) ≡ after c (capped (copper_state_after before))
+copper_state_after-more : (before : List Command) (c : Command) → with_capped_regions (copper_state_after (before ++ c ∷ [])) ≡ after c (with_capped_regions (copper_state_after before))
 copper_state_after-more before c = λ i. record {
   draw = draw_state_after-more before c i;
-  mirroring = last_or-more mirroring_set no_mirroring before c i;
-  block = last_or-more block_set no_repeat before c i;
   parts = region_parts-more (λ p. plot_state (draw_state_after p)) before c i;
   regions = (ap (λ (n : ℕ). min n (suc max_regions)) (ended_regions-more before c) ∙ capped_sum (ended_regions before) (ended_copies (block_after before) c) (suc max_regions)) i;
   clearing = clearing_after-more before c i;
@@ -59,12 +57,12 @@ room_capped r k = elim (cases_order (min (r + k) (suc max_regions)) (suc max_reg
   | inr (inr more) ↦ absurd (omega (arith, more))
 ]
 
-contours_capped : (s : CopperState) (c : Command) → contours_in (capped s) c ≡ contours_in s c
+contours_capped : (s : CopperState) (c : Command) → contours_in (with_capped_regions s) c ≡ contours_in s c
 contours_capped s command.RegionEnd =
-    ap (λ (room : Bool). option_map_or (shapes_at (draw_unit s.draw) s.block) (if s.draw.in_region && (not s.clearing.clear && room) then contour_of s.parts else None) []) (room_capped s.regions (copy_count s.block))
+    ap (λ (room : Bool). option_map_or (shapes_at (draw_unit s.draw) s.draw.block) (if s.draw.in_region && (not s.clearing.clear && room) then contour_of s.parts else None) []) (room_capped s.regions (copy_count s.draw.block))
 contours_capped s c = refl
 
-added_capped : (s : CopperState) (flashes : List Flash) (c : Command) → added_features (capped s) flashes c ≡ added_features s flashes c
+added_capped : (s : CopperState) (flashes : List Flash) (c : Command) → added_features (with_capped_regions s) flashes c ≡ added_features s flashes c
 added_capped s flashes c = ap (λ (pads : List GridRounded). map (flash_feature s) flashes ++ map contour_feature pads) (contours_capped s c)
 
 -- ---- a state that stands for another
@@ -100,7 +98,7 @@ contours_like : (s t : CopperState) (c : Command) → IsLike s t → contours_in
 contours_like s t c h = by c ∙ ap (λ (u : CopperState). contours_in u c) h.rest
   where
     by : (d : Command) → contours_in s d ≡ contours_in (with_parts t.parts s) d
-    by command.RegionEnd = ap (λ (o : Option GridRounded). option_map_or (shapes_at (draw_unit s.draw) s.block) (if s.draw.in_region && (not s.clearing.clear && has_room s) then o else None) []) (same_contour s.parts t.parts h.parts)
+    by command.RegionEnd = ap (λ (o : Option GridRounded). option_map_or (shapes_at (draw_unit s.draw) s.draw.block) (if s.draw.in_region && (not s.clearing.clear && has_room s) then o else None) []) (same_contour s.parts t.parts h.parts)
     by d = refl
 
 -- and so is what it adds
@@ -143,9 +141,9 @@ pub record IsAdvanced (old : Copper) (c : Command) (new : Copper) : Type 0 where
 uncleared_drawn-more : (before : List Command) (c : Command) → uncleared_drawn (before ++ c ∷ []) ≡ (if clears_all (before, c) then [] else uncleared_drawn before ++ cons_option (drawn_at (before, c)) [])
 uncleared_drawn-more before c = ap (filter_map drawn_at) (uncleared-more before c) ∙ by (clears_all (before, c))
   where
-    by : (b : Bool) → filter_map drawn_at (if b then [] else uncleared before ++ (before, c) ∷ []) ≡ (if b then [] else filter_map drawn_at (uncleared before) ++ cons_option (drawn_at (before, c)) [])
+    by : (b : Bool) → filter_map drawn_at (if b then [] else positions_after_clearing before ++ (before, c) ∷ []) ≡ (if b then [] else filter_map drawn_at (positions_after_clearing before) ++ cons_option (drawn_at (before, c)) [])
     by true = refl
-    by false = filter_map-append drawn_at (uncleared before) ((before, c) ∷ [])
+    by false = filter_map-append drawn_at (positions_after_clearing before) ((before, c) ∷ [])
 
 -- and where it is asked for
 drawn-more : (draws asked clears : Bool) (commands : List Command) (c : Command) (part : Option Drawn) (parts : List Drawn) → asked ≡ draws → clears ≡ clears_all (commands, c) → part ≡ drawn_at (commands, c) → parts ≡ (if draws then uncleared_drawn commands else [])
@@ -167,23 +165,23 @@ met_more keep taken old drawn added marked new own commands c met own_is is_draw
     let more : List Feature = features_at (commands, c) in
     let added_state : copper_state added ≡ copper_state old = is_added.state ∙ is_drawn.state in
     let more_is : added_features (copper_state drawn) own c ≡ more =
-    (λ i. added_features (is_drawn.state i) (own_is i) c) ∙ added_like (copper_state old) (capped then_state) (added_flashes (state_after commands) c) c met.state ∙ added_capped then_state (added_flashes (state_after commands) c) c in
-    let clears : clears_in (copper_state added) c ≡ clears_all (commands, c) = ap (λ (s : CopperState). clears_in s c) added_state ∙ clears_like (copper_state old) (capped then_state) c met.state in
-    let state : IsLike (after c (copper_state marked)) (capped (copper_state_after (commands ++ c ∷ []))) =
-    subst (λ (s : CopperState). IsLike (after c s) (capped (copper_state_after (commands ++ c ∷ [])))) (sym (is_marked.state ∙ added_state))
-    (subst (IsLike (after c (copper_state old))) (sym (copper_state_after-more commands c)) (after_like c (copper_state old) (capped then_state) met.state)) in
+    (λ i. added_features (is_drawn.state i) (own_is i) c) ∙ added_like (copper_state old) (with_capped_regions then_state) (added_flashes (state_after commands) c) c met.state ∙ added_capped then_state (added_flashes (state_after commands) c) c in
+    let clears : clears_in (copper_state added) c ≡ clears_all (commands, c) = ap (λ (s : CopperState). clears_in s c) added_state ∙ clears_like (copper_state old) (with_capped_regions then_state) c met.state in
+    let state : IsLike (after c (copper_state marked)) (with_capped_regions (copper_state_after (commands ++ c ∷ []))) =
+    subst (λ (s : CopperState). IsLike (after c s) (with_capped_regions (copper_state_after (commands ++ c ∷ [])))) (sym (is_marked.state ∙ added_state))
+    (subst (IsLike (after c (copper_state old))) (sym (copper_state_after-more commands c)) (after_like c (copper_state old) (with_capped_regions then_state) met.state)) in
     let kept_drawn : KeepsFeatures drawn.kept taken features = subst (λ (k : KeptFeatures). KeepsFeatures k taken features) (sym is_drawn.kept) met.kept in
     let kept_added : KeepsFeatures added.kept taken (features ++ more) = subst (λ (l : List Feature). KeepsFeatures added.kept taken (features ++ l)) more_is (is_added.kept taken features kept_drawn) in
     let now : (if clears_in (copper_state added) c then filter_map taken_away (features ++ more) else features ++ more) ≡ wide_features_of (commands ++ c ∷ []) =
     ap (λ (b : Bool). if b then filter_map taken_away (features ++ more) else features ++ more) clears ∙ sym (wide_features_of-more commands c) in
     let kept_marked : KeepsFeatures marked.kept taken (wide_features_of (commands ++ c ∷ [])) = subst (KeepsFeatures marked.kept taken) now (is_marked.kept taken (features ++ more) kept_added) in
     record {
-      state = like_like (copper_state new) (after c (copper_state marked)) (capped (copper_state_after (commands ++ c ∷ []))) advanced.state state;
+      state = like_like (copper_state new) (after c (copper_state marked)) (with_capped_regions (copper_state_after (commands ++ c ∷ []))) advanced.state state;
       rows = ap (λ (k : KeptFeatures). k.rows) advanced.kept ∙ is_marked.rows ∙ is_added.rows ∙ ap (λ (k : KeptFeatures). k.rows) is_drawn.kept ∙ met.rows;
       kept = subst (λ (k : KeptFeatures). KeepsFeatures k taken (wide_features_of (commands ++ c ∷ []))) (sym advanced.kept) kept_marked;
       asked = ap (λ (d : Drawing). d.asked) (advanced.drawing ∙ is_marked.drawing ∙ is_added.drawing) ∙ is_drawn.asked ∙ met.asked;
       drawn = ap (λ (d : Drawing). d.parts.items) (advanced.drawing ∙ is_marked.drawing ∙ is_added.drawing) ∙ is_drawn.parts
-          ∙ drawn-more (keeps_drawn keep) old.drawing.asked (clears_in (copper_state old) c) commands c (dark_part (copper_state old) c) old.drawing.parts.items met.asked (clears_like (copper_state old) (capped then_state) c met.state)
+          ∙ drawn-more (keeps_drawn keep) old.drawing.asked (clears_in (copper_state old) c) commands c (dark_part (copper_state old) c) old.drawing.parts.items met.asked (clears_like (copper_state old) (with_capped_regions then_state) c met.state)
           (ap (λ (s : CopperState). dark_part s c) met.state.rest) met.drawn;
     }
 
@@ -200,8 +198,6 @@ pub record IsFlashed (old : Copper) (own : List Flash) (added : Copper) : Type 0
 pub record IsMovedOn (added : Copper) (c : Command) (new : Copper) : Type 0 where
   pub draw : draw_state new.pencil ≡ after_command c (draw_state added.pencil)
   pub parts : MakeSameContour new.parts.items (added.parts.items ++ cons_option (part_by (plot_state (draw_state added.pencil)) c) [])
-  pub mirroring : new.mirroring ≡ added.mirroring
-  pub block : new.block ≡ added.block
   pub regions : new.regions ≡ added.regions
   pub clearing : new.clearing ≡ added.clearing
   pub kept : new.kept ≡ added.kept
@@ -226,8 +222,6 @@ operation_stays : (added new : Copper) (a : Action) (x y i j : Option ℤ) → a
 operation_stays added new a x y i j dark fresh regions moved = record {
   rest = λ k. record {
     draw = moved.draw k;
-    mirroring = moved.mirroring k;
-    block = moved.block k;
     parts = added.parts.items ++ cons_option (part_by (plot_state (draw_state added.pencil)) (command.Operate a x y i j)) [];
     regions = (moved.regions ∙ regions) k;
     clearing = (moved.clearing ∙ (λ l. record { clear = added.clearing.clear; in_block = (fresh ∙ still_dark (is_drawing a) ∙ (λ m. (is_drawing a && sym dark m) || sym fresh m)) l })) k;
@@ -242,7 +236,7 @@ pub operation_more : (keep : Keep) (taken : List WidePad) (old added new : Coppe
     → HasMet keep taken new (commands ++ command.Operate a x y i j ∷ [])
 operation_more keep taken old added new own commands a x y i j idle dark fresh met own_is flashed moved =
     let c = command.Operate a x y i j in
-    let takes_nothing : clears_in (copper_state old) c ≡ false = (λ k. (is_drawing a && dark k) || (is_repeated old.block && fresh k)) ∙ no_clearing (is_drawing a) (is_repeated old.block) in
+    let takes_nothing : clears_in (copper_state old) c ≡ false = (λ k. (is_drawing a && dark k) || (is_repeated old.pencil.block && fresh k)) ∙ no_clearing (is_drawing a) (is_repeated old.pencil.block) in
     let now_dark : added.clearing.clear ≡ false = ap (λ (s : CopperState). s.clearing.clear) flashed.state ∙ dark in
     let now_fresh : added.clearing.in_block ≡ false = ap (λ (s : CopperState). s.clearing.in_block) flashed.state ∙ fresh in
     let regions : added.regions ≡ min (ended_regions commands) (suc max_regions) = ap (λ (s : CopperState). s.regions) flashed.state ∙ ap (λ (s : CopperState). s.regions) met.state.rest in
@@ -257,7 +251,7 @@ operation_more keep taken old added new own commands a x y i j idle dark fresh m
       state = flashed.state;
       drawing = flashed.drawing;
     }) (record {
-      kept = λ gone features h. subst (λ (b : Bool). KeepsFeatures added.kept gone (if b then filter_map taken_away features else features)) (sym ((λ k. (is_drawing a && now_dark k) || (is_repeated added.block && now_fresh k)) ∙ no_clearing (is_drawing a) (is_repeated added.block))) h;
+      kept = λ gone features h. subst (λ (b : Bool). KeepsFeatures added.kept gone (if b then filter_map taken_away features else features)) (sym ((λ k. (is_drawing a && now_dark k) || (is_repeated added.pencil.block && now_fresh k)) ∙ no_clearing (is_drawing a) (is_repeated added.pencil.block))) h;
       rows = refl;
       state = refl;
       drawing = refl;
@@ -274,7 +268,7 @@ record IsIdle (c : Command) : Type 0 where
   flashes : (commands : List Command) → [] ≡ added_flashes (state_after commands) c
   draws : (s : DrawState) → drawn_by s c ≡ None
   contours : (s : CopperState) → contours_in s c ≡ []
-  clears : (s : CopperState) → clears_in s c ≡ (is_repeated s.block && s.clearing.in_block)
+  clears : (s : CopperState) → clears_in s c ≡ (is_repeated s.draw.block && s.clearing.in_block)
   stays : (s : CopperState) → s.regions ≡ min (s.regions + 0) (suc max_regions) → IsLike s (after c s)
 
 none_further : (parts : List Part) → MakeSameContour parts (parts ++ [])
@@ -287,29 +281,29 @@ text_idle kinds.Comment text = record {
   draws = λ s. refl;
   contours = λ s. refl;
   clears = λ s. refl;
-  stays = λ s e. record { rest = λ i. record { draw = s.draw; mirroring = s.mirroring; block = s.block; parts = s.parts ++ []; regions = e i; clearing = s.clearing }; parts = none_further s.parts };
+  stays = λ s e. record { rest = λ i. record { draw = s.draw; parts = s.parts ++ []; regions = e i; clearing = s.clearing }; parts = none_further s.parts };
 }
 text_idle (kinds.Attribute which) text = record {
   flashes = λ commands. refl;
   draws = λ s. refl;
   contours = λ s. refl;
   clears = λ s. refl;
-  stays = λ s e. record { rest = λ i. record { draw = s.draw; mirroring = s.mirroring; block = s.block; parts = s.parts ++ []; regions = e i; clearing = s.clearing }; parts = none_further s.parts };
+  stays = λ s e. record { rest = λ i. record { draw = s.draw; parts = s.parts ++ []; regions = e i; clearing = s.clearing }; parts = none_further s.parts };
 }
 text_idle kinds.Remove text = record {
   flashes = λ commands. refl;
   draws = λ s. refl;
   contours = λ s. refl;
   clears = λ s. refl;
-  stays = λ s e. record { rest = λ i. record { draw = s.draw; mirroring = s.mirroring; block = s.block; parts = s.parts ++ []; regions = e i; clearing = s.clearing }; parts = none_further s.parts };
+  stays = λ s e. record { rest = λ i. record { draw = s.draw; parts = s.parts ++ []; regions = e i; clearing = s.clearing }; parts = none_further s.parts };
 }
 
 -- what another copy of the open block takes away was taken away
 pub record IsMarkedByCopies (old marked : Copper) : Type 0 where
-  pub kept : (taken : List WidePad) (features : List Feature) → KeepsFeatures old.kept taken features → KeepsFeatures marked.kept taken (if is_repeated old.block && old.clearing.in_block then filter_map taken_away features else features)
+  pub kept : (taken : List WidePad) (features : List Feature) → KeepsFeatures old.kept taken features → KeepsFeatures marked.kept taken (if is_repeated old.pencil.block && old.clearing.in_block then filter_map taken_away features else features)
   pub rows : marked.kept.rows ≡ old.kept.rows
   pub state : copper_state marked ≡ copper_state old
-  pub parts : marked.drawing.parts.items ≡ (if is_repeated old.block && old.clearing.in_block then [] else old.drawing.parts.items)
+  pub parts : marked.drawing.parts.items ≡ (if is_repeated old.pencil.block && old.clearing.in_block then [] else old.drawing.parts.items)
   pub asked : marked.drawing.asked ≡ old.drawing.asked
 
 -- nothing is drawn
@@ -338,8 +332,6 @@ text_more keep taken old marked commands kind text met is_marked =
     let drawn : Copper = record {
       alloc = old.alloc;
       pencil = old.pencil;
-      mirroring = old.mirroring;
-      block = old.block;
       parts = old.parts;
       regions = old.regions;
       clearing = old.clearing;
@@ -369,26 +361,16 @@ text_more keep taken old marked commands kind text met is_marked =
 
 -- and where that may fail
 pub text_met : {E : Type 0} (keep : Keep) (taken : List WidePad) (old marked : Copper) (commands : List Command) (kind : TextKind) (text : List ℕ) (r : Result (Unit {0}) E) → HasMet keep taken old commands
-    → ((gone : List WidePad) (features : List Feature) → KeepsFeatures old.kept gone features → OnOk r (KeepsFeatures marked.kept gone (if is_repeated old.block && old.clearing.in_block then filter_map taken_away features else features)))
-    → marked.kept.rows ≡ old.kept.rows → copper_state marked ≡ copper_state old → OnOk r (marked.drawing.parts.items ≡ (if is_repeated old.block && old.clearing.in_block then [] else old.drawing.parts.items)) → marked.drawing.asked ≡ old.drawing.asked
+    → ((gone : List WidePad) (features : List Feature) → KeepsFeatures old.kept gone features → OnOk r (KeepsFeatures marked.kept gone (if is_repeated old.pencil.block && old.clearing.in_block then filter_map taken_away features else features)))
+    → marked.kept.rows ≡ old.kept.rows → copper_state marked ≡ copper_state old → OnOk r (marked.drawing.parts.items ≡ (if is_repeated old.pencil.block && old.clearing.in_block then [] else old.drawing.parts.items)) → marked.drawing.asked ≡ old.drawing.asked
     → OnOk r (HasMet keep taken marked (commands ++ text_command kind text ∷ []))
 text_met keep taken old marked commands kind text (Ok x) met kept rows state parts asked = text_more keep taken old marked commands kind text met (record { kept = kept; rows = rows; state = state; parts = parts; asked = asked })
 text_met keep taken old marked commands kind text (Err e) met kept rows state parts asked = tt
 
--- the flashes of a command and its contours were added
-pub both_added : {E : Type 0} (taken : List WidePad) (features first second : List Feature) (new : KeptFeatures) (r : Result (Unit {0}) E) → OnOk r (KeepsFeatures new taken ((features ++ first) ++ second)) → OnOk r (KeepsFeatures new taken (features ++ (first ++ second)))
-both_added taken features first second new (Ok x) h = subst (KeepsFeatures new taken) (append_assoc features first second) h
-both_added taken features first second new (Err e) h = tt
-
--- contours in the same state
-pub contours_of_same : {E : Type 0} (taken : List WidePad) (features : List Feature) (s t : CopperState) (c : Command) (new : KeptFeatures) (r : Result (Unit {0}) E) → s ≡ t → OnOk r (KeepsFeatures new taken (features ++ map contour_feature (contours_in s c)))
-    → OnOk r (KeepsFeatures new taken (features ++ map contour_feature (contours_in t c)))
-contours_of_same taken features s t c new r same h = subst (λ (u : CopperState). OnOk r (KeepsFeatures new taken (features ++ map contour_feature (contours_in u c)))) same h
-
 -- no command was met
-pub none_met : (keep : Keep) (copper : Copper) → copper_state copper ≡ capped (copper_state_after []) → copper.kept.rows ≡ keeps_rows keep → KeepsFeatures copper.kept [] [] → copper.drawing.asked ≡ keeps_drawn keep → copper.drawing.parts.items ≡ [] → HasMet keep [] copper []
+pub none_met : (keep : Keep) (copper : Copper) → copper_state copper ≡ with_capped_regions (copper_state_after []) → copper.kept.rows ≡ keeps_rows keep → KeepsFeatures copper.kept [] [] → copper.drawing.asked ≡ keeps_drawn keep → copper.drawing.parts.items ≡ [] → HasMet keep [] copper []
 none_met keep copper state rows kept asked parts = record {
-  state = subst (λ (s : CopperState). IsLike s (capped (copper_state_after []))) (sym state) (like_itself (capped (copper_state_after [])));
+  state = subst (λ (s : CopperState). IsLike s (with_capped_regions (copper_state_after []))) (sym state) (like_itself (with_capped_regions (copper_state_after [])));
   rows = rows;
   kept = kept;
   asked = asked;

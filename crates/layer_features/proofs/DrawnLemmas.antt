@@ -1,5 +1,5 @@
 -- What one more command changes of what is drawn.
-use Rattle.layer_features.proofs.Common.{◌≡◌, ◌∙◌, ℕ, List, [], ◌∷◌, ◌++◌, Option, pos, false, ap, option_or, last_set, with_prefixes, last_or-more, last_set-more, with_prefixes-append, Command, unit_scale, aperture_selected, region_set, scale_set, turn_set, unit_set, x_set, y_set, aperture_numbered, decimals_set, draw_state_after, drawn_aperture_set, macro_named, macro_set, mirror_set, mode_set, quadrant_set, after_command}
+use Rattle.layer_features.proofs.Common.{◌≡◌, ◌∙◌, ℕ, List, [], ◌∷◌, ◌++◌, Option, pos, false, ap, option_or, last_set, with_prefixes, last_or-more, last_set-more, with_prefixes-append, Command, unit_scale, aperture_selected, block_set, no_mirroring, no_repeat, region_set, scale_set, turn_set, unit_set, x_set, y_set, aperture_numbered, decimals_set, draw_state_after, drawn_aperture_set, macro_named, macro_set, mirroring_set, mode_set, quadrant_set, after_command}
 use Rattle.gerber_commands.specs.declared.command.Interpolation.TheVariants.{Linear}
 use Rattle.layer_features.specs.declared.drawn_apertures.DrawnAperture.{DrawnAperture}
 
@@ -25,5 +25,6 @@ draw_state_after-more before c = λ i. record {
   y = last_or-more y_set (pos 0) before c i;
   scale = last_or-more scale_set unit_scale before c i;
   turn = last_or-more turn_set (pos 0) before c i;
-  mirrored = last_or-more mirror_set false before c i;
+  mirroring = last_or-more mirroring_set no_mirroring before c i;
+  block = last_or-more block_set no_repeat before c i;
 }

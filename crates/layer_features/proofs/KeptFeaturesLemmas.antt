@@ -109,8 +109,6 @@ kept_gone old new taken features h counts same cleared none forgets rows = recor
   pads = (λ i. (if forgets i then [] else taken) ++ none i) ∙ pads_gone new.rows features;
 }
 
--- ---- the pads are taken out
-
 -- ---- counts
 
 -- one more

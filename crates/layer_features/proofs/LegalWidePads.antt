@@ -1,5 +1,5 @@
 -- The pads among the flashes and contours of a legal list are the pads that its commands make.
-use Rattle.layer_features.proofs.Common.{◌≡◌, ◌∙◌, List, [], ◌∷◌, ◌++◌, length, sym, refl, ap, subst, AllByRecursion, filter_map, flat_map, filter_map-append, violation_at, with_prefixes, with_prefixes_from, WidePad, Command, flashes_of, state_after, broken_rule, Feature, cleared, uncleared, LegalWidePads, features_at, pad_in, pads_of, AreWidePads, AreWidePadsAt, AreWidePadsOf}
+use Rattle.layer_features.proofs.Common.{◌≡◌, ◌∙◌, List, [], ◌∷◌, ◌++◌, length, sym, refl, ap, subst, AllByRecursion, filter_map, flat_map, filter_map-append, violation_at, with_prefixes, with_prefixes_from, WidePad, Command, flashes_of, state_after, broken_rule, Feature, positions_up_to_clearing, positions_after_clearing, LegalWidePads, features_at, pad_in, pads_of, AreWidePads, AreWidePadsAt, AreWidePadsOf}
 use Rattle.std.proofs.lemmas.List.Concat.{flat_map-cons}
 use Rattle.grid_units.specs.declared.fault.Reason.{Reason}
 use Rattle.layer_state.proofs.StateLemmas.{state_after-more}
@@ -40,9 +40,9 @@ in_order (p ∷ ps) all = (
 pub legal_wide_pads : LegalWidePads
 legal_wide_pads commands legal =
     let all : AllByRecursion HasPads (with_prefixes commands) = legal_from [] commands (λ number e. absurd cc) parts_at_start legal in
-    let counted : AllByRecursion HasPads (uncleared commands) = of_later (cleared commands) (uncleared commands) (subst (AllByRecursion HasPads) (all_positions commands) all) in
-    let gone : List Feature = flat_map features_at (cleared commands) in
-    let own : List Feature = flat_map features_at (uncleared commands) in
+    let counted : AllByRecursion HasPads (positions_after_clearing commands) = of_later (positions_up_to_clearing commands) (positions_after_clearing commands) (subst (AllByRecursion HasPads) (all_positions commands) all) in
+    let gone : List Feature = flat_map features_at (positions_up_to_clearing commands) in
+    let own : List Feature = flat_map features_at (positions_after_clearing commands) in
     let same : pads_of (left_of gone ++ own) ≡ pads_of own =
     filter_map-append (λ (f : Feature). pad_in f.what) (left_of gone) own ∙ ap (λ (l : List WidePad). l ++ pads_of own) (no_pads_left gone) in
-    subst (AreWidePads commands) (sym same) (in_order (uncleared commands) counted)
+    subst (AreWidePads commands) (sym same) (in_order (positions_after_clearing commands) counted)

@@ -11,7 +11,7 @@ use Rattle.gerber_commands.specs.declared.command.Template.TheVariants as templa
 use Rattle.gerber_commands.specs.declared.command.Command.TheVariants as command
 use Rattle.layer_features.specs.declared.drawn_apertures.DrawnAperture.{DrawnAperture}
 use Rattle.layer_features.specs.declared.drawn_apertures.DrawnAperture.TheVariants as drawn_aperture
-use Rattle.layer_features.specs.Drawn.{aperture_numbered, by_macro, drawn_aperture_of, drawn_aperture_set, macro_named, macro_shape as shape_of_macro, shape_in, shaped, within_limits}
+use Rattle.layer_features.specs.Drawn.{aperture_numbered, by_macro, drawn_aperture_of, drawn_aperture_set, macro_named, macro_shape as shape_of_macro, shape_in, aperture_of_shape, within_limits}
 
 -- ---- what a list names last
 
@@ -48,7 +48,7 @@ numbered_is before number =
 
 -- ---- its shape
 
-shaped_is : (o : Option GridRounded) → shape_in (shaped o) ≡ o
+shaped_is : (o : Option GridRounded) → shape_in (aperture_of_shape o) ≡ o
 shaped_is None = refl
 shaped_is (Some shape) = refl
 

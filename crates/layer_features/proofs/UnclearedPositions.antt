@@ -1,5 +1,5 @@
 -- A position counts just where all is taken away neither there nor later.
-use Rattle.layer_features.proofs.Common.{◌≡◌, ◌∙◌, ◌⊎◌, inl, inr, ℕ, zero, suc, ◌<◌, ◌≤◌, ◌||◌, get_or, Bool, true, false, List, [], ◌∷◌, ◌++◌, length, refl, sym, ap, subst, arith, append_assoc, length-append, Contains, list_any, if◌then◌else◌, with_prefixes, with_prefixes_from, with_prefixes-append, Command, after_last, clears_all, uncleared, UnclearedPositions}
+use Rattle.layer_features.proofs.Common.{◌≡◌, ◌∙◌, ◌⊎◌, inl, inr, ℕ, zero, suc, ◌<◌, ◌≤◌, ◌||◌, get_or, Bool, true, false, List, [], ◌∷◌, ◌++◌, length, refl, sym, ap, subst, arith, append_assoc, length-append, Contains, list_any, if◌then◌else◌, with_prefixes, with_prefixes_from, with_prefixes-append, Command, after_last, clears_all, positions_after_clearing, UnclearedPositions}
 use Rattle.layer_features.proofs.ClearingLemmas.{after_last-append, after_last-more}
 
 -- ---- elements of lists
@@ -54,19 +54,19 @@ longer first (c ∷ cs) p h = elim (head_or_tail (first, c) (with_prefixes_from 
   | inr k ↦ omega (arith, longer (first ++ c ∷ []) cs p k, length-append first (c ∷ []))
 ]
 
-split_at : (before after : List Command) (c : Command) → uncleared (before ++ c ∷ after) ≡ after_last clears_all (with_prefixes before ++ (before, c) ∷ with_prefixes_from (before ++ c ∷ []) after)
+split_at : (before after : List Command) (c : Command) → positions_after_clearing (before ++ c ∷ after) ≡ after_last clears_all (with_prefixes before ++ (before, c) ∷ with_prefixes_from (before ++ c ∷ []) after)
 split_at before after c = ap (after_last clears_all) (with_prefixes-append before (c ∷ after))
 
-counts_where_none : (before : List Command) (c : Command) (after : List Command) → list_any clears_all (with_prefixes_from before (c ∷ after)) ≡ false → Contains (uncleared (before ++ c ∷ after)) (before, c)
+counts_where_none : (before : List Command) (c : Command) (after : List Command) → list_any clears_all (with_prefixes_from before (c ∷ after)) ≡ false → Contains (positions_after_clearing (before ++ c ∷ after)) (before, c)
 counts_where_none before c after none =
     subst (λ (l : List (List Command × Command)). Contains l (before, c)) (sym (split_at before after c ∙ after_last-append clears_all (with_prefixes before) (with_prefixes_from before (c ∷ after)) none))
     (contained_amid (after_last clears_all (with_prefixes before)) (with_prefixes_from (before ++ c ∷ []) after) (before, c))
 
-none_where_counted : (before : List Command) (c : Command) (after : List Command) (b : Bool) → list_any clears_all (with_prefixes_from before (c ∷ after)) ≡ b → Contains (uncleared (before ++ c ∷ after)) (before, c) → b ≡ false
+none_where_counted : (before : List Command) (c : Command) (after : List Command) (b : Bool) → list_any clears_all (with_prefixes_from before (c ∷ after)) ≡ b → Contains (positions_after_clearing (before ++ c ∷ after)) (before, c) → b ≡ false
 none_where_counted before c after false e k = refl
 none_where_counted before c after true e k =
     let rest = with_prefixes_from (before ++ c ∷ []) after in
-    let apart : uncleared (before ++ c ∷ after) ≡ after_last clears_all ((with_prefixes before ++ (before, c) ∷ []) ++ rest) = split_at before after c ∙ ap (after_last clears_all) (sym (append_assoc (with_prefixes before) ((before, c) ∷ []) rest)) in
+    let apart : positions_after_clearing (before ++ c ∷ after) ≡ after_last clears_all ((with_prefixes before ++ (before, c) ∷ []) ++ rest) = split_at before after c ∙ ap (after_last clears_all) (sym (append_assoc (with_prefixes before) ((before, c) ∷ []) rest)) in
     let there = subst (λ (l : List (List Command × Command)). Contains l (before, c)) apart k in
     let later = later_only clears_all (with_prefixes before) (before, c) rest (before, c) e there in
     absurd (omega (arith, longer (before ++ c ∷ []) after (before, c) later, length-append before (c ∷ [])))

@@ -1,5 +1,5 @@
 -- Commands make at most one list of pads in the wide profile.
-use Rattle.layer_features.proofs.Common.{◌≡◌, ◌∙◌, ℕ, ℤ, Bool, true, false, List, [], ◌∷◌, ◌++◌, Option, None, Some, sym, ap, subst, filter_map, last_set, with_prefixes, GridRounded, WidePad, Command, aperture_selected, current_aperture, state_after, unit_set, copies_in, is_clear_after, uncleared, WidePadsAreUnique, macro_named, primitives_shape, within_limits, AreDarkPads, AreWideFlashPads, AreWidePadsAt, AreWidePadsOf, IsMacroShape, IsSelectedShape, IsTemplateShape, template_set, wide_pad_at}
+use Rattle.layer_features.proofs.Common.{◌≡◌, ◌∙◌, ℕ, ℤ, Bool, true, false, List, [], ◌∷◌, ◌++◌, Option, None, Some, sym, ap, subst, filter_map, last_set, with_prefixes, GridRounded, WidePad, Command, aperture_selected, current_aperture, state_after, unit_set, copies_in, is_clear_after, positions_after_clearing, WidePadsAreUnique, macro_named, primitives_shape, within_limits, AreDarkPads, AreWideFlashPads, AreWidePadsAt, AreWidePadsOf, IsMacroShape, IsSelectedShape, IsTemplateShape, template_set, wide_pad_at}
 use Rattle.std.specs.Bool.{MatchBool}
 use Rattle.grid_units.specs.declared.lengths.Unit.{Unit as Units}
 use Rattle.macro_shapes.proofs.OneAnswer.{fields_are}
@@ -58,4 +58,4 @@ once_at [] a b p q = p ∙ sym q
 once_at (one ∷ ps) a b p q = p.2 ∙ (λ i. pads_once one.0 one.1 p.0 q.0 p.3 q.3 i ++ once_at ps p.1 q.1 p.4 q.4 i) ∙ sym q.2
 
 pub unique_wide_pads : WidePadsAreUnique
-unique_wide_pads commands a b = once_at (uncleared commands) a b
+unique_wide_pads commands a b = once_at (positions_after_clearing commands) a b

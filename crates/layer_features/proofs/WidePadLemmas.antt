@@ -81,7 +81,7 @@ no_contours : (s : CopperState) (c : Command) → s.clearing.clear ≡ true → 
 no_contours s command.RegionEnd clear = (λ i. contours_where s (s.draw.in_region && (not (clear i) && has_room s))) ∙ by s.draw.in_region
   where
     contours_where : CopperState → Bool → List GridRounded
-    contours_where t b = option_map_or (shapes_at (unwrap_or t.draw.unit Millimetre) t.block) (if b then contour_of t.parts else None) []
+    contours_where t b = option_map_or (shapes_at (unwrap_or t.draw.unit Millimetre) t.draw.block) (if b then contour_of t.parts else None) []
 
     by : (b : Bool) → contours_where s (b && false) ≡ []
     by true = refl

@@ -1,4 +1,4 @@
--- Which sides of a contour are arcs: both ends of one lie equally far from its centre (Gerber format, G75 and G74).
+-- Which sides of a contour are arcs: both ends of one lie equally far from its centre, and it lies beside its chord (Gerber format, G75 and G74).
 use Rattle.std.specs.Prelude.{ℕ, ◌+◌, ◌-◌, ◌*◌, ◌-ℤ◌, Bool, false, not, ◌&&◌, nat_le, nat_lt, max, min, Option, Some}
 use Rattle.grid_units.specs.Laws.{square_length}
 use Rattle.grid_units.specs.Points.{GridPoint, square, square_distance}

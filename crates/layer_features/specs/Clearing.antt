@@ -34,15 +34,15 @@ draws _ = false
 abbrev pub is_clearing : List Command × Command → Bool
 is_clearing p = draws p.1 && is_clear_after p.0
 
--- At this position all counts as taken away that was drawn up to it, or will be by another copy: something of the block that is open was drawn in clear
--- polarity, and the block makes several copies, of which the next one takes away what stands in this one (Gerber format, Step and repeat SR).
+-- At this position all counts as taken away that was drawn up to it, or will be by another copy: it draws in clear polarity, or something of the block that is open did, and
+-- the block makes several copies, of which the next one takes away what stands in this one (Gerber format, Step and repeat SR).
 abbrev pub clears_all : List Command × Command → Bool
 clears_all p = is_clearing p || (nat_lt 1 (copy_count (block_after p.0)) && list_any is_clearing (in_open_block (with_prefixes p.0)))
 
 -- The positions that count, each command with all commands before it: those after the last one at which all counts as taken away.
-abbrev pub uncleared : List Command → List (List Command × Command)
-uncleared commands = after_last clears_all (with_prefixes commands)
+abbrev pub positions_after_clearing : List Command → List (List Command × Command)
+positions_after_clearing commands = after_last clears_all (with_prefixes commands)
 
 -- The positions that do not count: those up to the last one at which all counts as taken away.
-abbrev pub cleared : List Command → List (List Command × Command)
-cleared commands = up_to_last clears_all (with_prefixes commands)
+abbrev pub positions_up_to_clearing : List Command → List (List Command × Command)
+positions_up_to_clearing commands = up_to_last clears_all (with_prefixes commands)

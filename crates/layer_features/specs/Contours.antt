@@ -15,8 +15,6 @@ use Rattle.gerber_commands.specs.declared.command.QuadrantMode.{QuadrantMode}
 use Rattle.gerber_commands.specs.declared.command.Command.{Command}
 use Rattle.gerber_commands.specs.declared.command.Command.TheVariants as command
 use Rattle.layer_features.specs.Arcs.{is_arc}
-use Rattle.layer_features.specs.declared.part.Way.{Way}
-use Rattle.layer_features.specs.declared.part.Way.TheVariants as way
 use Rattle.layer_features.specs.declared.part.Part.{Part}
 use Rattle.layer_features.specs.declared.part.Part.TheVariants as part
 
@@ -29,24 +27,22 @@ pub record PlotState : Type 0 where
   pub quadrant : Option QuadrantMode
   pub point : Option ℤ → Option ℤ → Option GridPoint
 
--- a side is an arc where both of its ends lie equally far from its centre, which its start sees at the point of the offsets I and J; one left out is 0
--- (Gerber format, G75 and G74)
-abbrev pub arc_side : PlotState → GridPoint → GridPoint → Option ℤ → Option ℤ → Way → Part
-arc_side s from to i j bent =
-    if is_arc s.quadrant from to (s.point (Some (unwrap_or i (pos 0))) (Some (unwrap_or j (pos 0)))) then part.Side from to bent else part.Other
+-- A plot from one point to another with these offsets I and J counts as a side. A straight side is written without them; an arc is one where both of its
+-- ends lie equally far from its centre, which lies at the offsets from its start (one left out is 0), and it lies beside its chord (Gerber format, Operations
+-- D01, D02, D03; Plot state G01, G02, G03; G75 and G74)
+abbrev pub is_side : PlotState → Interpolation → GridPoint → GridPoint → Option ℤ → Option ℤ → Bool
+is_side s interpolation.Linear from to i j = is_none i && is_none j
+is_side s _ from to i j = is_arc s.quadrant from to (s.point (Some (unwrap_or i (pos 0))) (Some (unwrap_or j (pos 0))))
 
--- the side from one point to another in a state, with these offsets of a centre; a straight side is written without them (Gerber format, Operations D01,
--- D02, D03; Plot state G01, G02, G03)
-abbrev pub side_by : PlotState → Interpolation → GridPoint → GridPoint → Option ℤ → Option ℤ → Part
-side_by s interpolation.Linear from to i j = if is_none i && is_none j then part.Side from to way.Straight else part.Other
-side_by s interpolation.Clockwise from to i j = arc_side s from to i j way.Clockwise
-side_by s interpolation.Counterclockwise from to i j = arc_side s from to i j way.Counterclockwise
+-- the side from one point to another in a state, with these offsets of a centre
+abbrev pub side_by : PlotState → GridPoint → GridPoint → Option ℤ → Option ℤ → Part
+side_by s from to i j = if is_side s s.mode from to i j then part.Side from to s.mode else part.Other
 
 -- what an operation adds to a region: a move ends a contour, and a plot is a side of one, where both of its ends are at most 10 m from zero along each axis
 -- (Gerber format, Region statement G36/G37)
 abbrev pub part_of : PlotState → Action → Option ℤ → Option ℤ → Option ℤ → Option ℤ → Part
 part_of s action.Move x y i j = part.Move
-part_of s action.Plot x y i j = option_map_or (λ ends. side_by s s.mode ends.0 ends.1 i j) (option_zip (s.point None None) (s.point x y)) part.Other
+part_of s action.Plot x y i j = option_map_or (λ ends. side_by s ends.0 ends.1 i j) (option_zip (s.point None None) (s.point x y)) part.Other
 part_of s action.Flash x y i j = part.Other
 
 -- what a command adds to the region that is open
@@ -94,12 +90,12 @@ points_of _ = None
 
 -- a part is an arc counterclockwise
 abbrev pub is_counterclockwise : Part → Bool
-is_counterclockwise (part.Side from to way.Counterclockwise) = true
+is_counterclockwise (part.Side from to interpolation.Counterclockwise) = true
 is_counterclockwise _ = false
 
 -- a part is an arc clockwise
 abbrev pub is_clockwise : Part → Bool
-is_clockwise (part.Side from to way.Clockwise) = true
+is_clockwise (part.Side from to interpolation.Clockwise) = true
 is_clockwise _ = false
 
 -- the polygon that points go round, counterclockwise or clockwise, where no side is an arc the other way: so each arc lies outside of its chord

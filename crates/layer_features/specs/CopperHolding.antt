@@ -5,7 +5,7 @@ use Rattle.pad_shapes.specs.declared.wide_pad.WidePad.{WidePad}
 use Rattle.layer_features.specs.DrawnCopper.{uncleared_drawn}
 use Rattle.layer_features.specs.Features.{counts_of, pads_of, wide_features_of}
 use Rattle.layer_features.specs.FurtherPads.{copper_state_after}
-use Rattle.layer_features.specs.Inner.States.{IsLike, capped, copper_state}
+use Rattle.layer_features.specs.Inner.States.{IsLike, with_capped_regions, copper_state}
 use Rattle.layer_features.specs.Kept.{KeepsFeatures, keeps_drawn, keeps_rows, left_pads}
 use Rattle.layer_features.specs.declared.copper.Copper.{Copper}
 use Rattle.layer_features.specs.declared.copper.CopperParts.{CopperParts}
@@ -14,7 +14,7 @@ use Rattle.layer_features.specs.declared.keep.Keep.{Keep}
 -- Just these commands were met, and these pads were taken out on the way: the state is that of the commands, of their flashes and contours is
 -- held what is asked for, and what is drawn that is not taken away is kept where that is asked for.
 pub record HasMet (keep : Keep) (taken : List WidePad) (copper : Copper) (commands : List Command) : Type 0 where
-  pub state : IsLike (copper_state copper) (capped (copper_state_after commands))
+  pub state : IsLike (copper_state copper) (with_capped_regions (copper_state_after commands))
   pub rows : copper.kept.rows ≡ keeps_rows keep
   pub kept : KeepsFeatures copper.kept taken (wide_features_of commands)
   pub asked : copper.drawing.asked ≡ keeps_drawn keep

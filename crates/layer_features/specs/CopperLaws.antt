@@ -12,7 +12,7 @@ use Rattle.macro_shapes.specs.declared.primitive.Primitive.{Primitive}
 use Rattle.layer_state.specs.declared.mirroring.Mirroring.{Mirroring}
 use Rattle.layer_state.specs.Rules.{broken_rule}
 use Rattle.layer_features.specs.declared.part.Part.{Part}
-use Rattle.layer_features.specs.Clearing.{clears_all, uncleared}
+use Rattle.layer_features.specs.Clearing.{clears_all, positions_after_clearing}
 use Rattle.layer_features.specs.Contours.{contour_of}
 use Rattle.layer_features.specs.Features.{pads_of, wide_features_of}
 use Rattle.layer_features.specs.WidePads.{AreWidePads}
@@ -38,7 +38,7 @@ ContoursAreInsideEdges =
 -- a position counts just where all is taken away neither there nor later
 abbrev pub UnclearedPositions : Type 0
 UnclearedPositions = (before : List Command) (c : Command) (after : List Command)
-    → Contains (uncleared (before ++ c ∷ after)) (before, c) ↔ (list_any clears_all (with_prefixes_from before (c ∷ after)) ≡ false)
+    → Contains (positions_after_clearing (before ++ c ∷ after)) (before, c) ↔ (list_any clears_all (with_prefixes_from before (c ∷ after)) ≡ false)
 
 -- the pads among the flashes and contours of a legal list are the pads that its commands make in the wide profile
 abbrev pub LegalWidePads : Type 0

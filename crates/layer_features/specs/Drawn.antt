@@ -21,6 +21,7 @@ use Rattle.gerber_commands.specs.declared.command.Interpolation.TheVariants as i
 use Rattle.gerber_commands.specs.declared.command.QuadrantMode.{QuadrantMode}
 use Rattle.gerber_commands.specs.declared.command.QuadrantMode.TheVariants as quadrant
 use Rattle.gerber_commands.specs.declared.command.Standard.TheVariants as standard
+use Rattle.gerber_commands.specs.declared.command.StepRepeat.{StepRepeat}
 use Rattle.gerber_commands.specs.declared.command.Template.{Template}
 use Rattle.gerber_commands.specs.declared.command.Template.TheVariants as template
 use Rattle.gerber_commands.specs.declared.command.Command.{Command}
@@ -28,6 +29,9 @@ use Rattle.gerber_commands.specs.declared.command.Command.TheVariants as command
 use Rattle.gerber_commands.specs.Pieces.{unit_scale}
 use Rattle.layer_state.specs.Lookback.{aperture_selected, has_hole, region_set, scale_set, size_at, turn_set, unit_set, x_set, y_set}
 use Rattle.layer_state.specs.Numbers.{dec_length}
+use Rattle.layer_state.specs.Placing.{no_mirroring}
+use Rattle.layer_state.specs.declared.mirroring.Mirroring.{Mirroring}
+use Rattle.layer_features.specs.Blocks.{block_after}
 use Rattle.pad_shapes.specs.declared.drawn.Drawn.{Drawn}
 use Rattle.pad_shapes.specs.declared.drawn.Drawn.TheVariants as drawn
 use Rattle.layer_features.specs.declared.drawn_apertures.DrawnAperture.{DrawnAperture}
@@ -50,10 +54,14 @@ abbrev pub decimals_set : Command → Option ℕ
 decimals_set (command.FormatIs format) = Some format.decimals
 decimals_set _ = None
 
--- flashes are mirrored, along one axis or both: by `%LMX*%`, and no longer by `%LMN*%` (Gerber format, Load mirroring LM)
-abbrev pub mirror_set : Command → Option Bool
-mirror_set (command.Mirror x y) = Some (x || y)
-mirror_set _ = None
+-- flashes are mirrored along these axes: along x by `%LMX*%`, along none by `%LMN*%` (Gerber format, Load mirroring LM)
+abbrev pub mirroring_set : Command → Option Mirroring
+mirroring_set (command.Mirror x y) = Some (record { x = x; y = y })
+mirroring_set _ = None
+
+-- how the flashes after these commands are mirrored
+abbrev pub mirroring_after : List Command → Mirroring
+mirroring_after before = unwrap_or (last_set mirroring_set before) no_mirroring
 
 -- ---- apertures
 
@@ -77,13 +85,13 @@ abbrev pub macro_shape : Units → List (List ℕ) → Option (List ℕ) → Opt
 macro_shape unit pieces parameters = primitives_shape unit (fields_of pieces parameters)
 
 -- an aperture of this shape, where it has one
-abbrev pub shaped : Option GridRounded → DrawnAperture
-shaped (Some shape) = drawn_aperture.Shape shape
-shaped None = drawn_aperture.Other
+abbrev pub aperture_of_shape : Option GridRounded → DrawnAperture
+aperture_of_shape (Some shape) = drawn_aperture.Shape shape
+aperture_of_shape None = drawn_aperture.Other
 
 -- the aperture that a macro of these pieces makes, where a unit was named before it
 abbrev pub by_macro : Option Units → Option (List (List ℕ)) → Option (List ℕ) → DrawnAperture
-by_macro (Some unit) (Some pieces) parameters = shaped (macro_shape unit pieces parameters)
+by_macro (Some unit) (Some pieces) parameters = aperture_of_shape (macro_shape unit pieces parameters)
 by_macro _ _ parameters = drawn_aperture.Other
 
 -- what the aperture of a number draws, by the unit and the macros before it: a disc without a hole, by its diameter in units of 10^-8, draws lines, and
@@ -122,10 +130,11 @@ pub record DrawState : Type 0 where
   pub y : ℤ
   pub scale : ℤ
   pub turn : ℤ
-  pub mirrored : Bool
+  pub mirroring : Mirroring
+  pub block : StepRepeat
 
 -- Each field is as the last command that names it says. At the start: no unit, straight lines, no mode of quadrants, no macro, no aperture,
--- the point (0, 0), scale 1, turn 0, no mirror. No draw is legal before a unit and a format are named.
+-- the point (0, 0), scale 1, turn 0, no mirror, no block. No draw is legal before a unit and a format are named.
 abbrev pub draw_state_after : List Command → DrawState
 draw_state_after before = record {
   unit = last_set unit_set before;
@@ -140,7 +149,8 @@ draw_state_after before = record {
   y = unwrap_or (last_set y_set before) (pos 0);
   scale = unwrap_or (last_set scale_set before) unit_scale;
   turn = unwrap_or (last_set turn_set before) (pos 0);
-  mirrored = unwrap_or (last_set mirror_set before) false;
+  mirroring = mirroring_after before;
+  block = block_after before;
 }
 
 -- the unit that was named; no draw is legal before one is
@@ -175,12 +185,12 @@ abbrev pub operation_point : DrawState → Option ℤ → Option ℤ → Option 
 operation_point s x y = point_of s (unwrap_or x s.x) (unwrap_or y s.y)
 
 -- a coordinate moved by an offset; an offset left out is 0 (Gerber format, G75 and G74)
-abbrev pub moved : ℤ → Option ℤ → ℤ
-moved n offset = n +ℤ unwrap_or offset (pos 0)
+abbrev pub with_offset : ℤ → Option ℤ → ℤ
+with_offset n offset = n +ℤ unwrap_or offset (pos 0)
 
 -- the centre of an arc in several quadrants: the current point moved by I and J (Gerber format, G75 and G74)
 abbrev pub moved_point : DrawState → Option ℤ → Option ℤ → Option GridPoint
-moved_point s i j = point_of s (moved s.x i) (moved s.y j)
+moved_point s i j = point_of s (with_offset s.x i) (with_offset s.y j)
 
 -- the centre of an arc in this mode of quadrants: there is one under `G75*` alone (Gerber format, G75 and G74)
 abbrev pub centre_in : Option QuadrantMode → DrawState → Option ℤ → Option ℤ → Option GridPoint
@@ -205,7 +215,7 @@ line_width s = if int_eq s.scale unit_scale then option_and_then (width_of (draw
 
 -- nothing is scaled, turned or mirrored (Gerber format, Aperture transformations LP, LM, LR, LS)
 abbrev pub is_plain : DrawState → Bool
-is_plain s = (int_eq s.scale unit_scale && int_eq s.turn (pos 0)) && not s.mirrored
+is_plain s = (int_eq s.scale unit_scale && int_eq s.turn (pos 0)) && not (s.mirroring.x || s.mirroring.y)
 
 -- the shape that the aperture flashes
 abbrev pub shape_in : DrawnAperture → Option GridRounded
@@ -225,9 +235,9 @@ abbrev pub flash_of : GridPoint → GridRounded → Option Drawn
 flash_of at shape = if list_all (stays_near at) (corners shape) then Some (drawn.Flash at shape) else None
 
 -- a flash of a shape, where its point is near and there is one (Gerber format, Operations D01, D02, D03)
-abbrev pub flashed : Option GridPoint → Option GridRounded → Option Drawn
-flashed (Some at) (Some shape) = flash_of at shape
-flashed _ _ = None
+abbrev pub drawn_by_flash : Option GridPoint → Option GridRounded → Option Drawn
+drawn_by_flash (Some at) (Some shape) = flash_of at shape
+drawn_by_flash _ _ = None
 
 -- ---- what is drawn
 
@@ -242,16 +252,16 @@ arc_between clockwise (Some from) (Some to) (Some centre) (Some width) = Some (d
 arc_between _ _ _ _ _ = None
 
 -- a plot draws from the current point: a line by `G01`, an arc by `G02` (clockwise) or `G03` (Gerber format, Plot state G01, G02, G03)
-abbrev pub plotted : DrawState → Interpolation → Option GridPoint → Option GridPoint → Option Drawn
-plotted s interpolation.Linear to centre = line_between (current_point s) to (line_width s)
-plotted s interpolation.Clockwise to centre = arc_between true (current_point s) to centre (line_width s)
-plotted s interpolation.Counterclockwise to centre = arc_between false (current_point s) to centre (line_width s)
+abbrev pub drawn_by_plot : DrawState → Interpolation → Option GridPoint → Option GridPoint → Option Drawn
+drawn_by_plot s interpolation.Linear to centre = line_between (current_point s) to (line_width s)
+drawn_by_plot s interpolation.Clockwise to centre = arc_between true (current_point s) to centre (line_width s)
+drawn_by_plot s interpolation.Counterclockwise to centre = arc_between false (current_point s) to centre (line_width s)
 
 -- outside of regions `D01` draws a line or an arc to its point, and `D03` the shape of a macro (Gerber format, Operations D01, D02, D03)
 abbrev pub outside_region : DrawState → Action → Option GridPoint → Option GridPoint → Option Drawn
-outside_region s action.Plot to centre = plotted s s.mode to centre
+outside_region s action.Plot to centre = drawn_by_plot s s.mode to centre
 outside_region s action.Move to centre = None
-outside_region s action.Flash to centre = flashed to (flash_shape s)
+outside_region s action.Flash to centre = drawn_by_flash to (flash_shape s)
 
 -- the next part of a contour along an arc: round its centre from the current point, where both are near, else straight to its end
 abbrev pub bend_between : Bool → Option GridPoint → GridPoint → Option GridPoint → Drawn
@@ -276,14 +286,14 @@ inside_region s action (Some to) centre = contour_part s action to centre
 inside_region s action None centre = None
 
 -- what an operation draws, by its point and the centre of its arc
-abbrev pub operated : DrawState → Action → Option GridPoint → Option GridPoint → Option Drawn
-operated s action to centre = if s.in_region then inside_region s action to centre else outside_region s action to centre
+abbrev pub drawn_by_operation : DrawState → Action → Option GridPoint → Option GridPoint → Option Drawn
+drawn_by_operation s action to centre = if s.in_region then inside_region s action to centre else outside_region s action to centre
 
 -- What a command draws in the state that it meets. A region begins with a contour at the current point, in case its first operation is `D01`.
 -- Of a step and repeat block the first copy alone is drawn.
 abbrev pub drawn_by : DrawState → Command → Option Drawn
 drawn_by s command.RegionStart = option_map drawn.Contour (current_point s)
-drawn_by s (command.Operate action x y i j) = operated s action (operation_point s x y) (arc_centre s i j)
+drawn_by s (command.Operate action x y i j) = drawn_by_operation s action (operation_point s x y) (arc_centre s i j)
 drawn_by s _ = None
 
 -- what a list of commands draws, in order

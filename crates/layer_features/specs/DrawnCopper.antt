@@ -6,7 +6,7 @@ use Rattle.grid_units.specs.declared.profile.Profile.TheVariants.{Strict, Wide}
 use Rattle.gerber_commands.specs.declared.command.Command.{Command}
 use Rattle.layer_features.specs.Drawn.{drawn_by, drawn_of}
 use Rattle.pad_shapes.specs.declared.drawn.Drawn.{Drawn}
-use Rattle.layer_features.specs.Clearing.{uncleared}
+use Rattle.layer_features.specs.Clearing.{positions_after_clearing}
 use Rattle.layer_features.specs.FurtherPads.{CopperState, copper_state_after}
 
 -- what a command draws in dark polarity; in clear polarity it draws no copper (Gerber format, Load polarity LP)
@@ -19,7 +19,7 @@ drawn_at p = dark_part (copper_state_after p.0) p.1
 
 -- what a list of commands draws, in order: of those positions that count, with nothing drawn in clear polarity at them or after
 abbrev pub uncleared_drawn : List Command → List Drawn
-uncleared_drawn commands = filter_map drawn_at (uncleared commands)
+uncleared_drawn commands = filter_map drawn_at (positions_after_clearing commands)
 
 -- what a layer of a profile draws; in the strict profile polarity is never clear
 abbrev pub drawn_in : Profile → List Command → List Drawn

@@ -23,7 +23,7 @@ use Rattle.layer_features.specs.declared.feature.FeatureKind.TheVariants as kind
 use Rattle.pad_shapes.specs.declared.row.FeatureRow.{FeatureRow}
 use Rattle.pad_shapes.specs.declared.row.RowKind.{RowKind}
 use Rattle.pad_shapes.specs.declared.row.RowKind.TheVariants as row
-use Rattle.layer_features.specs.Clearing.{cleared, uncleared}
+use Rattle.layer_features.specs.Clearing.{positions_up_to_clearing, positions_after_clearing}
 use Rattle.layer_features.specs.FurtherPads.{CopperState, contours_in, copper_state_after, flashed_pad, macro_why}
 
 -- ---- what a command adds
@@ -65,7 +65,7 @@ taken_away f = option_map (λ k. record { at = f.at; what = k }) (taken_kind f.w
 -- the flashes and contours of a list of commands in the wide profile, in order: what is left of those that clear polarity takes away, then
 -- those that count
 abbrev pub wide_features_of : List Command → List Feature
-wide_features_of commands = filter_map taken_away (flat_map features_at (cleared commands)) ++ flat_map features_at (uncleared commands)
+wide_features_of commands = filter_map taken_away (flat_map features_at (positions_up_to_clearing commands)) ++ flat_map features_at (positions_after_clearing commands)
 
 -- what a flash is in the strict profile, where a macro is no pad
 abbrev pub strict_kind : What → FeatureKind

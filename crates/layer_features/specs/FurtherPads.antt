@@ -1,11 +1,11 @@
 -- The further copper that counts as pads: the flashes of macros that have a shape, and the contours of regions that are convex polygons,
 -- each by the state that its command meets (docs/FORMATS.md, Further copper).
-use Rattle.std.specs.Prelude.{ℕ, ◌+◌, ℤ, Bool, not, ◌&&◌, ◌||◌, nat_le, List, [], Option, None, Some, is_none, unwrap_or, option_and_then, if◌then◌else◌}
+use Rattle.std.specs.Prelude.{ℕ, ◌+◌, ℤ, Bool, not, ◌&&◌, ◌||◌, nat_le, List, [], Option, None, is_none, option_and_then, if◌then◌else◌}
 use Rattle.std.specs.Ordering.{int_eq}
 use Rattle.std.specs.Option.{option_map_or}
 use Rattle.std.specs.List.{list_any, sum_by}
 use Rattle.grid_units.specs.Points.{GridPoint}
-use Rattle.grid_units.specs.Lists.{last_set, with_prefixes}
+use Rattle.grid_units.specs.Lists.{with_prefixes}
 use Rattle.pad_shapes.specs.Rounded.{GridRounded}
 use Rattle.macro_shapes.specs.Primitives.{quarter_turns}
 use Rattle.gerber_commands.specs.declared.command.StepRepeat.{StepRepeat}
@@ -21,24 +21,15 @@ use Rattle.layer_state.specs.declared.mirroring.Mirroring.{Mirroring}
 use Rattle.layer_features.specs.declared.part.Part.{Part}
 use Rattle.layer_features.specs.Blocks.{block_after, copy_count, in_open_block, is_repeated}
 use Rattle.layer_features.specs.Clearing.{draws, is_clear_after, is_clearing}
-use Rattle.layer_state.specs.Placing.{no_mirroring, oriented_shape, shapes_at}
+use Rattle.layer_state.specs.Placing.{oriented_shape, shapes_at}
 use Rattle.layer_features.specs.Contours.{PlotState, contour_of, region_parts}
 
 -- ---- the state that a command meets
-
--- flashes are mirrored along these axes: along x by `%LMX*%` (Gerber format, Load mirroring LM)
-abbrev pub mirroring_set : Command → Option Mirroring
-mirroring_set (command.Mirror x y) = Some (record { x = x; y = y })
-mirroring_set _ = None
 
 -- the copies of the region that a command ends, in this block; none of any other command
 abbrev pub ended_copies : StepRepeat → Command → ℕ
 ended_copies block command.RegionEnd = copy_count block
 ended_copies block _ = 0
-
--- how the flashes after these commands are mirrored
-abbrev pub mirroring_after : List Command → Mirroring
-mirroring_after before = unwrap_or (last_set mirroring_set before) no_mirroring
 
 -- polarity after these commands, and whether something of the block that is open was drawn in clear polarity
 abbrev pub clearing_after : List Command → Clearing
@@ -52,12 +43,9 @@ ended_regions before = sum_by (λ p. ended_copies (block_after p.0) p.1) (with_p
 abbrev pub plot_state : DrawState → PlotState
 plot_state s = record { in_region = s.in_region; mode = s.mode; quadrant = s.quadrant; point = operation_point s }
 
--- the state that a command meets: what draws need, the axes that are mirrored, the block, the parts of the last region, how many
--- regions ended, and polarity
+-- the state that a command meets: what draws need, the parts of the last region, how many regions ended, and polarity
 pub record CopperState : Type 0 where
   pub draw : DrawState
-  pub mirroring : Mirroring
-  pub block : StepRepeat
   pub parts : List Part
   pub regions : ℕ
   pub clearing : Clearing
@@ -66,8 +54,6 @@ pub record CopperState : Type 0 where
 abbrev pub copper_state_after : List Command → CopperState
 copper_state_after before = record {
   draw = draw_state_after before;
-  mirroring = mirroring_after before;
-  block = block_after before;
   parts = region_parts (λ p. plot_state (draw_state_after p)) before;
   regions = ended_regions before;
   clearing = clearing_after before;
@@ -87,7 +73,7 @@ shape_by scale turn mirroring shape =
 
 -- the shape that the selected aperture flashes
 abbrev pub flash_shape : CopperState → Option GridRounded
-flash_shape s = shape_by s.draw.scale s.draw.turn s.mirroring (macro_shape s)
+flash_shape s = shape_by s.draw.scale s.draw.turn s.draw.mirroring (macro_shape s)
 
 -- why the flash of a macro whose shape is known is no pad: first it is scaled, then it is turned by no multiple of 90 degrees
 abbrev pub why_of_shape : CopperState → Why
@@ -108,7 +94,7 @@ is_room regions block = nat_le (regions + copy_count block) 4194304
 
 -- there is room for the region that ends here
 abbrev pub has_room : CopperState → Bool
-has_room s = is_room s.regions s.block
+has_room s = is_room s.regions s.draw.block
 
 -- the contour of the region that ends here, where it counts as a pad; in clear polarity it does not
 abbrev pub region_contour : CopperState → Option GridRounded
@@ -121,8 +107,8 @@ contour_by s _ = None
 
 -- the pads of a command that ends a region: its contour at each copy (Gerber format, Step and repeat SR)
 abbrev pub contours_in : CopperState → Command → List GridRounded
-contours_in s c = option_map_or (shapes_at (draw_unit s.draw) s.block) (contour_by s c) []
+contours_in s c = option_map_or (shapes_at (draw_unit s.draw) s.draw.block) (contour_by s c) []
 
 -- at this command all is taken away that was drawn before it
 abbrev pub clears_in : CopperState → Command → Bool
-clears_in s c = (draws c && s.clearing.clear) || (is_repeated s.block && s.clearing.in_block)
+clears_in s c = (draws c && s.clearing.clear) || (is_repeated s.draw.block && s.clearing.in_block)

@@ -27,10 +27,10 @@ use Rattle.layer_state.specs.Lookback.{GraphicsState, aperture_selected, state_a
 use Rattle.layer_state.specs.Pads.{MayFlash, copies_in, flashed_at}
 use Rattle.layer_state.specs.Placing.{shapes_at}
 use Rattle.layer_features.specs.Blocks.{block_after}
-use Rattle.layer_features.specs.Clearing.{is_clear_after, uncleared}
+use Rattle.layer_features.specs.Clearing.{is_clear_after, positions_after_clearing}
 use Rattle.layer_features.specs.Contours.{PlotState, contour_of, region_parts}
-use Rattle.layer_features.specs.Drawn.{macro_set, mode_set, primitives_shape, quadrant_set, within_limits}
-use Rattle.layer_features.specs.FurtherPads.{ended_regions, is_room, mirroring_after, shape_by}
+use Rattle.layer_features.specs.Drawn.{macro_set, mirroring_after, mode_set, primitives_shape, quadrant_set, within_limits}
+use Rattle.layer_features.specs.FurtherPads.{ended_regions, is_room, shape_by}
 
 -- ---- the shape of a macro
 
@@ -115,4 +115,4 @@ AreWidePadsAt (p ∷ ps) made =
 -- The pads of a list of commands, in order: those of the commands that count, which stand after the last one at which clear polarity takes all away.
 -- Where one of these is a flash in a region, or before a unit, a format or an aperture, there is no such list.
 abbrev pub AreWidePads : List Command → List WidePad → Type 0
-AreWidePads commands made = AreWidePadsAt (uncleared commands) made
+AreWidePads commands made = AreWidePadsAt (positions_after_clearing commands) made

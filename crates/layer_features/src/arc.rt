@@ -102,17 +102,7 @@ fn is_same(a: Point, b: Point) -> bool
     a.x() == b.x() && a.y() == b.y()
 }
 
-/// Whether there is an arc from one point to another point, round a centre that its start sees there.
-fn is_arc_round(from: Point, to: Point, centre: Option<Point>) -> bool
-    ensures { result ≡ is_arc (Some quadrant.Multi) from to centre }
-{
-    match centre {
-        Some(centre) => !is_same(from, to) && are_ends(from, to, centre),
-        None => false,
-    }
-}
-
-/// Whether there is an arc in this mode of quadrants.
+/// Whether there is an arc from one point to another point in this mode of quadrants, round a centre that its start sees there.
 pub(crate) fn is_arc(
     quadrant: Option<QuadrantMode>,
     from: Point,
@@ -121,8 +111,10 @@ pub(crate) fn is_arc(
 ) -> bool
     ensures { result ≡ is_arc quadrant from to centre }
 {
-    match quadrant {
-        Some(QuadrantMode::Multi) => is_arc_round(from, to, centre),
-        Some(QuadrantMode::Single) | None => false,
+    match (quadrant, centre) {
+        (Some(QuadrantMode::Multi), Some(centre)) => {
+            !is_same(from, to) && are_ends(from, to, centre)
+        }
+        _ => false,
     }
 }

@@ -1,8 +1,7 @@
 //! Clear polarity.
 
 ghost use Rattle.std.specs.Prelude.{◌≡◌, ◌&&◌, []};
-ghost use Rattle.layer_features.specs.Inner.Steps.{changes_block};
-ghost use Rattle.layer_features.specs.Clearing.{draws, is_drawing, polarity_set};
+ghost use Rattle.layer_features.specs.Clearing.{draws};
 ghost use Rattle.layer_features.specs.FurtherPads.{clearing_after};
 ghost use Rattle.layer_features.specs.Inner.States.{clearing_with};
 
@@ -35,65 +34,41 @@ impl Clearing {
         draws(command) && self.clear
     }
 
-    /// Whether something of the open block was drawn in clear polarity after one more command.
-    fn in_block_with(self, command: &Command) -> bool
-        ensures { result ≡ (clearing_with command.now self).in_block }
-    {
-        if changes_block(command) {
-            false
-        } else {
-            self.is_clearing(command) || self.in_block
-        }
-    }
-
     /// The same after one more command.
     pub(crate) fn after_command(self, command: &Command) -> Clearing
         ensures { result ≡ clearing_with command.now self }
     {
-        Clearing {
-            clear: polarity_set(command).unwrap_or(self.clear),
-            in_block: self.in_block_with(command),
+        let Clearing { clear, in_block } = self;
+        match command {
+            Command::Clear => Clearing {
+                clear: true,
+                in_block,
+            },
+            Command::Dark => Clearing {
+                clear: false,
+                in_block,
+            },
+            Command::Repeat(_) | Command::RepeatEnd => Clearing {
+                clear,
+                in_block: false,
+            },
+            _ => Clearing {
+                clear,
+                in_block: self.is_clearing(command) || in_block,
+            },
         }
     }
 }
 
-/// Whether polarity is clear from a command on, where it sets it.
-fn polarity_set(command: &Command) -> Option<bool>
-    ensures { result ≡ polarity_set command.now }
-{
-    match command {
-        Command::Clear => Some(true),
-        Command::Dark => Some(false),
-        _ => None,
-    }
-}
-
-/// Whether an operation is a plot or a flash.
-fn is_drawing(action: Action) -> bool
-    ensures { result ≡ is_drawing action }
-{
-    match action {
-        Action::Plot | Action::Flash => true,
-        Action::Move => false,
-    }
-}
-
-/// Whether a command draws.
+/// Whether a command draws: a plot or a flash does.
 fn draws(command: &Command) -> bool
     ensures { result ≡ draws command.now }
 {
     match command {
-        Command::Operate { action, .. } => is_drawing(*action),
-        _ => false,
-    }
-}
-
-/// Whether a command starts or ends a step and repeat block.
-fn changes_block(command: &Command) -> bool
-    ensures { result ≡ changes_block command.now }
-{
-    match command {
-        Command::Repeat(_) | Command::RepeatEnd => true,
+        Command::Operate { action, .. } => match action {
+            Action::Plot | Action::Flash => true,
+            Action::Move => false,
+        },
         _ => false,
     }
 }

@@ -1,6 +1,6 @@
 //! The contour of a region, where it counts as a pad.
 
-ghost use Rattle.std.specs.Prelude.{◌≡◌, ◌≤◌, ◌∷◌, IfOk, option_map, length, reverse};
+ghost use Rattle.std.specs.Prelude.{◌≡◌, ◌≤◌, ◌∷◌, IfOk, option_map, length};
 ghost use Rattle.std.specs.List.{list_all, list_any};
 ghost use Rattle.std.specs.Option.{option_copied};
 ghost use Rattle.layer_features.specs.Contours.{contour_of, ends_of, is_clockwise, is_counterclockwise, is_move, points_of, polygon_by, sides_of};
@@ -42,12 +42,7 @@ fn leading_sides(parts: &[Part]) -> usize
 fn are_moves(parts: &[Part]) -> bool
     ensures { result ≡ list_all is_move parts.now }
 {
-    for part in parts {
-        if !part.is_move() {
-            return false;
-        }
-    }
-    true
+    parts.iter().all(|part| part.is_move())
 }
 
 /// The sides of a region's one contour.
@@ -99,24 +94,14 @@ pub(crate) fn points_of(alloc: Global, sides: &[Part]) -> Result<Option<Vec<Poin
 fn has_clockwise(sides: &[Part]) -> bool
     ensures { result ≡ list_any is_clockwise sides.now }
 {
-    for side in sides {
-        if side.is_clockwise() {
-            return true;
-        }
-    }
-    false
+    sides.iter().any(|side| side.is_clockwise())
 }
 
 /// Whether some part is an arc counterclockwise.
 fn has_counterclockwise(sides: &[Part]) -> bool
     ensures { result ≡ list_any is_counterclockwise sides.now }
 {
-    for side in sides {
-        if side.is_counterclockwise() {
-            return true;
-        }
-    }
-    false
+    sides.iter().any(|side| side.is_counterclockwise())
 }
 
 /// The polygon that points go round counterclockwise, where no side is an arc the other way.
@@ -144,15 +129,8 @@ fn clockwise_round(
     if has_counterclockwise(sides) {
         return Ok(None);
     }
-    let back = reversed(alloc, points)?;
+    let back: Vec<Point> = points.iter().rev().copied().collect(alloc)?;
     polygon_round(alloc, &back)
-}
-
-/// Points from the last one back.
-fn reversed(alloc: Global, points: &[Point]) -> Result<Vec<Point>, AllocError>
-    ensures { IfOk result (λ found. found.items ≡ reverse points.now) }
-{
-    points.iter().rev().copied().collect(alloc)
 }
 
 /// The polygon that points go round either way.

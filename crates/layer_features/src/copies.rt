@@ -35,7 +35,7 @@ fn contour_feature(pad: PlacedRounded) -> Feature
     }
 }
 
-/// AddsFeatures a contour at one copy, where it may lie there.
+/// Adds a contour at one copy, where it may lie there.
 fn lay_copy(
     kept: &mut KeptFeatures,
     contour: &SharedRounded,
@@ -55,7 +55,7 @@ fn lay_copy(
     Ok(())
 }
 
-/// AddsFeatures the copies of a contour in one column.
+/// Adds the copies of a contour in one column.
 fn lay_column(
     kept: &mut KeptFeatures,
     contour: &SharedRounded,
@@ -72,7 +72,7 @@ fn lay_column(
     Ok(())
 }
 
-/// AddsFeatures the copies of a contour, column by column.
+/// Adds the copies of a contour, column by column.
 pub(crate) fn lay(
     kept: &mut KeptFeatures,
     contour: &SharedRounded,

@@ -1,6 +1,6 @@
 //! The flashes and contours of a layer, command by command.
 
-ghost use Rattle.std.specs.Prelude.{◌≡◌, ◌++◌, ◌∷◌, ◌&&◌, [], ℕ, List, OnOk, IfOk, false, min, suc, true, ◌+◌, map, unwrap_or, option_and_then, if◌then◌else◌};
+ghost use Rattle.std.specs.Prelude.{◌≡◌, ◌++◌, ◌∷◌, ◌&&◌, [], ℕ, List, OnOk, IfOk, false, min, suc, true, ◌+◌, map, option_and_then, if◌then◌else◌};
 ghost use Rattle.std.specs.Option.{option_copied};
 ghost use Rattle.std.specs.List.{cons_option, filter_map};
 ghost use Rattle.pad_shapes.specs.Placed.{shape_at};
@@ -12,12 +12,12 @@ ghost use Rattle.gerber_text.specs.declared.text_items.TextKind.{TextKind as The
 ghost use Rattle.layer_state.specs.declared.flash.What.TheVariants as what;
 ghost use Rattle.pad_shapes.specs.declared.row.Why.TheVariants as reason;
 ghost use Rattle.layer_state.specs.Flashes.{added_flashes};
-ghost use Rattle.layer_state.specs.Lookback.{block_set, state_after};
+ghost use Rattle.layer_state.specs.Lookback.{state_after};
 ghost use Rattle.layer_features.specs.Blocks.{copy_count, is_repeated};
 ghost use Rattle.layer_features.specs.DrawnCopper.{dark_part};
 ghost use Rattle.layer_features.specs.Inner.Steps.{max_regions};
-ghost use Rattle.layer_features.specs.FurtherPads.{CopperState, clears_in, contour_by, contours_in, ended_copies, flash_shape, has_room, macro_shape, macro_why, mirroring_set, region_contour, why_of_shape};
-ghost use Rattle.layer_features.specs.Features.{added_features, contour_feature, dark_kind, flash_feature, taken_away};
+ghost use Rattle.layer_features.specs.FurtherPads.{CopperState, clears_in, contour_by, contours_in, ended_copies, flash_shape, has_room, macro_shape, macro_why, region_contour};
+ghost use Rattle.layer_features.specs.Features.{contour_feature, dark_kind, flash_feature, taken_away};
 ghost use Rattle.layer_features.specs.Kept.{AddsFeatures, KeepsFeatures, left_pads};
 ghost use Rattle.layer_features.specs.declared.keep.Keep.{Keep as TheKeep};
 ghost use Rattle.layer_features.specs.declared.feature.Feature.{Feature as TheFeature};
@@ -33,14 +33,11 @@ use crate::keep::Keep;
 use crate::kept_features::{KeptFeatures, first_taken_away};
 use crate::part::{Part, add_operation, add_parts};
 use crate::pencil::Pencil;
-use gerber_text::{Command, Interpolation, LeadingOperation, StepRepeat};
+use gerber_text::{Command, Interpolation, LeadingOperation};
 use grid_units::Point;
-use layer_state::{Flash, Mirroring, What, no_repeat, oriented, quarter_turns};
+use layer_state::{Flash, ONE, What, oriented, quarter_turns};
 use pad_shapes::{Drawn, PlacedRounded, SharedRounded, Why, WidePad};
 use std::alloc::{AllocError, Global};
-
-/// One, in units of 10^-8.
-const ONE: i64 = 100_000_000;
 
 /// The most regions of a layer whose contours count as pads, each copy counted.
 const MAX_REGIONS: u64 = 4_194_304;
@@ -52,8 +49,6 @@ const MAX_REGIONS: u64 = 4_194_304;
 pub struct Copper {
     alloc: Global,
     pencil: Pencil,
-    mirroring: Mirroring,
-    block: StepRepeat,
     parts: Vec<Part>,
     regions: u64,
     clearing: Clearing,
@@ -82,8 +77,6 @@ impl Copper {
         ensures { HasMet keep [] result [] }
     {
         let pencil = Pencil::new(alloc);
-        let mirroring = Mirroring::none();
-        let block = no_repeat();
         let parts = Vec::new(alloc);
         let clearing = Clearing::none();
         let kept = KeptFeatures::new(alloc, keep.rows());
@@ -91,8 +84,6 @@ impl Copper {
         Copper {
             alloc,
             pencil,
-            mirroring,
-            block,
             parts,
             regions: 0,
             clearing,
@@ -110,18 +101,15 @@ impl Copper {
         ensures { (keep : TheKeep) (taken : List ThePad) (commands : List TheCommand) → HasMet keep taken self.old commands → flashes.now ≡ added_flashes (state_after commands) command.now → OnOk result (HasMet keep taken self.new (commands ++ command.now ∷ [])) }
     {
         self.draw(command)?;
-        self.add(command, flashes)?;
+        self.add_flashes(flashes)?;
+        self.add_contours(command)?;
         self.clear_where(command)?;
         self.advance(command)?;
         Ok(())
     }
 
     /// Takes in an interpolation, where there is one.
-    ///
-    /// # Errors
-    ///
-    /// An `AllocError`, which does not come.
-    pub fn take_mode(&mut self, mode: Option<Interpolation>) -> Result<(), AllocError>
+    fn take_mode(&mut self, mode: Option<Interpolation>) -> Result<(), AllocError>
         ensures { (keep : TheKeep) (taken : List ThePad) (commands : List TheCommand) → HasMet keep taken self.old commands → OnOk result (HasMet keep taken self.new (commands ++ modes_of mode)) }
     {
         match mode {
@@ -196,7 +184,7 @@ impl Copper {
         self.clear_by_copies()
     }
 
-    /// AddsFeatures what a command draws in dark polarity, where that is asked for. Takes away all that was drawn where the command does.
+    /// Adds what a command draws in dark polarity, where that is asked for. Takes away all that was drawn where the command does.
     fn draw(&mut self, command: &Command) -> Result<(), AllocError>
         ensures parts { OnOk result (self.new.drawing.parts.items ≡ (if clears_in (copper_state self.old) command.now then [] else self.old.drawing.parts.items ++ (if self.old.drawing.asked then cons_option (dark_part (copper_state self.old) command.now) [] else []))) }
         ensures asked { self.new.drawing.asked ≡ self.old.drawing.asked }
@@ -216,10 +204,10 @@ impl Copper {
 
     /// Takes away all flashes and contours, and all that was drawn, where another copy of the open block does.
     fn clear_by_copies(&mut self) -> Result<(), AllocError>
-        ensures kept { (taken : List ThePad) (features : List TheFeature) → KeepsFeatures self.old.kept taken features → OnOk result (KeepsFeatures self.new.kept taken (if is_repeated self.old.block && self.old.clearing.in_block then filter_map taken_away features else features)) }
+        ensures kept { (taken : List ThePad) (features : List TheFeature) → KeepsFeatures self.old.kept taken features → OnOk result (KeepsFeatures self.new.kept taken (if is_repeated self.old.pencil.block && self.old.clearing.in_block then filter_map taken_away features else features)) }
         ensures rows { self.new.kept.rows ≡ self.old.kept.rows }
         ensures state { copper_state self.new ≡ copper_state self.old }
-        ensures parts { OnOk result (self.new.drawing.parts.items ≡ (if is_repeated self.old.block && self.old.clearing.in_block then [] else self.old.drawing.parts.items)) }
+        ensures parts { OnOk result (self.new.drawing.parts.items ≡ (if is_repeated self.old.pencil.block && self.old.clearing.in_block then [] else self.old.drawing.parts.items)) }
         ensures asked { self.new.drawing.asked ≡ self.old.drawing.asked }
     {
         if self.is_repeated() && self.clearing.in_block {
@@ -229,18 +217,7 @@ impl Copper {
         Ok(())
     }
 
-    /// AddsFeatures the flashes and contours of a command.
-    fn add(&mut self, command: &Command, flashes: &[Flash]) -> Result<(), AllocError>
-        ensures kept { AddsFeatures result self.old.kept self.new.kept (added_features (copper_state self.old) flashes.now command.now) }
-        ensures rows { self.new.kept.rows ≡ self.old.kept.rows }
-        ensures state { copper_state self.new ≡ copper_state self.old }
-        ensures drawing { self.new.drawing ≡ self.old.drawing }
-    {
-        self.add_flashes(flashes)?;
-        self.add_contours(command)
-    }
-
-    /// AddsFeatures the flashes of a command, which most commands have not.
+    /// Adds the flashes of a command, which most commands have not.
     #[inline]
     fn add_flashes(&mut self, flashes: &[Flash]) -> Result<(), AllocError>
         ensures kept { AddsFeatures result self.old.kept self.new.kept (map (flash_feature (copper_state self.old)) flashes.now) }
@@ -254,7 +231,7 @@ impl Copper {
         self.add_each(flashes)
     }
 
-    /// AddsFeatures flashes.
+    /// Adds flashes.
     #[inline(never)]
     fn add_each(&mut self, flashes: &[Flash]) -> Result<(), AllocError>
         ensures kept { AddsFeatures result self.old.kept self.new.kept (map (flash_feature (copper_state self.old)) flashes.now) }
@@ -268,7 +245,7 @@ impl Copper {
         add_flashes(&mut self.kept, is_clear, &shape, why, flashes)
     }
 
-    /// AddsFeatures the contours of a command.
+    /// Adds the contours of a command.
     fn add_contours(&mut self, command: &Command) -> Result<(), AllocError>
         ensures kept { AddsFeatures result self.old.kept self.new.kept (map contour_feature (contours_in (copper_state self.old) command.now)) }
         ensures rows { self.new.kept.rows ≡ self.old.kept.rows }
@@ -276,7 +253,12 @@ impl Copper {
         ensures drawing { self.new.drawing ≡ self.old.drawing }
     {
         match self.contour_by(command)? {
-            Some(contour) => lay(&mut self.kept, &contour, self.pencil.unit(), &self.block),
+            Some(contour) => lay(
+                &mut self.kept,
+                &contour,
+                self.pencil.unit(),
+                &self.pencil.block,
+            ),
             None => Ok(()),
         }
     }
@@ -315,14 +297,14 @@ impl Copper {
     fn flash_shape(&self) -> Result<Option<SharedRounded>, AllocError>
         ensures { IfOk result (λ answer. answer ≡ flash_shape (copper_state self.now)) }
     {
-        if self.pencil.scale().units() != ONE {
+        if self.pencil.scale.units() != ONE {
             return Ok(None);
         }
-        let Some(turns) = quarter_turns(self.pencil.turn()) else {
+        let Some(turns) = quarter_turns(self.pencil.turn) else {
             return Ok(None);
         };
         match self.macro_shape() {
-            Some(shape) => oriented(self.alloc, self.mirroring, turns, shape),
+            Some(shape) => oriented(self.alloc, self.pencil.mirroring, turns, shape),
             None => Ok(None),
         }
     }
@@ -334,26 +316,14 @@ impl Copper {
         self.pencil.aperture()?.shape()
     }
 
-    /// Why a flash of the selected macro, whose shape is known, is no pad, where it is none.
-    fn why_of_shape(&self) -> Why
-        ensures { result ≡ why_of_shape (copper_state self.now) }
-    {
-        if self.pencil.scale().units() != ONE {
-            return Why::Scaled;
-        }
-        match quarter_turns(self.pencil.turn()) {
-            Some(_) => Why::Macro,
-            None => Why::Turned,
-        }
-    }
-
     /// Why a flash of the selected macro is no pad, where it is none.
     fn macro_why(&self) -> Why
         ensures { result ≡ macro_why (copper_state self.now) }
     {
         match self.macro_shape() {
-            Some(_) => self.why_of_shape(),
-            None => Why::Macro,
+            Some(_) if self.pencil.scale.units() != ONE => Why::Scaled,
+            Some(_) if quarter_turns(self.pencil.turn).is_none() => Why::Turned,
+            Some(_) | None => Why::Macro,
         }
     }
 
@@ -361,7 +331,7 @@ impl Copper {
     fn region_contour(&self) -> Result<Option<SharedRounded>, AllocError>
         ensures { IfOk result (λ answer. answer ≡ region_contour (copper_state self.now)) }
     {
-        if !self.pencil.in_region() || self.clearing.clear || !self.has_room() {
+        if !self.pencil.in_region || self.clearing.clear || !self.has_room() {
             return Ok(None);
         }
         match contour_of(self.alloc, &self.parts)? {
@@ -372,21 +342,21 @@ impl Copper {
 
     /// The number of copies that the block makes of each of its objects.
     fn copy_count(&self) -> u64
-        ensures { result ≡ copy_count self.now.block }
+        ensures { result ≡ copy_count self.now.pencil.block }
     {
-        u64::from(self.block.columns) * u64::from(self.block.rows)
+        u64::from(self.pencil.block.columns) * u64::from(self.pencil.block.rows)
     }
 
     /// Whether the block makes more than one copy of each of its objects.
     fn is_repeated(&self) -> bool
-        ensures { result ≡ is_repeated self.now.block }
+        ensures { result ≡ is_repeated self.now.pencil.block }
     {
         self.copy_count() > 1
     }
 
     /// How many regions ended, with the copies of one more, or one more than the most.
     fn regions_with_next(&self) -> u64
-        ensures { result ≡ min (self.now.regions + copy_count self.now.block) (suc max_regions) }
+        ensures { result ≡ min (self.now.regions + copy_count self.now.pencil.block) (suc max_regions) }
     {
         self.regions
             .saturating_add(self.copy_count())
@@ -402,7 +372,7 @@ impl Copper {
 
     /// How many regions ended after one more command, or one more than the most.
     fn regions_after(&self, command: &Command) -> u64
-        ensures { result ≡ min (self.now.regions + ended_copies self.now.block command.now) (suc max_regions) }
+        ensures { result ≡ min (self.now.regions + ended_copies self.now.pencil.block command.now) (suc max_regions) }
     {
         match command {
             Command::RegionEnd => self.regions_with_next(),
@@ -466,32 +436,9 @@ impl Copper {
     {
         self.regions = self.regions_after(command);
         self.clearing = self.clearing.after_command(command);
-        self.mirroring = mirroring_after(self.mirroring, command);
-        self.block = block_after(self.block, command);
         add_parts(self.alloc, &mut self.parts, &self.pencil, command)?;
         self.pencil.take(command)?;
         Ok(())
-    }
-}
-
-/// How flashes are mirrored after one more command.
-fn mirroring_after(mirroring: Mirroring, command: &Command) -> Mirroring
-    ensures { result ≡ unwrap_or (mirroring_set command.now) mirroring }
-{
-    match command {
-        Command::Mirror { x, y } => Mirroring { x: *x, y: *y },
-        _ => mirroring,
-    }
-}
-
-/// The block after one more command.
-fn block_after(block: StepRepeat, command: &Command) -> StepRepeat
-    ensures { result ≡ unwrap_or (block_set command.now) block }
-{
-    match command {
-        Command::Repeat(next) => *next,
-        Command::RepeatEnd => no_repeat(),
-        _ => block,
     }
 }
 
@@ -550,21 +497,7 @@ fn flash_feature(
     Ok(Feature { at: flash.at, what })
 }
 
-/// AddsFeatures a flash.
-fn add_flash(
-    kept: &mut KeptFeatures,
-    is_clear: bool,
-    shape: &Option<SharedRounded>,
-    why: Why,
-    flash: &Flash,
-) -> Result<(), AllocError>
-    ensures kept { (s : CopperState) (taken : List ThePad) (features : List TheFeature) → is_clear ≡ s.clearing.clear → shape.now ≡ flash_shape s → why ≡ macro_why s → KeepsFeatures kept.old taken features → OnOk result (KeepsFeatures kept.new taken (features ++ flash_feature s flash.now ∷ [])) }
-    ensures rows { kept.new.rows ≡ kept.old.rows }
-{
-    kept.add(flash_feature(is_clear, shape, why, flash)?)
-}
-
-/// AddsFeatures flashes, by their polarity, the shape of their macro if they have one, and why one of that macro is no pad.
+/// Adds flashes, by their polarity, the shape of their macro if they have one, and why one of that macro is no pad.
 fn add_flashes(
     kept: &mut KeptFeatures,
     is_clear: bool,
@@ -576,7 +509,7 @@ fn add_flashes(
     ensures rows { kept.new.rows ≡ kept.old.rows }
 {
     for flash in flashes {
-        add_flash(kept, is_clear, shape, why, flash)?;
+        kept.add(flash_feature(is_clear, shape, why, flash)?)?;
     }
     Ok(())
 }

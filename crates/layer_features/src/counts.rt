@@ -45,24 +45,16 @@ impl FeatureCounts {
     pub(crate) fn with(self, feature: &Feature) -> Result<FeatureCounts, AllocError>
         ensures { (features : List TheFeature) → self ≡ counts_of features → IfOk result (λ counts. counts ≡ counts_of (features ++ feature.now ∷ [])) }
     {
-        let FeatureCounts {
-            mut flashed,
-            mut contours,
-            mut other,
-        } = self;
+        let mut counts = self;
         match &feature.what {
-            FeatureKind::Pad(_) => flashed = sum(flashed, 1)?,
-            FeatureKind::Contour(_) => contours = sum(contours, 1)?,
+            FeatureKind::Pad(_) => counts.flashed = sum(self.flashed, 1)?,
+            FeatureKind::Contour(_) => counts.contours = sum(self.contours, 1)?,
             FeatureKind::Other(_)
             | FeatureKind::Macro(_)
             | FeatureKind::Clear
-            | FeatureKind::Cleared => other = sum(other, 1)?,
+            | FeatureKind::Cleared => counts.other = sum(self.other, 1)?,
         }
-        Ok(FeatureCounts {
-            flashed,
-            contours,
-            other,
-        })
+        Ok(counts)
     }
 
     /// The counts of what is left where clear polarity takes all away.

@@ -4,14 +4,14 @@ ghost use Rattle.std.specs.Prelude.{◌≡◌, ◌==◌, ℕ, nat_le, None, Some
 ghost use Rattle.std.specs.Option.{option_copied, option_or};
 ghost use Rattle.gerber_commands.specs.declared.command.Standard.TheVariants as standard;
 ghost use Rattle.gerber_commands.specs.declared.command.Template.TheVariants as template;
-ghost use Rattle.layer_features.specs.Drawn.{by_macro, drawn_aperture_of, macro_shape, shape_in, shaped, within_limits};
+ghost use Rattle.layer_features.specs.Drawn.{by_macro, drawn_aperture_of, macro_shape, shape_in, within_limits};
 ghost use Rattle.layer_features.specs.Inner.Steps.{macro_len};
 ghost use Rattle.layer_features.specs.Inner.Pencils.{macro_at};
 ghost use Rattle.macro_shapes.specs.Macros.{fields_of};
 
 use crate::macros::Macros;
 use gerber_commands::Pieces;
-use gerber_text::{Sizes, Standard, Template};
+use gerber_text::{Standard, Template};
 use grid_units::{Dec, Text, Unit};
 use layer_state::{has_hole, size_at};
 use macro_shapes::{Macro, macro_shape as shape_of_primitives, read_macro, read_primitives};
@@ -27,7 +27,7 @@ const MAX_SHAPE_NUMBER: u32 = 9_999;
 
 /// An aperture as draws and flashes need it.
 #[derive(Drop)]
-pub enum DrawnAperture {
+pub(crate) enum DrawnAperture {
     /// A disc without a hole, by its diameter.
     Round(Dec),
     /// A macro that has a shape.
@@ -38,7 +38,7 @@ pub enum DrawnAperture {
 
 impl DrawnAperture {
     /// The shape that the aperture flashes.
-    pub fn shape(&self) -> Option<&SharedRounded>
+    pub(crate) fn shape(&self) -> Option<&SharedRounded>
         ensures { option_copied result ≡ shape_in self.now }
     {
         match self {
@@ -59,7 +59,12 @@ pub(crate) fn drawn_aperture_of(
     ensures { IfOk result (λ aperture. aperture ≡ drawn_aperture_of unit (macro_at macros.now) number template.now) }
 {
     match template {
-        Template::Standard(Standard::Circle, sizes) => Ok(round_of(sizes)),
+        Template::Standard(Standard::Circle, sizes) => {
+            if has_hole(sizes, 1) {
+                return Ok(DrawnAperture::Other);
+            }
+            Ok(DrawnAperture::Round(size_at(sizes, 0)))
+        }
         Template::Standard(_, _) => Ok(DrawnAperture::Other),
         Template::Named(name, parameters) => {
             let pieces = within_limits(number, macros.get(name));
@@ -68,25 +73,11 @@ pub(crate) fn drawn_aperture_of(
     }
 }
 
-/// A disc, unless it has a hole.
-fn round_of(sizes: &Sizes) -> DrawnAperture
-    ensures { result ≡ drawn_aperture_of None (λ _. None) 0 (template.Standard standard.Circle sizes.now) }
-{
-    if has_hole(sizes, 1) {
-        DrawnAperture::Other
-    } else {
-        DrawnAperture::Round(size_at(sizes, 0))
-    }
-}
-
 /// The bytes of a text, if there is one.
 fn bytes_of(text: &Option<Text>) -> Option<&[u8]>
     ensures { option_copied result ≡ text.now }
 {
-    match text {
-        Some(text) => Some(text.bytes()),
-        None => None,
-    }
+    Some(text.as_ref()?.bytes())
 }
 
 /// Whether a macro is no longer than the longest that gives a shape, counting the `*` after each piece.
@@ -126,21 +117,11 @@ fn by_macro(
     ensures { IfOk result (λ aperture. aperture ≡ by_macro unit (option_copied pieces.entry) (option_copied parameters.entry)) }
 {
     match (unit, pieces) {
-        (Some(unit), Some(pieces)) => {
-            let shape = macro_shape(alloc, unit, pieces, parameters)?;
-            shaped(alloc, shape)
-        }
+        (Some(unit), Some(pieces)) => match macro_shape(alloc, unit, pieces, parameters)? {
+            Some(shape) => Ok(DrawnAperture::Shape(SharedRounded::new(alloc, shape)?)),
+            None => Ok(DrawnAperture::Other),
+        },
         _ => Ok(DrawnAperture::Other),
-    }
-}
-
-/// An aperture of this shape, where it has one.
-fn shaped(alloc: Global, shape: Option<Rounded>) -> Result<DrawnAperture, AllocError>
-    ensures { IfOk result (λ aperture. aperture ≡ shaped shape) }
-{
-    match shape {
-        Some(shape) => Ok(DrawnAperture::Shape(SharedRounded::new(alloc, shape)?)),
-        None => Ok(DrawnAperture::Other),
     }
 }
 

@@ -103,10 +103,8 @@ impl Feature {
     fn in_strict(&self) -> Option<Feature>
         ensures { result ≡ strict_feature_of self.now }
     {
-        match self.what.in_strict() {
-            Some(what) => Some(Feature { at: self.at, what }),
-            None => None,
-        }
+        let what = self.what.in_strict()?;
+        Some(Feature { at: self.at, what })
     }
 
     /// What is left of it where clear polarity takes it away.
@@ -114,10 +112,8 @@ impl Feature {
         ensures { result ≡ taken_away self }
     {
         let at = self.at;
-        match self.what.taken_away() {
-            Some(what) => Some(Feature { at, what }),
-            None => None,
-        }
+        let what = self.what.taken_away()?;
+        Some(Feature { at, what })
     }
 }
 

@@ -1,13 +1,12 @@
 //! Regions that can make no contour any more, whatever follows: of their parts one alone is kept.
 
 ghost use Rattle.std.specs.Prelude.{◌≡◌, IfOk, OnOk};
-ghost use Rattle.layer_features.specs.Inner.Forgetting.{are_sides_of_none, is_over, starts_no_pad, starts_no_polygon};
+ghost use Rattle.layer_features.specs.Inner.Forgetting.{is_over, starts_no_pad};
 ghost use Rattle.layer_features.specs.Inner.States.{MakeSameContour};
 
 use crate::contour::points_of;
 use crate::part::Part;
 use crate::turns::turns_both_ways;
-use grid_units::Point;
 use macro_shapes::has_many_stops;
 use std::alloc::{AllocError, Global};
 
@@ -25,33 +24,18 @@ pub(crate) fn is_over(parts: &[Part]) -> bool
     }
 }
 
-/// Whether no convex polygon with so few corners as a pad may have starts with these points.
-fn starts_no_polygon(points: &[Point]) -> bool
-    ensures { result ≡ starts_no_polygon points.now }
-{
-    has_many_stops(points) || turns_both_ways(points)
-}
-
-/// Whether these are sides that start the contour of no pad.
-fn are_sides_of_none(alloc: Global, sides: &[Part]) -> Result<bool, AllocError>
-    ensures { IfOk result (λ answer. answer ≡ are_sides_of_none sides.now) }
-{
-    match points_of(alloc, sides)? {
-        Some(points) => Ok(starts_no_polygon(&points)),
-        None => Ok(false),
-    }
-}
-
-/// Whether a move stands first, and then sides that start the contour of no pad.
+/// Whether a move stands first, and then sides that start the contour of no pad: of more corners than a pad may have, or of none that is convex.
 fn starts_no_pad(alloc: Global, parts: &[Part]) -> Result<bool, AllocError>
     ensures { IfOk result (λ answer. answer ≡ starts_no_pad parts.now) }
 {
     match parts {
         [first, sides @ ..] => {
-            if first.is_move() {
-                are_sides_of_none(alloc, sides)
-            } else {
-                Ok(false)
+            if !first.is_move() {
+                return Ok(false);
+            }
+            match points_of(alloc, sides)? {
+                Some(points) => Ok(has_many_stops(&points) || turns_both_ways(&points)),
+                None => Ok(false),
             }
         }
         [] => Ok(false),
@@ -63,25 +47,18 @@ fn is_time_to_look(count: usize) -> bool {
     FIRST_LOOK <= count && count.is_power_of_two()
 }
 
-/// Keeps one part alone of parts that make no contour, whatever follows them: it makes none either.
-fn look(alloc: Global, parts: &mut Vec<Part>) -> Result<(), AllocError>
+/// Looks at parts, where it is time to, and keeps one alone of parts that make no contour, whatever follows them: it makes none either.
+pub(crate) fn forget(alloc: Global, parts: &mut Vec<Part>) -> Result<(), AllocError>
     ensures { OnOk result (MakeSameContour parts.new.items parts.old.items) }
 {
+    if !is_time_to_look(parts.len()) {
+        return Ok(());
+    }
     let over = starts_no_pad(alloc, parts)?;
     if !over {
         return Ok(());
     }
     parts.clear();
     parts.push(Part::Other)?;
-    Ok(())
-}
-
-/// Looks at parts, where it is time to.
-pub(crate) fn forget(alloc: Global, parts: &mut Vec<Part>) -> Result<(), AllocError>
-    ensures { OnOk result (MakeSameContour parts.new.items parts.old.items) }
-{
-    if is_time_to_look(parts.len()) {
-        return look(alloc, parts);
-    }
     Ok(())
 }

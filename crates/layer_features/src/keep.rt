@@ -22,29 +22,20 @@ impl Keep {
     pub fn commands(self) -> bool
         ensures { result ≡ keeps_commands self }
     {
-        match self {
-            Keep::Layer => true,
-            Keep::Pads | Keep::Rows | Keep::RowsAndDrawn => false,
-        }
+        matches!(self, Keep::Layer)
     }
 
     /// Whether flashes and contours are kept.
     pub fn rows(self) -> bool
         ensures { result ≡ keeps_rows self }
     {
-        match self {
-            Keep::Rows | Keep::RowsAndDrawn => true,
-            Keep::Layer | Keep::Pads => false,
-        }
+        matches!(self, Keep::Rows | Keep::RowsAndDrawn)
     }
 
     /// Whether what is drawn is kept.
     pub fn draws(self) -> bool
         ensures { result ≡ keeps_drawn self }
     {
-        match self {
-            Keep::RowsAndDrawn => true,
-            Keep::Layer | Keep::Pads | Keep::Rows => false,
-        }
+        matches!(self, Keep::RowsAndDrawn)
     }
 }

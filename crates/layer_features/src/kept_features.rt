@@ -44,7 +44,7 @@ impl KeptFeatures {
         }
     }
 
-    /// AddsFeatures a flash or a contour.
+    /// Adds a flash or a contour.
     ///
     /// # Errors
     ///

@@ -22,10 +22,8 @@ mod turns;
 
 pub use copper::{Copper, CopperParts};
 pub use counts::FeatureCounts;
-pub use drawn_apertures::DrawnAperture;
 pub use feature::{Feature, FeatureKind, into_pads, strict_view};
 pub use keep::Keep;
 pub use laws::{
     contours_are_inside_edges, flashed_shapes_are_in_primitives, uncleared_positions, wide_pads,
 };
-pub use pencil::Pencil;

@@ -5,8 +5,8 @@ pub use Rattle.gerber_text.proofs.ShowsLemmas.{shown_spelled, two_takes}
 pub use Rattle.gerber_text.proofs.SpellsTextLemmas.{reads_spells, spells_reads}
 pub use Rattle.gerber_text.specs.Cut.{OffsetByte, bytes_of, first_offset, has_end, offset_bytes}
 pub use Rattle.gerber_text.specs.FastPath.{text_command}
-pub use Rattle.gerber_text.specs.Holding.{FailedIn, FailsWithIn, StandsIn, held, passed_entries, passed_text, text_entries}
-pub use Rattle.gerber_text.specs.Reading.{Entries, ReadsIn, ShowsIn, SpellsBeforeFaultIn, SpellsPrefixIn, after_end, commands_by, entries_after, is_blank, is_plotting, may_follow, placed, read_by, shown_by}
+pub use Rattle.gerber_text.specs.Holding.{FailedIn, FailsWithIn, StandsIn, held_entries, passed_entries, passed_text, text_entries}
+pub use Rattle.gerber_text.specs.Reading.{Entries, ReadsIn, ShowsIn, SpellsBeforeFaultIn, SpellsPrefixIn, after_end, commands_by, entries_after, is_blank, is_plotting, may_follow, item_entries, read_by, shown_by}
 unfoldable pub use Rattle.gerber_text.specs.Reading.{spelled_in}
 pub use Rattle.gerber_text.specs.Writing.{sayable, without_places}
 pub use Rattle.gerber_text.specs.declared.placed.Placed.{Placed}
@@ -25,7 +25,7 @@ pub use Rattle.layer_features.specs.Features.{contour_count, contour_feature, co
 pub use Rattle.layer_features.specs.Kept.{keeps_commands, keeps_drawn, keeps_pads_alone, keeps_rows, left_pads}
 pub use Rattle.layer_features.specs.declared.keep.Keep.{Keep}
 pub use Rattle.layer_image.specs.Holding.{HasContent, HasMetLegal, HasScannedFor, LayerStands, ShowsLayerFaultIn, has_forgotten, standing_in}
-pub use Rattle.layer_image.specs.Kept.{IsKeptOf, KeptLayer, ReadsKeptIn, counting, flashes_kept, image_in, plain}
+pub use Rattle.layer_image.specs.Kept.{IsKeptOf, KeptLayer, ReadsKeptIn, counting_profile, flashes_kept, image_in, plain}
 pub use Rattle.layer_image.specs.Layers.{EachTextAnswersIn, LayerImage, LayerReasonsIn, ReadsLayer, ReadsLayerIn, StrictLayers, image_of}
 pub use Rattle.layer_image.specs.PadLaws.{FlashesAreCopies, LayerPads, LegalPads, PadsAreFlashed, PadsAreUnique}
 pub use Rattle.layer_image.specs.declared.content.LayerContent.{LayerContent}

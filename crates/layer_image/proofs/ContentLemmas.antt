@@ -1,5 +1,5 @@
 -- What the commands so far make of a layer, with more of them.
-use Rattle.layer_image.proofs.Common.{◌≡◌, ◌∙◌, ◌++◌, List, [], Bool, Option, None, Some, Result, Ok, Err, OnOk, map, refl, sym, ap, append-nil, map-append, Profile, Entries, Pad, WidePad, HasScannedLegal, scanned_pads, KeptParts, taking_pads, without_pads, Keep, HasScannedFor, plain}
+use Rattle.layer_image.proofs.Common.{◌∙◌, ◌++◌, List, [], Result, Ok, Err, OnOk, map, sym, append-nil, map-append, Profile, Entries, WidePad, HasScannedLegal, scanned_pads, KeptParts, taking_pads, without_pads, Keep, HasScannedFor, plain}
 use Rattle.layer_state.specs.declared.scan.Scan.{Scan}
 
 -- a scan that goes on with more commands

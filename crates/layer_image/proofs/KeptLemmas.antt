@@ -1,5 +1,5 @@
 -- What a reader keeps of a layer, by what is kept of its flashes and of its flashes and contours.
-use Rattle.layer_image.proofs.Common.{◌≡◌, ◌∙◌, ◌+◌, ◌++◌, ℕ, Bool, true, false, cond, List, [], ◌∷◌, Option, Some, None, length, map, refl, sym, ap, subst, arith, append-nil, count_by, if◌then◌else◌, cons_option, map-append, Profile, Strict, Wide, Command, Entries, without_places, Pad, WidePad, IsCopperOf, contour_count, counts_of, features_of, flashed_count, is_contour, is_flashed_pad, is_other, other_count, pad_in, strict_feature, strict_kind, wide_features_of, flashes_of, IsScanned, keeps_commands, keeps_drawn, keeps_pads_alone, keeps_rows, KeptParts, keeps_flashes, keeps_pads, without_flashes, without_pads, Flash, Keep, IsKeptOf, KeptLayer, counting, flashes_kept, plain}
+use Rattle.layer_image.proofs.Common.{◌≡◌, ◌∙◌, ◌+◌, ◌++◌, ℕ, Bool, true, false, cond, List, [], ◌∷◌, Option, Some, None, length, map, refl, sym, ap, subst, arith, append-nil, if◌then◌else◌, cons_option, map-append, Profile, Strict, Wide, Command, Entries, without_places, Pad, WidePad, IsCopperOf, contour_count, counts_of, features_of, flashed_count, is_contour, is_flashed_pad, is_other, other_count, pad_in, strict_feature, strict_kind, wide_features_of, flashes_of, IsScanned, keeps_commands, keeps_drawn, keeps_pads_alone, keeps_rows, keeps_flashes, keeps_pads, without_pads, Flash, Keep, IsKeptOf, counting_profile, flashes_kept, plain}
 use Rattle.std.proofs.lemmas.List.Sums.{sum_by-cons}
 use Rattle.layer_features.specs.DrawnCopper.{uncleared_drawn}
 use Rattle.layer_features.specs.Features.{pads_of}
@@ -67,7 +67,7 @@ record IsByFlashes (profile : Profile) (keep : Keep) (k : FlashKeep) : Type 0 wh
   pads : keeps_pads k ≡ true
   rows : keeps_rows keep ≡ false
   drawn : keeps_drawn keep ≡ false
-  counts : counting profile keep ≡ Strict
+  counts : counting_profile profile keep ≡ Strict
   alone : keeps_pads_alone keep ≡ true → profile ≡ Strict
 
 layer_by_flashes : (profile : Profile) → IsByFlashes profile keep.Layer flash_keep.All
@@ -89,7 +89,7 @@ by_flashes Wide keep.RowsAndDrawn k h = absurd cc
 -- what follows where flashes and contours are asked for
 record IsByFeatures (profile : Profile) (of : Keep) : Type 0 where
   commands : keeps_commands of ≡ false
-  counts : counting profile of ≡ profile
+  counts : counting_profile profile of ≡ profile
   alone : keeps_pads_alone of ≡ true → keeps_rows of ≡ false
   wide : keeps_pads_alone of ≡ true → profile ≡ Wide
 

@@ -1,5 +1,5 @@
 -- The flashes of one command more, and the commands of an operation that was passed.
-use Rattle.layer_image.proofs.Common.{◌≡◌, ◌∙◌, ℕ, List, [], ◌∷◌, ◌++◌, drop, length, Option, None, Some, sym, ap, subst, append-nil, append_assoc, map-append, Command, text_command, Placed, Entries, placed, without_places, Flash, added_flashes, flashes_of, HasScannedLegal, scanned_flashes, without_flashes, state_after}
+use Rattle.layer_image.proofs.Common.{◌≡◌, ◌∙◌, ℕ, List, [], ◌∷◌, ◌++◌, drop, length, Option, None, Some, sym, ap, subst, append-nil, append_assoc, map-append, Command, text_command, Placed, Entries, item_entries, without_places, Flash, added_flashes, flashes_of, HasScannedLegal, scanned_flashes, without_flashes, state_after}
 use Rattle.gerber_commands.specs.declared.command.Command.TheVariants.{Mode}
 use Rattle.gerber_commands.specs.declared.command.Interpolation.{Interpolation}
 use Rattle.gerber_commands.specs.Rows.{modes_of}
@@ -41,19 +41,19 @@ pub next_entry : (before : Entries) (e : Placed Command) → without_places (bef
 next_entry before e = map-append (λ (d : Placed Command). d.what) before (e ∷ [])
 
 -- the commands of an item after others
-after_item : (before : Entries) (place byte : ℕ) (cs : List Command) → without_places (before ++ placed place byte cs) ≡ without_places before ++ cs
-after_item before place byte cs = map-append (λ (d : Placed Command). d.what) before (placed place byte cs) ∙ ap (λ (l : List Command). without_places before ++ l) (bare place byte cs)
+after_item : (before : Entries) (place byte : ℕ) (cs : List Command) → without_places (before ++ item_entries place byte cs) ≡ without_places before ++ cs
+after_item before place byte cs = map-append (λ (d : Placed Command). d.what) before (item_entries place byte cs) ∙ ap (λ (l : List Command). without_places before ++ l) (bare place byte cs)
 
 -- the commands of an operation after others: its interpolation, if it has one, comes first
-pub after_operation : (before : Entries) (place byte : ℕ) (mode : Option Interpolation) (what : Command) → without_places (before ++ placed place byte (modes_of mode ++ what ∷ [])) ≡ (without_places before ++ modes_of mode) ++ what ∷ []
+pub after_operation : (before : Entries) (place byte : ℕ) (mode : Option Interpolation) (what : Command) → without_places (before ++ item_entries place byte (modes_of mode ++ what ∷ [])) ≡ (without_places before ++ modes_of mode) ++ what ∷ []
 after_operation before place byte mode what = after_item before place byte (modes_of mode ++ what ∷ []) ∙ sym (append_assoc (without_places before) (modes_of mode) (what ∷ []))
 
 -- the command of a text after others
-pub after_text : (before : Entries) (place byte : ℕ) (what : Command) → without_places (before ++ placed place byte (what ∷ [])) ≡ without_places before ++ what ∷ []
+pub after_text : (before : Entries) (place byte : ℕ) (what : Command) → without_places (before ++ item_entries place byte (what ∷ [])) ≡ without_places before ++ what ∷ []
 after_text before place byte what = after_item before place byte (what ∷ [])
 
 -- after a text no flash is held, as before it
-pub text_dropped : (scan : Scan) (before : Entries) (place byte : ℕ) (kind : TextKind) (text : List ℕ) → HasScannedLegal scan (without_flashes (flashes_of (without_places before))) (before ++ placed place byte (text_command kind text ∷ []))
-    → HasScannedLegal scan (without_flashes (flashes_of (without_places (before ++ placed place byte (text_command kind text ∷ []))))) (before ++ placed place byte (text_command kind text ∷ []))
+pub text_dropped : (scan : Scan) (before : Entries) (place byte : ℕ) (kind : TextKind) (text : List ℕ) → HasScannedLegal scan (without_flashes (flashes_of (without_places before))) (before ++ item_entries place byte (text_command kind text ∷ []))
+    → HasScannedLegal scan (without_flashes (flashes_of (without_places (before ++ item_entries place byte (text_command kind text ∷ []))))) (before ++ item_entries place byte (text_command kind text ∷ []))
 text_dropped scan before place byte kind text h =
-    subst (λ (l : List Flash). HasScannedLegal scan (without_flashes l) (before ++ placed place byte (text_command kind text ∷ []))) (sym (ap flashes_of (after_text before place byte (text_command kind text)) ∙ flashes_with_text (without_places before) kind text)) h
+    subst (λ (l : List Flash). HasScannedLegal scan (without_flashes l) (before ++ item_entries place byte (text_command kind text ∷ []))) (sym (ap flashes_of (after_text before place byte (text_command kind text)) ∙ flashes_with_text (without_places before) kind text)) h

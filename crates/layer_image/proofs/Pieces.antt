@@ -1,5 +1,5 @@
 -- What a reader of a layer in pieces shows of the text so far.
-use Rattle.layer_image.proofs.Common.{◌≡◌, inl, inr, ℕ, List, [], ◌++◌, length, take, drop, append-nil, append_assoc, Bool, true, false, cond, Result, Ok, Err, OnOk, IfOk, IfErr, refl, sym, ap, subst, ◌∙◌, nat_lt, arith, take-length, if◌then◌else◌, take-append-drop, AnswersAlways, Answers, IfFault, Fault, bind_ok, Profile, WordReader, OffsetByte, Entries, commands_by, shown_by, ShowsIn, ReadsIn, SpellsPrefixIn, SpellsBeforeFaultIn, entries_after, StandsIn, FailedIn, FailsWithIn, held, shown_spelled, WidePad, Keep, IsFirstFault, LayerImage, ReadsLayer, ReadsLayerIn, IsKeptOf, KeptLayer, ReadsKeptIn, image_in, LayerContent, counts_of, features_of, flashes_of, pads_of, Strict, IsLegal, HasContent, ShowsLayerFaultIn, text_limit, without_places, broken_rule}
+use Rattle.layer_image.proofs.Common.{◌≡◌, inl, inr, ℕ, List, [], ◌++◌, length, take, drop, append-nil, append_assoc, Bool, true, false, cond, Result, Ok, Err, OnOk, IfOk, IfErr, refl, sym, ap, subst, ◌∙◌, nat_lt, arith, take-length, if◌then◌else◌, take-append-drop, AnswersAlways, Answers, IfFault, Fault, bind_ok, Profile, WordReader, OffsetByte, Entries, commands_by, shown_by, ShowsIn, ReadsIn, SpellsPrefixIn, SpellsBeforeFaultIn, entries_after, StandsIn, FailedIn, FailsWithIn, held_entries, shown_spelled, WidePad, Keep, IsFirstFault, LayerImage, ReadsLayer, ReadsLayerIn, IsKeptOf, KeptLayer, ReadsKeptIn, image_in, LayerContent, counts_of, features_of, flashes_of, pads_of, Strict, IsLegal, HasContent, ShowsLayerFaultIn, text_limit, without_places, broken_rule}
 use Rattle.grid_units.specs.declared.fault.Fail.{Fail}
 use Rattle.grid_units.specs.declared.fault.Fail.TheVariants as fails
 use Rattle.gerber_text.proofs.FinishLemmas.{holds_shows, shows_reads}
@@ -70,11 +70,11 @@ part_shown profile text bytes words gone cs (Ok n) e stands failed shows keeps h
 part_shown profile text bytes words gone cs (Err d) e stands failed shows keeps h = rule_shown profile (text ++ bytes) words gone cs (Err d) e tt failed (shows (text ++ bytes)) (keeps (text ++ bytes)) h
 
 -- a rule's fault among the commands that were read is shown, and all of them are gone
-pub gone_shown : (profile : Profile) (text bytes : List ℕ) (n : ℕ) (words : WordReader) (gone : Entries) (e : Fail) → StandsIn words profile gone (text ++ take n bytes) → held words ≡ [] → IfFault (IsFirstFault gone) e → IfFault (ShowsLayerFaultIn profile (text ++ bytes)) e
+pub gone_shown : (profile : Profile) (text bytes : List ℕ) (n : ℕ) (words : WordReader) (gone : Entries) (e : Fail) → StandsIn words profile gone (text ++ take n bytes) → held_entries words ≡ [] → IfFault (IsFirstFault gone) e → IfFault (ShowsLayerFaultIn profile (text ++ bytes)) e
 gone_shown profile text bytes n words gone fails.Memory stands none h = tt
 gone_shown profile text bytes n words gone (fails.Refused f) stands none h =
     let so_far = text ++ take n bytes in
-    let all : gone ≡ gone ++ held words = sym (append-nil gone) ∙ ap (λ (x : Entries). gone ++ x) (sym none) in
+    let all : gone ≡ gone ++ held_entries words = sym (append-nil gone) ∙ ap (λ (x : Entries). gone ++ x) (sym none) in
     let k = shows_kept profile so_far gone (holds_shows profile words.progress gone so_far gone all words.progress.in_text stands.holds) in
     longer profile text bytes n (fails.Refused f) (inl (k.0, gone, k.1, h))
 
@@ -124,6 +124,6 @@ end_err profile text gone keep left fails.Memory h kept legal = tt
 end_err profile text gone keep left (fails.Refused f) h kept legal = inr (gone, h, kept, legal)
 
 -- the commands that were met are legal
-pub legal_content : (profile : Profile) (keep : Keep) (taken : List WidePad) (held : LayerContent) (entries : Entries) → HasContent profile keep taken held entries → IsLegal broken_rule (without_places entries)
+pub legal_content : (profile : Profile) (keep : Keep) (taken : List WidePad) (held_entries : LayerContent) (entries : Entries) → HasContent profile keep taken held_entries entries → IsLegal broken_rule (without_places entries)
 legal_content profile keep taken (content.Flashes scan) entries h = h.scanned.legal
 legal_content profile keep taken (content.Features met) entries h = h.1.scanned.legal

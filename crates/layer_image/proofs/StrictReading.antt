@@ -9,7 +9,6 @@ use Rattle.gerber_text.specs.Sayable.{has_valid_fields, is_finish, is_sayable}
 use Rattle.gerber_text.proofs.ProfileLemmas.{spells_more}
 use Rattle.gerber_text.proofs.TextIsSayable.{text_sayable}
 use Rattle.pad_shapes.specs.declared.drawn.Drawn.{Drawn}
-use Rattle.layer_features.specs.declared.feature.Feature.{Feature}
 use Rattle.layer_features.specs.declared.feature.FeatureKind.{FeatureKind}
 use Rattle.layer_features.specs.declared.feature.FeatureKind.TheVariants as kind
 use Rattle.layer_state.specs.declared.flash.What.{What}

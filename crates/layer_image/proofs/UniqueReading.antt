@@ -1,8 +1,7 @@
 -- A text reads in one way.
-use Rattle.layer_image.proofs.Common.{◌≡◌, ◌⊎◌, inl, inr, ℕ, zero, suc, ◌≤◌, ◌+◌, List, [], ◌∷◌, ◌++◌, length, take, drop, Option, Some, None, slice_get, Bool, true, false, cond, Result, Ok, Err, refl, sym, ap, subst, ◌∙◌, nat_lt, arith, append_assoc, append-nil, filter_map, cons_option, list_all, option_map, map-append, take-append-drop, length-take-le, violations, violation_at, with_prefixes_from, IsLegal, ◌>>=◌, fault, with_place, Fault, Reason, bind_ok, bind_err, Profile, Command, Placed, OffsetByte, offset_bytes, bytes_of, first_offset, has_end, Entries, SpellsPrefixIn, spelled_in, ReadsIn, after_end, commands_by, is_blank, is_plotting, may_follow, placed, read_by, shown_by, spells_reads, fault_of, IsFirstFault, LayerImage, ReadsLayerIn, image_of, broken_rule, text_limit, item_limit, without_places}
+use Rattle.layer_image.proofs.Common.{◌≡◌, ◌⊎◌, inl, inr, ℕ, zero, suc, ◌≤◌, ◌+◌, List, [], ◌∷◌, ◌++◌, length, take, drop, Option, Some, None, Bool, true, false, cond, Result, Ok, Err, refl, sym, ap, subst, ◌∙◌, nat_lt, arith, append_assoc, append-nil, list_all, take-append-drop, length-take-le, IsLegal, ◌>>=◌, fault, with_place, Fault, Reason, bind_ok, bind_err, Profile, Command, OffsetByte, offset_bytes, bytes_of, first_offset, has_end, Entries, SpellsPrefixIn, spelled_in, ReadsIn, after_end, commands_by, is_blank, is_plotting, may_follow, item_entries, read_by, shown_by, spells_reads, IsFirstFault, LayerImage, ReadsLayerIn, image_of, broken_rule, text_limit, item_limit, without_places}
 use Rattle.std.proofs.lemmas.Bool.{cases_lt}
 use Rattle.grid_units.specs.declared.fault.Reason.TheVariants.{TooLong, AfterEnd, Truncated}
-use Rattle.grid_units.proofs.LookbackLemmas.{violations-append}
 use Rattle.gerber_text.specs.Meaning.{meaning_in}
 use Rattle.gerber_text.proofs.UniqueReading.{one_read, same_items}
 use Rattle.layer_image.proofs.Reading.{kept_all}
@@ -38,12 +37,12 @@ at_ok : {A : Type 0} (place byte : ℕ) (r : Result A Reason) (x : A) → with_p
 at_ok place byte (Ok y) x e = let same : y ≡ x = cc in ap (λ z. Ok z) same
 at_ok place byte (Err reason) x e = absurd cc
 
-within_ok : (t : Bool) (m : Result (List Command) Reason) (reason : Reason) (place byte : ℕ) (before cs : Entries) → cond t (Err reason) (m >>= λ commands. Ok (before ++ placed place byte commands)) ≡ Ok cs → (ds : Entries) × (cs ≡ before ++ ds)
+within_ok : (t : Bool) (m : Result (List Command) Reason) (reason : Reason) (place byte : ℕ) (before cs : Entries) → cond t (Err reason) (m >>= λ commands. Ok (before ++ item_entries place byte commands)) ≡ Ok cs → (ds : Entries) × (cs ≡ before ++ ds)
 within_ok true m reason place byte before cs e = absurd cc
 within_ok false m reason place byte before cs e =
-    let some = bind_ok m (λ commands. Ok (before ++ placed place byte commands)) cs e in
-    let same : before ++ placed place byte some.0 ≡ cs = cc in
-    (placed place byte some.0, sym same)
+    let some = bind_ok m (λ commands. Ok (before ++ item_entries place byte commands)) cs e in
+    let same : before ++ item_entries place byte some.0 ≡ cs = cc in
+    (item_entries place byte some.0, sym same)
 
 spelled_ok : (profile : Profile) (place byte : ℕ) (bytes : List ℕ) (before cs : Entries) → spelled_in profile place byte bytes before ≡ Ok cs → (ds : Entries) × (cs ≡ before ++ ds)
 unfolding spelled_in

@@ -8,7 +8,7 @@ use Rattle.grid_units.specs.declared.profile.Profile.{Profile}
 use Rattle.pad_shapes.specs.declared.pad.Pad.{Pad}
 use Rattle.pad_shapes.specs.declared.wide_pad.WidePad.{WidePad}
 use Rattle.gerber_text.specs.Reading.{Entries, ShowsIn, SpellsPrefixIn, SpellsBeforeFaultIn}
-use Rattle.gerber_text.specs.Holding.{StandsIn, held}
+use Rattle.gerber_text.specs.Holding.{StandsIn, held_entries}
 use Rattle.gerber_text.specs.Writing.{without_places}
 use Rattle.layer_features.specs.CopperHolding.{HasMet, copper_pads, forgets_pads}
 use Rattle.layer_state.specs.Faults.{IsFirstFault}
@@ -91,7 +91,7 @@ pub record LayerStands (reader : LayerReader) (profile : Profile) (keep : Keep) 
   pub same_profile : reader.profile ≡ profile
   pub gone : Entries
   pub words : StandsIn reader.words profile gone text
-  pub none : held reader.words ≡ []
+  pub none : held_entries reader.words ≡ []
   pub content : HasContent profile keep taken reader.content gone
   pub kept : reader.kept.items ≡ (if keeps_commands keep then gone else [])
 

@@ -2,7 +2,7 @@
 use Rattle.std.specs.Prelude.{◌≡◌, ℕ, true, List, [], ◌++◌, map, Option, None, Some, Result, Ok, Err, if◌then◌else◌}
 use Rattle.grid_units.specs.declared.fault.Fault.{Fault}
 use Rattle.grid_units.specs.declared.profile.Profile.{Profile}
-use Rattle.grid_units.specs.declared.profile.Profile.TheVariants.{Strict, Wide}
+use Rattle.grid_units.specs.declared.profile.Profile.TheVariants.{Strict}
 use Rattle.gerber_text.specs.Reading.{Entries}
 use Rattle.gerber_text.specs.Writing.{without_places}
 use Rattle.pad_shapes.specs.declared.pad.Pad.{Pad}
@@ -48,8 +48,8 @@ flashes_kept Strict keep.Pads = Some flash_keep.Pads
 flashes_kept _ _ = None
 
 -- the profile by which flashes and contours are counted: a whole layer counts as the strict profile does
-abbrev pub counting : Profile → Keep → Profile
-counting profile keep = if keeps_commands keep then Strict else profile
+abbrev pub counting_profile : Profile → Keep → Profile
+counting_profile profile keep = if keeps_commands keep then Strict else profile
 
 -- What is kept of the layer of these commands, whose pads so far were taken out but for these that are left of them: the lists that are asked for,
 -- the others empty.
@@ -60,7 +60,7 @@ pub record IsKeptOf (profile : Profile) (keep : Keep) (left : List WidePad) (ent
   pub pads : keeps_pads_alone keep ≡ true → left ++ (map plain kept.pads ++ kept.wide_pads) ≡ pads_of (features_of profile (without_places entries))
   pub features : kept.features ≡ (if keeps_rows keep then wide_features_of (without_places entries) else [])
   pub drawn : kept.drawn ≡ (if keeps_drawn keep then uncleared_drawn (without_places entries) else [])
-  pub counts : kept.counts ≡ counts_of (features_of (counting profile keep) (without_places entries))
+  pub counts : kept.counts ≡ counts_of (features_of (counting_profile profile keep) (without_places entries))
   pub named : kept.file_function ≡ file_function_of (without_places entries)
 
 -- in the profile a text has this that is kept of the layer that it reads as, where these pads are left of those that were taken out; or its fault

@@ -6,7 +6,7 @@ ghost use Rattle.grid_units.specs.declared.profile.Profile.{Profile as TheProfil
 ghost use Rattle.grid_units.specs.declared.profile.Profile.TheVariants.{Strict, Wide};
 ghost use Rattle.gerber_commands.specs.declared.command.Command.{Command as TheCommand};
 ghost use Rattle.gerber_text.specs.FastPath.{text_command};
-ghost use Rattle.gerber_text.specs.Reading.{Entries, placed};
+ghost use Rattle.gerber_text.specs.Reading.{Entries, item_entries};
 ghost use Rattle.gerber_text.specs.Holding.{passed_entries};
 ghost use Rattle.pad_shapes.specs.declared.wide_pad.WidePad.{WidePad as ThePad};
 ghost use Rattle.layer_state.specs.Faults.{IsFirstFault};
@@ -22,7 +22,7 @@ use crate::layer::Layer;
 use crate::met::Met;
 use gerber_text::{Command, PassedOperation, Placed, TextKind};
 use grid_units::{Fail, Profile};
-use layer_features::{FeatureCounts, Keep};
+use layer_features::{Copper, FeatureCounts, Keep};
 use layer_state::{FlashKeep, Scan, Scanned};
 use pad_shapes::{Pad, WidePad};
 use std::alloc::{AllocError, Global};
@@ -56,7 +56,11 @@ impl LayerContent {
     {
         match flashes_kept(profile, keep) {
             Some(kept) => LayerContent::Flashes(Scan::new(alloc, kept)),
-            None => LayerContent::Features(Met::new(alloc, keep)),
+            None => LayerContent::Features(Met {
+                alloc,
+                scan: Scan::new(alloc, FlashKeep::Flashes),
+                copper: Copper::new(alloc, keep),
+            }),
         }
     }
 
@@ -100,7 +104,7 @@ impl LayerContent {
     {
         match self {
             LayerContent::Flashes(scan) => scan.in_region(),
-            LayerContent::Features(met) => met.in_region(),
+            LayerContent::Features(met) => met.scan.in_region(),
         }
     }
 
@@ -116,7 +120,7 @@ impl LayerContent {
         text: &[u8],
     ) -> Result<(), AllocError>
         requires { is_in_region self.old ≡ false }
-        ensures { (profile : TheProfile) (keep : TheKeep) (taken : List ThePad) (before : Entries) (place byte : ℕ) → HasContent profile keep taken self.old before → OnOk result (HasContent profile keep taken self.new (before ++ placed place byte (text_command kind text.now ∷ []))) }
+        ensures { (profile : TheProfile) (keep : TheKeep) (taken : List ThePad) (before : Entries) (place byte : ℕ) → HasContent profile keep taken self.old before → OnOk result (HasContent profile keep taken self.new (before ++ item_entries place byte (text_command kind text.now ∷ []))) }
     {
         match self {
             LayerContent::Flashes(scan) => scan.text(alloc, kind, text),
@@ -140,7 +144,7 @@ impl LayerContent {
     {
         match self {
             LayerContent::Flashes(_) => &[],
-            LayerContent::Features(met) => met.pads(),
+            LayerContent::Features(met) => met.copper.pads(),
         }
     }
 
@@ -150,7 +154,7 @@ impl LayerContent {
     {
         match self {
             LayerContent::Flashes(_) => false,
-            LayerContent::Features(met) => met.are_forgotten(),
+            LayerContent::Features(met) => met.copper.are_forgotten(),
         }
     }
 
@@ -163,7 +167,7 @@ impl LayerContent {
     {
         match self {
             LayerContent::Flashes(scan) => scan.clear_pads(),
-            LayerContent::Features(met) => met.clear_pads(),
+            LayerContent::Features(met) => met.copper.clear_pads(),
         }
     }
 
@@ -236,7 +240,9 @@ fn layer_of_features(
 ) -> Result<Layer, AllocError>
     ensures { (keep : TheKeep) (taken : List ThePad) (entries : Entries) → flashes_kept profile keep ≡ None → HasMetLegal keep taken met entries → commands.items ≡ (if keeps_commands keep then entries else []) → IfOk result (IsKeptOf profile keep (left_pads met.copper.kept taken) entries) }
 {
-    let (parts, scanned) = met.finish()?;
+    let Met { scan, copper, .. } = met;
+    let parts = copper.finish()?;
+    let scanned = scan.finish();
     let counts = counts_in(profile, strict_counts(&scanned), parts.counts);
     Ok(Layer {
         commands,

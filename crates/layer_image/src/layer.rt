@@ -86,10 +86,7 @@ impl Layer {
     pub fn file_function(&self) -> Option<&[u8]>
         ensures { option_copied result ≡ self.now.file_function }
     {
-        match &self.file_function {
-            Some(text) => Some(text.bytes()),
-            None => None,
-        }
+        Some(self.file_function.as_ref()?.bytes())
     }
 
     /// What is drawn that clear polarity does not take away, in order: lines and arcs, flashes of macros that have a shape, and the contours of
@@ -131,11 +128,9 @@ impl Layer {
 fn plain_pads(alloc: Global, pads: Vec<Pad>) -> Result<Vec<WidePad>, AllocError>
     ensures { IfOk result (λ all. all.items ≡ map plain pads.items) }
 {
-    let mut all = Vec::with_capacity(alloc, pads.len())?;
-    for pad in pads {
-        all.push(WidePad::Plain(pad))?;
-    }
-    Ok(all)
+    pads.into_iter()
+        .map(|pad| WidePad::Plain(pad))
+        .collect(alloc)
 }
 
 /// Reads the text of a layer.

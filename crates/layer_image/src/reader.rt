@@ -31,7 +31,7 @@ pub struct LayerReader {
 
 impl LayerReader {
     ghost use Rattle.gerber_text.specs.Reading.{Entries};
-    ghost use Rattle.gerber_text.specs.Holding.{StandsIn, held};
+    ghost use Rattle.gerber_text.specs.Holding.{StandsIn, held_entries};
     ghost use Rattle.layer_features.specs.Kept.{keeps_commands};
     ghost use Rattle.layer_image.specs.Kept.{ReadsKeptIn};
     ghost use Rattle.layer_image.specs.Holding.{LayerStands, ShowsLayerFaultIn, has_forgotten, held_plain, held_wide, layer_failure, left_pads, standing_pads};
@@ -190,11 +190,11 @@ impl LayerReader {
 
     /// Holds the commands that the word reader holds, or drops them. The first that are kept take no memory anew.
     fn keep_commands(&mut self) -> Result<(), AllocError>
-        ensures words { (profile : TheProfile) (gone : Entries) (text : List ℕ) → StandsIn self.old.words profile gone text → StandsIn self.new.words profile (gone ++ held self.old.words) text }
-        ensures none { held self.new.words ≡ [] }
+        ensures words { (profile : TheProfile) (gone : Entries) (text : List ℕ) → StandsIn self.old.words profile gone text → StandsIn self.new.words profile (gone ++ held_entries self.old.words) text }
+        ensures none { held_entries self.new.words ≡ [] }
         ensures content { self.new.content ≡ self.old.content }
         ensures profile { self.new.profile ≡ self.old.profile }
-        ensures kept { OnOk result (self.new.kept.items ≡ self.old.kept.items ++ (if keeps_commands self.old.keep then held self.old.words else [])) }
+        ensures kept { OnOk result (self.new.kept.items ≡ self.old.kept.items ++ (if keeps_commands self.old.keep then held_entries self.old.words else [])) }
         ensures failed { self.new.failed ≡ self.old.failed }
         ensures keep { self.new.keep ≡ self.old.keep }
     {

@@ -3,7 +3,7 @@ pub use Rattle.std.proofs.Common.{Bool, Err, FitsSigned, IfOk, List, None, Ok, O
 pub use Rattle.gerber_commands.specs.declared.command.Action.{Action}
 pub use Rattle.gerber_commands.specs.declared.command.Command.{Command}
 pub use Rattle.gerber_commands.specs.declared.command.Command.TheVariants.{Mode, Operate}
-pub use Rattle.gerber_text.specs.Reading.{Entries, ReadsIn, SpellsPrefixIn, after_end, commands_by, is_blank, is_plotting, may_follow, placed, read_by, shown_by, spelled_in}
+pub use Rattle.gerber_text.specs.Reading.{Entries, ReadsIn, SpellsPrefixIn, after_end, commands_by, is_blank, is_plotting, may_follow, item_entries, read_by, shown_by, spelled_in}
 pub use Rattle.gerber_text.specs.Writing.{without_places}
 pub use Rattle.gerber_text.specs.declared.placed.Placed.{Placed}
 pub use Rattle.grid_units.proofs.BoolLemmas.{and_false, both_true, or_is_false}
@@ -20,7 +20,7 @@ pub use Rattle.layer_state.specs.Flashes.{added_flashes, aperture_flashes, copie
 pub use Rattle.layer_state.specs.Holding.{HasScanned, HasScannedLegal, IsScanResult}
 pub use Rattle.layer_state.specs.Inner.FastOperations.{AreCachedValues, AreLengths, IsFlashOf, IsSingleFlash, changes_cached, is_far_flash, is_within, point_of}
 pub use Rattle.layer_state.specs.Inner.IsStateAfter.{Applies, AppliesOrRefuses, IsStateAfter, after, state_of}
-pub use Rattle.layer_state.specs.Inner.MovedPads.{flash_moved, moved, origin}
+pub use Rattle.layer_state.specs.Inner.MovedPads.{flash_moved, moved_what, origin}
 pub use Rattle.layer_state.specs.KeptFlashes.{Adds, KeepsFlashes, KeptParts, flash_count, keeps_flashes, keeps_pads}
 pub use Rattle.layer_state.specs.Lookback.{GraphicsState, aperture_selected, block_set, current_aperture, defines_macro, definition_set, format_set, no_repeat, region_set, scale_set, state_after, turn_set, unit_set, x_set, y_set}
 pub use Rattle.layer_state.specs.Placing.{in_order, is_turned_over, no_mirroring, oriented_point, oriented_shape, rounded_by}

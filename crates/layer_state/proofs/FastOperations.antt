@@ -1,5 +1,5 @@
 -- Most operations break no rule, and a flash among them makes one flash.
-use Rattle.layer_state.proofs.Common.{◌≡◌, ℕ, ◌+◌, ◌*◌, ◌/◌, ◌^◌, ◌<◌, ◌≤◌, ℤ, pos, ◌*ℤ◌, unsigned_abs, true, false, cond, not, ◌||◌, ◌&&◌, nat_le, nat_lt, List, [], ◌∷◌, map, length, Option, None, Some, Ok, unwrap_or, is_none, refl, sym, ap, subst, ◌∙◌, arith, mul-le-mul_right, unsigned_abs-mul, option_map_or, option_and_then, flat_map, list_any, GridPoint, max_coordinate, is_too_far, picometres, unit_length, Action, Command, Flash, Flashes, State, GraphicsState, current_aperture, numbers_below, copies, copies_at, copy_at, grid_at, is_flash, aperture_flashes, flash_at, added_flashes, current_unit, current_decimals, what_at, moved, origin, first_broken, needs_aperture, has_too_many_digits, reaches_too_far, makes_too_many_flashes, flashes_too_far, is_long_coordinate, is_far_coordinate, is_far_pad, is_far_point, KeptParts, Adds, flash_count, IsStateAfter, Applies, AppliesOrRefuses, after, state_of, AreLengths, IsSingleFlash, AreCachedValues, IsFlashOf, changes_cached, is_far_flash, is_within, point_of, and_false}
+use Rattle.layer_state.proofs.Common.{◌≡◌, ℕ, ◌+◌, ◌*◌, ◌/◌, ◌^◌, ◌<◌, ◌≤◌, ℤ, pos, ◌*ℤ◌, unsigned_abs, true, false, cond, not, ◌||◌, ◌&&◌, nat_le, nat_lt, List, [], ◌∷◌, map, length, Option, None, Some, Ok, unwrap_or, is_none, refl, sym, ap, subst, ◌∙◌, arith, mul-le-mul_right, unsigned_abs-mul, option_map_or, option_and_then, flat_map, list_any, GridPoint, max_coordinate, is_too_far, picometres, unit_length, Action, Command, Flash, Flashes, State, GraphicsState, current_aperture, numbers_below, copies, copies_at, copy_at, grid_at, is_flash, aperture_flashes, flash_at, added_flashes, current_unit, current_decimals, what_at, moved_what, origin, first_broken, needs_aperture, has_too_many_digits, reaches_too_far, makes_too_many_flashes, flashes_too_far, is_long_coordinate, is_far_coordinate, is_far_pad, is_far_point, KeptParts, Adds, flash_count, IsStateAfter, Applies, AppliesOrRefuses, after, state_of, AreLengths, IsSingleFlash, AreCachedValues, IsFlashOf, changes_cached, is_far_flash, is_within, point_of, and_false}
 use Rattle.std.proofs.lemmas.Bool.Decides.{nat_tests}
 use Rattle.grid_units.specs.declared.fault.Reason.TheVariants as reason
 use Rattle.grid_units.specs.declared.lengths.Unit.{Unit as Units}
@@ -143,7 +143,7 @@ move_is_legal s count l action x y i j near known still has a b c d =
 pub flash_is_legal : (s : GraphicsState) (count : ℕ) (l : Lengths) (w : What) (action : Action) (x y i j : Option ℤ) (flash : Flash) → l.limit * l.place ≤ 10000000000000 → AreLengths l s.unit s.format
     → IsSingleFlash w (current_unit s) (current_aperture s) s.scale s.turn s.block → is_flash action ≡ true → s.in_region ≡ false → count < 4194304
     → nat_le (unsigned_abs (unwrap_or x s.x)) l.limit ≡ true → nat_le (unsigned_abs (unwrap_or y s.y)) l.limit ≡ true → is_within l.limit i ≡ true → is_within l.limit j ≡ true
-    → flash ≡ record { at = point_of l (unwrap_or x s.x) (unwrap_or y s.y); what = moved (point_of l (unwrap_or x s.x) (unwrap_or y s.y)) w }
+    → flash ≡ record { at = point_of l (unwrap_or x s.x) (unwrap_or y s.y); what = moved_what (point_of l (unwrap_or x s.x) (unwrap_or y s.y)) w }
     → IsFlashOf s count (command.Operate action x y i j) flash
 flash_is_legal s count l w action x y i j flash near known is_lone flashes outside few a b c d is =
     let h = named_lengths l s.unit s.format known in
@@ -165,7 +165,7 @@ flash_is_legal s count l w action x y i j flash near known is_lone flashes outsi
           ((λ k. flashes k && nat_lt 4194304 (count + length (one k))) ∙ not_one_too_many count few);
       flashes =
           (λ k. cond (flashes k) (option_map_or (aperture_flashes s x y) (single_copy.shape_is k) []) []) ∙ ap (map (flash_at s single_copy.shape)) one
-          ∙ (λ k. record { at = p; what = (sym (what_moved p (current_unit s) s.scale s.turn single_copy.shape) ∙ ap (moved p) (sym single_copy.value)) k } ∷ []) ∙ (λ k. sym is k ∷ []);
+          ∙ (λ k. record { at = p; what = (sym (what_moved p (current_unit s) s.scale s.turn single_copy.shape) ∙ ap (moved_what p) (sym single_copy.value)) k } ∷ []) ∙ (λ k. sym is k ∷ []);
       few = few;
     }
 

@@ -1,16 +1,7 @@
 -- Lists of commands: a legal one has no first fault, and that of one is that of each longer one.
-use Rattle.layer_state.proofs.Common.{◌≡◌, ◌⊎◌, inl, inr, ℕ, zero, suc, ◌≤◌, ◌+◌, List, [], ◌∷◌, ◌++◌, length, take, drop, Option, Some, None, slice_get, Bool, true, false, cond, Result, Ok, Err, refl, sym, ap, subst, ◌∙◌, nat_lt, arith, append_assoc, append-nil, filter_map, cons_option, list_all, option_map, cases_lt, map-append, take-append-drop, length-take-le, violations, violation_at, with_prefixes_from, IsLegal, ◌>>=◌, fault, with_place, violations-append, Command, Placed, Entries, SpellsPrefixIn, spelled_in, ReadsIn, after_end, commands_by, is_blank, is_plotting, may_follow, placed, read_by, shown_by, fault_of, IsFirstFault, broken_rule, without_places}
+use Rattle.layer_state.proofs.Common.{◌≡◌, ℕ, ◌+◌, List, [], ◌∷◌, ◌++◌, length, Option, Some, None, slice_get, refl, ap, ◌∙◌, filter_map, cons_option, option_map, map-append, violations, violation_at, with_prefixes_from, IsLegal, fault, violations-append, Command, Placed, Entries, fault_of, IsFirstFault, broken_rule, without_places}
 use Rattle.grid_units.specs.declared.fault.Fault.{Fault}
 use Rattle.grid_units.specs.declared.fault.Reason.{Reason}
-use Rattle.grid_units.specs.declared.fault.Reason.TheVariants.{TooLong, AfterEnd, Truncated}
-use Rattle.grid_units.proofs.ResultLemmas.{bind_ok, bind_err}
-use Rattle.grid_units.specs.declared.profile.Profile.{Profile}
-use Rattle.gerber_text.specs.Meaning.{meaning_in}
-use Rattle.gerber_text.specs.Cut.{OffsetByte, offset_bytes, bytes_of, first_offset, has_end}
-use Rattle.gerber_text.proofs.SpellsTextLemmas.{spells_reads}
-use Rattle.gerber_text.proofs.UniqueReading.{one_read, same_items}
-use Rattle.grid_units.specs.Limits.{text_limit, item_limit}
-use Rattle.gerber_text.proofs.ReaderStepLemmas.{spelled_place}
 
 none_mapped : {A B : Type 0} (f : A → B) (o : Option A) (l : List B) → cons_option (option_map f o) l ≡ [] → (o ≡ None) × (l ≡ [])
 none_mapped f None l h = (refl, h)

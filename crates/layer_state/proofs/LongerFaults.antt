@@ -1,5 +1,5 @@
 -- The fault of some commands and the next one is that of all commands.
-use Rattle.layer_state.proofs.Common.{◌≡◌, ◌+◌, ◌<◌, ℕ, List, [], ◌∷◌, ◌++◌, length, take, drop, get_or, ap, subst, ◌∙◌, append_assoc, IfFault, Command, Placed, Entries, IsFirstFault}
+use Rattle.layer_state.proofs.Common.{◌≡◌, ◌+◌, ◌<◌, ℕ, [], ◌∷◌, ◌++◌, length, take, drop, get_or, ap, subst, ◌∙◌, append_assoc, IfFault, Command, Placed, Entries, IsFirstFault}
 use Rattle.grid_units.specs.declared.fault.Fail.{Fail}
 use Rattle.grid_units.specs.declared.fault.Fail.TheVariants as fails
 use Rattle.layer_state.proofs.SplitAtCommand.{cut_at}

@@ -1,5 +1,5 @@
 -- A scan that meets an interpolation or an operation.
-use Rattle.layer_state.proofs.Common.{◌≡◌, ℕ, ℤ, [], ◌∷◌, ◌++◌, List, Option, None, Some, Result, Ok, Err, refl, sym, ap, subst, ◌∙◌, append-nil, append_assoc, map-append, violations, last_set-more, violations-more, ItemFail, Action, Command, Mode, Operate, Placed, Entries, placed, without_places, State, Scan, function_set, HasScanned, HasScannedLegal, IsScanResult, Applies, AppliesOrRefuses, state_of, KeptParts, flash_count, GraphicsState, broken_rule, first_broken}
+use Rattle.layer_state.proofs.Common.{◌≡◌, ℕ, ℤ, [], ◌∷◌, ◌++◌, List, Option, None, Some, Result, Ok, Err, refl, sym, ap, subst, ◌∙◌, append-nil, append_assoc, map-append, violations, last_set-more, violations-more, ItemFail, Action, Command, Mode, Operate, Placed, Entries, item_entries, without_places, State, Scan, function_set, HasScanned, HasScannedLegal, IsScanResult, Applies, AppliesOrRefuses, state_of, KeptParts, flash_count, GraphicsState, broken_rule, first_broken}
 use Rattle.grid_units.specs.declared.item_fail.ItemFail.TheVariants.{Memory, Refused}
 use Rattle.gerber_commands.specs.declared.command.Interpolation.{Interpolation}
 use Rattle.gerber_commands.specs.Rows.{modes_of}
@@ -33,7 +33,7 @@ mode_result scan parts before mode h =
       },
     )
 
-pub mode_scanned : (scan : Scan) (parts : KeptParts) (before : Entries) (place byte : ℕ) (mode : Option Interpolation) → HasScannedLegal scan parts before → HasScannedLegal scan parts (before ++ placed place byte (modes_of mode))
+pub mode_scanned : (scan : Scan) (parts : KeptParts) (before : Entries) (place byte : ℕ) (mode : Option Interpolation) → HasScannedLegal scan parts before → HasScannedLegal scan parts (before ++ item_entries place byte (modes_of mode))
 mode_scanned scan parts before place byte None h = subst (HasScannedLegal scan parts) (sym (append-nil before)) h
 mode_scanned scan parts before place byte (Some mode) h = scanned_more scan scan parts before (record { place = place; byte = byte; what = Mode mode }) h (mode_result scan parts (without_places before) mode h.met)
 
@@ -45,6 +45,6 @@ operation_result parts before old new action x y i j (Err Memory) same h answer 
 operation_result parts before old new action x y i j (Err (Refused reason)) same h answer = answer
 
 -- the interpolation comes before the operation
-pub operation_last : (before : Entries) (place byte : ℕ) (mode : Option Interpolation) (what : Command) → (before ++ placed place byte (modes_of mode)) ++ record { place = place; byte = byte; what = what } ∷ [] ≡ before ++ placed place byte (modes_of mode ++ what ∷ [])
+pub operation_last : (before : Entries) (place byte : ℕ) (mode : Option Interpolation) (what : Command) → (before ++ item_entries place byte (modes_of mode)) ++ record { place = place; byte = byte; what = what } ∷ [] ≡ before ++ item_entries place byte (modes_of mode ++ what ∷ [])
 operation_last before place byte None what = ap (λ (x : Entries). x ++ record { place = place; byte = byte; what = what } ∷ []) (append-nil before)
 operation_last before place byte (Some mode) what = append_assoc before (record { place = place; byte = byte; what = Mode mode } ∷ []) (record { place = place; byte = byte; what = what } ∷ [])

@@ -1,5 +1,5 @@
 -- A scan that meets a comment or an attribute outside of regions.
-use Rattle.layer_state.proofs.Common.{◌≡◌, ℕ, false, [], ◌∷◌, ◌++◌, List, None, Ok, refl, sym, ap, subst, ◌∙◌, option_or, last_set-more, Command, Entries, placed, without_places, Scan, State, function_set, HasScanned, HasScannedLegal, IsScanResult, Applies, IsStateAfter, state_of, KeptParts, flash_count, GraphicsState, first_broken}
+use Rattle.layer_state.proofs.Common.{◌≡◌, ℕ, false, [], ◌∷◌, ◌++◌, List, None, Ok, refl, sym, ap, subst, ◌∙◌, option_or, last_set-more, Command, Entries, item_entries, without_places, Scan, State, function_set, HasScanned, HasScannedLegal, IsScanResult, Applies, IsStateAfter, state_of, KeptParts, flash_count, GraphicsState, first_broken}
 use Rattle.gerber_text.specs.declared.text_items.TextKind.{TextKind}
 use Rattle.gerber_text.specs.declared.text_items.TextKind.TheVariants as kinds
 use Rattle.gerber_text.specs.FastPath.{text_command}
@@ -33,6 +33,6 @@ text_result old new parts before kind text outside same named h =
     )
 
 pub text_scanned : (old new : Scan) (parts : KeptParts) (before : Entries) (place byte : ℕ) (kind : TextKind) (text : List ℕ) → old.state.state.in_region ≡ false → new.state ≡ old.state → new.file_function ≡ option_or (function_set (text_command kind text)) old.file_function → HasScannedLegal old parts before
-    → HasScannedLegal new parts (before ++ placed place byte (text_command kind text ∷ []))
+    → HasScannedLegal new parts (before ++ item_entries place byte (text_command kind text ∷ []))
 text_scanned old new parts before place byte kind text outside same named h =
     scanned_more old new parts before (record { place = place; byte = byte; what = text_command kind text }) h (text_result old new parts (without_places before) kind text outside same named h.met)

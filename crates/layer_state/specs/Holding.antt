@@ -1,22 +1,16 @@
 -- What a scan over commands holds.
-use Rattle.std.specs.Prelude.{◌≡◌, ◌⊎◌, ℕ, Bool, List, [], ◌∷◌, ◌++◌, length, Option, None, Some, Result, Ok, Err, if◌then◌else◌}
+use Rattle.std.specs.Prelude.{◌≡◌, Bool, List, [], ◌∷◌, ◌++◌, length, None, Some, Result, Ok, Err, if◌then◌else◌}
 use Rattle.grid_units.specs.Lists.{IsLegal}
-use Rattle.grid_units.specs.declared.fault.Fault.{Fault}
-use Rattle.grid_units.specs.declared.fault.Fail.{Fail}
 use Rattle.grid_units.specs.declared.fault.Fail.TheVariants as fails
 use Rattle.pad_shapes.specs.declared.pad.Pad.{Pad}
 use Rattle.gerber_commands.specs.declared.command.Command.{Command}
-use Rattle.grid_units.specs.declared.profile.Profile.{Profile}
-use Rattle.grid_units.specs.declared.profile.Profile.TheVariants.{Strict}
-use Rattle.gerber_text.specs.Reading.{Entries, ShowsIn, SpellsPrefixIn, SpellsBeforeFaultIn}
-use Rattle.gerber_text.specs.Holding.{StandsIn, held}
+use Rattle.gerber_text.specs.Reading.{Entries}
 use Rattle.layer_state.specs.declared.flash.Flash.{Flash}
 use Rattle.grid_units.specs.declared.item_fail.ItemFail.{ItemFail}
 use Rattle.grid_units.specs.declared.item_fail.ItemFail.TheVariants.{Memory, Refused}
 use Rattle.layer_state.specs.declared.scan.Scan.{Scan}
 use Rattle.layer_state.specs.declared.scan.Scanned.{Scanned}
 use Rattle.layer_state.specs.Flashes.{flashes_of, other_count, pads_of}
-use Rattle.layer_state.specs.Faults.{IsFirstFault}
 use Rattle.layer_state.specs.FileFunction.{file_function_of}
 use Rattle.layer_state.specs.KeptFlashes.{KeptParts, keeps_flashes, keeps_pads}
 use Rattle.layer_state.specs.Inner.IsStateAfter.{IsStateAfter}

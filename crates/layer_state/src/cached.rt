@@ -6,7 +6,7 @@ ghost use Rattle.gerber_commands.specs.declared.command.Command.TheVariants as c
 ghost use Rattle.layer_state.specs.Inner.FastOperations.{AreCachedValues, changes_cached};
 ghost use Rattle.layer_state.specs.Flashes.{is_flash};
 ghost use Rattle.layer_state.specs.Rules.{first_broken};
-ghost use Rattle.layer_state.specs.KeptFlashes.{KeptParts, flash_count, taking_flashes, taking_pads, without_pads};
+ghost use Rattle.layer_state.specs.KeptFlashes.{KeptParts, flash_count, without_pads};
 ghost use Rattle.layer_state.specs.Inner.IsStateAfter.{IsStateAfter, AppliesOrRefuses, state_of};
 
 use crate::cached_values::CachedValues;
@@ -36,22 +36,6 @@ impl CachedState {
         let state = State::new(alloc, keep);
         let cached = CachedValues::of(&state);
         CachedState { state, cached }
-    }
-
-    /// Drops the pads that are held.
-    pub(crate) fn clear_pads(&mut self)
-        ensures none { self.new.state.flashes.pads.items ≡ [] }
-        ensures gone { (parts : KeptParts) (before : List Command) → IsStateAfter self.old.state parts before → IsStateAfter self.new.state (taking_pads parts self.old.state.flashes) before }
-    {
-        self.state.flashes.clear_pads();
-    }
-
-    /// Drops the flashes that are held.
-    pub(crate) fn clear_flashes(&mut self)
-        ensures none { self.new.state.flashes.all.items ≡ [] }
-        ensures gone { (parts : KeptParts) (before : List Command) → IsStateAfter self.old.state parts before → IsStateAfter self.new.state (taking_flashes parts self.old.state.flashes) before }
-    {
-        self.state.flashes.clear_flashes();
     }
 
     /// Checks one more command, and applies it where it breaks no rule.
@@ -164,15 +148,15 @@ impl CachedState {
 fn changes_cached(command: &Command) -> bool
     ensures { result ≡ changes_cached command.now }
 {
-    match command {
+    matches!(
+        command,
         Command::UnitIs(_)
-        | Command::FormatIs(_)
-        | Command::Define { .. }
-        | Command::Select(_)
-        | Command::Turn(_)
-        | Command::Scale(_)
-        | Command::Repeat(_)
-        | Command::RepeatEnd => true,
-        _ => false,
-    }
+            | Command::FormatIs(_)
+            | Command::Define { .. }
+            | Command::Select(_)
+            | Command::Turn(_)
+            | Command::Scale(_)
+            | Command::Repeat(_)
+            | Command::RepeatEnd
+    )
 }

@@ -1,6 +1,6 @@
 //! What the fast path keeps of the graphics state: the lengths of coordinates, and what a flash leaves.
 
-ghost use Rattle.std.specs.Prelude.{◌≡◌, ◌≤◌, ◌<◌, ◌*◌, ◌^◌, ◌*ℤ◌, IfSome, pos, nat_le, unsigned_abs};
+ghost use Rattle.std.specs.Prelude.{◌≡◌, ◌≤◌, ◌<◌, ◌*◌, ◌^◌, ◌*ℤ◌, IfSome, pos, unsigned_abs};
 
 use crate::flash::What;
 use crate::length::step_length;

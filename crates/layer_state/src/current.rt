@@ -1,6 +1,6 @@
 //! The graphics state as one command sees it: its unit and decimals, its points, its aperture, and what it would flash.
 
-ghost use Rattle.std.specs.Prelude.{◌≡◌, ◌≤◌, IfSome, false};
+ghost use Rattle.std.specs.Prelude.{◌≡◌, IfSome, false};
 ghost use Rattle.std.specs.List.{find, list_any};
 ghost use Rattle.std.specs.Option.{option_map_or};
 ghost use Rattle.layer_state.specs.Lookback.{current_aperture};
@@ -63,10 +63,7 @@ impl State {
     pub(crate) fn aperture(&self) -> Option<Aperture>
         ensures { result ≡ current_aperture (state_of self.now) }
     {
-        match self.selected {
-            Some(number) => self.apertures.get(number),
-            None => None,
-        }
+        self.apertures.get(self.selected?)
     }
 
     /// Whether a flash of the aperture that was selected last is a pad with a size above 10 m.

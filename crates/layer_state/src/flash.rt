@@ -1,7 +1,7 @@
 //! Flashes, and the pads among them.
 
 ghost use Rattle.std.specs.Prelude.{◌≡◌};
-ghost use Rattle.layer_state.specs.Inner.MovedPads.{moved};
+ghost use Rattle.layer_state.specs.Inner.MovedPads.{moved_what};
 
 use grid_units::Point;
 use pad_shapes::{Disc, Obround, Pad, Rect, Why};
@@ -25,7 +25,7 @@ pub struct Flash {
 impl What {
     /// What the flash leaves, moved to another point.
     pub(crate) fn at(&self, centre: Point) -> What
-        ensures { result ≡ moved centre self.now }
+        ensures { result ≡ moved_what centre self.now }
     {
         match self {
             What::Pad(Pad::Disc(disc)) => {
@@ -64,19 +64,13 @@ impl FlashKeep {
     pub(crate) fn flashes(self) -> bool
         ensures { result ≡ keeps_flashes self }
     {
-        match self {
-            FlashKeep::All | FlashKeep::Flashes => true,
-            FlashKeep::Pads => false,
-        }
+        matches!(self, FlashKeep::All | FlashKeep::Flashes)
     }
 
     /// Whether the pads are kept in a list of their own.
     pub(crate) fn pads(self) -> bool
         ensures { result ≡ keeps_pads self }
     {
-        match self {
-            FlashKeep::All | FlashKeep::Pads => true,
-            FlashKeep::Flashes => false,
-        }
+        matches!(self, FlashKeep::All | FlashKeep::Pads)
     }
 }

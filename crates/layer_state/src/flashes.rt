@@ -1,6 +1,6 @@
 //! What is kept of the flashes so far.
 
-ghost use Rattle.std.specs.Prelude.{◌≡◌, ◌+◌, ◌<◌, ◌≤◌, ◌++◌, [], ◌∷◌, List, length, map, false, OnOk};
+ghost use Rattle.std.specs.Prelude.{◌≡◌, ◌+◌, ◌<◌, ◌≤◌, [], ◌∷◌, List, length, map, false, OnOk};
 ghost use Rattle.std.specs.List.{list_any};
 ghost use Rattle.layer_state.specs.Flashes.{copies, pads_of};
 ghost use Rattle.layer_state.specs.declared.flash.Flash.{Flash as TheFlash};

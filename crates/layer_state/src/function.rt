@@ -1,12 +1,11 @@
 //! The file function of a layer.
 
-ghost use Rattle.std.specs.Prelude.{◌≡◌, ◌≤◌, ◌==◌, not, length, codes};
-ghost use Rattle.std.specs.List.{position_or_len, prefix_len, before_first, after_first};
+ghost use Rattle.std.specs.Prelude.{◌≡◌, ◌==◌, codes};
 ghost use Rattle.std.specs.Option.{option_copied};
 ghost use Rattle.grid_units.specs.Rows.{strip_prefix};
 ghost use Rattle.gerber_commands.specs.Negative.{after_spaces};
 ghost use Rattle.gerber_text.specs.FastPath.{text_command};
-ghost use Rattle.layer_state.specs.FileFunction.{is_comma, file_function_in, function_set};
+ghost use Rattle.layer_state.specs.FileFunction.{file_function_in, function_set};
 
 use gerber_text::{AttributeKind, Command, TextKind};
 use grid_units::numbers::{len_before, repeat_len};

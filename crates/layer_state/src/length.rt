@@ -1,6 +1,6 @@
 //! Lengths of a layer, and the digits of its coordinates.
 
-ghost use Rattle.std.specs.Prelude.{◌≡◌, ◌≤◌, ◌^◌, ◌/◌, pos, unsigned_abs, nat_le};
+ghost use Rattle.std.specs.Prelude.{◌≡◌, ◌≤◌, ◌^◌, ◌/◌, unsigned_abs, nat_le};
 ghost use Rattle.grid_units.specs.Numbers.{picometres, unit_length};
 ghost use Rattle.layer_state.specs.Numbers.{dec_length};
 ghost use Rattle.layer_state.specs.Rules.{is_long_coordinate};

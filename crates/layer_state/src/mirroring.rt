@@ -34,15 +34,6 @@ impl Mirroring {
     }
 }
 
-/// The point of two coordinates in pm.
-fn point(x: i64, y: i64) -> Point
-    requires x { IsCoordinate x }
-    requires y { IsCoordinate y }
-    ensures { result ≡ record { x = x; y = y } }
-{
-    Point::new(x, y).unwrap()
-}
-
 /// A coordinate with its sign changed where this is so.
 fn negated_where(changed: bool, n: i64) -> i64
     requires { IsCoordinate n }
@@ -58,7 +49,7 @@ fn mirrored_point(mirroring: Mirroring, p: Point) -> Point
 {
     let x = negated_where(mirroring.x, p.x());
     let y = negated_where(mirroring.y, p.y());
-    point(x, y)
+    Point::new(x, y).unwrap()
 }
 
 /// The x of a point that is turned counterclockwise about (0, 0) by so many quarters.
@@ -97,7 +88,7 @@ fn turned_y(turns: u8, p: Point) -> i64
 fn turned_point(turns: u8, p: Point) -> Point
     ensures { result ≡ turned_point turns p }
 {
-    point(turned_x(turns, p), turned_y(turns, p))
+    Point::new(turned_x(turns, p), turned_y(turns, p)).unwrap()
 }
 
 /// A corner of an aperture as it is flashed.

@@ -4,7 +4,7 @@ ghost use Rattle.std.specs.Prelude.{◌≡◌, ◌+◌, ◌&&◌, ◌||◌, is_n
 ghost use Rattle.std.specs.List.{find};
 ghost use Rattle.gerber_commands.specs.declared.command.Command.TheVariants as command;
 ghost use Rattle.layer_state.specs.Flashes.{is_flash, copies_at};
-ghost use Rattle.layer_state.specs.Rules.{breaks_rule, later_rules, first_broken, differs_in_unit, differs_in_format, lacks_macro, needs_aperture, flashes_too_far, is_far_coordinate, is_long_coordinate, is_bad_repeat, is_bad_count, max_flashes, is_allowed_in_region};
+ghost use Rattle.layer_state.specs.Rules.{breaks_rule, later_rules, first_broken, differs_in_unit, differs_in_format, lacks_macro, needs_aperture, flashes_too_far, is_far_coordinate, is_bad_repeat, is_bad_count, max_flashes, is_allowed_in_region};
 ghost use Rattle.layer_state.specs.KeptFlashes.{flash_count};
 ghost use Rattle.layer_state.specs.Inner.IsStateAfter.{state_of};
 
@@ -131,9 +131,16 @@ impl State {
             Some(Reason::NoUnit)
         } else if self.lacks_aperture(action) {
             Some(Reason::NoAperture)
-        } else if has_too_many_digits(format, x, y, i, j) {
+        } else if is_long(format, x)
+            || is_long(format, y)
+            || is_long(format, i)
+            || is_long(format, j)
+        {
             Some(Reason::TooManyDigits)
-        } else if self.reaches_too_far(action, x, y) {
+        } else if self.has_far_coordinate(x)
+            || self.has_far_coordinate(y)
+            || (is_flash(action) && self.flashes_too_far(x, y))
+        {
             Some(Reason::TooFar)
         } else {
             self.makes_too_many_flashes(action, x, y)
@@ -150,13 +157,6 @@ impl State {
             Action::Flash => true,
         };
         needed && self.selected.is_none()
-    }
-
-    fn reaches_too_far(&self, action: Action, x: Option<i64>, y: Option<i64>) -> bool
-        ensures { result ≡ ((is_far_coordinate (state_of self.now) x || is_far_coordinate (state_of self.now) y) || (is_flash action && flashes_too_far (state_of self.now) x y)) }
-    {
-        (self.has_far_coordinate(x) || self.has_far_coordinate(y))
-            || (is_flash(action) && self.flashes_too_far(x, y))
     }
 
     fn has_far_coordinate(&self, named: Option<i64>) -> bool
@@ -213,20 +213,5 @@ fn is_allowed_in_region(command: &Command) -> bool
 pub(crate) fn is_flash(action: Action) -> bool
     ensures { result ≡ is_flash action }
 {
-    match action {
-        Action::Flash => true,
-        Action::Plot | Action::Move => false,
-    }
-}
-
-fn has_too_many_digits(
-    format: Format,
-    x: Option<i64>,
-    y: Option<i64>,
-    i: Option<i64>,
-    j: Option<i64>,
-) -> bool
-    ensures { result ≡ (is_long_coordinate format x || (is_long_coordinate format y || (is_long_coordinate format i || is_long_coordinate format j))) }
-{
-    is_long(format, x) || is_long(format, y) || is_long(format, i) || is_long(format, j)
+    matches!(action, Action::Flash)
 }

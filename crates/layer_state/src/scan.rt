@@ -4,7 +4,7 @@ ghost use Rattle.std.specs.Prelude.{◌≡◌, ◌++◌, [], ◌∷◌, ℕ, Lis
 ghost use Rattle.grid_units.specs.Results.{IfFault};
 ghost use Rattle.gerber_commands.specs.declared.command.Command.{Command};
 ghost use Rattle.gerber_text.specs.FastPath.{text_command};
-ghost use Rattle.gerber_text.specs.Reading.{Entries, placed};
+ghost use Rattle.gerber_text.specs.Reading.{Entries, item_entries};
 ghost use Rattle.gerber_text.specs.Holding.{passed_entries};
 ghost use Rattle.layer_state.specs.Faults.{fail_at, IsFirstFault};
 ghost use Rattle.gerber_text.specs.Writing.{without_places};
@@ -60,7 +60,7 @@ impl Scan {
         ensures none { scanned_pads self.new ≡ [] }
         ensures gone { (parts : KeptParts) (before : Entries) → HasScannedLegal self.old parts before → HasScannedLegal self.new (taking_pads parts self.old.state.state.flashes) before }
     {
-        self.state.clear_pads();
+        self.state.state.flashes.clear_pads();
     }
 
     /// Checks commands in order and applies them.
@@ -110,7 +110,7 @@ impl Scan {
     /// An `AllocError` where there is no memory for the file function.
     pub fn text(&mut self, alloc: Global, kind: TextKind, text: &[u8]) -> Result<(), AllocError>
         requires { is_scanning_region self.old ≡ false }
-        ensures { (parts : KeptParts) (before : Entries) (place byte : ℕ) → HasScannedLegal self.old parts before → OnOk result (HasScannedLegal self.new parts (before ++ placed place byte (text_command kind text.now ∷ []))) }
+        ensures { (parts : KeptParts) (before : Entries) (place byte : ℕ) → HasScannedLegal self.old parts before → OnOk result (HasScannedLegal self.new parts (before ++ item_entries place byte (text_command kind text.now ∷ []))) }
     {
         if let Some(bytes) = function_in_text(kind, text) {
             let function = Text::from_slice(alloc, bytes)?;
@@ -153,7 +153,7 @@ impl Scan {
         ensures none { scanned_flashes self.new ≡ [] }
         ensures gone { (parts : KeptParts) (before : Entries) → HasScannedLegal self.old parts before → HasScannedLegal self.new (taking_flashes parts self.old.state.state.flashes) before }
     {
-        self.state.clear_flashes();
+        self.state.state.flashes.clear_flashes();
     }
 
     /// What is kept of the flashes of these commands, how many there are, and the file function.

@@ -6,10 +6,9 @@ ghost use Rattle.std.specs.List.{list_any};
 ghost use Rattle.gerber_commands.specs.declared.command.Action.{Action as TheAction};
 ghost use Rattle.gerber_commands.specs.declared.command.Command.{Command};
 ghost use Rattle.gerber_commands.specs.declared.command.Command.TheVariants as command;
-ghost use Rattle.grid_units.specs.declared.item_fail.ItemFail.TheVariants.{Memory};
 ghost use Rattle.layer_state.specs.Lookback.{current_aperture, no_repeat};
 ghost use Rattle.layer_state.specs.Flashes.{copies_at, aperture_flashes, is_flash};
-ghost use Rattle.layer_state.specs.Rules.{first_broken, flashes_too_far, has_bad_template, is_far_pad, is_far_point, max_flashes};
+ghost use Rattle.layer_state.specs.Rules.{first_broken, flashes_too_far, is_far_pad, is_far_point, max_flashes};
 ghost use Rattle.layer_state.specs.KeptFlashes.{Adds, KeptParts, flash_count, without_pads};
 ghost use Rattle.layer_state.specs.Inner.IsStateAfter.{IsStateAfter, Applies, AppliesOrRefuses, IfRefused, state_of, after};
 
@@ -19,8 +18,8 @@ use crate::flash::{Flash, FlashKeep};
 use crate::flashes::Flashes;
 use crate::rules::is_flash;
 use crate::tables::{Apertures, Names};
-use gerber_text::{Action, Command, Format, StepRepeat, Template};
-use grid_units::{Dec, ItemFail, Reason, Unit};
+use gerber_text::{Action, Command, Format, StepRepeat};
+use grid_units::{Dec, ItemFail, Unit};
 use std::alloc::{AllocError, Global};
 
 /// The state that the commands so far make, and their flashes.
@@ -86,7 +85,9 @@ impl State {
             Command::RegionEnd => self.in_region = false,
             Command::UnitIs(unit) => self.unit = Some(*unit),
             Command::FormatIs(format) => self.format = Some(*format),
-            Command::Define { number, template } => self.define(*number, template.get())?,
+            Command::Define { number, template } => {
+                self.apertures.insert(*number, aperture_of(template.get()))?;
+            }
             Command::Macro(name, _) => self.macros.insert(self.alloc, name)?,
             Command::Select(number) => self.selected = Some(*number),
             Command::Operate { action, x, y, .. } => self.operate(*action, x.get(), y.get())?,
@@ -104,15 +105,6 @@ impl State {
             | Command::Remove(_)
             | Command::Finish => {}
         }
-        Ok(())
-    }
-
-    /// Applies the definition of an aperture.
-    fn define(&mut self, number: u32, template: &Template) -> Result<(), AllocError>
-        requires { has_bad_template template.now ≡ false }
-        ensures { OnOk result (Applies self.old (command.Define number template.now) self.new) }
-    {
-        self.apertures.insert(number, aperture_of(template))?;
         Ok(())
     }
 

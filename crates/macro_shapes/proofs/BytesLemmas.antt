@@ -6,7 +6,7 @@ use Rattle.std.specs.Prelude.{bytes_eq, take_while}
 use Rattle.std.specs.List.{prefix_len}
 use Rattle.grid_units.specs.Numbers.{is_digit, is_digits, value}
 use Rattle.grid_units.specs.Rows.{strip_prefix}
-use Rattle.macro_shapes.specs.Pieces.{defined, definition, is_comment, max_variables}
+use Rattle.macro_shapes.specs.Pieces.{variable_definition, definition, is_comment, max_variables}
 use Rattle.macro_shapes.specs.Inner.Bytes.{goes_on, is_field_byte, number_and_text, starts_comment, starts_definition}
 
 -- ---- comments
@@ -50,7 +50,7 @@ strip_one b c bs = by (eqb c b)
     by true = refl
     by false = refl
 
-defined_is : (digits rest : List ℕ) → number_and_text digits rest ≡ defined digits rest
+defined_is : (digits rest : List ℕ) → number_and_text digits rest ≡ variable_definition digits rest
 defined_is digits [] = by (is_digits digits && (nat_le 1 (value digits) && nat_le (value digits) max_variables))
   where
     by : (t : Bool) → None ≡ cond {A = Option (ℕ × List ℕ)} t None None
@@ -71,7 +71,7 @@ definition_is [] = refl
 definition_is (b ∷ bs) = by (eqb b 36) ∙ ap (option_and_then after) (strip_one 36 b bs)
   where
     after : List ℕ → Option (ℕ × List ℕ)
-    after rest = defined (take_while is_digit rest) (drop (prefix_len is_digit rest) rest)
+    after rest = variable_definition (take_while is_digit rest) (drop (prefix_len is_digit rest) rest)
 
     by : (t : Bool) → cond t (number_and_text (take_while is_digit bs) (drop (prefix_len is_digit bs) bs)) None ≡ option_and_then after (cond t (Some bs) None)
     by true = defined_is (take_while is_digit bs) (drop (prefix_len is_digit bs) bs)

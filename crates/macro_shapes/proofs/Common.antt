@@ -7,9 +7,9 @@ pub use Rattle.macro_shapes.specs.Inner.Parts.{left_of, split_by_if}
 pub use Rattle.macro_shapes.specs.Inner.Pieces.{all_decimals, all_values, fields_from, on_piece}
 unfoldable pub use Rattle.macro_shapes.specs.Inner.Pieces.{parameters_of}
 pub use Rattle.macro_shapes.proofs.PiecesLemmas.{decimals_next, macro_exactly, no_macro, value_exactly}
-pub use Rattle.macro_shapes.specs.Inner.Reading.{State, finished, on_byte, start, step}
+pub use Rattle.macro_shapes.specs.Inner.Reading.{State, final_value, on_byte, start, step}
 unfoldable pub use Rattle.macro_shapes.specs.Inner.Reading.{run}
-pub use Rattle.macro_shapes.specs.Inner.Steps.{moved, negated_if, other_end, rounded_or_along, second_crossing}
+pub use Rattle.macro_shapes.specs.Inner.Steps.{other_point, negated_if, other_end, rounded_or_along, second_crossing}
 pub use Rattle.macro_shapes.specs.Pieces.{IsMacro, split_by}
 pub use Rattle.macro_shapes.specs.Primitives.{IsInLine, IsInPrimitive, IsInRectangle, are_different, grid_point, is_closed, is_same, moves, outline_at, point_at, polygon_of, polygon_round, primitives_of, rounded_of, run_of, stops}
 pub use Rattle.macro_shapes.specs.Shapes.{ShapeIsInPrimitives, centre_shape, cross_shape, diameter_at, do_cross, least_of, line_shape, rectangle_about, rectangle_along, rectangle_of, width_along, with_arms, with_border}

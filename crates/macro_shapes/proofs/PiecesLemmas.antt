@@ -9,7 +9,7 @@ use Rattle.std.proofs.lemmas.Option.{same_Some}
 use Rattle.grid_units.specs.Numbers.{parse_decimal}
 use Rattle.grid_units.specs.declared.fault.Reason.{Reason}
 use Rattle.grid_units.specs.Ascii as ascii
-use Rattle.macro_shapes.specs.Values.{Environment, lookup, assigned, IsValue}
+use Rattle.macro_shapes.specs.Values.{Environment, lookup, with_value, IsValue}
 use Rattle.macro_shapes.specs.Pieces.{split_by, AreParameters, is_comment, definition, code_of, SpellsFields, SpellPrimitives, IsMacro}
 use Rattle.macro_shapes.specs.Inner.Reading.{start, run}
 use Rattle.macro_shapes.specs.Inner.Pieces.{value_of, all_values, parts_fields, piece_fields, on_definition, fields_from, all_decimals, if_few, parameters_of}
@@ -77,15 +77,15 @@ pieces_found (piece ∷ pieces) variables found e = by (is_comment piece) (defin
         → ((later : Environment) (others : List Fields) → fields_from later pieces ≡ Some others → SpellPrimitives later pieces others)
         → MatchBool t (SpellPrimitives variables pieces found) (MatchOption d
         ((fields : Fields) × (others : List Fields) × SpellsFields variables piece fields × SpellPrimitives variables pieces others × (found ≡ fields ∷ others))
-        (λ d. (v : ℤ) × IsValue variables d.1 v × SpellPrimitives (assigned variables d.0 v) pieces found))
+        (λ d. (v : ℤ) × IsValue variables d.1 v × SpellPrimitives (with_value variables d.0 v) pieces found))
     by true d h again = again variables found h
     by false None h again =
         let w = bind_some (λ f. option_map (λ fs. f ∷ fs) (fields_from variables pieces)) (piece_fields variables piece) found h in
         let u = map_some (λ fs. w.0 ∷ fs) (fields_from variables pieces) found w.2 in
         (w.0, u.0, fields_found variables piece w.0 w.1, again variables u.0 u.1, sym u.2)
     by false (Some d) h again =
-        let w = bind_some (λ v. fields_from (assigned variables d.0 v) pieces) (value_of variables d.1) found h in
-        (w.0, (value_exactly variables d.1 w.0).0 w.1, again (assigned variables d.0 w.0) found w.2)
+        let w = bind_some (λ v. fields_from (with_value variables d.0 v) pieces) (value_of variables d.1) found h in
+        (w.0, (value_exactly variables d.1 w.0).0 w.1, again (with_value variables d.0 w.0) found w.2)
 
 pub pieces_given : (pieces : List (List ℕ)) (variables : Environment) (found : List Fields) → SpellPrimitives variables pieces found → fields_from variables pieces ≡ Some found
 pieces_given [] variables found h = ap Some (sym h)
@@ -93,7 +93,7 @@ pieces_given (piece ∷ pieces) variables found h = taken piece pieces variables
   where
     by : (t : Bool) (d : Option (ℕ × List ℕ)) → MatchBool t (SpellPrimitives variables pieces found) (MatchOption d
         ((fields : Fields) × (others : List Fields) × SpellsFields variables piece fields × SpellPrimitives variables pieces others × (found ≡ fields ∷ others))
-        (λ d. (v : ℤ) × IsValue variables d.1 v × SpellPrimitives (assigned variables d.0 v) pieces found))
+        (λ d. (v : ℤ) × IsValue variables d.1 v × SpellPrimitives (with_value variables d.0 v) pieces found))
         → ((later : Environment) (others : List Fields) → SpellPrimitives later pieces others → fields_from later pieces ≡ Some others)
         → cond t (fields_from variables pieces) (on_definition d variables piece (λ later. fields_from later pieces)) ≡ Some found
     by true d h again = again variables found h
@@ -101,8 +101,8 @@ pieces_given (piece ∷ pieces) variables found h = taken piece pieces variables
         ap (option_and_then (λ f. option_map (λ fs. f ∷ fs) (fields_from variables pieces))) (fields_given variables piece h.0 h.2)
         ∙ (ap (option_map (λ fs. h.0 ∷ fs)) (again variables h.1 h.3) ∙ ap Some (sym h.4))
     by false (Some d) h again =
-        ap (option_and_then (λ v. fields_from (assigned variables d.0 v) pieces)) ((value_exactly variables d.1 h.0).1 h.1)
-        ∙ again (assigned variables d.0 h.0) found h.2
+        ap (option_and_then (λ v. fields_from (with_value variables d.0 v) pieces)) ((value_exactly variables d.1 h.0).1 h.1)
+        ∙ again (with_value variables d.0 h.0) found h.2
 
 -- ---- parameters
 

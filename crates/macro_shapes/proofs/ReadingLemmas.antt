@@ -14,8 +14,8 @@ use Rattle.macro_shapes.specs.declared.sign.Multiplication.TheVariants.{Times, O
 use Rattle.macro_shapes.specs.declared.frames.Frame.{Frame}
 use Rattle.macro_shapes.specs.Signs.{sign_of}
 use Rattle.macro_shapes.specs.Values.{Environment, IsFactor, IsSum, IsTerm, IsValue, added_by, brackets, more_factors, more_terms, multiplied_by, one_factor, one_term, operand, operand_value, signed}
-use Rattle.macro_shapes.specs.Inner.Reading.{added, multiplied}
-use Rattle.macro_shapes.specs.Inner.Reading.{State, at, framed, fresh, start, closed_or, term_of, sum_of, is_before_factor, is_leading, open_bracket, popped, close_bracket, before_sign, summed, multiplied_on, step, unless_open, finished, on_byte, run}
+use Rattle.macro_shapes.specs.Inner.Reading.{sum_with, product_with}
+use Rattle.macro_shapes.specs.Inner.Reading.{State, at, frame_after, fresh, start, closed_or, term_of, sum_of, is_before_factor, is_leading, open_bracket, after_brackets, close_bracket, before_sign, after_addition, multiplied_on, step, unless_open, final_value, on_byte, run}
 
 -- ---- steps that may have no value
 
@@ -59,7 +59,7 @@ none_from None h = refl
 none_from (Some s) h = absurd cc
 
 -- the sign of a sum that has a value, and the value by it
-is_sum : (o : Option Sign) (u w v : ℤ) → added_by o u w ≡ Some v → (a : Addition) × (o ≡ Some (Add a)) × (added (Some (u, a)) w ≡ Some v)
+is_sum : (o : Option Sign) (u w v : ℤ) → added_by o u w ≡ Some v → (a : Addition) × (o ≡ Some (Add a)) × (sum_with (Some (u, a)) w ≡ Some v)
 is_sum None u w v e = absurd cc
 is_sum (Some Open) u w v e = absurd cc
 is_sum (Some Close) u w v e = absurd cc
@@ -67,12 +67,12 @@ is_sum (Some (Multiply m)) u w v e = absurd cc
 is_sum (Some (Add Plus)) u w v e = (Plus, refl, e)
 is_sum (Some (Add Minus)) u w v e = (Minus, refl, e)
 
-sum_is : (o : Option Sign) (a : Addition) (u w v : ℤ) → o ≡ Some (Add a) → added (Some (u, a)) w ≡ Some v → added_by o u w ≡ Some v
+sum_is : (o : Option Sign) (a : Addition) (u w v : ℤ) → o ≡ Some (Add a) → sum_with (Some (u, a)) w ≡ Some v → added_by o u w ≡ Some v
 sum_is o Plus u w v k e = ap (λ p. added_by p u w) k ∙ e
 sum_is o Minus u w v k e = ap (λ p. added_by p u w) k ∙ e
 
 -- and those of a product
-is_product : (o : Option Sign) (u w v : ℤ) → multiplied_by o u w ≡ Some v → (m : Multiplication) × (o ≡ Some (Multiply m)) × (multiplied (Some (u, m)) w ≡ Some v)
+is_product : (o : Option Sign) (u w v : ℤ) → multiplied_by o u w ≡ Some v → (m : Multiplication) × (o ≡ Some (Multiply m)) × (product_with (Some (u, m)) w ≡ Some v)
 is_product None u w v e = absurd cc
 is_product (Some Open) u w v e = absurd cc
 is_product (Some Close) u w v e = absurd cc
@@ -80,7 +80,7 @@ is_product (Some (Add a)) u w v e = absurd cc
 is_product (Some (Multiply Times)) u w v e = (Times, refl, e)
 is_product (Some (Multiply Over)) u w v e = (Over, refl, e)
 
-product_is : (o : Option Sign) (m : Multiplication) (u w v : ℤ) → o ≡ Some (Multiply m) → multiplied (Some (u, m)) w ≡ Some v → multiplied_by o u w ≡ Some v
+product_is : (o : Option Sign) (m : Multiplication) (u w v : ℤ) → o ≡ Some (Multiply m) → product_with (Some (u, m)) w ≡ Some v → multiplied_by o u w ≡ Some v
 product_is o Times u w v k e = ap (λ p. multiplied_by p u w) k ∙ e
 product_is o Over u w v k e = ap (λ p. multiplied_by p u w) k ∙ e
 
@@ -142,8 +142,8 @@ record TermRead (variables : Environment) (outer : List Frame) (before : Option 
   factors : Option (ℤ × Multiplication)
   closed : Option ℤ
   held : List ℕ
-  leads : Leads variables (at outer (framed before None) None) [] text (at outer (framed before factors) closed) held
-  gives : option_and_then (multiplied factors) (closed_or variables closed held) ≡ Some v
+  leads : Leads variables (at outer (frame_after before None) None) [] text (at outer (frame_after before factors) closed) held
+  gives : option_and_then (product_with factors) (closed_or variables closed held) ≡ Some v
 
 -- a sum was read
 record SumRead (variables : Environment) (outer : List Frame) (text : List ℕ) (v : ℤ) : Type 0 where
@@ -182,12 +182,12 @@ module _ (variables : Environment) where
 
   bracket_closes : (outer : List Frame) (frame inner : Frame) (closed : Option ℤ) (held : List ℕ) (v : ℤ) → sum_of variables (at (frame ∷ outer) inner closed) held ≡ Some v → step variables (at (frame ∷ outer) inner closed) held Close ≡ Some (at outer frame (Some v))
   unfolding close_bracket
-  bracket_closes outer frame inner closed held v h = ap (option_and_then (popped (frame ∷ outer))) h
+  bracket_closes outer frame inner closed held v h = ap (option_and_then (after_brackets (frame ∷ outer))) h
 
   factor_goes_on : (outer : List Frame) (frame : Frame) (closed : Option ℤ) (held : List ℕ) (v : ℤ) (m : Multiplication) → term_of variables (at outer frame closed) held ≡ Some v
-      → step variables (at outer frame closed) held (Multiply m) ≡ Some (at outer (framed frame.before_term (Some (v, m))) None)
+      → step variables (at outer frame closed) held (Multiply m) ≡ Some (at outer (frame_after frame.before_term (Some (v, m))) None)
   unfolding multiplied_on
-  factor_goes_on outer frame closed held v m h = ap (option_map (λ w. at outer (framed frame.before_term (Some (w, m))) None)) h
+  factor_goes_on outer frame closed held v m h = ap (option_map (λ w. at outer (frame_after frame.before_term (Some (w, m))) None)) h
 
   sum_ends : (outer : List Frame) (frame : Frame) (closed : Option ℤ) (held : List ℕ) (v : ℤ) → sum_of variables (at outer frame closed) held ≡ Some v → before_sign variables (at outer frame closed) held ≡ Some v
   unfolding operand_value
@@ -197,9 +197,9 @@ module _ (variables : Environment) where
   sum_ends outer frame (Some c) (b ∷ bs) v h = h
 
   sum_goes_on : (outer : List Frame) (frame : Frame) (closed : Option ℤ) (held : List ℕ) (v : ℤ) (a : Addition) → before_sign variables (at outer frame closed) held ≡ Some v
-      → step variables (at outer frame closed) held (Add a) ≡ Some (at outer (framed (Some (v, a)) None) None)
-  unfolding summed
-  sum_goes_on outer frame closed held v a h = ap (option_map (λ w. at outer (framed (Some (w, a)) None) None)) h
+      → step variables (at outer frame closed) held (Add a) ≡ Some (at outer (frame_after (Some (v, a)) None) None)
+  unfolding after_addition
+  sum_goes_on outer frame closed held v a h = ap (option_map (λ w. at outer (frame_after (Some (w, a)) None) None)) h
 
   same_text : (s t : State) (h i whole text : List ℕ) → whole ≡ text → Leads variables s h text t i → Leads variables s h whole t i
   same_text s t h i whole text e l = subst (λ x. Leads variables s h x t i) (sym e) l
@@ -208,55 +208,55 @@ module _ (variables : Environment) where
     sum_read : (n : ℕ) (text : List ℕ) (v : ℤ) (outer : List Frame) → IsSum variables n text v → n ≡ length outer → SumRead variables outer text v
     sum_read n text v outer (one_term _ _ _ t) fits =
         let r = term_read n text v outer None t fits in
-        record { frame = framed None r.factors; closed = r.closed; held = r.held; leads = r.leads; gives = ap (option_and_then (added None)) r.gives }
+        record { frame = frame_after None r.factors; closed = r.closed; held = r.held; leads = r.leads; gives = ap (option_and_then (sum_with None)) r.gives }
     sum_read n text v outer (signed _ _ _ b last u is t e) fits =
         let k = is_sum (sign_of b) (pos 0) u v e in
-        let l = sign_read (at outer fresh None) (at outer (framed (Some (pos 0, k.0)) None) None) [] b (Add k.0) k.1 (sum_goes_on outer fresh None [] (pos 0) k.0 refl) in
+        let l = sign_read (at outer fresh None) (at outer (frame_after (Some (pos 0, k.0)) None) None) [] b (Add k.0) k.1 (sum_goes_on outer fresh None [] (pos 0) k.0 refl) in
         let r = term_read n last u outer (Some (pos 0, k.0)) t fits in
-        let end = at outer (framed (Some (pos 0, k.0)) r.factors) r.closed in
+        let end = at outer (frame_after (Some (pos 0, k.0)) r.factors) r.closed in
         record {
-          frame = framed (Some (pos 0, k.0)) r.factors;
+          frame = frame_after (Some (pos 0, k.0)) r.factors;
           closed = r.closed;
           held = r.held;
-          leads = same_text (at outer fresh None) end [] r.held text (b ∷ last) is (joined (at outer fresh None) (at outer (framed (Some (pos 0, k.0)) None) None) end [] [] r.held (b ∷ []) last l r.leads);
-          gives = ap (option_and_then (added (Some (pos 0, k.0)))) r.gives ∙ k.2;
+          leads = same_text (at outer fresh None) end [] r.held text (b ∷ last) is (joined (at outer fresh None) (at outer (frame_after (Some (pos 0, k.0)) None) None) end [] [] r.held (b ∷ []) last l r.leads);
+          gives = ap (option_and_then (sum_with (Some (pos 0, k.0)))) r.gives ∙ k.2;
         }
     sum_read n text v outer (more_terms _ _ _ first last b u w is s t e) fits =
         let k = is_sum (sign_of b) u w v e in
         let r = sum_read n first u outer s fits in
         let here = at outer r.frame r.closed in
-        let signed_here = at outer (framed (Some (u, k.0)) None) None in
+        let signed_here = at outer (frame_after (Some (u, k.0)) None) None in
         let l = sign_read here signed_here r.held b (Add k.0) k.1 (sum_goes_on outer r.frame r.closed r.held u k.0 (sum_ends outer r.frame r.closed r.held u r.gives)) in
         let q = term_read n last w outer (Some (u, k.0)) t fits in
-        let end = at outer (framed (Some (u, k.0)) q.factors) q.closed in
+        let end = at outer (frame_after (Some (u, k.0)) q.factors) q.closed in
         let rest = joined here signed_here end r.held [] q.held (b ∷ []) last l q.leads in
         record {
-          frame = framed (Some (u, k.0)) q.factors;
+          frame = frame_after (Some (u, k.0)) q.factors;
           closed = q.closed;
           held = q.held;
           leads = same_text (at outer fresh None) end [] q.held text (first ++ b ∷ last) is (joined (at outer fresh None) here end [] r.held q.held first (b ∷ last) r.leads rest);
-          gives = ap (option_and_then (added (Some (u, k.0)))) q.gives ∙ k.2;
+          gives = ap (option_and_then (sum_with (Some (u, k.0)))) q.gives ∙ k.2;
         }
 
     term_read : (n : ℕ) (text : List ℕ) (v : ℤ) (outer : List Frame) (before : Option (ℤ × Addition)) → IsTerm variables n text v → n ≡ length outer → TermRead variables outer before text v
     term_read n text v outer before (one_factor _ _ _ f) fits =
-        let r = factor_read n text v outer (framed before None) f fits in
-        record { factors = None; closed = r.closed; held = r.held; leads = r.leads; gives = ap (option_and_then (multiplied None)) r.gives }
+        let r = factor_read n text v outer (frame_after before None) f fits in
+        record { factors = None; closed = r.closed; held = r.held; leads = r.leads; gives = ap (option_and_then (product_with None)) r.gives }
     term_read n text v outer before (more_factors _ _ _ first last b u w is t f e) fits =
         let k = is_product (sign_of b) u w v e in
         let r = term_read n first u outer before t fits in
-        let here = at outer (framed before r.factors) r.closed in
-        let signed_here = at outer (framed before (Some (u, k.0))) None in
-        let l = sign_read here signed_here r.held b (Multiply k.0) k.1 (factor_goes_on outer (framed before r.factors) r.closed r.held u k.0 r.gives) in
-        let g = factor_read n last w outer (framed before (Some (u, k.0))) f fits in
-        let end = at outer (framed before (Some (u, k.0))) g.closed in
+        let here = at outer (frame_after before r.factors) r.closed in
+        let signed_here = at outer (frame_after before (Some (u, k.0))) None in
+        let l = sign_read here signed_here r.held b (Multiply k.0) k.1 (factor_goes_on outer (frame_after before r.factors) r.closed r.held u k.0 r.gives) in
+        let g = factor_read n last w outer (frame_after before (Some (u, k.0))) f fits in
+        let end = at outer (frame_after before (Some (u, k.0))) g.closed in
         let rest = joined here signed_here end r.held [] g.held (b ∷ []) last l g.leads in
         record {
           factors = Some (u, k.0);
           closed = g.closed;
           held = g.held;
-          leads = same_text (at outer (framed before None) None) end [] g.held text (first ++ b ∷ last) is (joined (at outer (framed before None) None) here end [] r.held g.held first (b ∷ last) r.leads rest);
-          gives = ap (option_and_then (multiplied (Some (u, k.0)))) g.gives ∙ k.2;
+          leads = same_text (at outer (frame_after before None) None) end [] g.held text (first ++ b ∷ last) is (joined (at outer (frame_after before None) None) here end [] r.held g.held first (b ∷ last) r.leads rest);
+          gives = ap (option_and_then (product_with (Some (u, k.0)))) g.gives ∙ k.2;
         }
 
     factor_read : (n : ℕ) (text : List ℕ) (v : ℤ) (outer : List Frame) (frame : Frame) → IsFactor variables n text v → n ≡ length outer → FactorRead variables outer frame text v
@@ -341,32 +341,32 @@ module _ (variables : Environment) where
   factor_written n (Some w) [] text v h e = subst (λ x. IsFactor variables n x v) (sym (h.2 ∙ append-nil h.0)) (subst (λ z. IsFactor variables n h.0 z) (same_Some w v e) h.1)
   factor_written n (Some w) (b ∷ bs) text v h e = absurd cc
 
-  term_from : (n : ℕ) (before : Option (ℤ × Multiplication)) (factors last : List ℕ) (w v : ℤ) → IsBeforeFactor variables n before factors → IsFactor variables n last w → multiplied before w ≡ Some v → IsTerm variables n (factors ++ last) v
+  term_from : (n : ℕ) (before : Option (ℤ × Multiplication)) (factors last : List ℕ) (w v : ℤ) → IsBeforeFactor variables n before factors → IsFactor variables n last w → product_with before w ≡ Some v → IsTerm variables n (factors ++ last) v
   term_from n None factors last w v h f e =
       subst (λ x. IsTerm variables n (x ++ last) v) (sym h) (one_factor n last v (subst (λ z. IsFactor variables n last z) (same_Some w v e) f))
   term_from n (Some (u, m)) factors last w v h f e =
       more_factors n (factors ++ last) v h.0 last h.1 u w (ap (λ x. x ++ last) h.2 ∙ append_assoc h.0 (h.1 ∷ []) last) h.4 f (product_is (sign_of h.1) m u w v h.3 e)
 
-  sum_from : (n : ℕ) (before : Option (ℤ × Addition)) (terms last : List ℕ) (w v : ℤ) → IsBeforeTerm variables n before terms → IsTerm variables n last w → added before w ≡ Some v → IsSum variables n (terms ++ last) v
+  sum_from : (n : ℕ) (before : Option (ℤ × Addition)) (terms last : List ℕ) (w v : ℤ) → IsBeforeTerm variables n before terms → IsTerm variables n last w → sum_with before w ≡ Some v → IsSum variables n (terms ++ last) v
   sum_from n None terms last w v h t e =
       subst (λ x. IsSum variables n (x ++ last) v) (sym h) (one_term n last v (subst (λ z. IsTerm variables n last z) (same_Some w v e) t))
   sum_from n (Some (u, a)) terms last w v h t e = elim h.4 [
     | inl alone ↦
         signed n (terms ++ last) v h.1 last w (ap (λ x. x ++ last) (h.2 ∙ ap (λ l. l ++ h.1 ∷ []) alone.0)) t
-        (sum_is (sign_of h.1) a (pos 0) w v h.3 (ap (λ (z : ℤ). added (Some (z, a)) w) (sym alone.1) ∙ e))
+        (sum_is (sign_of h.1) a (pos 0) w v h.3 (ap (λ (z : ℤ). sum_with (Some (z, a)) w) (sym alone.1) ∙ e))
     | inr s ↦ more_terms n (terms ++ last) v h.0 last h.1 u w (ap (λ x. x ++ last) h.2 ∙ append_assoc h.0 (h.1 ∷ []) last) s t (sum_is (sign_of h.1) a u w v h.3 e)
   ]
 
   term_written : (s : State) (held here last : List ℕ) (v : ℤ) (frame : IsFrame variables (length s.outer) s.frame here) → IsHeld variables (length s.outer) s.closed held last → term_of variables s held ≡ Some v
       → IsTerm variables (length s.outer) (frame.factors ++ last) v
   term_written s held here last v frame h e =
-      let w = bind_some (multiplied s.frame.before_factor) (closed_or variables s.closed held) v e in
+      let w = bind_some (product_with s.frame.before_factor) (closed_or variables s.closed held) v e in
       term_from (length s.outer) s.frame.before_factor frame.factors last w.0 v frame.second (factor_written (length s.outer) s.closed held last w.0 h w.1) w.2
 
   sum_written : (s : State) (held here last : List ℕ) (v : ℤ) → IsFrame variables (length s.outer) s.frame here → IsHeld variables (length s.outer) s.closed held last → sum_of variables s held ≡ Some v
       → IsSum variables (length s.outer) (here ++ last) v
   sum_written s held here last v frame h e =
-      let w = bind_some (added s.frame.before_term) (term_of variables s held) v e in
+      let w = bind_some (sum_with s.frame.before_term) (term_of variables s held) v e in
       subst (λ x. IsSum variables (length s.outer) x v) (sym (ap (λ l. l ++ last) frame.written ∙ append_assoc frame.terms frame.factors last))
       (sum_from (length s.outer) s.frame.before_term frame.terms (frame.factors ++ last) w.0 v frame.first (term_written s held here last w.0 frame h w.1) w.2)
 
@@ -412,13 +412,13 @@ module _ (variables : Environment) where
   closed_reached : (s t : State) (held done : List ℕ) (b : ℕ) → sign_of b ≡ Some Close → close_bracket variables s held ≡ Some t → IsReached variables s held done → IsReached variables t [] (done ++ b ∷ [])
   unfolding close_bracket
   closed_reached s t held done b k e r =
-      let w = bind_some (popped s.outer) (sum_of variables s held) t e in
+      let w = bind_some (after_brackets s.outer) (sum_of variables s held) t e in
       by w.0 s.outer (sum_written s held r.here r.last w.0 r.frame r.at_operand w.1) r.outer w.2
     where
       inner : List ℕ
       inner = r.here ++ r.last
 
-      by : (v : ℤ) (outer : List Frame) → IsSum variables (length outer) inner v → IsOuter variables outer r.before → popped outer v ≡ Some t → IsReached variables t [] (done ++ b ∷ [])
+      by : (v : ℤ) (outer : List Frame) → IsSum variables (length outer) inner v → IsOuter variables outer r.before → after_brackets outer v ≡ Some t → IsReached variables t [] (done ++ b ∷ [])
       by v [] x o h = absurd cc
       by v (frame ∷ outer) x o h =
           let whole : done ++ b ∷ [] ≡ (o.0 ++ o.1) ++ ((40 ∷ (inner ++ 41 ∷ [])) ++ []) =
@@ -438,7 +438,7 @@ module _ (variables : Environment) where
   multiplied_reached : (s t : State) (held done : List ℕ) (b : ℕ) (m : Multiplication) → sign_of b ≡ Some (Multiply m) → multiplied_on variables s held m ≡ Some t → IsReached variables s held done → IsReached variables t [] (done ++ b ∷ [])
   unfolding multiplied_on
   multiplied_reached s t held done b m k e r =
-      let w = map_some (λ v. at s.outer (framed s.frame.before_term (Some (v, m))) None) (term_of variables s held) t e in
+      let w = map_some (λ v. at s.outer (frame_after s.frame.before_term (Some (v, m))) None) (term_of variables s held) t e in
       let terms = r.frame.terms in
       let left = r.frame.factors ++ r.last in
       let whole : done ++ b ∷ [] ≡ (r.before ++ (terms ++ (left ++ b ∷ []))) ++ [] =
@@ -454,13 +454,13 @@ module _ (variables : Environment) where
         written = whole;
       })
 
-  summed_reached : (s t : State) (held done : List ℕ) (b : ℕ) (a : Addition) → sign_of b ≡ Some (Add a) → summed variables s held a ≡ Some t → IsReached variables s held done → IsReached variables t [] (done ++ b ∷ [])
-  unfolding summed
+  summed_reached : (s t : State) (held done : List ℕ) (b : ℕ) (a : Addition) → sign_of b ≡ Some (Add a) → after_addition variables s held a ≡ Some t → IsReached variables s held done → IsReached variables t [] (done ++ b ∷ [])
+  unfolding after_addition
   summed_reached s t held done b a k e r =
-      let w = map_some (λ v. at s.outer (framed (Some (v, a)) None) None) (before_sign variables s held) t e in
+      let w = map_some (λ v. at s.outer (frame_after (Some (v, a)) None) None) (before_sign variables s held) t e in
       by w.0 w.2 (is_leading s held) refl w.1
     where
-      by : (v : ℤ) → at s.outer (framed (Some (v, a)) None) None ≡ t → (u : Bool) → is_leading s held ≡ u → cond u (Some (pos 0)) (sum_of variables s held) ≡ Some v → IsReached variables t [] (done ++ b ∷ [])
+      by : (v : ℤ) → at s.outer (frame_after (Some (v, a)) None) None ≡ t → (u : Bool) → is_leading s held ≡ u → cond u (Some (pos 0)) (sum_of variables s held) ≡ Some v → IsReached variables t [] (done ++ b ∷ [])
       by v same true leading h =
           let p = both_true (is_before_factor s held) (is_none s.frame.before_term && is_none s.frame.before_factor) leading in
           let q = both_true (is_none s.frame.before_term) (is_none s.frame.before_factor) p.1 in
@@ -470,7 +470,7 @@ module _ (variables : Environment) where
           let whole : done ++ b ∷ [] ≡ (r.before ++ b ∷ []) ++ [] =
           ap (λ l. l ++ b ∷ []) (r.written ∙ (λ i. (r.before ++ (r.frame.written ∙ (λ j. terms j ++ factors j)) i) ++ last i))
           ∙ (ap (λ l. l ++ b ∷ []) (append-nil (r.before ++ []) ∙ append-nil r.before) ∙ sym (append-nil (r.before ++ b ∷ []))) in
-          subst (λ u. IsReached variables u [] (done ++ b ∷ [])) (ap (λ n. at s.outer (framed (Some (n, a)) None) None) (same_Some (pos 0) v h) ∙ same)
+          subst (λ u. IsReached variables u [] (done ++ b ∷ [])) (ap (λ n. at s.outer (frame_after (Some (n, a)) None) None) (same_Some (pos 0) v h) ∙ same)
           (record {
             before = r.before;
             here = b ∷ [];
@@ -515,7 +515,7 @@ module _ (variables : Environment) where
       more None h = (some_sign b held (ap is_some e) h.0, ap (λ l. l ++ b ∷ []) h.1)
       more (Some v) h = (h.0, h.1, ap (λ l. l ++ b ∷ []) h.2 ∙ append_assoc h.0 held (b ∷ []))
 
-  ended_written : (s : State) (held done : List ℕ) (v : ℤ) → IsReached variables s held done → finished variables s held ≡ Some v → IsSum variables 0 (done ++ []) v
+  ended_written : (s : State) (held done : List ℕ) (v : ℤ) → IsReached variables s held done → final_value variables s held ≡ Some v → IsSum variables 0 (done ++ []) v
   ended_written s held done v r h = by s.outer refl r.outer h
     where
       by : (outer : List Frame) → s.outer ≡ outer → IsOuter variables outer r.before → unless_open outer (sum_of variables s held) ≡ Some v → IsSum variables 0 (done ++ []) v

@@ -7,7 +7,7 @@ use Rattle.std.specs.Str.{bytes_eq}
 use Rattle.grid_units.specs.Ascii as ascii
 use Rattle.grid_units.specs.Numbers.{is_digit, is_digits, is_number_char, value, parse_decimal}
 use Rattle.grid_units.specs.Rows.{strip_prefix}
-use Rattle.macro_shapes.specs.Values.{Environment, lookup, assigned, IsValue}
+use Rattle.macro_shapes.specs.Values.{Environment, lookup, with_value, IsValue}
 use Rattle.macro_shapes.specs.declared.piece.Code.{Code}
 use Rattle.macro_shapes.specs.declared.piece.Code.TheVariants as code
 use Rattle.macro_shapes.specs.declared.fields.Fields.{Fields}
@@ -18,7 +18,7 @@ split_by at text = slice_split (λ b. b == at) text
 
 -- ---- parameters
 
--- the largest number of parameters
+-- the largest number of a variable, and so the most parameters
 abbrev pub max_variables : ℕ
 max_variables = 999
 
@@ -38,15 +38,15 @@ is_comment piece = bytes_eq (take_while (λ b. is_number_char b || (b == ascii.c
 -- ---- definitions of variables
 
 -- the number of a variable, from 1 to 999, and an expression after `=`
-abbrev pub defined : List ℕ → List ℕ → Option (ℕ × List ℕ)
-defined digits rest =
+abbrev pub variable_definition : List ℕ → List ℕ → Option (ℕ × List ℕ)
+variable_definition digits rest =
     if is_digits digits && (nat_le 1 (value digits) && nat_le (value digits) max_variables)
     then option_map (λ text. (value digits, text)) (strip_prefix (codes "=") rest) else None
 
 -- the variable that a piece defines, and the expression of its value: `$4=$1x0.5` (Gerber format, Aperture macro AM, Definition of a new
 -- variable)
 abbrev pub definition : List ℕ → Option (ℕ × List ℕ)
-definition piece = option_and_then (λ rest. defined (take_while is_digit rest) (drop (prefix_len is_digit rest) rest)) (strip_prefix (codes "$") piece)
+definition piece = option_and_then (λ rest. variable_definition (take_while is_digit rest) (drop (prefix_len is_digit rest) rest)) (strip_prefix (codes "$") piece)
 
 -- ---- primitives
 
@@ -73,7 +73,7 @@ SpellPrimitives variables [] found = found ≡ []
 SpellPrimitives variables (piece ∷ pieces) found =
     MatchBool (is_comment piece) (SpellPrimitives variables pieces found) (MatchOption (definition piece)
     ((fields : Fields) × (others : List Fields) × SpellsFields variables piece fields × SpellPrimitives variables pieces others × (found ≡ fields ∷ others))
-    (λ d. (v : ℤ) × IsValue variables d.1 v × SpellPrimitives (assigned variables d.0 v) pieces found))
+    (λ d. (v : ℤ) × IsValue variables d.1 v × SpellPrimitives (with_value variables d.0 v) pieces found))
 
 -- the primitives of a macro with these parameters
 abbrev pub IsMacro : List (List ℕ) → Option (List ℕ) → List Fields → Type 0

@@ -55,7 +55,7 @@ quarter_turns rotation =
 abbrev pub turned_x : ℕ → GridPoint → ℤ
 turned_x turns p = if turns == 0 then p.x else if turns == 1 then neg_ℤ p.y else if turns == 2 then neg_ℤ p.x else p.y
 
--- and its y
+-- the y of a point after quarter turns
 abbrev pub turned_y : ℕ → GridPoint → ℤ
 turned_y turns p = if turns == 0 then p.y else if turns == 1 then p.x else if turns == 2 then neg_ℤ p.y else neg_ℤ p.x
 
@@ -72,8 +72,8 @@ abbrev pub side_of : Units → ℤ → Option ℕ
 side_of unit v = if int_lt (pos 0) v then size_of unit v else None
 
 -- two values as a point that is turned by so many quarters, where it is no further than 10 m along each axis
-abbrev pub placed : Units → ℕ → ℤ → ℤ → Option GridPoint
-placed unit turns x y = option_and_then (λ p. grid_point (turned_x turns p) (turned_y turns p)) (grid_point (picometres unit 8 x) (picometres unit 8 y))
+abbrev pub point_of_values : Units → ℕ → ℤ → ℤ → Option GridPoint
+point_of_values unit turns x y = option_and_then (λ p. grid_point (turned_x turns p) (turned_y turns p)) (grid_point (picometres unit 8 x) (picometres unit 8 y))
 
 -- the quarter turns of a primitive whose exposure is on, that is 1 (Gerber format, Exposure parameter)
 abbrev pub dark_turns : ℤ → ℤ → Option ℕ
@@ -83,12 +83,12 @@ dark_turns exposure rotation = if int_eq exposure (pos 100000000) then quarter_t
 
 -- a circle with these values, turned by so many quarters
 abbrev pub circle_at : Units → ℤ → ℤ → ℤ → ℕ → Option Primitive
-circle_at unit diameter x y turns = option_and_then (λ d. option_map (λ c. primitive.Circle c d) (placed unit turns x y)) (size_of unit diameter)
+circle_at unit diameter x y turns = option_and_then (λ d. option_map (λ c. primitive.Circle c d) (point_of_values unit turns x y)) (size_of unit diameter)
 
 -- a vector line with these values, turned by so many quarters
 abbrev pub line_at : Units → ℤ → ℤ → ℤ → ℤ → ℤ → ℕ → Option Primitive
 line_at unit width x1 y1 x2 y2 turns =
-    option_and_then (λ w. option_and_then (λ from. option_map (λ to. primitive.VectorLine from to w) (placed unit turns x2 y2)) (placed unit turns x1 y1)) (size_of unit width)
+    option_and_then (λ w. option_and_then (λ from. option_map (λ to. primitive.VectorLine from to w) (point_of_values unit turns x2 y2)) (point_of_values unit turns x1 y1)) (size_of unit width)
 
 -- the sides are exchanged by an odd number of quarter turns
 abbrev pub with_sides : ℕ → GridPoint → ℕ → ℕ → Primitive
@@ -97,7 +97,7 @@ with_sides turns c w h = if turns % 2 == 0 then primitive.CentreLine c w h else 
 -- a centre line with these values, turned by so many quarters
 abbrev pub rectangle_at : Units → ℤ → ℤ → ℤ → ℤ → ℕ → Option Primitive
 rectangle_at unit width height x y turns =
-    option_and_then (λ w. option_and_then (λ h. option_map (λ c. with_sides turns c w h) (placed unit turns x y)) (side_of unit height)) (side_of unit width)
+    option_and_then (λ w. option_and_then (λ h. option_map (λ c. with_sides turns c w h) (point_of_values unit turns x y)) (side_of unit height)) (side_of unit width)
 
 -- ---- outlines
 
@@ -114,7 +114,7 @@ is_count count coordinates =
 abbrev pub run_of : Units → ℕ → List ℤ → Option (List GridPoint)
 run_of unit turns [] = Some []
 run_of unit turns (x ∷ []) = None
-run_of unit turns (x ∷ y ∷ rest) = option_and_then (λ p. option_map (λ ps. p ∷ ps) (run_of unit turns rest)) (placed unit turns x y)
+run_of unit turns (x ∷ y ∷ rest) = option_and_then (λ p. option_map (λ ps. p ∷ ps) (run_of unit turns rest)) (point_of_values unit turns x y)
 
 -- the point at a place, or the one of the flash
 abbrev pub point_at : List GridPoint → ℕ → GridPoint
@@ -143,16 +143,16 @@ abbrev pub rounded_of : GridPoint → List GridPoint → ℕ → Option GridRoun
 rounded_of first others size =
     if nat_lt (length others) max_corners && (nat_le (size / 2) max_half_side && is_outline first others) then Some (record { first = first; others = others; radius = size / 2 }) else None
 
--- the polygon of corners in this order
+-- the point, the line or the polygon of corners in this order
 abbrev pub polygon_of : List GridPoint → Option GridRounded
 polygon_of [] = None
 polygon_of (first ∷ others) = rounded_of first others 0
 
--- the polygon that different corners go round once, in this order or the other way
+-- the point, the line or the convex polygon that different corners go round once, in this order or the other way
 abbrev pub either_way : List GridPoint → Option GridRounded
 either_way corners = if nat_le (length corners) max_corners && are_different corners then option_or (polygon_of corners) (polygon_of (reverse corners)) else None
 
--- the outline of a run of points: closed, and round a convex polygon once, or there and back on a line
+-- the outline of a run of points: closed, and a point, a line there and back, or a convex polygon once round
 abbrev pub outline_of : List GridPoint → Option Primitive
 outline_of run = if is_closed run then option_map primitive.Outline (either_way (stops run)) else None
 
@@ -170,15 +170,15 @@ outline_at unit exposure count coordinates rotation =
 
 -- The primitive that fields spell, where it is judged (Gerber format, Circle, code 1; Vector line, code 20; Center line, code 21; Outline, code 4).
 -- The angle of its rotation stands last, and may be left out of a circle; the coordinates of an outline end with those of its first point again.
-abbrev pub coded : Code → Units → List ℤ → Option Primitive
-coded code.Circle unit (exposure ∷ diameter ∷ x ∷ y ∷ []) = option_and_then (circle_at unit diameter x y) (dark_turns exposure (pos 0))
-coded code.Circle unit (exposure ∷ diameter ∷ x ∷ y ∷ angle ∷ []) = option_and_then (circle_at unit diameter x y) (dark_turns exposure angle)
-coded code.VectorLine unit (exposure ∷ width ∷ x1 ∷ y1 ∷ x2 ∷ y2 ∷ angle ∷ []) = option_and_then (line_at unit width x1 y1 x2 y2) (dark_turns exposure angle)
-coded code.CentreLine unit (exposure ∷ width ∷ height ∷ x ∷ y ∷ angle ∷ []) = option_and_then (rectangle_at unit width height x y) (dark_turns exposure angle)
-coded code.Outline unit (exposure ∷ count ∷ rest) = outline_at unit exposure count (take (length rest - 1) rest) (get_or rest (length rest - 1) (pos 0))
-coded _ unit _ = None
+abbrev pub primitive_by_code : Code → Units → List ℤ → Option Primitive
+primitive_by_code code.Circle unit (exposure ∷ diameter ∷ x ∷ y ∷ []) = option_and_then (circle_at unit diameter x y) (dark_turns exposure (pos 0))
+primitive_by_code code.Circle unit (exposure ∷ diameter ∷ x ∷ y ∷ angle ∷ []) = option_and_then (circle_at unit diameter x y) (dark_turns exposure angle)
+primitive_by_code code.VectorLine unit (exposure ∷ width ∷ x1 ∷ y1 ∷ x2 ∷ y2 ∷ angle ∷ []) = option_and_then (line_at unit width x1 y1 x2 y2) (dark_turns exposure angle)
+primitive_by_code code.CentreLine unit (exposure ∷ width ∷ height ∷ x ∷ y ∷ angle ∷ []) = option_and_then (rectangle_at unit width height x y) (dark_turns exposure angle)
+primitive_by_code code.Outline unit (exposure ∷ count ∷ rest) = outline_at unit exposure count (take (length rest - 1) rest) (get_or rest (length rest - 1) (pos 0))
+primitive_by_code _ unit _ = None
 
 -- the primitives that fields spell, where each of them is judged
 abbrev pub primitives_of : Units → List Fields → Option (List Primitive)
 primitives_of unit [] = Some []
-primitives_of unit (f ∷ fs) = option_and_then (λ q. option_map (λ qs. q ∷ qs) (primitives_of unit fs)) (coded f.code unit f.values)
+primitives_of unit (f ∷ fs) = option_and_then (λ q. option_map (λ qs. q ∷ qs) (primitives_of unit fs)) (primitive_by_code f.code unit f.values)

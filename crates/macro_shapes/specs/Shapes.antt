@@ -30,11 +30,11 @@ disc_at qs v = reduce max (filter_map (diameter_at v) qs)
 unfoldable pub line_along : List Primitive → Edge → Option ℕ
 line_along qs e = reduce max (filter_map (width_along e) qs)
 
--- the least of some sizes, where none of them lacks
+-- the least of some sizes, where none of them is missing
 abbrev pub least_of : List (Option ℕ) → Option ℕ
 least_of sizes = if list_any is_none sizes then None else reduce min (filter_map (λ size. size) sizes)
 
--- the least of the circles at the corners and of the vector lines along the edges, where none of them lacks; one corner has no edges
+-- the least of the diameters of the circles at the corners and of the widths of the vector lines along the edges, where none is missing; one corner has no edges
 unfoldable pub border : List Primitive → GridRounded → Option ℕ
 border qs r = least_of (map (disc_at qs) (corners r) ++ map (line_along qs) (if length r.others == 0 then [] else edges r))
 
@@ -68,7 +68,7 @@ segment a b = record { first = a; others = if is_same a b then [] else b ∷ [];
 abbrev pub line_shape : List Primitive → GridPoint → GridPoint → ℕ → Option GridRounded
 line_shape qs a b width = option_map_or (rounded_of a (segment a b).others) (border qs (segment a b)) (rectangle_along a b width)
 
--- the outline with its border, and without one where a circle or a line lacks; a flat outline has no shape without a border
+-- the outline with its border, and without one where a circle or a line is missing; a flat outline has no shape without a border
 abbrev pub with_border : GridRounded → ℕ → Option GridRounded
 with_border r size = if nat_lt 1 (length r.others) || nat_lt 0 size then rounded_of r.first r.others size else None
 
@@ -79,12 +79,12 @@ abbrev pub do_cross : ℕ → ℕ → ℕ → ℕ → Bool
 do_cross width height other_width other_height = (nat_le other_width width && nat_le height other_height) || (nat_le width other_width && nat_le other_height height)
 
 -- the sides of a primitive that is a rectangle about this centre and crosses the one with these sides
-abbrev pub crossing : GridPoint → ℕ → ℕ → Primitive → Option (ℕ × ℕ)
-crossing c w h (primitive.CentreLine centre width height) = if is_same centre c && do_cross w h width height then Some (width, height) else None
-crossing c w h _ = None
+abbrev pub crossing_sides : GridPoint → ℕ → ℕ → Primitive → Option (ℕ × ℕ)
+crossing_sides c w h (primitive.CentreLine centre width height) = if is_same centre c && do_cross w h width height then Some (width, height) else None
+crossing_sides c w h _ = None
 
--- the least of the circles at the corners of the part that two rectangles have in common, the difference of their widths and that of
--- their heights, where no circle lacks
+-- the least of the diameters of the circles at the corners of the part that two rectangles have in common, the difference of their widths and that of
+-- their heights, where no circle is missing
 unfoldable pub cross_border : List Primitive → GridRounded → ℕ → ℕ → Option ℕ
 cross_border qs common widths heights = least_of (map (disc_at qs) (corners common) ++ Some widths ∷ Some heights ∷ [])
 
@@ -100,7 +100,7 @@ cross_shape qs c width height other =
 -- the shape of a centre line: with the one that crosses it, where the second primitive is such a one, and else the rectangle alone
 abbrev pub centre_shape : List Primitive → GridPoint → ℕ → ℕ → Option GridRounded
 centre_shape qs c width height =
-    option_or (option_and_then (cross_shape qs c width height) (option_and_then (crossing c width height) (slice_get qs 1))) (rectangle_about c width height)
+    option_or (option_and_then (cross_shape qs c width height) (option_and_then (crossing_sides c width height) (slice_get qs 1))) (rectangle_about c width height)
 
 -- ---- shapes by the first primitive
 

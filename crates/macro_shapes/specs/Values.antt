@@ -22,8 +22,8 @@ abbrev pub lookup : List (Option ℤ) → Environment
 lookup values number = if number == 0 then None else get_or values (number - 1) None
 
 -- the variables after `$number=` has given one of them a value
-abbrev pub assigned : Environment → ℕ → ℤ → Environment
-assigned variables number v other = if other == number then Some v else variables other
+abbrev pub with_value : Environment → ℕ → ℤ → Environment
+with_value variables number v other = if other == number then Some v else variables other
 
 -- ---- arithmetic
 

@@ -2,7 +2,7 @@
 
 ghost use Rattle.std.specs.Prelude.{◌≡◌};
 ghost use Rattle.macro_shapes.specs.Values.{in_range, exact_quotient, have_other_signs, product, quotient};
-ghost use Rattle.macro_shapes.specs.Inner.Reading.{added, multiplied};
+ghost use Rattle.macro_shapes.specs.Inner.Reading.{sum_with, product_with};
 
 use crate::sign::{Addition, Multiplication};
 use grid_units::Dec;
@@ -72,7 +72,7 @@ fn quotient(a: Dec, b: Dec) -> Option<Dec>
 
 /// The value of a term after what stands before it.
 pub(crate) fn added(before: Option<(Dec, Addition)>, term: Dec) -> Option<Dec>
-    ensures { result ≡ added before term }
+    ensures { result ≡ sum_with before term }
 {
     match before {
         None => Some(term),
@@ -83,7 +83,7 @@ pub(crate) fn added(before: Option<(Dec, Addition)>, term: Dec) -> Option<Dec>
 
 /// The value of a factor after what stands before it.
 pub(crate) fn multiplied(before: Option<(Dec, Multiplication)>, factor: Dec) -> Option<Dec>
-    ensures { result ≡ multiplied before factor }
+    ensures { result ≡ product_with before factor }
 {
     match before {
         None => Some(factor),

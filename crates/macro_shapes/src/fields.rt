@@ -2,7 +2,7 @@
 
 ghost use Rattle.std.specs.Prelude.{◌≡◌, ◌≤◌, ◌↔◌, ◌++◌, ◌∷◌, ℕ, ℤ, List, map, Option, None, Some, option_map, IfOk, MatchOption, IsSomeAnd, []};
 ghost use Rattle.std.specs.Option.{option_copied};
-ghost use Rattle.macro_shapes.specs.Values.{Environment, lookup, assigned};
+ghost use Rattle.macro_shapes.specs.Values.{Environment, lookup, with_value};
 ghost use Rattle.macro_shapes.specs.Pieces.{IsMacro};
 ghost use Rattle.macro_shapes.specs.Inner.Parts.{split_by_if};
 ghost use Rattle.macro_shapes.specs.Inner.Pieces.{value_of, all_values, piece_fields, on_piece, fields_from};
@@ -118,7 +118,7 @@ fn define(variables: &mut Variables, number: usize, text: &[u8]) -> Result<Optio
     requires low { 1 ≤ number }
     requires high { number ≤ 999 }
     ensures { IfOk result (λ answer. MatchOption answer (value_of (lookup variables.old) text.now ≡ None)
-        (λ _. IsSomeAnd (value_of (lookup variables.old) text.now) (λ v. (n : ℕ) → lookup variables.new n ≡ assigned (lookup variables.old) number v n))) }
+        (λ _. IsSomeAnd (value_of (lookup variables.old) text.now) (λ v. (n : ℕ) → lookup variables.new n ≡ with_value (lookup variables.old) number v n))) }
 {
     let Some(value) = read(text, variables) else {
         return Ok(None);

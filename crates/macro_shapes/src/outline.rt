@@ -2,8 +2,8 @@
 
 ghost use Rattle.std.specs.Prelude.{◌≡◌, ◌<◌, ◌∷◌, IfOk, None, if◌then◌else◌, nat_lt, option_map, reverse, length, zip};
 ghost use Rattle.pad_shapes.specs.Rounded.{max_corners};
-ghost use Rattle.macro_shapes.specs.Primitives.{is_same, is_count, run_of, is_closed, point_at, moves, stops, are_different, rounded_of, polygon_of, either_way, outline_of, outline_at, coded, polygon_round};
-ghost use Rattle.macro_shapes.specs.Inner.Steps.{moved};
+ghost use Rattle.macro_shapes.specs.Primitives.{is_same, is_count, run_of, is_closed, point_at, moves, stops, are_different, rounded_of, polygon_of, either_way, outline_of, outline_at, primitive_by_code, polygon_round};
+ghost use Rattle.macro_shapes.specs.Inner.Steps.{other_point};
 ghost use Rattle.macro_shapes.specs.declared.piece.Code.TheVariants as code;
 ghost use Rattle.std.specs.List.{filter_map, list_any};
 
@@ -67,7 +67,7 @@ fn is_closed(run: &[Point]) -> bool
 
 /// Those points that are not the same as the one before them.
 fn moves_from(alloc: Global, before: Point, run: &[Point]) -> Result<Vec<Point>, AllocError>
-    ensures { IfOk result (λ kept. kept.items ≡ filter_map moved (zip (before ∷ run.now) run.now)) }
+    ensures { IfOk result (λ kept. kept.items ≡ filter_map other_point (zip (before ∷ run.now) run.now)) }
 {
     let mut kept = Vec::new(alloc);
     let mut last = before;
@@ -95,7 +95,7 @@ fn stops(alloc: Global, run: &[Point]) -> Result<Vec<Point>, AllocError>
 
 /// Whether more of these points than a polygon may have corners are not the same as the one before them. It reads no further than that.
 fn has_many_moves(before: Point, run: &[Point]) -> bool
-    ensures { result ≡ nat_lt max_corners (length (filter_map moved (zip (before ∷ run.now) run.now))) }
+    ensures { result ≡ nat_lt max_corners (length (filter_map other_point (zip (before ∷ run.now) run.now))) }
 {
     let mut count = 0;
     let mut last = before;
@@ -271,7 +271,7 @@ pub(crate) fn outline(
     unit: Unit,
     values: &[Dec],
 ) -> Result<Option<Primitive>, AllocError>
-    ensures { IfOk result (λ answer. answer ≡ coded code.Outline unit values.now) }
+    ensures { IfOk result (λ answer. answer ≡ primitive_by_code code.Outline unit values.now) }
 {
     match values {
         [exposure, count, rest @ ..] => {

@@ -2,7 +2,7 @@
 
 ghost use Rattle.std.specs.Prelude.{◌≡◌, IfOk, pos};
 ghost use Rattle.std.specs.Ordering.{int_eq};
-ghost use Rattle.macro_shapes.specs.Primitives.{quarter_turns, turned_x, turned_y, grid_point, size_of, side_of, dark_turns, placed, circle_at, line_at, with_sides, rectangle_at, coded, primitives_of};
+ghost use Rattle.macro_shapes.specs.Primitives.{quarter_turns, turned_x, turned_y, grid_point, size_of, side_of, dark_turns, point_of_values, circle_at, line_at, with_sides, rectangle_at, primitive_by_code, primitives_of};
 ghost use Rattle.macro_shapes.specs.Inner.Steps.{length_of, point_of};
 ghost use Rattle.macro_shapes.specs.declared.piece.Code.TheVariants as code;
 
@@ -162,7 +162,7 @@ fn point_of(unit: Unit, x: Dec, y: Dec) -> Option<Point>
 
 /// Two values as a point that is turned.
 pub(crate) fn placed(unit: Unit, turns: u8, x: Dec, y: Dec) -> Option<Point>
-    ensures { result ≡ placed unit turns x y }
+    ensures { result ≡ point_of_values unit turns x y }
 {
     let point = point_of(unit, x, y)?;
     turned(turns, point)
@@ -197,7 +197,7 @@ fn circle_at(unit: Unit, turns: u8, diameter: Dec, x: Dec, y: Dec) -> Option<Pri
 
 /// The circle that values spell.
 fn circle(unit: Unit, values: &[Dec]) -> Option<Primitive>
-    ensures { result ≡ coded code.Circle unit values.now }
+    ensures { result ≡ primitive_by_code code.Circle unit values.now }
 {
     match values {
         [exposure, diameter, x, y] => {
@@ -235,7 +235,7 @@ fn line_at(
 
 /// The vector line that values spell.
 fn vector_line(unit: Unit, values: &[Dec]) -> Option<Primitive>
-    ensures { result ≡ coded code.VectorLine unit values.now }
+    ensures { result ≡ primitive_by_code code.VectorLine unit values.now }
 {
     match values {
         [exposure, width, x1, y1, x2, y2, rotation] => {
@@ -277,7 +277,7 @@ fn rectangle_at(unit: Unit, turns: u8, width: Dec, height: Dec, x: Dec, y: Dec) 
 
 /// The centre line that values spell.
 fn centre_line(unit: Unit, values: &[Dec]) -> Option<Primitive>
-    ensures { result ≡ coded code.CentreLine unit values.now }
+    ensures { result ≡ primitive_by_code code.CentreLine unit values.now }
 {
     match values {
         [exposure, width, height, x, y, rotation] => {
@@ -295,7 +295,7 @@ fn coded(
     unit: Unit,
     values: &[Dec],
 ) -> Result<Option<Primitive>, AllocError>
-    ensures { IfOk result (λ answer. answer ≡ coded code unit values.now) }
+    ensures { IfOk result (λ answer. answer ≡ primitive_by_code code unit values.now) }
 {
     match code {
         Code::Circle => Ok(circle(unit, values)),

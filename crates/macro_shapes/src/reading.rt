@@ -2,7 +2,7 @@
 
 ghost use Rattle.std.specs.Prelude.{◌≡◌, MatchOption, None, Some};
 ghost use Rattle.macro_shapes.specs.Values.{lookup};
-ghost use Rattle.macro_shapes.specs.Inner.Reading.{start, factor_of, term_of, sum_of, is_before_factor, is_leading, open_bracket, close_bracket, before_sign, summed, multiplied_on, step, finished};
+ghost use Rattle.macro_shapes.specs.Inner.Reading.{start, factor_of, term_of, sum_of, is_before_factor, is_leading, open_bracket, close_bracket, before_sign, after_addition, multiplied_on, step, final_value};
 ghost use Rattle.macro_shapes.specs.Inner.State.{state};
 
 use crate::arithmetic::{added, multiplied};
@@ -122,10 +122,10 @@ impl Reading {
     }
 
     /// Takes the sign of a sum. `None` where no sum ends here.
-    #[tactic(auto, unfolding(crate::specs::Inner::Reading::summed))]
+    #[tactic(auto, unfolding(crate::specs::Inner::Reading::after_addition))]
     fn add(&mut self, operand: &[u8], sign: Addition, variables: &Variables) -> Option<()>
-        ensures { MatchOption result (summed (lookup variables.now) (state self.old) operand.now sign ≡ None)
-            (λ _. summed (lookup variables.now) (state self.old) operand.now sign ≡ Some (state self.new)) }
+        ensures { MatchOption result (after_addition (lookup variables.now) (state self.old) operand.now sign ≡ None)
+            (λ _. after_addition (lookup variables.now) (state self.old) operand.now sign ≡ Some (state self.new)) }
     {
         let sum = self.before_sign(operand, variables)?;
         self.frame = Frame {
@@ -169,7 +169,7 @@ impl Reading {
 
     /// The value of the expression that ends with this operand. `None` where a bracket is open, or it has no value.
     pub(crate) fn finish(&self, operand: &[u8], variables: &Variables) -> Option<Dec>
-        ensures { result ≡ finished (lookup variables.now) (state self.now) operand.now }
+        ensures { result ≡ final_value (lookup variables.now) (state self.now) operand.now }
     {
         if self.outer.depth() == 0 {
             self.sum(operand, variables)

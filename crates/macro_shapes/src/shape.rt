@@ -3,7 +3,7 @@
 ghost use Rattle.std.specs.Prelude.{◌≡◌, IfOk, option_and_then, unwrap_or};
 ghost use Rattle.std.specs.Int.{abs_diff};
 ghost use Rattle.macro_shapes.specs.Primitives.{rounded_of};
-ghost use Rattle.macro_shapes.specs.Shapes.{diameter_at, width_along, disc_at, line_along, border, rectangle_of, rectangle_about, rectangle_along, line_shape, with_border, crossing, cross_border, with_arms, cross_shape, centre_shape, do_cross, shape_from, shape_of};
+ghost use Rattle.macro_shapes.specs.Shapes.{diameter_at, width_along, disc_at, line_along, border, rectangle_of, rectangle_about, rectangle_along, line_shape, with_border, crossing_sides, cross_border, with_arms, cross_shape, centre_shape, do_cross, shape_from, shape_of};
 ghost use Rattle.macro_shapes.specs.Inner.Steps.{other_end, second_crossing};
 ghost use Rattle.macro_shapes.specs.Inner.Borders.{greatest, least, disc_in_turn, line_in_turn, discs_in_turn, border_in_turn};
 
@@ -276,7 +276,7 @@ fn do_cross(width: u64, height: u64, other_width: u64, other_height: u64) -> boo
 
 /// The sides of a primitive that is a rectangle about this centre and crosses the one with these sides.
 fn crossing(centre: Point, width: u64, height: u64, primitive: &Primitive) -> Option<(u64, u64)>
-    ensures { result ≡ crossing centre width height primitive.now }
+    ensures { result ≡ crossing_sides centre width height primitive.now }
 {
     match primitive {
         Primitive::CentreLine {

@@ -2,7 +2,7 @@
 
 ghost use Rattle.std.specs.Prelude.{◌≡◌, ◌≤◌, ◌-◌, ℕ, None, if◌then◌else◌, length, get_or, OnOk, OnErr, IfOk, option_map};
 ghost use Rattle.std.specs.Option.{option_copied};
-ghost use Rattle.macro_shapes.specs.Values.{lookup, assigned};
+ghost use Rattle.macro_shapes.specs.Values.{lookup, with_value};
 ghost use Rattle.grid_units.specs.Numbers.{is_digits, value};
 ghost use Rattle.macro_shapes.specs.Pieces.{split_by};
 ghost use Rattle.macro_shapes.specs.Inner.Pieces.{all_decimals};
@@ -35,7 +35,7 @@ impl Model for Variables {
 impl Variables {
     ghost use Rattle.std.specs.Prelude.{◌≡◌, ◌≤◌, ℕ, [], OnOk, OnErr, IfOk};
     ghost use Rattle.std.specs.Option.{option_copied};
-    ghost use Rattle.macro_shapes.specs.Values.{lookup, assigned, operand_value};
+    ghost use Rattle.macro_shapes.specs.Values.{lookup, with_value, operand_value};
     ghost use Rattle.macro_shapes.specs.Inner.Pieces.{parameters_of};
 
     /// No variable has a value.
@@ -62,7 +62,7 @@ impl Variables {
     pub fn set(&mut self, number: usize, value: Dec) -> Result<(), AllocError>
         requires low { 1 ≤ number }
         requires high { number ≤ 999 }
-        ensures ok { OnOk result ((other : ℕ) → lookup self.new other ≡ assigned (lookup self.old) number value other) }
+        ensures ok { OnOk result ((other : ℕ) → lookup self.new other ≡ with_value (lookup self.old) number value other) }
         ensures err { OnErr result ((other : ℕ) → lookup self.new other ≡ lookup self.old other) }
     {
         put(&mut self.values, number, value)
@@ -143,7 +143,7 @@ fn put(values: &mut Vec<Option<Dec>>, number: usize, value: Dec) -> Result<(), A
     requires low { 1 ≤ number }
     requires high { number ≤ 999 }
     requires few { length values.old.items ≤ 999 }
-    ensures ok { OnOk result ((other : ℕ) → lookup values.new.items other ≡ assigned (lookup values.old.items) number value other) }
+    ensures ok { OnOk result ((other : ℕ) → lookup values.new.items other ≡ with_value (lookup values.old.items) number value other) }
     ensures err { OnErr result ((other : ℕ) → lookup values.new.items other ≡ lookup values.old.items other) }
     ensures few { length values.new.items ≤ 999 }
 {

@@ -26,9 +26,9 @@ abbrev pub parted_byte : ℕ → ℕ → List ℕ
 parted_byte before b = if begins_word before b then ascii.space ∷ b ∷ [] else b ∷ []
 
 -- the bytes after the byte before them, with a space before each that begins a word: `Solder Mask Top` of `SolderMaskTop`
-abbrev pub parted : ℕ → List ℕ → List ℕ
-parted before [] = []
-parted before (b ∷ bs) = parted_byte before b ++ parted b bs
+abbrev pub spaced_words : ℕ → List ℕ → List ℕ
+spaced_words before [] = []
+spaced_words before (b ∷ bs) = parted_byte before b ++ spaced_words b bs
 
 -- a small letter or a digit
 abbrev pub is_word_byte : ℕ → Bool
@@ -40,7 +40,7 @@ word_runs name = filter (λ run. not (length run == 0)) (slice_split (λ b. not 
 
 -- what follows the last slash of a name, cut before the capitals that begin words, in lower case: `top layer.gbr` of `out/TopLayer.gbr`
 abbrev pub lower_base_name : List ℕ → List ℕ
-lower_base_name name = map to_ascii_lowercase (parted 0 (base_name name))
+lower_base_name name = map to_ascii_lowercase (spaced_words 0 (base_name name))
 
 -- the words of a name, the runs of letters and digits after its last slash, cut before the capitals that begin words, in lower case:
 -- `b`, `f`, `cu`, `gbr` of `out/b-F_Cu.gbr`, and `solder`, `mask`, `top`, `gbr` of `SolderMaskTop.gbr`

@@ -29,19 +29,14 @@ pub fn is_archive(bytes: &[u8]) -> bool
     bytes.starts_with(b"PK\x03\x04")
 }
 
-/// Whether a byte is a space, a tab or CR.
-fn is_blank(byte: u8) -> bool
-    ensures { result ≡ says.is_blank byte }
-{
-    byte == b' ' || byte == b'\t' || byte == b'\r'
-}
-
 /// Whether a line is this word and then nothing but spaces, tabs and CR.
 fn is_line_of(word: &[u8], line: &[u8]) -> bool
     ensures { result ≡ says.is_line_of word.now line.now }
 {
     match line.strip_prefix(word) {
-        Some(after) => after.iter().all(|byte| is_blank(*byte)),
+        Some(after) => after
+            .iter()
+            .all(|byte| matches!(*byte, b' ' | b'\t' | b'\r')),
         None => false,
     }
 }
@@ -75,15 +70,6 @@ pub(crate) fn contains(text: &[u8], part: &[u8]) -> bool
     memmem::find(text, part).is_some()
 }
 
-fn is_gerber(text: &[u8]) -> bool
-    ensures { result ≡ says.is_gerber text.now }
-{
-    contains(text, b"%FS")
-        || contains(text, b"D02*")
-        || contains(text, b"D03*")
-        || contains(text, b"M02*")
-}
-
 /// The kind of a text: an archive where it begins as one, Gerber where it contains `%FS`, `D02*`, `D03*` or `M02*`, drill where a
 /// line is `M48` or `M30`. A drill file without `M48` is empty where each line is empty, `M30` or `%`.
 pub fn kind_of(text: &[u8]) -> FileKind
@@ -92,7 +78,11 @@ pub fn kind_of(text: &[u8]) -> FileKind
     if is_archive(text) {
         return FileKind::Archive;
     }
-    if is_gerber(text) {
+    let is_gerber = contains(text, b"%FS")
+        || contains(text, b"D02*")
+        || contains(text, b"D03*")
+        || contains(text, b"M02*");
+    if is_gerber {
         return FileKind::Gerber;
     }
     if has_line(b"M48", text) {

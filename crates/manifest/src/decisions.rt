@@ -2,7 +2,6 @@
 
 ghost use Rattle.std.specs.Prelude.{◌≡◌, IfOk, map};
 ghost use Rattle.std.specs.List.{list_any};
-ghost use Rattle.manifest.specs.Contents as contents_say;
 ghost use Rattle.manifest.specs.Decisions as says;
 ghost use Rattle.manifest.specs.Names as naming;
 
@@ -35,23 +34,16 @@ fn hole_kind(word: &[u8]) -> HoleKind
     }
 }
 
-/// The layers that two fields name for holes of a kind, if both are one to nine digits.
-fn layers_of_fields(kind: HoleKind, first: &[u8], last: &[u8]) -> Option<LayerRange>
-    ensures { result ≡ says.layers_of_fields kind (naming.number_within 9 first.now) (naming.number_within 9 last.now) }
-{
-    Some(LayerRange {
-        first: layer_number(first)?,
-        last: layer_number(last)?,
-        kind,
-    })
-}
-
 /// The layers that a drill file's function names.
 pub(crate) fn layers_of_function(function: &[u8]) -> Option<LayerRange>
     ensures { result ≡ says.layers_of_function function.now }
 {
     let fields = fields_of(function);
-    layers_of_fields(hole_kind(fields.fourth), fields.second, fields.third)
+    Some(LayerRange {
+        first: layer_number(fields.second)?,
+        last: layer_number(fields.third)?,
+        kind: hole_kind(fields.fourth),
+    })
 }
 
 /// Whether a drill file's function says that its holes are blind or buried, and names no layers.
@@ -119,45 +111,27 @@ fn drill_by_text(plated: bool, unplated: bool, function: Option<Decision>) -> Op
     }
 }
 
-/// What the words of a drill file's name say: whether holes are plated, and whether they are not.
-fn drill_by_words(plated: bool, unplated: bool) -> Decision
-    ensures { result ≡ says.drill_by_words plated unplated }
-{
-    match (plated, unplated) {
-        (true, true) => (ProposedRole::Undecided, ProposalReason::ConflictingName),
-        (false, true) => (ProposedRole::Unplated(None), ProposalReason::ByName),
-        (_, false) => (ProposedRole::Plated(None), ProposalReason::DrillByDefault),
-    }
-}
-
 /// What a drill file's name says.
 fn drill_by_name(alloc: Global, name: &[u8]) -> Result<Decision, AllocError>
     ensures { IfOk result (λ decision. decision ≡ says.drill_by_name name.now) }
 {
     let lower = lower_base_name(alloc, name)?;
     let words = word_runs(alloc, lower.as_slice())?;
-    let (plated, unplated) = (
-        says_plated(words.as_slice()),
-        says_unplated(words.as_slice()),
-    );
-    Ok(drill_by_words(plated, unplated))
-}
-
-/// What a drill file's function says, if it has one that says something.
-fn drill_function(alloc: Global, text: &[u8]) -> Result<Option<Decision>, AllocError>
-    ensures { IfOk result (λ decision. decision ≡ says.by_file_function says.drill_by_function (contents_say.function_of text.now)) }
-{
-    match function_of(text) {
-        Some(function) => drill_by_function(alloc, function),
-        None => Ok(None),
-    }
+    Ok(match (says_plated(&words), says_unplated(&words)) {
+        (true, true) => (ProposedRole::Undecided, ProposalReason::ConflictingName),
+        (false, true) => (ProposedRole::Unplated(None), ProposalReason::ByName),
+        (_, false) => (ProposedRole::Plated(None), ProposalReason::DrillByDefault),
+    })
 }
 
 /// What a drill file is: by its text, else by its name.
 fn drill_decision(alloc: Global, name: &[u8], text: &[u8]) -> Result<Decision, AllocError>
     ensures { IfOk result (λ decision. decision ≡ says.drill_decision name.now text.now) }
 {
-    let function = drill_function(alloc, text)?;
+    let function = match function_of(text) {
+        Some(function) => drill_by_function(alloc, function)?,
+        None => None,
+    };
     let (plated, unplated) = (says_plated_holes(text), says_unplated_holes(text));
     if let Some(decision) = drill_by_text(plated, unplated, function) {
         return Ok(decision);
@@ -204,19 +178,6 @@ fn gerber_by_function(alloc: Global, function: &[u8]) -> Result<Decision, AllocE
     Ok((ProposedRole::LeftOut, by_function(alloc, fields.first)?))
 }
 
-/// An inner layer, by the number in the name, if there is one.
-fn inner_copper_by_name(number: Option<u32>) -> Option<Decision>
-    ensures { result ≡ says.inner_copper_by_name number }
-{
-    match number {
-        Some(n) => Some((
-            ProposedRole::Copper(StackPosition::Inner(n)),
-            ProposalReason::ByName,
-        )),
-        None => None,
-    }
-}
-
 /// Copper at a place, by the name.
 fn copper_by_name(place: StackPosition) -> Option<Decision>
     ensures { result ≡ says.copper_by_name place }
@@ -253,7 +214,7 @@ fn gerber_by_extension(end: &[u8]) -> Option<Decision>
     if is_one_of(end, &["gbl", "sol"]) {
         return copper_by_name(StackPosition::Bottom);
     }
-    inner_copper_by_name(number_suffix(&["g", "gl", "ly"], end))
+    copper_by_name(StackPosition::Inner(number_suffix(&["g", "gl", "ly"], end)?))
 }
 
 /// Whether a word is one of a top layer; `dropped` says whether a word for copper that followed it was dropped.
@@ -297,13 +258,10 @@ fn gerber_by_word(dropped: bool, word: &[u8]) -> Option<Decision>
         &["in", "inner", "innerlayer", "l", "layer", "group", "signal"],
         word,
     );
-    if let Some(decision) = inner_copper_by_name(number) {
-        return Some(decision);
-    }
-    if dropped {
-        copper_by_name(StackPosition::Unknown)
-    } else {
-        None
+    match number {
+        Some(n) => copper_by_name(StackPosition::Inner(n)),
+        None if dropped => copper_by_name(StackPosition::Unknown),
+        None => None,
     }
 }
 

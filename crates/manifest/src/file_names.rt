@@ -1,6 +1,6 @@
 //! What the name of a file says.
 
-ghost use Rattle.std.specs.Prelude.{◌≡◌, ◌≤◌, ◌++◌, IfOk, IfSome, OnOk, codes, map, option_map};
+ghost use Rattle.std.specs.Prelude.{◌≡◌, ◌≤◌, IfOk, codes, map};
 ghost use Rattle.std.specs.Str.{bytes_eq};
 ghost use Rattle.std.specs.List.{list_any};
 ghost use Rattle.grid_units.specs.Numbers as numbers;
@@ -21,18 +21,6 @@ pub fn base_name(name: &[u8]) -> &[u8]
     }
 }
 
-fn is_small_letter(byte: u8) -> bool
-    ensures { result ≡ says.is_small_letter byte }
-{
-    b'a' <= byte && byte <= b'z'
-}
-
-fn is_word_byte(byte: u8) -> bool
-    ensures { result ≡ says.is_word_byte byte }
-{
-    is_digit(byte) || is_small_letter(byte)
-}
-
 /// The runs of small letters and digits.
 ///
 /// # Errors
@@ -41,7 +29,7 @@ fn is_word_byte(byte: u8) -> bool
 pub fn word_runs(alloc: Global, name: &[u8]) -> Result<Vec<&[u8]>, AllocError>
     ensures { IfOk result (λ words. map (λ word. word.now) words.items ≡ says.word_runs name.now) }
 {
-    name.split(|byte| !is_word_byte(*byte))
+    name.split(|byte| !(byte.is_ascii_digit() || byte.is_ascii_lowercase()))
         .filter(|run| !run.is_empty())
         .collect(alloc)
 }
@@ -357,37 +345,6 @@ pub(crate) fn names_copper(word: &[u8]) -> bool
         .is_some()
 }
 
-/// Whether a byte is a capital that follows a small letter, and so begins a word.
-fn begins_word(before: u8, byte: u8) -> bool
-    ensures { result ≡ says.begins_word before byte }
-{
-    is_small_letter(before) && b'A' <= byte && byte <= b'Z'
-}
-
-/// Appends a byte, and a space before it where it begins a word.
-fn push_parted(text: &mut Vec<u8>, before: u8, byte: u8) -> Result<(), AllocError>
-    ensures { OnOk result (text.new.items ≡ text.old.items ++ says.parted_byte before byte) }
-{
-    if begins_word(before, byte) {
-        return text.extend_from_slice(&[b' ', byte]);
-    }
-    text.push(byte)?;
-    Ok(())
-}
-
-/// A text with a space before each capital that follows a small letter.
-fn parted(alloc: Global, name: &[u8]) -> Result<Vec<u8>, AllocError>
-    ensures { IfOk result (λ text. text.items ≡ says.parted 0 name.now) }
-{
-    let mut text = Vec::new(alloc);
-    let mut before = 0;
-    for byte in name {
-        push_parted(&mut text, before, *byte)?;
-        before = *byte;
-    }
-    Ok(text)
-}
-
 /// What follows the last slash of a name, with a space before each capital that follows a small letter, and `A` to `Z` in lower
 /// case. Its runs are the words of the name.
 ///
@@ -397,6 +354,14 @@ fn parted(alloc: Global, name: &[u8]) -> Result<Vec<u8>, AllocError>
 pub fn lower_base_name(alloc: Global, name: &[u8]) -> Result<Vec<u8>, AllocError>
     ensures { IfOk result (λ lower. lower.items ≡ says.lower_base_name name.now) }
 {
-    let words = parted(alloc, base_name(name))?;
-    words.as_slice().to_ascii_lowercase(alloc)
+    let mut lower = Vec::new(alloc);
+    let mut before: u8 = 0;
+    for byte in base_name(name) {
+        if before.is_ascii_lowercase() && byte.is_ascii_uppercase() {
+            lower.push(b' ')?;
+        }
+        lower.push(byte.to_ascii_lowercase())?;
+        before = *byte;
+    }
+    Ok(lower)
 }

@@ -63,13 +63,6 @@ fn mixed_decision(alloc: Global, text: &[u8]) -> Result<Decision, AllocError>
     }
 }
 
-/// Whether this is the reason of a drill file with both plated and unplated holes.
-fn is_mixed_reason(because: &ProposalReason) -> bool
-    ensures { result ≡ says.is_mixed_reason because.now }
-{
-    matches!(because, ProposalReason::MixedHoles)
-}
-
 /// What a file with this name and text is in a profile, and why. The wide profile alone has the role `mixed`.
 pub(crate) fn decision_in(
     alloc: Global,
@@ -80,8 +73,8 @@ pub(crate) fn decision_in(
     ensures { IfOk result (λ decision. decision ≡ says.decision_in profile name.now text.now) }
 {
     let alone = decision(alloc, name, text)?;
-    match profile {
-        Profile::Wide if is_mixed_reason(&alone.1) => mixed_decision(alloc, text),
-        Profile::Strict | Profile::Wide => Ok(alone),
+    match (profile, &alone.1) {
+        (Profile::Wide, ProposalReason::MixedHoles) => mixed_decision(alloc, text),
+        _ => Ok(alone),
     }
 }

@@ -8,24 +8,16 @@ ghost use Rattle.manifest.specs.Manifests.{IsManifestOrder};
 use crate::model::{Proposal, ProposedRole, StackPosition};
 use std::alloc::{AllocError, Global};
 
-fn place_rank(place: StackPosition) -> u64
-    ensures { result ≡ says.place_rank place }
-{
-    match place {
-        StackPosition::Numbered(n) => n as u64,
-        StackPosition::Top => 1,
-        StackPosition::Inner(n) => n as u64 + 1,
-        StackPosition::Unknown => 4_294_967_296,
-        StackPosition::Bottom => 4_294_967_297,
-    }
-}
-
 /// The rank of a file in a manifest: the lower one stands first.
 pub(crate) fn rank(role: ProposedRole) -> u64
     ensures { result ≡ says.rank role }
 {
     match role {
-        ProposedRole::Copper(place) => place_rank(place),
+        ProposedRole::Copper(StackPosition::Numbered(n)) => n as u64,
+        ProposedRole::Copper(StackPosition::Top) => 1,
+        ProposedRole::Copper(StackPosition::Inner(n)) => n as u64 + 1,
+        ProposedRole::Copper(StackPosition::Unknown) => 4_294_967_296,
+        ProposedRole::Copper(StackPosition::Bottom) => 4_294_967_297,
         ProposedRole::Plated(_) => 4_294_967_298,
         ProposedRole::Unplated(_) => 4_294_967_299,
         ProposedRole::Mixed(_) => 4_294_967_300,

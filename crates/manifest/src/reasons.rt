@@ -60,13 +60,6 @@ fn named_function(because: &ProposalReason) -> &[u8]
     }
 }
 
-/// Whether a byte is printed as it is: printable ASCII without the backslash.
-fn is_printed(byte: u8) -> bool
-    ensures { result ≡ says.is_printed byte }
-{
-    b' ' <= byte && byte < 0x7F && byte != b'\\'
-}
-
 /// A digit of base 16, in lower case.
 fn hex_digit(value: u8) -> u8
     requires { value < 16 }
@@ -83,7 +76,7 @@ fn hex_digit(value: u8) -> u8
 fn push_byte(text: &mut Vec<u8>, byte: u8) -> Result<(), AllocError>
     ensures { OnOk result (text.new.items ≡ text.old.items ++ says.byte_text byte) }
 {
-    if is_printed(byte) {
+    if b' ' <= byte && byte < 0x7F && byte != b'\\' {
         text.push(byte)?;
         return Ok(());
     }

@@ -25,21 +25,15 @@ fn may_be_copper(because: &ProposalReason) -> bool
     )
 }
 
-/// Whether the last layer that is named lies beyond so many layers.
-fn exceeds_count(count: usize, span: Option<LayerRange>) -> bool
-    ensures { result ≡ says.exceeds_count count span }
-{
-    match span {
-        Some(span) => count < span.last as usize,
-        None => false,
-    }
-}
-
 /// Whether a file is a sign that so many copper files are not all.
 fn hints_at_missing(count: usize, file: &Proposal) -> bool
     ensures { result ≡ says.hints_at_missing count file.now }
 {
-    may_be_copper(&file.because) || exceeds_count(count, layers_of_role(file.role))
+    may_be_copper(&file.because)
+        || match layers_of_role(file.role) {
+            Some(layers) => count < layers.last as usize,
+            None => false,
+        }
 }
 
 /// How many copper files there are.
@@ -57,26 +51,16 @@ fn is_copper_complete(count: usize, files: &[Proposal]) -> bool
     !files.iter().any(|file| hints_at_missing(count, file))
 }
 
-/// The number of the layer at a place, from 1 at the top; 0 where it is not known. `here` says whether the copper files,
-/// `count` of them, are all here.
-fn layer_at_position(here: bool, count: usize, place: StackPosition) -> usize
-    ensures { result ≡ says.layer_at_position here count place }
-{
-    match place {
-        StackPosition::Numbered(n) => n as usize,
-        StackPosition::Top => 1,
-        StackPosition::Inner(n) if here => n as usize + 1,
-        StackPosition::Bottom if here => count,
-        StackPosition::Inner(_) | StackPosition::Unknown | StackPosition::Bottom => 0,
-    }
-}
-
-/// The number of the layer that a file is; 0 where it is no copper file, or where its layer is not known.
+/// The number of the layer that a file is, from 1 at the top; 0 where it is no copper file, or where its layer is not known.
+/// `here` says whether the copper files, `count` of them, are all here.
 fn layer_of_role(here: bool, count: usize, role: ProposedRole) -> usize
     ensures { result ≡ says.layer_of_role here count role }
 {
     match role {
-        ProposedRole::Copper(place) => layer_at_position(here, count, place),
+        ProposedRole::Copper(StackPosition::Numbered(n)) => n as usize,
+        ProposedRole::Copper(StackPosition::Top) => 1,
+        ProposedRole::Copper(StackPosition::Inner(n)) if here => n as usize + 1,
+        ProposedRole::Copper(StackPosition::Bottom) if here => count,
         _ => 0,
     }
 }
@@ -107,19 +91,13 @@ fn ascend_from_one(numbers: &[usize]) -> bool
     true
 }
 
-/// Whether numbers, in any order, are just those from 1 to their count, each once.
-fn are_one_to_n(mut numbers: Vec<usize>) -> bool
-    ensures { result ≡ says.are_one_to_n numbers.items }
-{
-    numbers.sort_unstable();
-    ascend_from_one(&numbers)
-}
-
 /// Whether the copper files are the layers 1 to their number, each once.
 fn is_stack(alloc: Global, files: &[Proposal]) -> Result<bool, AllocError>
     ensures { IfOk result (λ stack. stack ≡ says.is_stack files.now) }
 {
-    Ok(are_one_to_n(copper_layers(alloc, files)?))
+    let mut layers = copper_layers(alloc, files)?;
+    layers.sort_unstable();
+    Ok(ascend_from_one(&layers))
 }
 
 /// Whether layers are a first one from 1 and a last one that is not below it, among so many.
@@ -141,23 +119,15 @@ fn is_of_kind(kind: HoleKind, top: bool, bottom: bool) -> bool
     }
 }
 
-/// Whether layers are of the kind that their function says, among so many.
-fn fit_kind(count: usize, layers: LayerRange) -> bool
-    ensures { result ≡ says.fit_kind count layers }
-{
-    is_of_kind(
-        layers.kind,
-        layers.first == 1,
-        layers.last as usize == count,
-    )
-}
-
 /// Whether no layers are named, or the copper files are a stack and these are some of its layers, of the kind that is said.
 fn are_clear(stack: bool, count: usize, span: Option<LayerRange>) -> bool
     ensures { result ≡ says.are_clear stack count span }
 {
     match span {
-        Some(layers) => stack && are_within_count(count, layers) && fit_kind(count, layers),
+        Some(layers) => {
+            let (top, bottom) = (layers.first == 1, layers.last as usize == count);
+            stack && are_within_count(count, layers) && is_of_kind(layers.kind, top, bottom)
+        }
         None => true,
     }
 }

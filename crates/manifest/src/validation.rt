@@ -11,9 +11,8 @@ ghost use Rattle.manifest.specs.Inner.RecordEntry.{checked_entry, entry_with};
 
 use crate::names::Name;
 use crate::rows::{has_field, refused, text_field};
-use crate::{Entry, Role};
+use crate::{Entry, Role, layer_number};
 use csv::ByteRecord;
-use grid_units::numbers::{capped_value, is_digits};
 use grid_units::{Fail, Profile, Reason, Span};
 use std::alloc::Global;
 use std::collections::BTreeSet;
@@ -171,25 +170,17 @@ fn field_count(first: &ByteRecord) -> Option<usize>
     ensures value { result ≡ naming.field_count (fields_of first.now) }
     ensures bound { IfSome result (λ width. width ≤ 5) }
 {
-    if first.len() == 3 && has_file_columns(first) {
+    let names_files = has_field(first, 0, "role")
+        && has_field(first, 1, "name")
+        && has_field(first, 2, "file");
+    if first.len() == 3 && names_files {
         return Some(3);
     }
-    if first.len() == 5 && has_file_columns(first) && has_span_columns(first) {
+    let names_spans = has_field(first, 3, "first") && has_field(first, 4, "last");
+    if first.len() == 5 && names_files && names_spans {
         return Some(5);
     }
     None
-}
-
-fn has_file_columns(row: &ByteRecord) -> bool
-    ensures { result ≡ naming.has_file_columns (fields_of row.now) }
-{
-    has_field(row, 0, "role") && has_field(row, 1, "name") && has_field(row, 2, "file")
-}
-
-fn has_span_columns(row: &ByteRecord) -> bool
-    ensures { result ≡ naming.has_span_columns (fields_of row.now) }
-{
-    has_field(row, 3, "first") && has_field(row, 4, "last")
 }
 
 /// The role that a word names: `copper`, `plated`, `unplated` or `mixed`.
@@ -235,17 +226,10 @@ fn span_or_reason(role: Role, first: &str, last: &str) -> Result<Option<Span>, R
 fn span_of_numbers(first: &str, last: &str) -> Option<Span>
     ensures { result ≡ reading.span_of_numbers first.now last.now }
 {
-    Span::new(layer_number(first)?, layer_number(last)?)
-}
-
-/// The number of a layer that one to nine digits spell.
-fn layer_number(text: &str) -> Option<u32>
-    ensures { result ≡ reading.layer_number text.now }
-{
-    if !is_digits(text.as_bytes()) || text.len() > 9 {
-        return None;
-    }
-    Some(capped_value(text.as_bytes(), 999_999_999) as u32)
+    Span::new(
+        layer_number(first.as_bytes())?,
+        layer_number(last.as_bytes())?,
+    )
 }
 
 fn is_copper_role(role: Role) -> bool

@@ -1,5 +1,5 @@
 -- The board of a package, and its holes with their places.
-use Rattle.package_check.proofs.Common.{◌≡◌, ◌+◌, ◌++◌, ℕ, List, [], ◌∷◌, length, map, take, drop, arith, refl, sym, ap, ap₂, ◌∙◌, Bool, true, false, cond, not, flat_map, enumerate_from, count_by, sum_by, length-append, length-map, flat_map-cons, sum_by-cons, GridHole, GridRules, is_round, LayerSpan, Drawn, Drilled, Numbered, Content, wide_pad_covers, WidePad, gap_findings, ring_findings, FileCountsAddUp, BoardView, IsBoard, board_findings, board_of, hole_count, numbered_from, numbered_in, reported, FileView, IsReport, drilled, findings, holes_of, layer_indexes, layers, report_on, sum_of, ReportView, drilled_in}
+use Rattle.package_check.proofs.Common.{◌≡◌, ◌+◌, ◌++◌, ℕ, List, [], ◌∷◌, length, map, take, drop, arith, refl, sym, ap, ap₂, ◌∙◌, Bool, true, false, cond, not, flat_map, enumerate_from, count_by, sum_by, length-append, length-map, flat_map-cons, sum_by-cons, GridHole, GridRules, is_round, LayerSpan, Drawn, Drilled, Numbered, Content, wide_pad_covers, WidePad, gap_findings, ring_findings, FileCountsAddUp, BoardView, IsBoard, board_findings, board_of, hole_count, numbered_from, numbered_in, report_of_board, FileView, IsReport, holes_of_all, findings, holes_of, layer_indexes, layers, report_on, sum_of, ReportView, drilled_in}
 use Rattle.std.proofs.Math.Seq.{take-append_seam, drop-append_seam}
 use Rattle.std.specs.Prelude.{Option}
 use Rattle.pad_shapes.specs.declared.row.FeatureRow.{FeatureRow}
@@ -66,11 +66,11 @@ numbered_all n (c ∷ cs) =
     ∙ sym (flat_map-cons holes_of (n, c) (enumerate_from (n + 1) cs)))))
 
 -- the findings on the board of files are those on their contents
-same_findings : (rules : GridRules) (contents : List Content) (flashes : List (List FeatureRow)) (macros contours : List (List WidePad)) (drawn : List (List Drawn)) → board_findings rules (board_of contents flashes macros contours drawn) ≡ findings rules (layers contents) (drilled contents)
+same_findings : (rules : GridRules) (contents : List Content) (flashes : List (List FeatureRow)) (macros contours : List (List WidePad)) (drawn : List (List Drawn)) → board_findings rules (board_of contents flashes macros contours drawn) ≡ findings rules (layers contents) (holes_of_all contents)
 same_findings rules contents flashes macros contours drawn = λ i. ring_findings wide_pad_covers rules.profile rules.ring (layers contents) (sym (all_drilled contents) i) ++ gap_findings rules.gap (sym (all_drilled contents) i)
 
 -- and so is the report
-same_report : (rules : GridRules) (contents : List Content) (flashes : List (List FeatureRow)) (macros contours : List (List WidePad)) (drawn : List (List Drawn)) → reported rules (board_of contents flashes macros contours drawn) ≡ report_on rules contents
+same_report : (rules : GridRules) (contents : List Content) (flashes : List (List FeatureRow)) (macros contours : List (List WidePad)) (drawn : List (List Drawn)) → report_of_board rules (board_of contents flashes macros contours drawn) ≡ report_on rules contents
 same_report rules contents flashes macros contours drawn = λ i. record {
   rules = rules;
   files = map sum_of contents;
@@ -79,5 +79,5 @@ same_report rules contents flashes macros contours drawn = λ i. record {
   findings = same_findings rules contents flashes macros contours drawn i;
 }
 
-pub reported_on : (sources : List FileView) (rules : GridRules) (board : BoardView) (report : ReportView) → IsBoard sources board → report ≡ reported rules board → IsReport sources rules report
-reported_on sources rules board report b is = record { contents = b.contents; read = b.read; is = is ∙ (ap (reported rules) b.is ∙ same_report rules b.contents board.rows board.macros board.contours board.drawn) }
+pub reported_on : (sources : List FileView) (rules : GridRules) (board : BoardView) (report : ReportView) → IsBoard sources board → report ≡ report_of_board rules board → IsReport sources rules report
+reported_on sources rules board report b is = record { contents = b.contents; read = b.read; is = is ∙ (ap (report_of_board rules) b.is ∙ same_report rules b.contents board.rows board.macros board.contours board.drawn) }

@@ -20,23 +20,23 @@ pub use Rattle.layer_features.specs.declared.counts.FeatureCounts.{FeatureCounts
 pub use Rattle.layer_features.specs.declared.feature.Feature.{Feature}
 pub use Rattle.layer_features.specs.declared.keep.Keep.{Keep}
 pub use Rattle.layer_image.specs.Holding.{LayerStands, ShowsLayerFaultIn, has_forgotten, left_pads, standing_pads}
-pub use Rattle.layer_image.specs.Kept.{KeptLayer, ReadsKeptIn, counting, plain}
+pub use Rattle.layer_image.specs.Kept.{KeptLayer, ReadsKeptIn, counting_profile, plain}
 pub use Rattle.layer_image.specs.Layers.{LayerImage, ReadingIsUniqueIn, ReadsLayerIn, StrictLayers}
 pub use Rattle.manifest.specs.declared.Role.{Role}
 pub use Rattle.package_check.specs.AlikePackages.{AllReadAlike, AnswerExists, AnswerIsUnique, ReadingExists, ReadingIsUnique, SameAnswers}
 pub use Rattle.board.specs.Boards.{BoardView, CountsAddUp, board_findings, hole_count, holes_before, numbered_in}
-pub use Rattle.package_check.specs.Boards.{AreDrawnOf, AreFileLists, FileCountsAddUp, IsBoard, IsDrawnBoard, IsFlashedBoard, OfCopper, Returns, board_of, reported}
+pub use Rattle.package_check.specs.Boards.{AreDrawnOf, AreFileLists, FileCountsAddUp, IsBoard, IsDrawnBoard, IsFlashedBoard, OfCopper, Returns, board_of, report_of_board}
 unfoldable pub use Rattle.board.specs.Boards.{numbered_from}
 pub use Rattle.package_check.specs.CheckViews.{CheckView, holes_in_slot, is_drill_in, is_drill_sum}
 pub use Rattle.package_check.specs.Checking.{AreHolesOf, HasJudged, HasJudgedAll, IsJudgedOf, JudgesThose, TakesCopper, drill_files, layer_number}
 pub use Rattle.package_check.specs.ContentViews.{DrillView, LayerView}
-pub use Rattle.package_check.specs.FileTexts.{Draws, HasContours, HasLayerView, HasMacros, HasRows, ReadsDrill, ReadsLayer, ReadsMixed, drill_kind, drill_view, is_copper_function, layer_view, marked, mixed_holes, plating_in}
+pub use Rattle.package_check.specs.FileTexts.{Draws, HasContours, HasLayerView, HasMacros, HasRows, ReadsDrill, ReadsLayer, ReadsMixed, drill_kind, drill_view, is_copper_function, layer_view, holes_with_platings, mixed_holes, plating_in}
 pub use Rattle.package_check.specs.Holding.{HasShown, HasTaken, HasTakenAll, HoldsThose, IsKeptOf, IsOutOfMemory, IsPutAt, ReadsAt, ReadsInto, StoppedAmong, TakesFile, TakesThose, contents_in, is_kind, is_kind_at, is_kind_of, is_wanted, kept_at, next_stop, setting_of, shown_board, shown_in}
 pub use Rattle.package_check.specs.HoleViews.{HolesView}
 pub use Rattle.package_check.specs.Inner.Leftovers.{AreFileStarts, AreStartsOf, LeftView, count_in, holes_in, index_in, layer_indexes_in, left_in, left_report, rings_in, sums_in}
 pub use Rattle.package_check.specs.Judging.{HasTriedIn, HasTriedPadsOf, IsLeftOf, Judges, JudgesCopper, rings_of}
 pub use Rattle.package_check.specs.OpenFiles.{HasFailed, HasOpened, HasOpenedCopper, HasReadCopper, HasReadText, copper_keep, drill_role}
-pub use Rattle.package_check.specs.Package.{BytesHaveContent, FileView, FindingsNameTheirPlaces, HasContent, HasDrillContent, HasMixedContent, HaveContents, IsAnswer, IsFirstRefused, IsReport, NamesItsPlaces, Reads, ReadsBytes, ReadsCopper, ReadsHoles, ReadsMixedHoles, ReadsUnlessBadSpan, ReturnsExactly, ReturnsReport, Setting, bad_span, drilled, file_view, file_views_in, findings, holes_of, index_of, is_bad_span, is_copper, layer_count, layer_indexes, layers, not_copper, numbered_holes, pads_of, pieced_file_view, pieced_file_views, pieced_layer_count, report_on, sum_of, unnamed_file}
+pub use Rattle.package_check.specs.Package.{BytesHaveContent, FileView, FindingsNameTheirPlaces, HasContent, HasDrillContent, HasMixedContent, HaveContents, IsAnswer, IsFirstRefused, IsReport, NamesItsPlaces, Reads, ReadsBytes, ReadsCopper, ReadsHoles, ReadsMixedHoles, ReadsUnlessBadSpan, ReturnsExactly, ReturnsReport, Setting, bad_span, holes_of_all, file_view, file_views_in, findings, holes_of, index_of, is_bad_span, is_copper, layer_count, layer_indexes, layers, not_copper, numbered_holes, pads_of, pieced_file_view, pieced_file_views, pieced_layer_count, report_on, sum_of, unnamed_file, views_in}
 pub use Rattle.package_check.specs.Reports.{ReportView}
 pub use Rattle.package_check.specs.Soundness.{AreDrilledBy, HolesAreSaidOnce, IsRun, IsSound, LiesAsAllowed, MakePads, PadsAreSaidOnce, PassingIsSound, SaysHoles, SaysPads, SoundIsStraight}
 pub use Rattle.package_check.specs.SoundnessAsRead.{AreLegal, IsPlatedThrough, PassingIsSoundAsRead, SoundAsReadIsSound, drilled_in}

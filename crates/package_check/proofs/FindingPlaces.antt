@@ -1,5 +1,5 @@
 -- What the findings of a report name.
-use Rattle.package_check.proofs.Common.{◌≡◌, ◌+◌, ◌++◌, ℕ, suc, List, [], ◌∷◌, length, ap, refl, sym, ◌∙◌, subst, All, flat_map, enumerate_from, length-map, All-append, flat_map-cons, wide_pad_covers, NamesPlaces, RingsNamePlaces, GapsNamePlaces, ring_findings, gap_findings, Content, drilled, index_of, layer_indexes, layers, numbered_holes, pads_of, FindingsNameTheirPlaces}
+use Rattle.package_check.proofs.Common.{◌≡◌, ◌+◌, ◌++◌, ℕ, suc, List, [], ◌∷◌, length, ap, refl, sym, ◌∙◌, subst, All, flat_map, enumerate_from, length-map, All-append, flat_map-cons, wide_pad_covers, NamesPlaces, RingsNamePlaces, GapsNamePlaces, ring_findings, gap_findings, Content, holes_of_all, index_of, layer_indexes, layers, numbered_holes, pads_of, FindingsNameTheirPlaces}
 use Rattle.package_check.specs.declared.contents.Content.TheVariants as content
 
 -- each copper file is one layer, and has one index
@@ -19,7 +19,7 @@ pub findings_name_their_places : RingsNamePlaces wide_pad_covers → GapsNamePla
 findings_name_their_places rings gaps sources rules report is =
     let contents = is.contents in
     let ls = layers contents in
-    let ds = drilled contents in
+    let ds = holes_of_all contents in
     let named = All-append (NamesPlaces (length ls) (length ds)) (ring_findings wide_pad_covers rules.profile rules.ring ls ds) (gap_findings rules.gap ds) (rings rules.profile rules.ring ls ds) (gaps rules.gap (length ls) ds) in
     let all_layers : length ls ≡ length (layer_indexes contents) = sym (indexed_from 0 contents) in
     let all_holes : length ds ≡ length (numbered_holes contents) = length-map (numbered_holes contents) (λ hole. hole.drilled) in

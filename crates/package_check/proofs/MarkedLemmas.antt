@@ -1,10 +1,10 @@
 -- Holes that are marked as plated or not, one by one.
-use Rattle.package_check.proofs.Common.{◌≡◌, ◌<◌, ◌≤◌, ◌+◌, ◌⊎◌, ◌++◌, ℕ, zero, suc, Bool, false, List, [], ◌∷◌, length, take, get_or, arith, refl, ap, sym, inl, inr, ◌∙◌, Contains, GridHole, LayerSpan, Drilled, marked}
+use Rattle.package_check.proofs.Common.{◌≡◌, ◌<◌, ◌≤◌, ◌+◌, ◌⊎◌, ◌++◌, ℕ, zero, suc, Bool, false, List, [], ◌∷◌, length, take, get_or, arith, refl, ap, sym, inl, inr, ◌∙◌, Contains, GridHole, LayerSpan, Drilled, holes_with_platings}
 use Rattle.std.specs.Prelude.{Option}
 
 -- one more hole
 marked_next : (span : Option LayerSpan) (holes : List GridHole) (plated : List Bool) (i : ℕ) (hole : GridHole) (one : Bool) → i < length holes → i < length plated → hole ≡ get_or holes i hole → one ≡ get_or plated i one
-    → marked span (take i holes) (take i plated) ++ record { hole = hole; plated = one; span = span } ∷ [] ≡ marked span (take (suc i) holes) (take (suc i) plated)
+    → holes_with_platings span (take i holes) (take i plated) ++ record { hole = hole; plated = one; span = span } ∷ [] ≡ holes_with_platings span (take (suc i) holes) (take (suc i) plated)
 marked_next span [] plated i hole one lt le is was = absurd (omega arith)
 marked_next span (h ∷ hs) [] i hole one lt le is was = absurd (omega arith)
 marked_next span (h ∷ hs) (p ∷ ps) zero hole one lt le is was = λ j. record { hole = is j; plated = was j; span = span } ∷ []
@@ -14,8 +14,8 @@ one_more : (i : ℕ) → suc i ≡ i + 1
 one_more i = omega arith
 
 pub marked_more : (span : Option LayerSpan) (holes : List GridHole) (plated : List Bool) (i : ℕ) (hole : GridHole) (one : Bool) → i < length holes → i < length plated → hole ≡ get_or holes i hole → one ≡ get_or plated i one
-    → marked span (take i holes) (take i plated) ++ record { hole = hole; plated = one; span = span } ∷ [] ≡ marked span (take (i + 1) holes) (take (i + 1) plated)
-marked_more span holes plated i hole one lt le is was = marked_next span holes plated i hole one lt le is was ∙ ap (λ (n : ℕ). marked span (take n holes) (take n plated)) (one_more i)
+    → holes_with_platings span (take i holes) (take i plated) ++ record { hole = hole; plated = one; span = span } ∷ [] ≡ holes_with_platings span (take (i + 1) holes) (take (i + 1) plated)
+marked_more span holes plated i hole one lt le is was = marked_next span holes plated i hole one lt le is was ∙ ap (λ (n : ℕ). holes_with_platings span (take n holes) (take n plated)) (one_more i)
 
 -- what is found at a place that is there does not depend on the value for places that are not
 pub found_at : (plated : List Bool) (i : ℕ) → i < length plated → get_or plated i false ≡ get_or plated i (get_or plated i false)
@@ -24,7 +24,7 @@ found_at (p ∷ ps) zero lt = refl
 found_at (p ∷ ps) (suc i) lt = found_at ps i (omega arith)
 
 -- all holes, once one of the lists has come to its end
-pub marked_all : (span : Option LayerSpan) (holes : List GridHole) (plated : List Bool) (i : ℕ) → (length holes ≤ i) ⊎ (length plated ≤ i) → marked span (take i holes) (take i plated) ≡ marked span holes plated
+pub marked_all : (span : Option LayerSpan) (holes : List GridHole) (plated : List Bool) (i : ℕ) → (length holes ≤ i) ⊎ (length plated ≤ i) → holes_with_platings span (take i holes) (take i plated) ≡ holes_with_platings span holes plated
 marked_all span [] plated zero h = refl
 marked_all span [] plated (suc i) h = refl
 marked_all span (h ∷ hs) [] zero k = refl
@@ -35,10 +35,10 @@ marked_all span (h ∷ hs) (p ∷ ps) (suc i) (inl k) = ap (λ (ds : List Drille
 marked_all span (h ∷ hs) (p ∷ ps) (suc i) (inr k) = ap (λ (ds : List Drilled). record { hole = h; plated = p; span = span } ∷ ds) (marked_all span hs ps i (inr (omega (arith, k))))
 
 -- each of them has the span
-pub marked_span : (span : Option LayerSpan) (holes : List GridHole) (plated : List Bool) (d : Drilled) → Contains (marked span holes plated) d → d.span ≡ span
+pub marked_span : (span : Option LayerSpan) (holes : List GridHole) (plated : List Bool) (d : Drilled) → Contains (holes_with_platings span holes plated) d → d.span ≡ span
 marked_span span holes plated d h = by holes plated h.0 h.1 h.2
   where
-    by : (hs : List GridHole) (ps : List Bool) (k : ℕ) → k < length (marked span hs ps) → get_or (marked span hs ps) k d ≡ d → d.span ≡ span
+    by : (hs : List GridHole) (ps : List Bool) (k : ℕ) → k < length (holes_with_platings span hs ps) → get_or (holes_with_platings span hs ps) k d ≡ d → d.span ≡ span
     by [] ps k lt e = absurd (omega arith)
     by (h ∷ hs) [] k lt e = absurd (omega arith)
     by (h ∷ hs) (p ∷ ps) zero lt e = sym (ap (λ (x : Drilled). x.span) e)

@@ -1,5 +1,5 @@
 -- A sound package has no oblique plated slot in the strict profile.
-use Rattle.package_check.proofs.Common.{◌≡◌, ◌<◌, ◌≤◌, ◌+◌, ◌-◌, ℕ, zero, suc, Bool, true, false, not, cond, ◌&&◌, leb, List, [], ◌∷◌, Option, Some, None, Result, Ok, Err, IfOk, length, map, get_or, arith, refl, sym, ap, subst, ◌∙◌, AllZip, Contains, count_by, filter, flat_map, le-leb, sum_by-cons, GridHole, GridRules, Profile, Strict, Wide, LayerSpan, is_in_span, Drilled, DrillCommand, Role, PackageFault, FileView, Setting, ReturnsReport, is_copper, ReportView, AreDrilledBy, HolesAreSaidOnce, IsRun, SoundIsStraight, LiesAsAllowed, SaysHoles, SaysPads}
+use Rattle.package_check.proofs.Common.{◌≡◌, ◌<◌, ◌≤◌, ◌+◌, ◌-◌, ℕ, zero, suc, Bool, true, false, not, cond, ◌&&◌, leb, List, [], ◌∷◌, Option, Some, None, length, get_or, arith, refl, sym, ap, subst, ◌∙◌, AllZip, Contains, count_by, filter, flat_map, le-leb, sum_by-cons, GridHole, Profile, Strict, Wide, LayerSpan, is_in_span, Drilled, DrillCommand, Role, FileView, is_copper, AreDrilledBy, HolesAreSaidOnce, IsRun, SoundIsStraight, LiesAsAllowed, SaysHoles, SaysPads}
 use Rattle.std.proofs.lemmas.Slice.Zip.{AllZip-long}
 use Rattle.pad_shapes.specs.Shapes.{IsAxisAligned}
 use Rattle.grid_units.proofs.ListLemmas.{flat_map_at}

@@ -1,5 +1,5 @@
 -- Files of a package that are read piece by piece.
-use Rattle.package_check.proofs.Common.{◌≡◌, ◌++◌, ℕ, Bool, true, false, List, [], Ok, Err, Option, Result, OnOk, IfErr, ap, inl, subst, sym, ◌∙◌, append-nil, false≢true, Answers, IfFault, LayerSpan, Fault, Fail, DrillCommand, says_otherwise, Kind, ReadsAsBy, ReadsBy, ShowsBy, mixed_in, Profile, Strict, Wide, ShowsLayerFaultIn, KeptLayer, ReadsKeptIn, WidePad, Keep, Role, Drilled, DrillView, LayerView, ReadsDrill, ReadsLayer, ReadsMixed, drill_kind, drill_view, marked, plating_in, TakesFile, is_wanted, setting_of, HasFailed, HasOpened, HasReadText, drill_role, FileView, Setting, Reads, ReadsBytes, ReadsCopper, ReadsHoles, ReadsMixedHoles, ReadsUnlessBadSpan, is_bad_span, is_copper, unnamed_file, Content, PackageReader, AllocError}
+use Rattle.package_check.proofs.Common.{◌≡◌, ◌++◌, ℕ, Bool, true, false, List, [], Ok, Err, Option, Result, OnOk, IfErr, ap, inl, subst, sym, ◌∙◌, append-nil, false≢true, Answers, IfFault, LayerSpan, Fault, Fail, DrillCommand, says_otherwise, Kind, ReadsAsBy, ReadsBy, ShowsBy, mixed_in, Profile, Strict, Wide, ShowsLayerFaultIn, KeptLayer, ReadsKeptIn, WidePad, Keep, Role, Drilled, DrillView, LayerView, ReadsDrill, ReadsLayer, ReadsMixed, drill_kind, drill_view, holes_with_platings, plating_in, TakesFile, is_wanted, setting_of, HasFailed, HasOpened, HasReadText, drill_role, FileView, Setting, Reads, ReadsBytes, ReadsCopper, ReadsHoles, ReadsMixedHoles, ReadsUnlessBadSpan, is_bad_span, is_copper, unnamed_file, Content, PackageReader, AllocError}
 use Rattle.grid_units.specs.declared.fault.Fail.TheVariants as fails
 use Rattle.drill_text.specs.Outcome.{DrillFile, file_of}
 use Rattle.drill_text.proofs.SpellsTextLemmas.{reads_drill_text}
@@ -135,8 +135,8 @@ pub mixed_fault : (profile : Profile) (span : Option LayerSpan) (text : List ℕ
 mixed_fault profile span text fails.Memory h = tt
 mixed_fault profile span text (fails.Refused f) h = h
 
-pub mixed_read : (profile : Profile) (span : Option LayerSpan) (text : List ℕ) (d : DrillFile) → ReadsAsBy (mixed_in profile) (file_of plating.Mixed drill_keep.Holes) text (Ok d) → ReadsMixed profile span text (Ok (marked span d.holes d.plated))
-mixed_read profile span text d h = (h.0, h.1, ap (λ (d : DrillFile). marked span d.holes d.plated) h.2)
+pub mixed_read : (profile : Profile) (span : Option LayerSpan) (text : List ℕ) (d : DrillFile) → ReadsAsBy (mixed_in profile) (file_of plating.Mixed drill_keep.Holes) text (Ok d) → ReadsMixed profile span text (Ok (holes_with_platings span d.holes d.plated))
+mixed_read profile span text d h = (h.0, h.1, ap (λ (d : DrillFile). holes_with_platings span d.holes d.plated) h.2)
 
 pub mixed_holes_fault : (profile : Profile) (span : Option LayerSpan) (text : List ℕ) (e : Fail) → Answers {T = List Drilled} (λ x. x) (ReadsMixed profile span text) (Err e) → Answers {T = Content} (λ x. x) (ReadsMixedHoles profile span text) (Err e)
 mixed_holes_fault profile span text fails.Memory h = tt

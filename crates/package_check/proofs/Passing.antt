@@ -1,5 +1,5 @@
 -- A package that passes is sound by what is read of it.
-use Rattle.package_check.proofs.Common.{◌≡◌, ◌<◌, ◌+◌, ◌++◌, ℕ, Bool, true, List, [], ◌∷◌, length, get_or, map, ap, refl, sym, ◌∙◌, subst, Contains, flat_map, enumerate_from, map-append, flat_map-cons, GridHole, Profile, Strict, Wide, IsInWidePad, wide_pad_covers, WidePad, HolesHoldWithoutFindings, StraightWithoutFindings, ApartWithoutFindings, AreAllApart, IsHoleHeld, LayerSpan, is_in_span, ring_findings, gap_findings, Drilled, Numbered, Content, drilled, holes_of, layers, LiesAsAllowed, PassingIsSoundAsRead, IsPlatedThrough, drilled_in}
+use Rattle.package_check.proofs.Common.{◌≡◌, ◌<◌, ◌+◌, ◌++◌, ℕ, Bool, true, List, [], ◌∷◌, length, get_or, map, ap, refl, sym, ◌∙◌, subst, Contains, flat_map, enumerate_from, map-append, flat_map-cons, GridHole, Profile, Strict, Wide, IsInWidePad, wide_pad_covers, WidePad, HolesHoldWithoutFindings, StraightWithoutFindings, ApartWithoutFindings, AreAllApart, IsHoleHeld, LayerSpan, is_in_span, ring_findings, gap_findings, Drilled, Numbered, Content, holes_of_all, holes_of, layers, LiesAsAllowed, PassingIsSoundAsRead, IsPlatedThrough, drilled_in}
 use Rattle.std.specs.Prelude.{Option}
 use Rattle.package_check.specs.declared.contents.Content.TheVariants as content
 use Rattle.grid_units.proofs.ListLemmas.{append_nil_left, append_nil_right, flat_map_at}
@@ -33,11 +33,11 @@ drilled_from n (c ∷ cs) =
     ∙ (ap (λ (t : List Drilled). t ++ map (λ (h : Numbered). h.drilled) (flat_map holes_of (enumerate_from (n + 1) cs))) (one_file n c)
     ∙ (ap (λ (t : List Drilled). drilled_in c ++ t) (drilled_from (n + 1) cs) ∙ sym (flat_map-cons drilled_in c cs))))
 
-pub all_drilled : (contents : List Content) → drilled contents ≡ flat_map drilled_in contents
+pub all_drilled : (contents : List Content) → holes_of_all contents ≡ flat_map drilled_in contents
 all_drilled contents = drilled_from 0 contents
 
 -- a plated hole of a file is among all holes
-among_all : (contents : List Content) (layer : ℕ) (hole : GridHole) → (h : IsPlatedThrough contents layer hole) → Contains (drilled contents) h.drilled
+among_all : (contents : List Content) (layer : ℕ) (hole : GridHole) → (h : IsPlatedThrough contents layer hole) → Contains (holes_of_all contents) h.drilled
 among_all contents layer hole h = subst (λ (ds : List Drilled). Contains ds h.drilled) (sym (all_drilled contents)) (flat_among drilled_in contents h.content h.drilled h.file h.among)
 
 -- where no ring is a finding, each plated hole lies as the profile allows
@@ -49,8 +49,8 @@ allowed straight Wide ring layers holes none l d inside among plated through = t
 pub passing_is_sound : HolesHoldWithoutFindings IsInWidePad wide_pad_covers → StraightWithoutFindings wide_pad_covers → ApartWithoutFindings → PassingIsSoundAsRead
 passing_is_sound held straight apart sources rules report is passes =
     let none = sym (ap (λ r. r.findings) is.is) ∙ passes in
-    let rings = ring_findings wide_pad_covers rules.profile rules.ring (layers is.contents) (drilled is.contents) in
-    let gaps = gap_findings rules.gap (drilled is.contents) in
+    let rings = ring_findings wide_pad_covers rules.profile rules.ring (layers is.contents) (holes_of_all is.contents) in
+    let gaps = gap_findings rules.gap (holes_of_all is.contents) in
     record {
       contents = is.contents;
       read = is.read;
@@ -59,6 +59,6 @@ passing_is_sound held straight apart sources rules report is passes =
           let all = among_all is.contents layer hole h in
           let clean = append_nil_left rings gaps none in
           subst (λ (g : GridHole). LiesAsAllowed rules.profile g × IsHoleHeld IsInWidePad rules.ring (get_or (layers is.contents) layer []) g) h.same
-          (allowed straight rules.profile rules.ring (layers is.contents) (drilled is.contents) clean layer one inside all h.plated h.through, held rules.profile rules.ring (layers is.contents) (drilled is.contents) clean layer one inside all h.plated h.through);
-      gaps = subst (λ (ds : List Drilled). AreAllApart rules.gap ds) (all_drilled is.contents) (apart rules.gap (drilled is.contents) (append_nil_right rings gaps none));
+          (allowed straight rules.profile rules.ring (layers is.contents) (holes_of_all is.contents) clean layer one inside all h.plated h.through, held rules.profile rules.ring (layers is.contents) (holes_of_all is.contents) clean layer one inside all h.plated h.through);
+      gaps = subst (λ (ds : List Drilled). AreAllApart rules.gap ds) (all_drilled is.contents) (apart rules.gap (holes_of_all is.contents) (append_nil_right rings gaps none));
     }

@@ -1,5 +1,5 @@
 -- What a file says by the grammar of its format, it says once.
-use Rattle.package_check.proofs.Common.{◌≡◌, List, map, ap, sym, subst, ◌∙◌, GridHole, Drilled, Command, Profile, Strict, Wide, WidePad, LayerSpan, CalledIsListed, Role, marked, plain, DrillCommand, AreDrilledBy, HolesAreSaidOnce, MakePads, PadsAreSaidOnce}
+use Rattle.package_check.proofs.Common.{◌≡◌, List, map, ap, sym, subst, ◌∙◌, GridHole, Drilled, Command, Profile, Strict, Wide, WidePad, LayerSpan, CalledIsListed, Role, holes_with_platings, plain, DrillCommand, AreDrilledBy, HolesAreSaidOnce, MakePads, PadsAreSaidOnce}
 use Rattle.gerber_text.specs.Laws.{TextsSpellOneListIn}
 use Rattle.std.specs.Prelude.{Option}
 use Rattle.manifest.specs.declared.Role.TheVariants as role
@@ -22,7 +22,7 @@ drilled_once : CalledIsListed → (q : Role) (span : Option LayerSpan) (commands
 drilled_once listed role.Copper span commands holes a b h k = h ∙ sym k
 drilled_once listed role.Plated span commands holes a b h k = h ∙ sym k
 drilled_once listed role.Unplated span commands holes a b h k = h ∙ sym k
-drilled_once listed role.Mixed span commands holes a b h k = h.2 ∙ (ap (marked span holes) (listed commands h.0 h.1 ∙ sym (listed commands k.0 k.1)) ∙ sym k.2)
+drilled_once listed role.Mixed span commands holes a b h k = h.2 ∙ (ap (holes_with_platings span holes) (listed commands h.0 h.1 ∙ sym (listed commands k.0 k.1)) ∙ sym k.2)
 
 pub holes_once : IsTextOfAtMostOne → DrillsAtMostOneList → CalledIsListed → HolesAreSaidOnce
 holes_once one_text one_list listed file a b s t =

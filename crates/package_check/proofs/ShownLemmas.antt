@@ -1,5 +1,5 @@
 -- What is kept of a copper file to be shown.
-use Rattle.package_check.proofs.Common.{◌≡◌, ◌∙◌, ℕ, Bool, true, false, List, [], Result, Ok, Err, IfOk, OnOk, refl, ap, if◌then◌else◌, Profile, Strict, Wide, without_places, LayerImage, ReadsLayerIn, StrictLayers, counting, drawn_in, uncleared_drawn, keeps_drawn, keeps_rows, Drawn, Feature, Keep, copper_keep}
+use Rattle.package_check.proofs.Common.{◌≡◌, ◌∙◌, ℕ, Bool, true, false, List, [], Result, Ok, Err, IfOk, OnOk, refl, ap, if◌then◌else◌, Profile, Strict, Wide, without_places, LayerImage, ReadsLayerIn, StrictLayers, counting_profile, drawn_in, uncleared_drawn, keeps_drawn, keeps_rows, Drawn, Feature, Keep, copper_keep}
 use Rattle.layer_features.specs.Features.{features_of, view_in, wide_features_of}
 use Rattle.layer_features.specs.declared.keep.Keep.TheVariants as keep
 
@@ -42,7 +42,7 @@ rows_where_drawn keep.Rows h = absurd cc
 rows_where_drawn keep.RowsAndDrawn h = refl
 
 -- where flashes and contours are kept, they are counted in the profile
-pub counted_in : (profile : Profile) (of : Keep) → keeps_rows of ≡ true → counting profile of ≡ profile
+pub counted_in : (profile : Profile) (of : Keep) → keeps_rows of ≡ true → counting_profile profile of ≡ profile
 counted_in profile keep.Layer h = absurd cc
 counted_in profile keep.Pads h = refl
 counted_in profile keep.Rows h = refl

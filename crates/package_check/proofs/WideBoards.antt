@@ -1,5 +1,5 @@
 -- What the wide profile says of the files of a board that was read in the strict one.
-use Rattle.package_check.proofs.Common.{◌≡◌, inl, inr, ◌↔◌, ◌<◌, ◌+◌, ◌++◌, ◌||◌, ◌&&◌, ℕ, suc, Bool, true, false, not, List, [], ◌∷◌, Option, Result, Ok, Err, length, map, get_or, arith, refl, ap, ap₂, sym, subst, ◌∙◌, ⊤, option_map, or_cases, AllByRecursion, cons_option, enumerate_from, filter, flat_map, list_any, length-map, flat_map-cons, LayerSpan, Fault, GridRules, Profile, Strict, Wide, DrillCommand, calls_plated, IsDrillText, without_places, LayerImage, ReadingIsUniqueIn, ReadsLayerIn, StrictLayers, Feature, wide_pad_covers, WidePad, Role, finding_of, gap_findings, is_refused_slot, layer_findings, ring_findings, is_in_span, Drilled, Finding, DrillView, LayerView, HasContours, HasLayerView, HasMacros, FileView, BytesHaveContent, HaveContents, IsFirstRefused, IsReport, IsAnswer, AnswerExists, AreFileLists, BoardView, OfCopper, drilled, index_of, is_copper, layers, pads_of, report_on, sum_of, ReportView, IsUncontradicted, ReadIsUncontradicted, WideFindsNoMore, read_in, Numbered, Content}
+use Rattle.package_check.proofs.Common.{◌≡◌, inl, inr, ◌↔◌, ◌<◌, ◌+◌, ◌++◌, ◌||◌, ◌&&◌, ℕ, suc, Bool, true, false, not, List, [], ◌∷◌, Option, Result, Ok, Err, length, map, get_or, arith, refl, ap, ap₂, sym, subst, ◌∙◌, ⊤, option_map, or_cases, AllByRecursion, cons_option, enumerate_from, filter, flat_map, list_any, length-map, flat_map-cons, LayerSpan, Fault, GridRules, Profile, Strict, Wide, DrillCommand, calls_plated, IsDrillText, without_places, LayerImage, ReadingIsUniqueIn, ReadsLayerIn, StrictLayers, Feature, wide_pad_covers, WidePad, Role, finding_of, gap_findings, is_refused_slot, layer_findings, ring_findings, is_in_span, Drilled, Finding, DrillView, LayerView, HasContours, HasLayerView, HasMacros, FileView, BytesHaveContent, HaveContents, IsFirstRefused, IsReport, IsAnswer, AnswerExists, AreFileLists, BoardView, OfCopper, holes_of_all, index_of, is_copper, layers, pads_of, report_on, sum_of, ReportView, IsUncontradicted, ReadIsUncontradicted, WideFindsNoMore, read_in, Numbered, Content}
 use Rattle.drill_text.specs.Profiles as drills
 use Rattle.grid_units.specs.Points.{GridPoint}
 use Rattle.pad_shapes.specs.Holding.{covers_hole}
@@ -295,7 +295,7 @@ wide_answers_by_board layers_too once texts reads_once free no_more exists sourc
         let pads : ℕ → List WidePad = λ layer. get_or board.layers layer [] in
         let macros : ℕ → List WidePad = λ file. get_or board.macros file [] in
         let contours : ℕ → List WidePad = λ file. get_or board.contours file [] in
-        let same_holes : drilled ds ≡ board.holes =
+        let same_holes : holes_of_all ds ≡ board.holes =
         ap (map (λ (hole : Numbered). hole.drilled)) (sym (ap (λ (r : ReportView). r.holes) more.1.is) ∙ more.2.holes) ∙ (all_drilled h.is.contents ∙ sym (ap (λ (b : BoardView). b.holes) h.is.is)) in
         let stands : (j : ℕ) → pads (0 + j) ≡ get_or (layers h.is.contents) j [] =
         λ j. ap pads (let e : 0 + j ≡ j = omega arith in e) ∙ ap (λ (b : BoardView). get_or b.layers j []) h.is.is in

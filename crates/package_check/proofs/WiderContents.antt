@@ -1,5 +1,5 @@
 -- What files say in the strict profile, they say in the wide one, with further pads.
-use Rattle.package_check.proofs.Common.{◌≡◌, ◌⊎◌, inl, inr, ◌↔◌, ◌<◌, ◌+◌, ◌++◌, ℕ, zero, suc, Bool, true, false, List, [], ◌∷◌, Option, Ok, length, map, get_or, arith, refl, ap, ap₂, sym, subst, ◌∙◌, ⊤, option_map, AllByRecursion, Contains, cons_option, enumerate_from, filter, flat_map, list_any, flat_map-cons, Contains-append_cases, Contains-append_left, LayerSpan, Strict, Wide, DrillCommand, calls_plated, ReadsBy, ReadsIn, mixed_in, unplated_in, IsDrillText, without_places, StrictLayers, Feature, wide_pad_covers, WidePad, Role, gap_findings, ring_findings, Finding, DrillView, LayerView, HasLayerView, ReadsDrill, layer_view, FileView, BytesHaveContent, HaveContents, drilled, holes_of, index_of, layers, numbered_holes, pads_of, report_on, FindsNoMore, IsUncontradicted, WideFindsNoMore, is_gap, read_in, Numbered, Content}
+use Rattle.package_check.proofs.Common.{◌≡◌, ◌⊎◌, inl, inr, ◌↔◌, ◌<◌, ◌+◌, ◌++◌, ℕ, zero, suc, Bool, true, false, List, [], ◌∷◌, Option, Ok, length, map, get_or, arith, refl, ap, ap₂, sym, subst, ◌∙◌, ⊤, option_map, AllByRecursion, Contains, cons_option, enumerate_from, filter, flat_map, list_any, flat_map-cons, Contains-append_cases, Contains-append_left, LayerSpan, Strict, Wide, DrillCommand, calls_plated, ReadsBy, ReadsIn, mixed_in, unplated_in, IsDrillText, without_places, StrictLayers, Feature, wide_pad_covers, WidePad, Role, gap_findings, ring_findings, Finding, DrillView, LayerView, HasLayerView, ReadsDrill, layer_view, FileView, BytesHaveContent, HaveContents, holes_of_all, holes_of, index_of, layers, numbered_holes, pads_of, report_on, FindsNoMore, IsUncontradicted, WideFindsNoMore, is_gap, read_in, Numbered, Content}
 use Rattle.drill_text.specs.Profiles as drills
 use Rattle.grid_units.specs.Points.{GridPoint}
 use Rattle.layer_features.specs.declared.feature.FeatureKind.{FeatureKind}
@@ -165,16 +165,16 @@ module _ (rings_no_more : RingsFindNoMore {S = WidePad} {W = WidePad} wide_pad_c
   all_same : numbered_holes ds ≡ numbered_holes cs
   all_same = same_over holes_of same_holes 0 cs ds wider
 
-  drilled_same : drilled ds ≡ drilled cs
+  drilled_same : holes_of_all ds ≡ holes_of_all cs
   drilled_same = ap (map (λ (hole : Numbered). hole.drilled)) all_same
 
   abbrev wide_rings : List Finding
-  wide_rings = ring_findings wide_pad_covers Wide ring (layers ds) (drilled cs)
+  wide_rings = ring_findings wide_pad_covers Wide ring (layers ds) (holes_of_all cs)
 
-  ring_there : (l h : ℕ) → Contains wide_rings (Ring l h) → Contains (ring_findings wide_pad_covers Strict ring (layers cs) (drilled cs)) (Ring l h) ⊎ Contains (ring_findings wide_pad_covers Strict ring (layers cs) (drilled cs)) (Oblique l h)
+  ring_there : (l h : ℕ) → Contains wide_rings (Ring l h) → Contains (ring_findings wide_pad_covers Strict ring (layers cs) (holes_of_all cs)) (Ring l h) ⊎ Contains (ring_findings wide_pad_covers Strict ring (layers cs) (holes_of_all cs)) (Oblique l h)
   ring_there l h =
       let pads = wider_pads cs ds wider in
-      rings_no_more (λ w. w) ring (layers cs) (layers ds) (drilled cs) l h (record { as_many = pads.0; same = λ s p r. refl; among = pads.1 })
+      rings_no_more (λ w. w) ring (layers cs) (layers ds) (holes_of_all cs) l h (record { as_many = pads.0; same = λ s p r. refl; among = pads.1 })
 
   beside : {A B : Type 0} (f : A → B) {C D : Type 0} (g : C → D) → A ⊎ C → B ⊎ D
   beside f g (inl a) = inl (f a)
@@ -184,28 +184,28 @@ module _ (rings_no_more : RingsFindNoMore {S = WidePad} {W = WidePad} wide_pad_c
   no_gap true e k = absurd cc
   no_gap false e k = absurd cc
 
-  among_rings : (f : Finding) → is_gap f ≡ false → Contains (wide_rings ++ gap_findings gap (drilled cs)) f → Contains wide_rings f
-  among_rings f other c = by (Contains-append_cases wide_rings (gap_findings gap (drilled cs)) f c)
+  among_rings : (f : Finding) → is_gap f ≡ false → Contains (wide_rings ++ gap_findings gap (holes_of_all cs)) f → Contains wide_rings f
+  among_rings f other c = by (Contains-append_cases wide_rings (gap_findings gap (holes_of_all cs)) f c)
     where
-      by : Contains wide_rings f ⊎ Contains (gap_findings gap (drilled cs)) f → Contains wide_rings f
+      by : Contains wide_rings f ⊎ Contains (gap_findings gap (holes_of_all cs)) f → Contains wide_rings f
       by (inl here) = here
-      by (inr there) = absurd (no_gap (is_gap f) (is_among true (gap_findings gap (drilled cs)) f (gaps_are gap (drilled cs)) there) other)
+      by (inr there) = absurd (no_gap (is_gap f) (is_among true (gap_findings gap (holes_of_all cs)) f (gaps_are gap (holes_of_all cs)) there) other)
 
   pub finds_no_more : FindsNoMore (report_on (record { ring = ring; gap = gap; profile = Wide }) ds) (report_on (record { ring = ring; gap = gap; profile = Strict }) cs)
   finds_no_more =
-      let there = ring_findings wide_pad_covers Strict ring (layers cs) (drilled cs) in
-      let gaps = gap_findings gap (drilled cs) in
-      let found : ring_findings wide_pad_covers Wide ring (layers ds) (drilled ds) ++ gap_findings gap (drilled ds) ≡ wide_rings ++ gaps =
+      let there = ring_findings wide_pad_covers Strict ring (layers cs) (holes_of_all cs) in
+      let gaps = gap_findings gap (holes_of_all cs) in
+      let found : ring_findings wide_pad_covers Wide ring (layers ds) (holes_of_all ds) ++ gap_findings gap (holes_of_all ds) ≡ wide_rings ++ gaps =
       (λ i. ring_findings wide_pad_covers Wide ring (layers ds) (drilled_same i) ++ gap_findings gap (drilled_same i)) in
       record {
         layers = same_over index_of same_index 0 cs ds wider;
         holes = all_same;
-        gaps = ap (filter is_gap) found ∙ (gaps_among wide_rings gaps (rings_are wide_pad_covers Wide ring (layers ds) (drilled cs)) (gaps_are gap (drilled cs))
-            ∙ sym (gaps_among there gaps (rings_are wide_pad_covers Strict ring (layers cs) (drilled cs)) (gaps_are gap (drilled cs))));
+        gaps = ap (filter is_gap) found ∙ (gaps_among wide_rings gaps (rings_are wide_pad_covers Wide ring (layers ds) (holes_of_all cs)) (gaps_are gap (holes_of_all cs))
+            ∙ sym (gaps_among there gaps (rings_are wide_pad_covers Strict ring (layers cs) (holes_of_all cs)) (gaps_are gap (holes_of_all cs))));
         rings = λ layer hole c.
             beside (Contains-append_left there gaps (Ring layer hole)) (Contains-append_left there gaps (Oblique layer hole))
             (ring_there layer hole (among_rings (Ring layer hole) refl (subst (λ (fs : List Finding). Contains fs (Ring layer hole)) found c)));
-        angles = λ layer hole c. no_oblique ring (layers ds) (drilled cs) layer hole (among_rings (Oblique layer hole) refl (subst (λ (fs : List Finding). Contains fs (Oblique layer hole)) found c));
+        angles = λ layer hole c. no_oblique ring (layers ds) (holes_of_all cs) layer hole (among_rings (Oblique layer hole) refl (subst (λ (fs : List Finding). Contains fs (Oblique layer hole)) found c));
       }
 
 pub wide_finds_no_more : StrictLayers → ((text : List ℕ) (commands : List DrillCommand) → (drills.Reads text (Ok commands)) ↔ (IsDrillText text commands))

@@ -9,7 +9,7 @@ use Rattle.pad_shapes.specs.declared.drawn.Drawn.{Drawn}
 use Rattle.layer_features.specs.DrawnCopper.{drawn_in}
 use Rattle.pad_shapes.specs.declared.row.FeatureRow.{FeatureRow}
 use Rattle.pad_shapes.specs.declared.wide_pad.WidePad.{WidePad}
-use Rattle.board.specs.Boards.{BoardView, CountsAddUp, board_findings, numbered}
+use Rattle.board.specs.Boards.{BoardView, CountsAddUp, board_findings, holes_with_places}
 use Rattle.package_check.specs.declared.PackageFault.{PackageFault}
 use Rattle.package_check.specs.declared.PackageFault.TheVariants as stop
 use Rattle.package_check.specs.declared.contents.Content.{Content}
@@ -73,11 +73,11 @@ abbrev pub FileCountsAddUp : Type 0
 FileCountsAddUp = (sources : List FileView) (board : BoardView) → IsBoard sources board → CountsAddUp board.files board.holes
 
 -- the report on a board under these rules
-abbrev pub reported : GridRules → BoardView → ReportView
-reported rules board = record {
+abbrev pub report_of_board : GridRules → BoardView → ReportView
+report_of_board rules board = record {
   rules = rules;
   files = board.files;
   layers = board.layer_indexes;
-  holes = numbered board;
+  holes = holes_with_places board;
   findings = board_findings rules board;
 }

@@ -92,13 +92,13 @@ ReadsDrill Strict plated bytes answer = ReadsAs (drill_view plated) bytes answer
 ReadsDrill Wide plated bytes answer = ReadsAsBy (drill_kind Wide plated) (drill_view plated) bytes answer
 
 -- holes with this span, each plated or not as the other list says, as long as both lists go on
-abbrev pub marked : Option LayerSpan → List GridHole → List Bool → List Drilled
-marked span (hole ∷ holes) (one ∷ plated) = record { hole = hole; plated = one; span = span } ∷ marked span holes plated
-marked span holes plated = []
+abbrev pub holes_with_platings : Option LayerSpan → List GridHole → List Bool → List Drilled
+holes_with_platings span (hole ∷ holes) (one ∷ plated) = record { hole = hole; plated = one; span = span } ∷ holes_with_platings span holes plated
+holes_with_platings span holes plated = []
 
 -- the holes of the commands of a mixed file, each plated as its tool is called, with this span
 abbrev pub mixed_holes : Option LayerSpan → List DrillCommand → List Drilled
-mixed_holes span commands = marked span (holes_of commands) (plated_of commands)
+mixed_holes span commands = holes_with_platings span (holes_of commands) (plated_of commands)
 
 -- in the profile the bytes are a mixed drill text that drills these holes with this span, or they have this fault
 abbrev pub ReadsMixed : Profile → Option LayerSpan → List ℕ → Result (List Drilled) Fault → Type 0

@@ -53,6 +53,14 @@ file_view setting file = record { role = file.role; name = file.name.now; span =
 abbrev pub unnamed_file : Role → Option LayerSpan → Setting → List ℕ → FileView
 unnamed_file role span setting bytes = record { role = role; name = []; span = span; bytes = bytes; setting = setting }
 
+-- the views of files that are seen so, of a package that is read in a profile, each with the number of copper files among them
+abbrev pub views_in : {X : Type 0} → (Setting → X → FileView) → (X → Role) → Profile → List X → List FileView
+views_in seen role_of profile files = map (seen (record { layers = count_by (λ file. is_copper (role_of file)) files; profile = profile })) files
+
+-- files have these roles, in whatever setting they are seen
+abbrev pub HaveRoles : {X : Type 0} → (Setting → X → FileView) → (X → Role) → Type 0
+HaveRoles {X} seen role_of = (setting : Setting) (file : X) → (seen setting file).role ≡ role_of file
+
 -- how many of the files are copper
 abbrev pub layer_count : List File → ℕ
 layer_count files = count_by (λ file. is_copper file.role) files
@@ -188,8 +196,8 @@ abbrev pub numbered_holes : List Content → List Numbered
 numbered_holes contents = flat_map holes_of (enumerate_from 0 contents)
 
 -- the holes of all drill files without their places
-abbrev pub drilled : List Content → List Drilled
-drilled contents = map (λ hole. hole.drilled) (numbered_holes contents)
+abbrev pub holes_of_all : List Content → List Drilled
+holes_of_all contents = map (λ hole. hole.drilled) (numbered_holes contents)
 
 -- the findings of lacking rings, then those of lacking gaps
 abbrev pub findings : GridRules → List (List WidePad) → List Drilled → List Finding
@@ -202,7 +210,7 @@ report_on rules contents = record {
   files = map sum_of contents;
   layers = layer_indexes contents;
   holes = numbered_holes contents;
-  findings = findings rules (layers contents) (drilled contents);
+  findings = findings rules (layers contents) (holes_of_all contents);
 }
 
 -- the report on a package whose files are all read

@@ -23,7 +23,7 @@ use Rattle.drill_text.specs.Drilling.{AreHoles}
 use Rattle.drill_text.specs.Plating.{AreCalled}
 use Rattle.manifest.specs.declared.Role.{Role}
 use Rattle.manifest.specs.declared.Role.TheVariants as role
-use Rattle.package_check.specs.FileTexts.{is_copper_function, marked}
+use Rattle.package_check.specs.FileTexts.{is_copper_function, holes_with_platings}
 use Rattle.pad_shapes.specs.declared.wide_pad.WidePad.TheVariants.{Plain}
 use Rattle.package_check.specs.Package.{FileView, IsReport, is_copper}
 use Rattle.package_check.specs.Reports.{ReportView}
@@ -51,7 +51,7 @@ pub record SaysPads (file : FileView) (pads : List WidePad) : Type 0 where
 -- Holes of a drill file with their platings and its span: each hole of a file has the plating that the file's role says, and each of a mixed file is plated or unplated
 -- as the comment before the definition of its tool calls it. No drill file has the role Copper, and only the wide profile reads one with the role Mixed.
 abbrev pub AreDrilledBy : Role → Option LayerSpan → List DrillCommand → List GridHole → List Drilled → Type 0
-AreDrilledBy role.Mixed span commands holes drilled = (plated : List Bool) × AreCalled commands plated × (drilled ≡ marked span holes plated)
+AreDrilledBy role.Mixed span commands holes drilled = (plated : List Bool) × AreCalled commands plated × (drilled ≡ holes_with_platings span holes plated)
 AreDrilledBy role.Plated span commands holes drilled = drilled ≡ map (λ hole. record { hole = hole; plated = true; span = span }) holes
 AreDrilledBy _ span commands holes drilled = drilled ≡ map (λ hole. record { hole = hole; plated = false; span = span }) holes
 
@@ -87,7 +87,7 @@ abbrev pub AreStraight : List FileView → Type 0
 AreStraight sources =
     (file : FileView) (drilled : List Drilled) (d : Drilled) → Contains sources file → SaysHoles file drilled → Contains drilled d → d.plated ≡ true → IsAxisAligned d.hole.from d.hole.to
 
--- In the strict profile a sound package of a layer and more has no oblique plated slot: each is one of those that `IsSound` holds, as its span is a run of the
+-- In the strict profile a sound package with at least one layer has no oblique plated slot: each is one of those that `IsSound` holds, as its span is a run of the
 -- layers. Each file is read as one of a package of so many layers as it has copper files.
 abbrev pub SoundIsStraight : Type 0
 SoundIsStraight = (sources : List FileView) (rules : GridRules) → rules.profile ≡ Strict → ((file : FileView) → Contains sources file → file.setting.layers ≡ count_by (λ one. is_copper one.role) sources)

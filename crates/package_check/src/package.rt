@@ -1,10 +1,11 @@
-// The check of a package.
-ghost use Rattle.std.specs.Prelude.{◌≡◌, ℕ, [], true, Result, IfOk, OnOk};
+//! The check of a package, whose files are there whole or come in pieces.
+
+ghost use Rattle.std.specs.Prelude.{◌≡◌, ℕ, [], count_by, true, Result, IfOk, OnOk};
 ghost use Rattle.grid_units.specs.declared.fault.Fault.{Fault as TheFault};
 ghost use Rattle.layer_features.specs.Kept.{keeps_drawn, keeps_rows};
 ghost use Rattle.package_check.specs.Boards.{IsBoard, IsDrawnBoard, IsFlashedBoard, Returns};
 ghost use Rattle.grid_units.specs.declared.profile.Profile.{Profile as TheProfile};
-ghost use Rattle.package_check.specs.Package.{ReturnsExactly, ReturnsReport, IsAnswer, NamesItsPlaces, layer_count, file_views_in};
+ghost use Rattle.package_check.specs.Package.{ReturnsExactly, ReturnsReport, IsAnswer, NamesItsPlaces, is_copper, layer_count, file_views_in, pieced_file_views, views_in};
 ghost use Rattle.package_check.specs.Reports.{ReportView};
 ghost use Rattle.package_check.specs.Soundness.{IsSound};
 ghost use Rattle.package_check.specs.SoundnessAsRead.{AreLegal};
@@ -13,7 +14,8 @@ ghost use Rattle.package_check.specs.Holding.{HasTakenAll, TakesThose, is_kind_a
 
 use crate::contents::{is_copper, is_kind};
 use crate::laws::{findings_name_their_places, passing_is_sound, unique_answer};
-use crate::{Board, File, Keep, PackageCheck, PackageFault, PackageReader, Report};
+use crate::source_file::SourceFile;
+use crate::{Board, File, Keep, PackageCheck, PackageFault, PackageReader, PiecedFile, Report};
 use grid_units::{Profile, Rules};
 use std::alloc::{AllocError, Global};
 
@@ -21,17 +23,28 @@ use std::alloc::{AllocError, Global};
 pub fn layer_count(files: &[File]) -> usize
     ensures { result ≡ layer_count files.now }
 {
-    files.iter().filter(|file| is_copper(file.role)).count()
+    copper_count(files)
+}
+
+/// How many of some files, whole or in pieces, are copper.
+fn copper_count<S: SourceFile>(files: &[S]) -> usize
+    ensures { result ≡ count_by (λ file. is_copper (S.role_of file)) files.now }
+{
+    files.iter().filter(|file| is_copper(file.role())).count()
 }
 
 /// Takes those of the files that are copper, or those that are not, as `copper` says.
-fn take_kind(reader: &mut PackageReader, files: &[File], copper: bool) -> Result<(), AllocError>
-    ensures takes { (profile : TheProfile) → setting_of reader.old ≡ record { layers = layer_count files.now; profile = profile } → OnOk result (TakesThose reader.old reader.new (file_views_in profile files.now) (is_kind_at copper (file_views_in profile files.now))) }
+fn take_kind<S: SourceFile>(
+    reader: &mut PackageReader,
+    files: &[S],
+    copper: bool,
+) -> Result<(), AllocError>
+    ensures takes { (profile : TheProfile) → setting_of reader.old ≡ record { layers = count_by (λ file. is_copper (S.role_of file)) files.now; profile = profile } → OnOk result (TakesThose reader.old reader.new (views_in S.seen S.role_of profile files.now) (is_kind_at copper (views_in S.seen S.role_of profile files.now))) }
     ensures setting { setting_of reader.new ≡ setting_of reader.old }
 {
     for (index, file) in files.iter().enumerate() {
-        if is_kind(file.role, copper) {
-            reader.take(index, file.role, file.span, &[file.bytes])?;
+        if is_kind(file.role(), copper) {
+            file.give(reader, index)?;
         }
     }
     Ok(())
@@ -53,13 +66,13 @@ fn reader_of(
 }
 
 /// Has the check take the copper files.
-fn take_copper(check: &mut PackageCheck, files: &[File]) -> Result<(), AllocError>
-    ensures { check.old.layers ≡ layer_count files.now → OnOk result (JudgesThose check.old check.new (file_views_in check.old.rules.profile files.now) (is_kind_at true (file_views_in check.old.rules.profile files.now))) }
+fn take_copper<S: SourceFile>(check: &mut PackageCheck, files: &[S]) -> Result<(), AllocError>
+    ensures { check.old.layers ≡ count_by (λ file. is_copper (S.role_of file)) files.now → OnOk result (JudgesThose check.old check.new (views_in S.seen S.role_of check.old.rules.profile files.now) (is_kind_at true (views_in S.seen S.role_of check.old.rules.profile files.now))) }
 {
     let mut layer = 0;
     for (index, file) in files.iter().enumerate() {
-        if is_copper(file.role) {
-            check.take(index, layer, file.span, &[file.bytes])?;
+        if is_copper(file.role()) {
+            file.give_copper(check, index, layer)?;
             layer += 1;
         }
     }
@@ -67,18 +80,26 @@ fn take_copper(check: &mut PackageCheck, files: &[File]) -> Result<(), AllocErro
 }
 
 /// A check that has taken the files: the drill files first, then the copper files.
-fn check_of(alloc: Global, files: &[File], rules: Rules) -> Result<PackageCheck, AllocError>
-    ensures { IfOk result (λ check. HasJudgedAll check (file_views_in rules.profile files.now) rules) }
+fn check_of<S: SourceFile>(
+    alloc: Global,
+    files: &[S],
+    rules: Rules,
+) -> Result<PackageCheck, AllocError>
+    ensures { IfOk result (λ check. HasJudgedAll check (views_in S.seen S.role_of rules.profile files.now) rules) }
 {
-    let mut reader = PackageReader::new(alloc, layer_count(files), rules.profile());
+    let mut reader = PackageReader::new(alloc, copper_count(files), rules.profile());
     take_kind(&mut reader, files, false)?;
     let mut check = reader.checking(rules)?;
     take_copper(&mut check, files)?;
     Ok(check)
 }
 
-fn report_of(alloc: Global, files: &[File], rules: Rules) -> Result<Report, PackageFault>
-    ensures { ReturnsReport (file_views_in rules.profile files.now) rules result }
+fn report_of<S: SourceFile>(
+    alloc: Global,
+    files: &[S],
+    rules: Rules,
+) -> Result<Report, PackageFault>
+    ensures { ReturnsReport (views_in S.seen S.role_of rules.profile files.now) rules result }
 {
     match check_of(alloc, files, rules) {
         Ok(check) => check.finish(),
@@ -99,6 +120,28 @@ pub fn check_bytes(alloc: Global, files: &[File], rules: Rules) -> Result<Report
     ensures places { IfOk result NamesItsPlaces }
     ensures legal { IfOk result (λ report. AreLegal (file_views_in rules.profile files.now)) }
     ensures sound { IfOk result (λ report. report.findings ≡ [] → IsSound (file_views_in rules.profile files.now) rules) }
+{
+    unique_answer();
+    findings_name_their_places();
+    passing_is_sound();
+    report_of(alloc, files, rules)
+}
+
+/// The report of [`check_bytes`] on files whose bytes come in pieces. The pieces are never joined in memory.
+///
+/// # Errors
+///
+/// As those of [`check_bytes`].
+pub fn check_pieces(
+    alloc: Global,
+    files: &[PiecedFile],
+    rules: Rules,
+) -> Result<Report, PackageFault>
+    ensures exact { ReturnsReport (pieced_file_views rules.profile files.now) rules result }
+    ensures only { (answer : Result ReportView (ℕ × TheFault)) → IsAnswer (pieced_file_views rules.profile files.now) rules answer → ReturnsExactly answer result }
+    ensures places { IfOk result NamesItsPlaces }
+    ensures legal { IfOk result (λ report. AreLegal (pieced_file_views rules.profile files.now)) }
+    ensures sound { IfOk result (λ report. report.findings ≡ [] → IsSound (pieced_file_views rules.profile files.now) rules) }
 {
     unique_answer();
     findings_name_their_places();

@@ -16,7 +16,7 @@ ghost use Rattle.layer_features.specs.Features.{features_of, pads_of, rows_of, v
 ghost use Rattle.layer_features.specs.Kept.{keeps_drawn, keeps_rows};
 ghost use Rattle.layer_features.specs.declared.keep.Keep.{Keep as TheKeep};
 ghost use Rattle.layer_features.specs.declared.keep.Keep.TheVariants as keep;
-ghost use Rattle.package_check.specs.FileTexts.{Draws, HasLayerView, ReadsLayer, ReadsDrill, ReadsMixed, drill_kind, is_copper_function, layer_view, marked};
+ghost use Rattle.package_check.specs.FileTexts.{Draws, HasLayerView, ReadsLayer, ReadsDrill, ReadsMixed, drill_kind, is_copper_function, layer_view, holes_with_platings};
 ghost use Rattle.package_check.specs.Holding.{HasShown, ShowsRows};
 ghost use Rattle.package_check.specs.OpenFiles.{CopperStandsIn, copper_keep};
 
@@ -271,7 +271,7 @@ fn marked(
     holes: &[Hole],
     plated: &[bool],
 ) -> Result<Vec<Drilled>, AllocError>
-    ensures { IfOk result (λ all. all.items ≡ marked span.now holes.now plated.now) }
+    ensures { IfOk result (λ all. all.items ≡ holes_with_platings span.now holes.now plated.now) }
 {
     let mut all = Vec::with_capacity(alloc, holes.len())?;
     for (i, hole) in holes.iter().enumerate() {

@@ -15,7 +15,7 @@ use Rattle.pad_shapes.specs.Inner.RoundedLaws.{axis_in_slot}
 use Rattle.pad_shapes.specs.Inner.ShapeLaws.{by_order}
 use Rattle.pad_shapes.specs.Holding.{IsNearCentreLine, HoldsHole}
 use Rattle.pad_shapes.specs.HoleLaws.{CentreLineIsSlot}
-use Rattle.pad_shapes.specs.Inner.HoldingLaws.{in_slot, unscaled}
+use Rattle.pad_shapes.specs.Inner.HoldingLaws.{in_slot, without_factor}
 
 -- ---- means of the ends
 
@@ -199,7 +199,7 @@ core_point h reach p aligned n =
     step-le i j reach dx dy x y some at_x at_y near =
         let a : ((i + j) * dx) * ((i + j) * dx) ≤ x * x = square-le ((i + j) * dx) x at_x in
         let b : ((i + j) * dy) * ((i + j) * dy) ≤ y * y = square-le ((i + j) * dy) y at_y in
-        unscaled (i + j) dx dy reach some (omega (arith, a, b, near))
+        without_factor (i + j) dx dy reach some (omega (arith, a, b, near))
 
 pub holds_along_axis : (points : GridPoint → Type 0) (ring : ℕ) (h : GridHole) → IsAxisAligned h.from h.to
     → (HoldsHole points ring h → (c p : GridPoint) → IsInCore h c → square_distance p c ≤ square (h.radius + ring) → points p) × (((c p : GridPoint) → IsInCore h c → square_distance p c ≤ square (h.radius + ring) → points p) → HoldsHole points ring h)

@@ -74,9 +74,13 @@ cross e p = (e.to.x -ℤ e.from.x) *ℤ (p.y -ℤ e.from.y) -ℤ (e.to.y -ℤ e.
 abbrev pub along : Edge → GridPoint → ℤ
 along e p = (e.to.x -ℤ e.from.x) *ℤ (p.x -ℤ e.from.x) +ℤ (e.to.y -ℤ e.from.y) *ℤ (p.y -ℤ e.from.y)
 
--- the point lies to the left of the edge's line, and no nearer to it than the depth; or on it, for the depth 0
+-- the square of an edge's length
+abbrev pub square_edge : Edge → ℕ
+square_edge e = square_distance e.to e.from
+
+-- the point lies to the left of the edge's line, and no nearer to it than the depth; or on it, for the depth 0; an edge without length keeps no point out
 abbrev pub is_deep_left : Edge → ℕ → GridPoint → Bool
-is_deep_left e depth p = int_le (pos 0) (cross e p) && nat_le (square depth * square_distance e.to e.from) (square (unsigned_abs (cross e p)))
+is_deep_left e depth p = int_le (pos 0) (cross e p) && nat_le (square depth * square_edge e) (square (unsigned_abs (cross e p)))
 
 -- the corners enclose an area: the first one lies to the left of some edge
 abbrev pub has_area : GridRounded → Bool
@@ -93,10 +97,6 @@ is_deep_inside r depth p = has_area r && is_deep_left_of_all r depth p
 -- the point is no further from a corner than the distance
 abbrev pub is_near_corner : GridRounded → ℕ → GridPoint → Bool
 is_near_corner r distance p = list_any (λ v. nat_le (square_distance p v) (square distance)) (corners r)
-
--- the square of an edge's length
-abbrev pub square_edge : Edge → ℕ
-square_edge e = square_distance e.to e.from
 
 -- the point lies beside an edge, between its ends, no further from its line than the distance
 abbrev pub is_beside : Edge → ℕ → GridPoint → Bool

@@ -4,7 +4,7 @@ pub use Rattle.picture.specs.Copper.{flash_corner, next_root}
 unfoldable pub use Rattle.picture.specs.Copper.{drawn_line, drawn_polygon, floor_root}
 pub use Rattle.picture.specs.Elements.{are_alike, pad_paths}
 unfoldable pub use Rattle.picture.specs.Elements.{box, circle, line, placed_hole, placed_pad, round_part}
-pub use Rattle.picture.specs.Escapes.{begins, begins_entity, begins_forbidden, ends_forbidden, escaped, escaped_byte, written_byte}
+pub use Rattle.picture.specs.Escapes.{begins, begins_entity, begins_forbidden, ends_forbidden, escaped_name, escaped_byte, written_byte}
 unfoldable pub use Rattle.picture.specs.Escapes.{IsEscaped, escaped_after}
 pub use Rattle.picture.specs.Scenes.{AreSortedBySize, IsOnePathPerSize, crosses_of, drawn_finding, kind_of, kind_order, plain_pads, rounded_pads}
 pub use Rattle.ring_rules.proofs.EnumeratedLists.{enumerated_all, flat_listed_more}

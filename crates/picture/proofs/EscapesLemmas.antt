@@ -1,5 +1,5 @@
 -- Names that are escaped.
-use Rattle.picture.proofs.Common.{◌≡◌, ◌≢◌, ◌≤◌, ◌<◌, ◌+◌, ◌/◌, ◌==◌, ◌&&◌, ◌||◌, inl, inr, ◌++◌, ◌∷◌, ◌∙◌, [], ℕ, List, Bool, true, false, cond, ltb, length, refl, sym, subst, ap, ap₂, arith, append-nil, codes, if◌then◌else◌, IsTrue, rules, append_assoc, nil_from_length, IsEscaped, begins, begins_entity, begins_forbidden, ends_forbidden, escaped, escaped_after, escaped_byte, written_byte}
+use Rattle.picture.proofs.Common.{◌≡◌, ◌≢◌, ◌≤◌, ◌<◌, ◌+◌, ◌/◌, ◌==◌, ◌&&◌, ◌||◌, inl, inr, ◌++◌, ◌∷◌, ◌∙◌, [], ℕ, List, Bool, true, false, cond, ltb, length, refl, sym, subst, ap, ap₂, arith, append-nil, codes, if◌then◌else◌, IsTrue, rules, append_assoc, nil_from_length, IsEscaped, begins, begins_entity, begins_forbidden, ends_forbidden, escaped_name, escaped_after, escaped_byte, written_byte}
 use lib.Utf8.{encode, next}
 use Rattle.std.proofs.lemmas.Bool.{cases_lt}
 use Rattle.std.proofs.lemmas.Bool.Decides.{nat_tests}
@@ -131,11 +131,11 @@ in_parts first second (b ∷ bytes) rest =
     (more.0, more.1, ap (λ (t : List ℕ). shown ++ t) more.2 ∙ sym (append_assoc shown (escaped_after second b bytes) (escaped_after more.0 more.1 rest)))
 
 -- bytes that begin a character are printed alike after any two bytes
-one_byte : (first second a : ℕ) → a ≢ 190 → a ≢ 191 → escaped_after first second (a ∷ []) ≡ escaped (a ∷ [])
+one_byte : (first second a : ℕ) → a ≢ 190 → a ≢ 191 → escaped_after first second (a ∷ []) ≡ escaped_name (a ∷ [])
 unfolding escaped_after
 one_byte first second a low high = ap (λ (t : List ℕ). t ++ []) (byte_by_itself first second a low high)
 
-more_bytes : (first second a b : ℕ) (bytes : List ℕ) → a ≢ 190 → a ≢ 191 → escaped_after first second (a ∷ b ∷ bytes) ≡ escaped (a ∷ b ∷ bytes)
+more_bytes : (first second a b : ℕ) (bytes : List ℕ) → a ≢ 190 → a ≢ 191 → escaped_after first second (a ∷ b ∷ bytes) ≡ escaped_name (a ∷ b ∷ bytes)
 unfolding escaped_after
 more_bytes first second a b bytes low high =
     ap₂ (λ (x y : List ℕ). x ++ (y ++ escaped_after a b bytes)) (byte_by_itself first second a low high) (byte_after second a b high ∙ sym (byte_after 0 a b high))
@@ -146,7 +146,7 @@ bytes_of one two three c =
     cond one (c ∷ []) (cond two ((192 + c / 64) ∷ next c ∷ []) (cond three ((224 + c / 4096) ∷ next (c / 64) ∷ next c ∷ []) ((240 + c / 262144) ∷ next (c / 4096) ∷ next (c / 64) ∷ next c ∷ [])))
 
 by_size : (one two three : Bool) (first second c : ℕ) → ltb c 128 ≡ one
-    → escaped_after first second (bytes_of one two three c) ≡ escaped (bytes_of one two three c)
+    → escaped_after first second (bytes_of one two three c) ≡ escaped_name (bytes_of one two three c)
 by_size true two three first second c short =
     let small : c < 128 = grind (arith, nat_tests, short) in
     one_byte first second c (λ e. omega arith) (λ e. omega arith)
@@ -156,7 +156,7 @@ by_size false false false first second c short = more_bytes first second _ _ _ (
 
 -- a character is printed alike after any two bytes
 pub one_more_character : (first second c : ℕ) (rest : List ℕ)
-    → (f : ℕ) × (s : ℕ) × (escaped_after first second (encode c ++ rest) ≡ escaped (encode c) ++ escaped_after f s rest)
+    → (f : ℕ) × (s : ℕ) × (escaped_after first second (encode c ++ rest) ≡ escaped_name (encode c) ++ escaped_after f s rest)
 unfolding encode
 one_more_character first second c rest =
     let parts = in_parts first second (encode c) rest in
@@ -193,7 +193,7 @@ last_of_three c low high short =
     rw never refl
 
 plain_by_size : (one two three : Bool) (c : ℕ) → c ≢ 38 → c ≢ 60 → c ≢ 62 → c ≢ 65534 → c ≢ 65535 → ltb c 65536 ≡ three
-    → escaped (bytes_of one two three c) ≡ bytes_of one two three c
+    → escaped_name (bytes_of one two three c) ≡ bytes_of one two three c
 unfolding escaped_after
 plain_by_size true two three c and less more low high short = ap (λ (t : List ℕ). t ++ []) (same_byte c and less more)
 plain_by_size false true three c and less more low high short =
@@ -215,28 +215,28 @@ plain_by_size false false false c and less more low high short =
     (ap₂ (λ (x y : List ℕ). x ++ y) (byte_after 0 a b (λ e. omega arith) ∙ high_byte b (omega arith))
     (ap₂ (λ (x y : List ℕ). x ++ (y ++ [])) (byte_after_two a b d (λ e. omega arith) ∙ high_byte d (omega arith)) (byte_after_two b d e (λ e. omega arith) ∙ high_byte e (omega arith))))
 
-pub plain_character : (c : ℕ) → c ≢ 38 → c ≢ 60 → c ≢ 62 → c ≢ 65534 → c ≢ 65535 → escaped (encode c) ≡ encode c
+pub plain_character : (c : ℕ) → c ≢ 38 → c ≢ 60 → c ≢ 62 → c ≢ 65534 → c ≢ 65535 → escaped_name (encode c) ≡ encode c
 unfolding encode
 plain_character c and less more low high = plain_by_size (ltb c 128) (ltb c 2048) (ltb c 65536) c and less more low high refl
 
 -- ---- the characters that are not
 
-pub and_character : (c : ℕ) → c ≡ 38 → codes "&amp;" ≡ escaped (encode c)
+pub and_character : (c : ℕ) → c ≡ 38 → codes "&amp;" ≡ escaped_name (encode c)
 unfolding encode escaped_after
-and_character c is = subst (λ (x : ℕ). codes "&amp;" ≡ escaped (encode x)) (sym is) refl
+and_character c is = subst (λ (x : ℕ). codes "&amp;" ≡ escaped_name (encode x)) (sym is) refl
 
-pub less_character : (c : ℕ) → c ≡ 60 → codes "&lt;" ≡ escaped (encode c)
+pub less_character : (c : ℕ) → c ≡ 60 → codes "&lt;" ≡ escaped_name (encode c)
 unfolding encode escaped_after
-less_character c is = subst (λ (x : ℕ). codes "&lt;" ≡ escaped (encode x)) (sym is) refl
+less_character c is = subst (λ (x : ℕ). codes "&lt;" ≡ escaped_name (encode x)) (sym is) refl
 
-pub more_character : (c : ℕ) → c ≡ 62 → codes "&gt;" ≡ escaped (encode c)
+pub more_character : (c : ℕ) → c ≡ 62 → codes "&gt;" ≡ escaped_name (encode c)
 unfolding encode escaped_after
-more_character c is = subst (λ (x : ℕ). codes "&gt;" ≡ escaped (encode x)) (sym is) refl
+more_character c is = subst (λ (x : ℕ). codes "&gt;" ≡ escaped_name (encode x)) (sym is) refl
 
-pub forbidden_character : (c : ℕ) → 65534 ≤ c → c < 65536 → encode 65533 ≡ escaped (encode c)
+pub forbidden_character : (c : ℕ) → 65534 ≤ c → c < 65536 → encode 65533 ≡ escaped_name (encode c)
 unfolding encode escaped_after
 forbidden_character c least most =
     elim (cases_lt c 65535) [
-      | inl low ↦ let is : 65534 ≡ c = omega arith in subst (λ (x : ℕ). encode 65533 ≡ escaped (encode x)) is refl
-      | inr high ↦ let is : 65535 ≡ c = omega arith in subst (λ (x : ℕ). encode 65533 ≡ escaped (encode x)) is refl
+      | inl low ↦ let is : 65534 ≡ c = omega arith in subst (λ (x : ℕ). encode 65533 ≡ escaped_name (encode x)) is refl
+      | inr high ↦ let is : 65535 ≡ c = omega arith in subst (λ (x : ℕ). encode 65533 ≡ escaped_name (encode x)) is refl
     ]

@@ -9,7 +9,7 @@ use Rattle.pad_shapes.specs.declared.pad.Pad.TheVariants as pads
 use Rattle.grid_units.specs.HoleWords.{drilled_words}
 use Rattle.grid_units.specs.LengthWords.{short_millimetres}
 use Rattle.ring_rules.specs.declared.finding.Drilled.{Drilled}
-use Rattle.picture.specs.Escapes.{escaped}
+use Rattle.picture.specs.Escapes.{escaped_name}
 use Rattle.picture.specs.declared.frame.Pen.{Pen}
 use Rattle.picture.specs.declared.frame.Place.{Place}
 use Rattle.picture.specs.declared.scene.DrawnFinding.{DrawnFinding}
@@ -306,7 +306,7 @@ gap_words a b = codes "gap too small: hole " ++ (drilled_words a ++ (codes ", an
 
 -- what is lacking
 abbrev pub lack_words : Pen → Place → DrawnFinding → List ℕ
-lack_words pen place (Ring n h) = ring_words (escaped place.name.now) (pos pen.ring) h
+lack_words pen place (Ring n h) = ring_words (escaped_name place.name.now) (pos pen.ring) h
 lack_words pen place (Gap n a b) = gap_words a b
 
 -- a finding in words: its number and what is lacking: `#27 annular ring on top (rule 0.15): hole 0.75 at 142.24,-97.79`
@@ -315,9 +315,9 @@ finding_words pen place found = codes "#" ++ (decimal (number_of found) ++ (code
 
 -- the attribute by which a finding is named: `id`, which no two elements of a page share. A ring is in one panel. A gap is in each,
 -- and its `id` is in the first one
-abbrev pub naming : Place → DrawnFinding → List ℕ
-naming place (Ring n h) = codes "id"
-naming place (Gap n a b) = if place.first then codes "id" else codes "data-id"
+abbrev pub id_attribute : Place → DrawnFinding → List ℕ
+id_attribute place (Ring n h) = codes "id"
+id_attribute place (Gap n a b) = if place.first then codes "id" else codes "data-id"
 
 -- the start of the group of a finding: `<g class="finding" id="f27"><title>#27 gap too small: hole 0.4 at 0,0, and hole 0.4 at 0.6,0</title>`
 unfoldable pub finding_start : List ℕ → ℕ → List ℕ → List ℕ
@@ -327,7 +327,7 @@ finding_start attribute n words =
 -- the group of a finding: its name, its title, and its ring or gap
 abbrev pub finding_text : Pen → Place → DrawnFinding → List ℕ
 finding_text pen place found =
-    finding_start (naming place found) (number_of found) (finding_words pen place found) ++ (lack pen found ++ group_end)
+    finding_start (id_attribute place found) (number_of found) (finding_words pen place found) ++ (lack pen found ++ group_end)
 
 -- ---- marks and numbers
 

@@ -20,8 +20,8 @@ escaped_after first second [] = []
 escaped_after first second (b ∷ bs) = written_byte first second b ++ escaped_after second b bs
 
 -- a name as it is printed: `a<b` is `a&lt;b`; before its first byte two zeros are assumed
-abbrev pub escaped : List ℕ → List ℕ
-escaped name = escaped_after 0 0 name
+abbrev pub escaped_name : List ℕ → List ℕ
+escaped_name name = escaped_after 0 0 name
 
 -- a text begins with some bytes
 abbrev pub begins : List ℕ → List ℕ → Bool

@@ -13,19 +13,19 @@ use Rattle.picture.specs.declared.scene.DrawnFinding.{DrawnFinding}
 use Rattle.picture.specs.declared.scene.DrawnFinding.TheVariants.{Ring, Gap}
 use Rattle.picture.specs.declared.scene.Scene.{Scene}
 use Rattle.picture.specs.Copper.{copper, frame_start}
-use Rattle.picture.specs.Escapes.{escaped}
+use Rattle.picture.specs.Escapes.{escaped_name}
 use Rattle.picture.specs.Outlines.{outline_text}
 use Rattle.picture.specs.Elements.{after, crosses, finding_text, hole_paths, mark, number, text_start}
 use Rattle.picture.specs.RoundedPads.{pads_text}
 
 -- the place of a panel on the page: `" transform="translate(5.5 109.5)">`
-unfoldable pub translated : ℤ → ℤ → List ℕ
-translated x y = after (codes "\" transform=\"translate(") x ++ (after (codes " ") y ++ codes ")\">\n")
+unfoldable pub translation : ℤ → ℤ → List ℕ
+translation x y = after (codes "\" transform=\"translate(") x ++ (after (codes " ") y ++ codes ")\">\n")
 
 -- the start of a panel, by the number of its file: `<g class="layer" data-file="1" transform="translate(5.5 109.5)">`
 unfoldable pub panel_start : Place → List ℕ
 panel_start p =
-    (codes "<g class=\"layer\" data-file=\"" ++ decimal p.file) ++ translated p.x p.y
+    (codes "<g class=\"layer\" data-file=\"" ++ decimal p.file) ++ translation p.x p.y
 
 -- the box of the board: `<rect class="board" x="1.4" y="-88.6" width="107.2" height="87.2"/>`
 abbrev pub board_box : Frame → List ℕ
@@ -78,8 +78,8 @@ abbrev pub after_name : Pen → Frame → Scene → List ℕ
 after_name pen f scene = codes "</text>\n" ++ (note_start pen f ++ (note pen scene ++ board_box f))
 
 -- the findings that are marked and numbered: the first hundred
-abbrev pub marked : List DrawnFinding → List DrawnFinding
-marked lacks = take 100 lacks
+abbrev pub marked_findings : List DrawnFinding → List DrawnFinding
+marked_findings lacks = take 100 lacks
 
 -- the marks of some findings, then their numbers
 abbrev pub marks_text : Pen → Place → List DrawnFinding → List ℕ
@@ -87,7 +87,7 @@ marks_text pen place lacks = flat_map (mark pen place) lacks ++ flat_map (number
 
 -- the findings of a panel: a group with the ring or gap for each, then the marks, then the numbers
 abbrev pub lacks_text : Pen → Place → List DrawnFinding → List ℕ
-lacks_text pen place lacks = flat_map (finding_text pen place) lacks ++ marks_text pen place (marked lacks)
+lacks_text pen place lacks = flat_map (finding_text pen place) lacks ++ marks_text pen place (marked_findings lacks)
 
 -- what is below the pads: what is drawn, clipped to the box, and the outline of the board
 unfoldable pub ground_text : Pen → Frame → List Drawn → List Drawn → List ℕ
@@ -105,6 +105,6 @@ panel_end = codes "</g>\n"
 -- the text of a panel
 abbrev pub panel_text : Place → Frame → Pen → Scene → List ℕ
 panel_text place frame pen scene =
-    ((((panel_start place ++ name_start pen frame) ++ escaped place.name.now) ++ after_name pen frame scene)
+    ((((panel_start place ++ name_start pen frame) ++ escaped_name place.name.now) ++ after_name pen frame scene)
     ++ scene_text pen place frame scene.drawn.now scene.outline.now scene.pads.items scene.rounded.items scene.crosses.items scene.holes.now scene.lacks.items)
     ++ panel_end

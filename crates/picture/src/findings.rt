@@ -4,7 +4,7 @@ ghost use Rattle.std.specs.Prelude.{◌≡◌, ◌*◌, ◌≤◌, ◌^◌, ◌+
 ghost use Rattle.std.specs.Fmt.{DisplaysOnOk};
 ghost use Rattle.grid_units.specs.Points.{IsCoordinate};
 ghost use Rattle.picture.specs.Elements.{circle, finding_text, gap, halfway, lack, line, mark, mark_circle, mark_radius, middle_x, middle_y, number, number_offset, place_x, place_y, reach, ring};
-ghost use Rattle.picture.specs.Panels.{lacks_text, marked};
+ghost use Rattle.picture.specs.Panels.{lacks_text, marked_findings};
 
 use crate::elements::{Circle, StraightLine, TextStart, down};
 use crate::frame::Pen;
@@ -218,7 +218,7 @@ impl Line<Numbers<'_>> for DrawnFinding {
 
 /// The findings that are marked: the first hundred.
 fn marked(lacks: &[DrawnFinding]) -> &[DrawnFinding]
-    ensures { result.now ≡ marked lacks.now }
+    ensures { result.now ≡ marked_findings lacks.now }
 {
     if lacks.len() <= MOST_MARKED {
         return lacks;

@@ -6,14 +6,14 @@ ghost use Rattle.pad_shapes.specs.Rows.{is_pad_row};
 ghost use Rattle.pad_shapes.specs.declared.pad.Pad.{Pad};
 ghost use Rattle.pad_shapes.specs.declared.row.FeatureRow.{FeatureRow};
 ghost use Rattle.picture.specs.Elements.{pad_paths};
-ghost use Rattle.picture.specs.Escapes.{IsEscaped, escaped};
+ghost use Rattle.picture.specs.Escapes.{IsEscaped, escaped_name};
 ghost use Rattle.picture.specs.RoundedPads.{pads_text};
 ghost use Rattle.picture.specs.Scenes.{AreSortedBySize, IsOnePathPerSize, crosses_of, plain_pads, rounded_pads};
 ghost use Rattle.pad_shapes.specs.declared.wide_pad.WidePad.TheVariants.{Plain};
 
 /// An escaped name has no `<`, no U+FFFE and no U+FFFF, and `&` only where an entity begins.
 pub fn escaped_names()
-    ensures { (name : List ℕ) → IsEscaped (escaped name) }
+    ensures { (name : List ℕ) → IsEscaped (escaped_name name) }
 {}
 
 /// Of pads in order of kind and size, each kind and size is one path.

@@ -2,14 +2,14 @@
 
 ghost use Rattle.std.specs.Prelude.{Some, encode_utf8};
 ghost use Rattle.std.specs.Fmt.{DisplaysOnOk};
-ghost use Rattle.picture.specs.Escapes.{escaped};
+ghost use Rattle.picture.specs.Escapes.{escaped_name};
 
 use std::fmt;
 use std::fmt::{Display, Formatter};
 
 /// Writes a character of a name: `&`, `<` and `>` as entities, U+FFFE and U+FFFF as U+FFFD.
 fn write_character<W: fmt::Write>(f: &mut Formatter<W>, character: char) -> fmt::Result
-    ensures { DisplaysOnOk W.write_str_gives f.old result (Some (escaped (encode_utf8 character))) f.new }
+    ensures { DisplaysOnOk W.write_str_gives f.old result (Some (escaped_name (encode_utf8 character))) f.new }
 {
     match character {
         '&' => f.write_str("&amp;"),
@@ -26,7 +26,7 @@ fn write_character<W: fmt::Write>(f: &mut Formatter<W>, character: char) -> fmt:
 pub struct Escaped<'a>(pub &'a str);
 
 impl Display for Escaped<'_> {
-    ghost output = { λ name. Some (escaped name.0.now) };
+    ghost output = { λ name. Some (escaped_name name.0.now) };
 
     fn fmt<W: fmt::Write>(&self, f: &mut Formatter<W>) -> fmt::Result {
         for character in self.0.chars() {

@@ -2,7 +2,7 @@
 
 ghost use Rattle.std.specs.Prelude.{◌≡◌, ◌≤◌, ◌^◌, ◌++◌, ◌+ℤ◌, ◌==◌, neg_ℤ, pos, Some, if◌then◌else◌};
 ghost use Rattle.std.specs.Fmt.{DisplaysOnOk};
-ghost use Rattle.picture.specs.Escapes.{escaped};
+ghost use Rattle.picture.specs.Escapes.{escaped_name};
 ghost use Rattle.picture.specs.Panels.{after_name, drawn_words, ground_text, lacking_words, name_start, note, pad_count, panel_start, panel_text, ring_count, scene_text};
 
 use crate::copper::Copper;
@@ -183,7 +183,7 @@ struct PanelHead<'a> {
 }
 
 impl Display for PanelHead<'_> {
-    ghost output = { λ head. Some ((panel_start head.place.now ++ name_start head.pen.now head.frame.now) ++ escaped head.place.now.name.now) };
+    ghost output = { λ head. Some ((panel_start head.place.now ++ name_start head.pen.now head.frame.now) ++ escaped_name head.place.now.name.now) };
 
     fn fmt<W: fmt::Write>(&self, f: &mut Formatter<W>) -> fmt::Result {
         let (place, frame, pen) = (self.place, self.frame, self.pen);

@@ -2,8 +2,8 @@
 
 ghost use Rattle.std.specs.Prelude.{◌≡◌, Some};
 ghost use Rattle.std.specs.Fmt.{DisplaysOnOk};
-ghost use Rattle.picture.specs.Escapes.{escaped};
-ghost use Rattle.picture.specs.Elements.{finding_start, finding_words, gap_words, lack_words, naming, number_of, ring_words};
+ghost use Rattle.picture.specs.Escapes.{escaped_name};
+ghost use Rattle.picture.specs.Elements.{finding_start, finding_words, gap_words, lack_words, id_attribute, number_of, ring_words};
 
 use crate::frame::{Pen, Place};
 use crate::names::Escaped;
@@ -33,7 +33,7 @@ pub(crate) fn number_of(found: &DrawnFinding) -> usize
 
 /// The attribute by which a finding is named: `id` in one panel of a page, `data-id` in the others.
 fn naming(place: &Place, found: &DrawnFinding) -> &'static str
-    ensures { result.now ≡ naming place.now found.now }
+    ensures { result.now ≡ id_attribute place.now found.now }
 {
     match found {
         DrawnFinding::Ring { .. } => "id",
@@ -50,7 +50,7 @@ struct RingWords<'a> {
 }
 
 impl Display for RingWords<'_> {
-    ghost output = { λ words. Some (ring_words (escaped words.name.0.now) words.rule words.hole.now) };
+    ghost output = { λ words. Some (ring_words (escaped_name words.name.0.now) words.rule words.hole.now) };
 
     #[tactic(auto, unfolding(crate::specs::Elements::ring_words))]
     fn fmt<W: fmt::Write>(&self, f: &mut Formatter<W>) -> fmt::Result {
@@ -122,7 +122,7 @@ pub(crate) fn write_finding_start<W: fmt::Write>(
     page: &FindingPage,
     found: &DrawnFinding,
 ) -> fmt::Result
-    ensures { DisplaysOnOk W.write_str_gives f.old result (Some (finding_start (naming page.now.place.now found.now) (number_of found.now) (finding_words page.now.pen.now page.now.place.now found.now))) f.new }
+    ensures { DisplaysOnOk W.write_str_gives f.old result (Some (finding_start (id_attribute page.now.place.now found.now) (number_of found.now) (finding_words page.now.pen.now page.now.place.now found.now))) f.new }
 {
     let (attribute, number) = (naming(page.place, found), number_of(found));
     let words = FindingWords { page, found };

@@ -6,7 +6,7 @@ pub use Rattle.json.specs.Print.{IsNumber, escape, print, quoted}
 unfoldable pub use Rattle.json.specs.Print.{escape_byte, print_from}
 pub use Rattle.json.specs.Tree.{HasNumbers, ItemsHaveNumbers, depth, items_depth, items_tokens, json_tokens, members_depth, members_tokens}
 pub use Rattle.print_json.specs.Inner.Texts.{comma_before, items_text, members_text, more_items, more_members, value_text}
-pub use Rattle.print_json.specs.Packages.{file_values, gap_values, input_error_value, ring_values, waived_report_value}
+pub use Rattle.print_json.specs.Packages.{file_values, gap_values, input_error_value, ring_values}
 unfoldable pub use Rattle.print_json.specs.Packages.{measure_value, report_value}
 pub use Rattle.print_json.specs.Values.{acceptance_value, array_of, file_value, hole_at_place, items_of, json_text, layer_number, least_hole, least_ring, members_of, met_value, or_null, picometres, place_value, span_value, whole, word}
 unfoldable pub use Rattle.print_json.specs.Values.{drill_value, gap_value, hole_value, layer_value, least_gap_value, meets_value, mixed_value, point_value, ring_value, row_value, rules_value, scale_value, wide_layer_value}

@@ -39,8 +39,8 @@ opening_in profile result =
     (codes "format", word (codes "ringcheck")) ∷ (codes "version", whole 3) ∷ (codes "profile", profile_value profile) ∷ (codes "result", word result) ∷ []
 
 -- the first members of each other object: `"format":"ringcheck","version":3,"result":"refused"`
-abbrev pub opening : List ℕ → List (List ℕ × Json)
-opening result = (codes "format", word (codes "ringcheck")) ∷ (codes "version", whole 3) ∷ (codes "result", word result) ∷ []
+abbrev pub first_members : List ℕ → List (List ℕ × Json)
+first_members result = (codes "format", word (codes "ringcheck")) ∷ (codes "version", whole 3) ∷ (codes "result", word result) ∷ []
 
 -- the contents of each file in a profile, in order, with the files' numbers and names
 abbrev pub file_values : Profile → List (List ℕ) → List FileSum → List Json
@@ -82,10 +82,6 @@ report_value profile about names files report rings gaps =
 abbrev pub waived_report_value : Particulars → List (List ℕ) → List FileSum → BoardReport → Acceptances → Json
 waived_report_value about names files report accepted = report_value report.rules.profile about names files report accepted.rings.now accepted.gaps.now
 
--- a report without waivers, in the profile of its rules
-abbrev pub board_report_value : Particulars → List (List ℕ) → List FileSum → BoardReport → Json
-board_report_value about names files report = report_value report.rules.profile about names files report [] []
-
 -- a measure in a profile: the rules that are met, the files, the scales, the rows of rings, and the least gap of the board's holes
 unfoldable pub measure_value : Profile → List (List ℕ) → BoardView → Measure → Json
 measure_value profile names board measure =
@@ -96,24 +92,24 @@ measure_value profile names board measure =
 -- a refused file: `{..,"result":"refused","file":1,"name":"top","place":11,"byte":100,"reason":"BadWord"}`
 abbrev pub refused_value : ℕ → List ℕ → Fault → Json
 refused_value index name fault =
-    object_of (opening (codes "refused") ++ ((codes "file", whole (index + 1)) ∷ (codes "name", word name) ∷ (codes "place", whole fault.place)
+    object_of (first_members (codes "refused") ++ ((codes "file", whole (index + 1)) ∷ (codes "name", word name) ∷ (codes "place", whole fault.place)
     ∷ (codes "byte", whole fault.byte) ∷ (codes "reason", word (reason_name fault.reason)) ∷ []))
 
 -- a refused manifest: `{..,"result":"refused","place":2,"reason":"BadRole"}`
 abbrev pub refused_manifest_value : ℕ → Reason → Json
-refused_manifest_value place reason = object_of (opening (codes "refused") ++ ((codes "place", whole place) ∷ (codes "reason", word (reason_name reason)) ∷ []))
+refused_manifest_value place reason = object_of (first_members (codes "refused") ++ ((codes "place", whole place) ∷ (codes "reason", word (reason_name reason)) ∷ []))
 
 -- a file that cannot be read: `{..,"result":"device","file":2,"name":"pth"}`
 abbrev pub device_value : ℕ → List ℕ → Json
-device_value index name = object_of (opening (codes "device") ++ ((codes "file", whole (index + 1)) ∷ (codes "name", word name) ∷ []))
+device_value index name = object_of (first_members (codes "device") ++ ((codes "file", whole (index + 1)) ∷ (codes "name", word name) ∷ []))
 
 -- a manifest that cannot be read: `{"format":"ringcheck","version":3,"result":"device"}`
 abbrev pub manifest_device_value : Json
-manifest_device_value = object_of (opening (codes "device"))
+manifest_device_value = object_of (first_members (codes "device"))
 
 -- the first members of an object about the file of waivers: `"format":"ringcheck","version":3,"result":"refused","waivers":true`
 abbrev pub waivers_opening : List ℕ → List (List ℕ × Json)
-waivers_opening result = opening result ++ (codes "waivers", boolean true) ∷ []
+waivers_opening result = first_members result ++ (codes "waivers", boolean true) ∷ []
 
 -- a refused file of waivers: `{..,"result":"refused","waivers":true,"place":2,"reason":"EmptyName"}`
 abbrev pub refused_waivers_value : ℕ → Reason → Json

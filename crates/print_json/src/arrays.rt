@@ -1,4 +1,4 @@
-//! Arrays of files, scales, rows and findings.
+//! Arrays of files, findings and other values.
 
 ghost use Rattle.std.specs.Prelude.{◌≡◌, ◌<◌, ◌^◌, Some, List, get_or, length, map};
 ghost use Rattle.std.specs.Fmt.{DisplaysOnOk};
@@ -6,14 +6,14 @@ ghost use Rattle.json.specs.Json.{Json, null};
 ghost use Rattle.json.specs.Tree.{HasNumbers};
 ghost use Rattle.print_json.specs.Inner.Texts.{comma_before, value_text};
 ghost use Rattle.print_json.specs.Packages.{file_values, finding_values, gap_values, ring_values};
-ghost use Rattle.print_json.specs.Values.{array_of, file_value, gap_value, ring_value, row_value, scale_value};
+ghost use Rattle.print_json.specs.Values.{array_of, file_value, gap_value, ring_value};
 
 use crate::findings::{GapJson, RingJson};
-use crate::numbers::{file_numbers, gap_numbers, ring_numbers, row_numbers, scale_numbers};
-use crate::values::{FileJson, RowJson, ScaleJson};
+use crate::printed::Value;
+use crate::values::FileJson;
 use board::FileSum;
 use grid_units::{Profile, name_of};
-use report::{Acceptances, BoardReport, RingLine, UnitMistake, acceptance_of};
+use report::{Acceptances, BoardReport, acceptance_of};
 use std::fmt;
 use std::fmt::{Display, Formatter};
 
@@ -104,53 +104,28 @@ impl Values for Files<'_> {
     }
 
     fn write_at<W: fmt::Write>(&self, place: u128, f: &mut Formatter<W>) -> fmt::Result {
-        write!(f, "{}", self.file_at(place as usize))
+        self.file_at(place as usize).write(f)
     }
 
     fn numbers_at(&self, place: u128) {
-        file_numbers(&self.file_at(place as usize));
+        self.file_at(place as usize).numbers();
     }
 }
 
-/// The drill files whose coordinates seem to be off by a factor.
-#[derive(Clone, Copy)]
-pub(crate) struct Scales<'a>(pub(crate) &'a [UnitMistake]);
-
-impl Values for Scales<'_> {
-    ghost values = { λ all. map scale_value all.0.now };
+/// The values of a list, in order.
+impl<V: Value> Values for &[V] {
+    ghost values = { λ all. map V.value all.now };
 
     fn count(&self) -> u128 {
-        self.0.len() as u128
+        self.len() as u128
     }
 
     fn write_at<W: fmt::Write>(&self, place: u128, f: &mut Formatter<W>) -> fmt::Result {
-        let line = &self.0[place as usize];
-        write!(f, "{}", ScaleJson(line))
+        self[place as usize].write(f)
     }
 
     fn numbers_at(&self, place: u128) {
-        scale_numbers(&self.0[place as usize]);
-    }
-}
-
-/// The rows of rings.
-#[derive(Clone, Copy)]
-pub(crate) struct Rows<'a>(pub(crate) &'a [RingLine]);
-
-impl Values for Rows<'_> {
-    ghost values = { λ all. map row_value all.0.now };
-
-    fn count(&self) -> u128 {
-        self.0.len() as u128
-    }
-
-    fn write_at<W: fmt::Write>(&self, place: u128, f: &mut Formatter<W>) -> fmt::Result {
-        let line = &self.0[place as usize];
-        write!(f, "{}", RowJson(line))
-    }
-
-    fn numbers_at(&self, place: u128) {
-        row_numbers(&self.0[place as usize]);
+        self[place as usize].numbers();
     }
 }
 
@@ -208,18 +183,18 @@ impl Values for Findings<'_> {
     fn write_at<W: fmt::Write>(&self, place: u128, f: &mut Formatter<W>) -> fmt::Result {
         let rings = self.ring_count();
         if place < rings {
-            write!(f, "{}", self.ring_at(place as usize))
+            self.ring_at(place as usize).write(f)
         } else {
-            write!(f, "{}", self.gap_at((place - rings) as usize))
+            self.gap_at((place - rings) as usize).write(f)
         }
     }
 
     fn numbers_at(&self, place: u128) {
         let rings = self.ring_count();
         if place < rings {
-            ring_numbers(&self.ring_at(place as usize));
+            self.ring_at(place as usize).numbers();
         } else {
-            gap_numbers(&self.gap_at((place - rings) as usize));
+            self.gap_at((place - rings) as usize).numbers();
         }
     }
 }

@@ -1,48 +1,20 @@
 //! The values of findings.
 
 ghost use Rattle.std.specs.Prelude.{◌≡◌, Some};
-ghost use Rattle.print_json.specs.Inner.Texts.{ring_rest, more_members, value_text};
-ghost use Rattle.print_json.specs.Values.{cause_word, gap_value, or_null, layer_number, members_of, picometres, ring_value, whole, acceptance_value, reason_word, word};
-ghost use Rattle.report.specs.Causes.{flash_of, lack_of, ring_of};
+ghost use Rattle.print_json.specs.Inner.Texts.{ring_rest, more_members};
+ghost use Rattle.print_json.specs.Values.{cause_word, gap_value, layer_number, members_of, ring_value, reason_word};
 
-use crate::strings::Escaped;
-use crate::values::HoleJson;
+use crate::printed::{Text, Value};
 use pad_shapes::Why;
 use report::{GapLack, LayerHead, RingCause, RingLack, flash_of, lack_of, ring_of};
 use std::fmt;
 use std::fmt::{Display, Formatter};
 
-/// The number of a layer's file, by the layer's place among the copper files; null where there is no such layer.
-#[derive(Clone, Copy)]
-struct LayerJson<'a> {
-    layers: &'a [LayerHead],
-    layer: usize,
-}
-
-impl Display for LayerJson<'_> {
-    ghost output = { λ json. Some (value_text (or_null whole (layer_number json.layers.now json.layer))) };
-
-    fn fmt<W: fmt::Write>(&self, f: &mut Formatter<W>) -> fmt::Result {
-        match self.layers.get(self.layer) {
-            Some(head) => write!(f, "{}", head.file as u128 + 1),
-            None => f.write_str("null"),
-        }
-    }
-}
-
-/// A length in pm, or null.
-#[derive(Clone, Copy)]
-struct LengthOrNull(Option<i64>);
-
-impl Display for LengthOrNull {
-    ghost output = { λ json. Some (value_text (or_null picometres json.0)) };
-
-    fn fmt<W: fmt::Write>(&self, f: &mut Formatter<W>) -> fmt::Result {
-        match self.0 {
-            Some(length) => write!(f, "{length}"),
-            None => f.write_str("null"),
-        }
-    }
+/// The number of a layer's file, by the layer's place among the copper files, if there is such a layer.
+fn layer_number(layers: &[LayerHead], layer: usize) -> Option<u128>
+    ensures { result ≡ layer_number layers.now layer }
+{
+    layers.get(layer).map(|head| head.file as u128 + 1)
 }
 
 /// The word for the reason why a flash is no pad.
@@ -76,48 +48,6 @@ fn cause_word(cause: &RingCause) -> &'static str
     }
 }
 
-/// The reason why a hole lacks its ring: `"small"`, `"off"`, `"edge"`, `"macro"`, `"clear"`, `"none"`.
-#[derive(Clone, Copy)]
-struct CauseJson<'a>(&'a RingCause);
-
-impl Display for CauseJson<'_> {
-    ghost output = { λ json. Some (value_text (word (cause_word json.0.now))) };
-
-    fn fmt<W: fmt::Write>(&self, f: &mut Formatter<W>) -> fmt::Result {
-        write!(f, "\"{}\"", Escaped(cause_word(self.0)))
-    }
-}
-
-/// The number of the flash of a hole's best pad, or of the flash that is no pad, or null.
-#[derive(Clone, Copy)]
-struct FlashJson<'a>(&'a RingCause);
-
-impl Display for FlashJson<'_> {
-    ghost output = { λ json. Some (value_text (or_null whole (flash_of json.0.now))) };
-
-    fn fmt<W: fmt::Write>(&self, f: &mut Formatter<W>) -> fmt::Result {
-        match flash_of(self.0) {
-            Some(flash) => write!(f, "{flash}"),
-            None => f.write_str("null"),
-        }
-    }
-}
-
-/// The reason why a finding is accepted, or null.
-#[derive(Clone, Copy)]
-struct WaivedJson<'a>(Option<&'a str>);
-
-impl Display for WaivedJson<'_> {
-    ghost output = { λ json. Some (value_text (acceptance_value json.0)) };
-
-    fn fmt<W: fmt::Write>(&self, f: &mut Formatter<W>) -> fmt::Result {
-        match self.0 {
-            Some(why) => write!(f, "\"{}\"", Escaped(why)),
-            None => f.write_str("null"),
-        }
-    }
-}
-
 /// The last members of an insufficient ring, from `has_pm` on, with the closing bracket.
 #[derive(Clone, Copy)]
 struct RingRest<'a> {
@@ -130,10 +60,10 @@ impl Display for RingRest<'_> {
 
     #[tactic(auto, unfolding(json::specs::Print::escape_byte))]
     fn fmt<W: fmt::Write>(&self, f: &mut Formatter<W>) -> fmt::Result {
-        let cause = self.cause;
-        let (has, lacks) = (LengthOrNull(ring_of(cause)), LengthOrNull(lack_of(cause)));
-        let flash = FlashJson(cause);
-        let (cause, waived) = (CauseJson(cause), WaivedJson(self.why));
+        let (has, lacks) = (ring_of(self.cause), lack_of(self.cause));
+        let (cause, flash) = (cause_word(self.cause), flash_of(self.cause));
+        let (has, lacks) = (Text(&has), Text(&lacks));
+        let (cause, flash, waived) = (Text(&cause), Text(&flash), Text(&self.why));
         write!(
             f,
             r#","has_pm":{has},"lacks_pm":{lacks},"cause":{cause},"flash":{flash},"waived":{waived}}}"#
@@ -152,19 +82,29 @@ pub(crate) struct RingJson<'a> {
     pub(crate) why: Option<&'a str>,
 }
 
-impl Display for RingJson<'_> {
-    ghost output = { λ json. Some (value_text (ring_value json.layers.now json.number json.lack.now json.why)) };
+impl Value for RingJson<'_> {
+    ghost value = { λ json. ring_value json.layers.now json.number json.lack.now json.why };
 
     #[tactic(auto, unfolding(crate::specs::Values::ring_value, json::specs::Print::escape_byte))]
-    fn fmt<W: fmt::Write>(&self, f: &mut Formatter<W>) -> fmt::Result {
-        let (layers, lack, number) = (self.layers, self.lack, self.number);
-        let (layer, cause, why) = (lack.layer, &lack.cause, self.why);
-        let (layer, at) = (LayerJson { layers, layer }, HoleJson(&lack.at));
-        let rest = RingRest { cause, why };
+    fn write<W: fmt::Write>(&self, f: &mut Formatter<W>) -> fmt::Result {
+        let (number, lack, why) = (self.number, self.lack, self.why);
+        let (layer, cause) = (layer_number(self.layers, lack.layer), &lack.cause);
+        let (layer, at, rest) = (Text(&layer), Text(&lack.at), RingRest { cause, why });
         write!(
             f,
             r#"{{"kind":"ring","number":{number},"layer":{layer},"at":{at}{rest}"#
         )
+    }
+
+    #[tactic(auto, unfolding(crate::specs::Values::ring_value))]
+    fn numbers(&self) {
+        let (layers, lack) = (self.layers, self.lack);
+        self.number.numbers();
+        layer_number(layers, lack.layer).numbers();
+        lack.at.numbers();
+        ring_of(&lack.cause).numbers();
+        lack_of(&lack.cause).numbers();
+        flash_of(&lack.cause).numbers();
     }
 }
 
@@ -178,21 +118,27 @@ pub(crate) struct GapJson<'a> {
     pub(crate) why: Option<&'a str>,
 }
 
-impl Display for GapJson<'_> {
-    ghost output = { λ json. Some (value_text (gap_value json.number json.lack.now json.why)) };
+impl Value for GapJson<'_> {
+    ghost value = { λ json. gap_value json.number json.lack.now json.why };
 
     #[tactic(auto, unfolding(crate::specs::Values::gap_value, json::specs::Print::escape_byte))]
-    fn fmt<W: fmt::Write>(&self, f: &mut Formatter<W>) -> fmt::Result {
-        let (lack, number) = (self.lack, self.number);
-        let (at, and, waived) = (
-            HoleJson(&lack.first),
-            HoleJson(&lack.second),
-            WaivedJson(self.why),
-        );
+    fn write<W: fmt::Write>(&self, f: &mut Formatter<W>) -> fmt::Result {
+        let (number, lack) = (self.number, self.lack);
+        let (at, and, waived) = (Text(&lack.first), Text(&lack.second), Text(&self.why));
         write!(
             f,
             r#"{{"kind":"gap","number":{number},"at":{at},"and":{and},"has_pm":{},"lacks_pm":{},"waived":{waived}}}"#,
             lack.gap, lack.lack
         )
+    }
+
+    #[tactic(auto, unfolding(crate::specs::Values::gap_value))]
+    fn numbers(&self) {
+        let lack = self.lack;
+        self.number.numbers();
+        lack.first.numbers();
+        lack.second.numbers();
+        lack.gap.numbers();
+        lack.lack.numbers();
     }
 }

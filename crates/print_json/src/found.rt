@@ -1,18 +1,17 @@
 //! The JSON of a report.
 
-ghost use Rattle.std.specs.Prelude.{◌≡◌, [], Some, map};
+ghost use Rattle.std.specs.Prelude.{◌≡◌, Some, map};
 ghost use Rattle.json.specs.Json.{document};
 ghost use Rattle.json.specs.Print.{print};
-ghost use Rattle.json.specs.Tree.{json_tokens, HasNumbers};
-ghost use Rattle.print_json.specs.Inner.Texts.{about_rest, report_rest, more_members, value_text};
-ghost use Rattle.print_json.specs.Packages.{result_word, board_report_value, fewer_value, report_result, report_value, waived_report_value};
-ghost use Rattle.print_json.specs.Values.{json_text, members_of, word};
+ghost use Rattle.json.specs.Tree.{json_tokens};
+ghost use Rattle.print_json.specs.Inner.Texts.{about_rest, report_rest, more_members};
+ghost use Rattle.print_json.specs.Packages.{result_word, fewer_value, report_result, waived_report_value};
+ghost use Rattle.print_json.specs.Values.{json_text, members_of, or_null, whole};
 
 use crate::VERSION;
-use crate::arrays::{Array, Files, Findings, Scales, array_numbers};
-use crate::numbers::{meets_numbers, rules_numbers, whole_number};
+use crate::arrays::{Array, Files, Findings, array_numbers};
+use crate::printed::{Text, Value, write_line};
 use crate::strings::Escaped;
-use crate::values::{MeetsJson, ProfileJson, RulesJson};
 use board::FileSum;
 use grid_units::Profile;
 use print_text::Particulars;
@@ -57,50 +56,13 @@ pub struct ReportJson<'a> {
     pub accepted: &'a Acceptances<'a>,
 }
 
-/// The result of a report: `"pass"`, `"waived"` or `"findings"`.
-#[derive(Clone, Copy)]
-struct ResultJson<'a> {
-    report: &'a BoardReport,
-    accepted: &'a Acceptances<'a>,
-}
-
-impl Display for ResultJson<'_> {
-    ghost output = { λ json. Some (value_text (word (report_result json.report.now json.accepted.now.rings.now json.accepted.now.gaps.now))) };
-
-    fn fmt<W: fmt::Write>(&self, f: &mut Formatter<W>) -> fmt::Result {
-        write!(
-            f,
-            "\"{}\"",
-            Escaped(report_result(self.report, self.accepted))
-        )
-    }
-}
-
-/// How many findings the wide profile does not have, or null in the wide profile.
-#[derive(Clone, Copy)]
-struct FewerJson {
-    profile: Profile,
-    fewer: u128,
-}
-
-impl Display for FewerJson {
-    ghost output = { λ json. Some (value_text (fewer_value json.profile json.fewer)) };
-
-    fn fmt<W: fmt::Write>(&self, f: &mut Formatter<W>) -> fmt::Result {
-        match self.profile {
-            Profile::Strict => write!(f, "{}", self.fewer),
-            Profile::Wide => f.write_str("null"),
-        }
-    }
-}
-
-/// The number of findings that the wide profile does not have.
-fn fewer_numbers(profile: Profile, fewer: u128)
-    ensures { HasNumbers (fewer_value profile fewer) }
+/// How many findings the wide profile does not have; nothing in the wide profile.
+fn fewer_in_wide(profile: Profile, fewer: u128) -> Option<u128>
+    ensures { or_null whole result ≡ fewer_value profile fewer }
 {
     match profile {
-        Profile::Strict => whole_number(fewer),
-        Profile::Wide => {}
+        Profile::Strict => Some(fewer),
+        Profile::Wide => None,
     }
 }
 
@@ -118,16 +80,16 @@ impl Display for ReportRest<'_> {
     fn fmt<W: fmt::Write>(&self, f: &mut Formatter<W>) -> fmt::Result {
         let (profile, json) = (self.profile, self.json);
         let (names, files, report, accepted) = (json.names, json.files, json.report, json.accepted);
+        let fewer = fewer_in_wide(profile, json.about.fewer);
         let files = Files {
             profile,
             names,
             files,
         };
-        let scales = Scales(report.scales.as_slice());
+        let scales = report.scales.as_slice();
         let findings = Findings { report, accepted };
         let (files, scales, findings) = (Array(&files), Array(&scales), Array(&findings));
-        let (meets, fewer) = (MeetsJson(report.meets), json.about.fewer);
-        let fewer = FewerJson { profile, fewer };
+        let (meets, fewer) = (Text(&report.meets), Text(&fewer));
         write!(
             f,
             r#","meets":{meets},"fewer_in_wide":{fewer},"files":{files},"scales":{scales},"findings":{findings}}}"#
@@ -149,7 +111,7 @@ impl Display for AboutRest<'_> {
     fn fmt<W: fmt::Write>(&self, f: &mut Formatter<W>) -> fmt::Result {
         let (profile, json) = (self.profile, self.json);
         let (manifest, program) = (Escaped(json.about.manifest), Escaped(json.about.program));
-        let rules = RulesJson(json.report.rules);
+        let rules = Text(&json.report.rules);
         let rest = ReportRest { profile, json };
         write!(
             f,
@@ -158,48 +120,35 @@ impl Display for AboutRest<'_> {
     }
 }
 
-/// The object of a report in a profile.
-#[derive(Clone, Copy)]
-struct ReportObject<'a> {
-    profile: Profile,
-    json: &'a ReportJson<'a>,
-}
-
-impl Display for ReportObject<'_> {
-    ghost output = { λ object. Some (value_text (report_value object.profile object.json.now.about.now (map (λ name. name.now) object.json.now.names.now) object.json.now.files.now object.json.now.report.now object.json.now.accepted.now.rings.now object.json.now.accepted.now.gaps.now)) };
+impl Value for ReportJson<'_> {
+    ghost value = { λ json. waived_report_value json.about.now (map (λ name. name.now) json.names.now) json.files.now json.report.now json.accepted.now };
 
     #[tactic(auto, unfolding(crate::specs::Packages::report_value, json::specs::Print::escape_byte))]
-    fn fmt<W: fmt::Write>(&self, f: &mut Formatter<W>) -> fmt::Result {
-        let (profile, json) = (self.profile, self.json);
-        let (report, accepted) = (json.report, json.accepted);
-        let result = ResultJson { report, accepted };
+    fn write<W: fmt::Write>(&self, f: &mut Formatter<W>) -> fmt::Result {
+        let (profile, json) = (self.report.rules.profile(), self);
+        let result = report_result(self.report, self.accepted);
         let about = AboutRest { profile, json };
-        let profile = ProfileJson(profile);
+        let (profile, result) = (Text(&profile), Text(&result));
         write!(
             f,
             r#"{{"format":"ringcheck","version":{VERSION},"profile":{profile},"result":{result}{about}"#
         )
     }
-}
 
-impl ReportObject<'_> {
-    /// Each number in the text is one of RFC 8259.
     #[tactic(auto, unfolding(crate::specs::Packages::report_value))]
-    fn numbers(&self)
-        ensures { HasNumbers (report_value self.now.profile self.now.json.now.about.now (map (λ name. name.now) self.now.json.now.names.now) self.now.json.now.files.now self.now.json.now.report.now self.now.json.now.accepted.now.rings.now self.now.json.now.accepted.now.gaps.now) }
-    {
-        let (profile, json) = (self.profile, self.json);
-        let (names, files, report, accepted) = (json.names, json.files, json.report, json.accepted);
-        whole_number(u128::from(VERSION));
-        rules_numbers(report.rules);
-        fewer_numbers(profile, json.about.fewer);
-        meets_numbers(report.meets);
+    fn numbers(&self) {
+        let (names, files, report, accepted) = (self.names, self.files, self.report, self.accepted);
+        let profile = report.rules.profile();
+        u128::from(VERSION).numbers();
+        report.rules.numbers();
+        fewer_in_wide(profile, self.about.fewer).numbers();
+        report.meets.numbers();
         array_numbers(&Files {
             profile,
             names,
             files,
         });
-        array_numbers(&Scales(report.scales.as_slice()));
+        array_numbers(&report.scales.as_slice());
         array_numbers(&Findings { report, accepted });
     }
 }
@@ -208,26 +157,11 @@ impl Display for ReportJson<'_> {
     ghost output = { λ json. Some (json_text (waived_report_value json.about.now (map (λ name. name.now) json.names.now) json.files.now json.report.now json.accepted.now)) };
 
     fn fmt<W: fmt::Write>(&self, f: &mut Formatter<W>) -> fmt::Result {
-        let object = ReportObject {
-            profile: self.report.rules.profile(),
-            json: self,
-        };
-        write!(f, "{object}\n")
+        write_line(f, self)
     }
 }
 
 impl ReportJson<'_> {
-    /// Each number in the text is one of RFC 8259.
-    fn numbers(&self)
-        ensures { HasNumbers (waived_report_value self.now.about.now (map (λ name. name.now) self.now.names.now) self.now.files.now self.now.report.now self.now.accepted.now) }
-    {
-        let object = ReportObject {
-            profile: self.report.rules.profile(),
-            json: self,
-        };
-        object.numbers();
-    }
-
     /// Before its line end the printed text is a document of RFC 8259, and its value is just the defined one, whatever the names and the
     /// reasons are. A call does nothing but give this clause.
     pub fn reads_back(&self)
@@ -236,11 +170,4 @@ impl ReportJson<'_> {
     {
         self.numbers();
     }
-
-    /// Without reasons it is the JSON of a report without waivers. A call does nothing but give this clause.
-    pub fn without_waivers(&self)
-        ensures { self.now.accepted.now.rings.now ≡ [] → self.now.accepted.now.gaps.now ≡ []
-            → waived_report_value self.now.about.now (map (λ name. name.now) self.now.names.now) self.now.files.now self.now.report.now self.now.accepted.now
-            ≡ board_report_value self.now.about.now (map (λ name. name.now) self.now.names.now) self.now.files.now self.now.report.now }
-    {}
 }

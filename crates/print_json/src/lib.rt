@@ -7,7 +7,7 @@ mod arrays;
 mod findings;
 mod found;
 mod measured;
-mod numbers;
+mod printed;
 mod refused;
 mod strings;
 mod values;

@@ -3,16 +3,15 @@
 ghost use Rattle.std.specs.Prelude.{◌≡◌, Some, drop, map};
 ghost use Rattle.json.specs.Json.{document};
 ghost use Rattle.json.specs.Print.{print};
-ghost use Rattle.json.specs.Tree.{json_tokens, HasNumbers};
+ghost use Rattle.json.specs.Tree.{json_tokens};
 ghost use Rattle.board.specs.Boards.{holes_before};
-ghost use Rattle.print_json.specs.Inner.Texts.{measure_rest, more_members, value_text};
+ghost use Rattle.print_json.specs.Inner.Texts.{measure_rest, more_members};
 ghost use Rattle.print_json.specs.Packages.{measure_value};
-ghost use Rattle.print_json.specs.Values.{hole_at_place, or_null, json_text, least_gap_value, members_of, place_value};
+ghost use Rattle.print_json.specs.Values.{hole_value, or_null, json_text, least_gap_value, members_of, place_value};
 
 use crate::VERSION;
-use crate::arrays::{Array, Files, Rows, Scales, array_numbers};
-use crate::numbers::{hole_numbers, length_number, meets_numbers, whole_number};
-use crate::values::{HoleJson, MeetsJson, ProfileJson};
+use crate::arrays::{Array, Files, array_numbers};
+use crate::printed::{Text, Value, write_line};
 use board::{Board, FileSum, hole_count};
 use grid_units::Profile;
 use report::{GapLine, HolePlace, Measure, PlacedHole};
@@ -32,57 +31,50 @@ fn holes_from<'a>(files: &[FileSum], holes: &'a [Drilled], file: usize) -> &'a [
     rest
 }
 
-/// The hole of a place, if there is one.
-fn hole_at_place(files: &[FileSum], holes: &[Drilled], place: &HolePlace) -> Option<Drilled>
-    ensures { result ≡ hole_at_place files.now holes.now place.now }
+/// The hole of a place on a board, if there is one.
+fn hole_at(board: &Board, place: HolePlace) -> Option<PlacedHole>
+    ensures { or_null hole_value result ≡ place_value board.now.files board.now.holes place }
 {
-    match holes_from(files, holes, place.drill).get(place.number.saturating_sub(1)) {
-        Some(drilled) => Some(*drilled),
+    let rest = holes_from(board.files(), board.holes(), place.drill);
+    match rest.get(place.number.saturating_sub(1)) {
+        Some(drilled) => Some(PlacedHole {
+            place,
+            hole: drilled.hole,
+        }),
         None => None,
-    }
-}
-
-/// The hole of a place on a board, or null.
-#[derive(Clone, Copy)]
-struct PlaceJson<'a> {
-    board: &'a Board,
-    place: HolePlace,
-}
-
-impl Display for PlaceJson<'_> {
-    ghost output = { λ json. Some (value_text (place_value json.board.now.files json.board.now.holes json.place)) };
-
-    fn fmt<W: fmt::Write>(&self, f: &mut Formatter<W>) -> fmt::Result {
-        let (board, place) = (self.board, self.place);
-        let Some(drilled) = hole_at_place(board.files(), board.holes(), &place) else {
-            return f.write_str("null");
-        };
-        let hole = drilled.hole;
-        write!(f, "{}", HoleJson(&PlacedHole { place, hole }))
     }
 }
 
 /// The least gap, with the first two holes that have it, or null: `{"least_pm":382301708,"at":{..},"and":{..}}`.
 #[derive(Clone, Copy)]
-struct LeastGapJson<'a> {
+struct LeastGap<'a> {
     board: &'a Board,
     gap: Option<GapLine>,
 }
 
-impl Display for LeastGapJson<'_> {
-    ghost output = { λ json. Some (value_text (or_null (least_gap_value json.board.now.files json.board.now.holes) json.gap)) };
+impl Value for LeastGap<'_> {
+    ghost value = { λ least. or_null (least_gap_value least.board.now.files least.board.now.holes) least.gap };
 
     #[tactic(auto, unfolding(crate::specs::Values::least_gap_value, json::specs::Print::escape_byte))]
-    fn fmt<W: fmt::Write>(&self, f: &mut Formatter<W>) -> fmt::Result {
-        let board = self.board;
+    fn write<W: fmt::Write>(&self, f: &mut Formatter<W>) -> fmt::Result {
         let Some(line) = self.gap else {
             return f.write_str("null");
         };
-        let place = line.first;
-        let at = PlaceJson { board, place };
-        let place = line.second;
-        let and = PlaceJson { board, place };
-        write!(f, r#"{{"least_pm":{},"at":{at},"and":{and}}}"#, line.gap)
+        let (at, and) = (
+            hole_at(self.board, line.first),
+            hole_at(self.board, line.second),
+        );
+        let (least, at, and) = (line.gap, Text(&at), Text(&and));
+        write!(f, r#"{{"least_pm":{least},"at":{at},"and":{and}}}"#)
+    }
+
+    #[tactic(auto, unfolding(crate::specs::Values::least_gap_value))]
+    fn numbers(&self) {
+        if let Some(line) = self.gap {
+            line.gap.numbers();
+            hole_at(self.board, line.first).numbers();
+            hole_at(self.board, line.second).numbers();
+        }
     }
 }
 
@@ -108,18 +100,17 @@ impl Display for MeasureRest<'_> {
 
     #[tactic(auto, unfolding(json::specs::Print::escape_byte))]
     fn fmt<W: fmt::Write>(&self, f: &mut Formatter<W>) -> fmt::Result {
-        let (names, board, measure) = (self.0.names, self.0.board, self.0.measure);
-        let (files, gap) = (board.files(), measure.gap);
-        let profile = self.0.profile;
+        let (profile, names, board) = (self.0.profile, self.0.names, self.0.board);
+        let (measure, files) = (self.0.measure, board.files());
         let files = Files {
             profile,
             names,
             files,
         };
-        let scales = Scales(measure.scales.as_slice());
-        let rows = Rows(measure.rings.as_slice());
-        let gap = LeastGapJson { board, gap };
-        let (files, scales, rows) = (Array(&files), Array(&scales), Array(&rows));
+        let (scales, rows) = (measure.scales.as_slice(), measure.rings.as_slice());
+        let gap = measure.gap;
+        let gap = LeastGap { board, gap };
+        let (files, scales, rows, gap) = (Array(&files), Array(&scales), Array(&rows), Text(&gap));
         write!(
             f,
             r#","files":{files},"scales":{scales},"rings":{rows},"gap":{gap}}}"#
@@ -127,21 +118,33 @@ impl Display for MeasureRest<'_> {
     }
 }
 
-/// The object of a measure.
-#[derive(Clone, Copy)]
-struct MeasureObject<'a>(&'a MeasureJson<'a>);
-
-impl Display for MeasureObject<'_> {
-    ghost output = { λ json. Some (value_text (measure_value json.0.now.profile (map (λ name. name.now) json.0.now.names.now) json.0.now.board.now json.0.now.measure.now)) };
+impl Value for MeasureJson<'_> {
+    ghost value = { λ json. measure_value json.profile (map (λ name. name.now) json.names.now) json.board.now json.measure.now };
 
     #[tactic(auto, unfolding(crate::specs::Packages::measure_value, json::specs::Print::escape_byte))]
-    fn fmt<W: fmt::Write>(&self, f: &mut Formatter<W>) -> fmt::Result {
-        let (meets, rest) = (MeetsJson(self.0.measure.meets), MeasureRest(self.0));
-        let profile = ProfileJson(self.0.profile);
+    fn write<W: fmt::Write>(&self, f: &mut Formatter<W>) -> fmt::Result {
+        let (profile, meets) = (Text(&self.profile), Text(&self.measure.meets));
+        let rest = MeasureRest(self);
         write!(
             f,
             r#"{{"format":"ringcheck","version":{VERSION},"profile":{profile},"result":"measured","meets":{meets}{rest}"#
         )
+    }
+
+    #[tactic(auto, unfolding(crate::specs::Packages::measure_value))]
+    fn numbers(&self) {
+        let (names, board, measure) = (self.names, self.board, self.measure);
+        let (files, gap) = (board.files(), measure.gap);
+        u128::from(VERSION).numbers();
+        measure.meets.numbers();
+        array_numbers(&Files {
+            profile: self.profile,
+            names,
+            files,
+        });
+        array_numbers(&measure.scales.as_slice());
+        array_numbers(&measure.rings.as_slice());
+        LeastGap { board, gap }.numbers();
     }
 }
 
@@ -149,54 +152,11 @@ impl Display for MeasureJson<'_> {
     ghost output = { λ json. Some (json_text (measure_value json.profile (map (λ name. name.now) json.names.now) json.board.now json.measure.now)) };
 
     fn fmt<W: fmt::Write>(&self, f: &mut Formatter<W>) -> fmt::Result {
-        write!(f, "{}\n", MeasureObject(self))
-    }
-}
-
-/// The hole of a place.
-fn place_numbers(board: &Board, place: &HolePlace)
-    ensures { HasNumbers (place_value board.now.files board.now.holes place.now) }
-{
-    if let Some(drilled) = hole_at_place(board.files(), board.holes(), place) {
-        hole_numbers(&PlacedHole {
-            place: *place,
-            hole: drilled.hole,
-        });
-    }
-}
-
-/// The least gap.
-#[tactic(auto, unfolding(crate::specs::Values::least_gap_value))]
-fn least_gap_numbers(board: &Board, gap: Option<GapLine>)
-    ensures { HasNumbers (or_null (least_gap_value board.now.files board.now.holes) gap) }
-{
-    if let Some(line) = gap {
-        length_number(line.gap);
-        place_numbers(board, &line.first);
-        place_numbers(board, &line.second);
+        write_line(f, self)
     }
 }
 
 impl MeasureJson<'_> {
-    /// Each number in the text is one of RFC 8259.
-    #[tactic(auto, unfolding(crate::specs::Packages::measure_value))]
-    fn numbers(&self)
-        ensures { HasNumbers (measure_value self.now.profile (map (λ name. name.now) self.now.names.now) self.now.board.now self.now.measure.now) }
-    {
-        let (names, board, measure) = (self.names, self.board, self.measure);
-        let files = board.files();
-        whole_number(u128::from(VERSION));
-        meets_numbers(measure.meets);
-        array_numbers(&Files {
-            profile: self.profile,
-            names,
-            files,
-        });
-        array_numbers(&Scales(measure.scales.as_slice()));
-        array_numbers(&Rows(measure.rings.as_slice()));
-        least_gap_numbers(board, measure.gap);
-    }
-
     /// Before its line end the printed text is a document of RFC 8259, and its value is just the defined one, whatever the names are. A
     /// call does nothing but give this clause.
     pub fn reads_back(&self)

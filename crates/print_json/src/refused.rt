@@ -4,13 +4,13 @@ ghost use Rattle.std.specs.Prelude.{◌≡◌, Some};
 ghost use Rattle.std.specs.Fmt.{DisplaysOnOk};
 ghost use Rattle.json.specs.Json.{document};
 ghost use Rattle.json.specs.Print.{print};
-ghost use Rattle.json.specs.Tree.{json_tokens, HasNumbers};
+ghost use Rattle.json.specs.Tree.{json_tokens};
 ghost use Rattle.print_json.specs.Inner.Texts.{value_text};
 ghost use Rattle.print_json.specs.Packages.{device_value, input_error_value, manifest_device_value, refused_manifest_value, refused_value, refused_waivers_value, waivers_device_value};
 ghost use Rattle.print_json.specs.Values.{json_text};
 
 use crate::VERSION;
-use crate::numbers::whole_number;
+use crate::printed::{Value, write_line};
 use crate::strings::Escaped;
 use grid_units::{Fault, Reason};
 use std::fmt;
@@ -140,15 +140,11 @@ fn write_unread_waivers<W: fmt::Write>(f: &mut Formatter<W>) -> fmt::Result
     )
 }
 
-/// The object of a refusal, or of a file that cannot be read.
-#[derive(Clone, Copy)]
-struct StopJson<'a>(&'a InputError<'a>);
+impl Value for InputError<'_> {
+    ghost value = { input_error_value };
 
-impl Display for StopJson<'_> {
-    ghost output = { λ json. Some (value_text (input_error_value json.0.now)) };
-
-    fn fmt<W: fmt::Write>(&self, f: &mut Formatter<W>) -> fmt::Result {
-        match self.0 {
+    fn write<W: fmt::Write>(&self, f: &mut Formatter<W>) -> fmt::Result {
+        match self {
             InputError::RefusedManifest { place, reason } => {
                 write_refused_manifest(f, *place, *reason)
             }
@@ -163,32 +159,30 @@ impl Display for StopJson<'_> {
             InputError::WaiversDevice => write_unread_waivers(f),
         }
     }
+
+    fn numbers(&self) {
+        u128::from(VERSION).numbers();
+        match self {
+            InputError::RefusedManifest { place, .. } | InputError::RefusedWaivers { place, .. } =>
+                {
+                    u128::from(*place).numbers();
+                }
+            InputError::Refused { index, fault, .. } => {
+                (*index as u128 + 1).numbers();
+                u128::from(fault.place).numbers();
+                u128::from(fault.byte).numbers();
+            }
+            InputError::Device { index, .. } => (*index as u128 + 1).numbers(),
+            InputError::ManifestDevice | InputError::WaiversDevice => {}
+        }
+    }
 }
 
 impl Display for InputError<'_> {
     ghost output = { λ stop. Some (json_text (input_error_value stop)) };
 
     fn fmt<W: fmt::Write>(&self, f: &mut Formatter<W>) -> fmt::Result {
-        write!(f, "{}\n", StopJson(self))
-    }
-}
-
-/// Each number in the text is one of RFC 8259.
-fn stop_numbers(stop: &InputError)
-    ensures { HasNumbers (input_error_value stop.now) }
-{
-    whole_number(u128::from(VERSION));
-    match stop {
-        InputError::RefusedManifest { place, .. } | InputError::RefusedWaivers { place, .. } => {
-            whole_number(u128::from(*place));
-        }
-        InputError::Refused { index, fault, .. } => {
-            whole_number(*index as u128 + 1);
-            whole_number(u128::from(fault.place));
-            whole_number(u128::from(fault.byte));
-        }
-        InputError::Device { index, .. } => whole_number(*index as u128 + 1),
-        InputError::ManifestDevice | InputError::WaiversDevice => {}
+        write_line(f, self)
     }
 }
 
@@ -198,6 +192,6 @@ impl InputError<'_> {
     pub fn reads_back(&self)
         ensures { document (print (json_tokens (input_error_value self.now))) ≡ Some (input_error_value self.now) }
     {
-        stop_numbers(self);
+        self.numbers();
     }
 }

@@ -1,247 +1,151 @@
 //! The values of holes, files, scales and rows.
 
-ghost use Rattle.std.specs.Prelude.{◌≡◌, pos, Some, option_map};
+ghost use Rattle.std.specs.Prelude.{◌≡◌, ◌∷◌, [], pos, Some};
 ghost use Rattle.std.specs.Fmt.{DisplaysOnOk};
+ghost use Rattle.json.specs.Tree.{HasNumbers};
 ghost use Rattle.print_json.specs.Inner.Texts.{more_members, value_text};
 ghost use Rattle.print_json.specs.Packages.{profile_value};
-ghost use Rattle.print_json.specs.Values.{contradicted_member, diameter_of, drill_role, drill_value, copper_value, file_value, hole_value, or_null, meets_value, members_of, met_value, mixed_value, picometres, point_value, row_value, rules_value, scale_value, span_value, whole};
+ghost use Rattle.print_json.specs.Values.{array_of, contradicted_member, diameter_of, drill_role, drill_value, copper_value, file_value, hole_value, least_hole, least_ring, meets_value, members_of, met_value, mixed_value, object_of, point_value, row_value, rules_value, scale_value, whole};
 
+use crate::printed::{Text, Value};
 use crate::strings::Escaped;
 use board::FileSum;
 use grid_units::{Hole, Point, Profile, Rules, Span};
-use report::{LeastRing, Meets, Met, PlacedHole, RingLine, UnitMistake, factor_word};
+use report::{Meets, Met, PlacedHole, RingLine, UnitMistake, factor_word};
 use std::fmt;
-use std::fmt::{Display, Formatter};
+use std::fmt::Formatter;
 
 /// The greatest rule that is met: a length, `"any"` or `"none"`.
-#[derive(Clone, Copy)]
-struct MetJson(Met);
-
-impl Display for MetJson {
-    ghost output = { λ json. Some (value_text (met_value json.0)) };
+impl Value for Met {
+    ghost value = { met_value };
 
     #[tactic(auto, unfolding(json::specs::Print::escape_byte))]
-    fn fmt<W: fmt::Write>(&self, f: &mut Formatter<W>) -> fmt::Result {
-        match self.0 {
+    fn write<W: fmt::Write>(&self, f: &mut Formatter<W>) -> fmt::Result {
+        match self {
             Met::Any => f.write_str(r#""any""#),
             Met::UpTo(length) => write!(f, "{length}"),
             Met::None => f.write_str(r#""none""#),
         }
     }
-}
 
-/// The name of a profile: `"strict"` or `"wide"`.
-#[derive(Clone, Copy)]
-pub(crate) struct ProfileJson(pub(crate) Profile);
-
-impl Display for ProfileJson {
-    ghost output = { λ json. Some (value_text (profile_value json.0)) };
-
-    #[tactic(auto, unfolding(json::specs::Print::escape_byte))]
-    fn fmt<W: fmt::Write>(&self, f: &mut Formatter<W>) -> fmt::Result {
-        match self.0 {
-            Profile::Strict => f.write_str(r#""strict""#),
-            Profile::Wide => f.write_str(r#""wide""#),
+    fn numbers(&self) {
+        if let Met::UpTo(length) = self {
+            length.numbers();
         }
     }
 }
 
-/// The rules that a package meets: `{"ring_pm":"none","gap_pm":1046051224,"held_pm":275000000}`.
-#[derive(Clone, Copy)]
-pub(crate) struct MeetsJson(pub(crate) Meets);
+/// The name of a profile: `"strict"` or `"wide"`.
+impl Value for Profile {
+    ghost value = { profile_value };
 
-impl Display for MeetsJson {
-    ghost output = { λ json. Some (value_text (meets_value json.0)) };
+    #[tactic(auto, unfolding(json::specs::Print::escape_byte))]
+    fn write<W: fmt::Write>(&self, f: &mut Formatter<W>) -> fmt::Result {
+        match self {
+            Profile::Strict => f.write_str(r#""strict""#),
+            Profile::Wide => f.write_str(r#""wide""#),
+        }
+    }
+
+    fn numbers(&self) {}
+}
+
+/// The rules that a package meets: `{"ring_pm":"none","gap_pm":1046051224,"held_pm":275000000}`.
+impl Value for Meets {
+    ghost value = { meets_value };
 
     #[tactic(auto, unfolding(crate::specs::Values::meets_value, json::specs::Print::escape_byte))]
-    fn fmt<W: fmt::Write>(&self, f: &mut Formatter<W>) -> fmt::Result {
-        let ring = MetJson(self.0.ring);
-        let gap = MetJson(self.0.gap);
-        let held = MetJson(self.0.in_pads);
+    fn write<W: fmt::Write>(&self, f: &mut Formatter<W>) -> fmt::Result {
+        let (ring, gap, held) = (Text(&self.ring), Text(&self.gap), Text(&self.in_pads));
         write!(f, r#"{{"ring_pm":{ring},"gap_pm":{gap},"held_pm":{held}}}"#)
+    }
+
+    #[tactic(auto, unfolding(crate::specs::Values::meets_value))]
+    fn numbers(&self) {
+        self.ring.numbers();
+        self.gap.numbers();
+        self.in_pads.numbers();
     }
 }
 
 /// The rules of a check: `{"ring_pm":100000000,"gap_pm":250000000}`.
-#[derive(Clone, Copy)]
-pub(crate) struct RulesJson(pub(crate) Rules);
-
-impl Display for RulesJson {
-    ghost output = { λ json. Some (value_text (rules_value json.0)) };
+impl Value for Rules {
+    ghost value = { rules_value };
 
     #[tactic(auto, unfolding(crate::specs::Values::rules_value, json::specs::Print::escape_byte))]
-    fn fmt<W: fmt::Write>(&self, f: &mut Formatter<W>) -> fmt::Result {
-        let (ring, gap) = (self.0.ring(), self.0.gap());
+    fn write<W: fmt::Write>(&self, f: &mut Formatter<W>) -> fmt::Result {
+        let (ring, gap) = (self.ring(), self.gap());
         write!(f, r#"{{"ring_pm":{ring},"gap_pm":{gap}}}"#)
+    }
+
+    #[tactic(auto, unfolding(crate::specs::Values::rules_value))]
+    fn numbers(&self) {
+        self.ring().numbers();
+        self.gap().numbers();
     }
 }
 
 /// A point: `[142240000000,-97790000000]`.
-#[derive(Clone, Copy)]
-struct PointJson(Point);
-
-impl Display for PointJson {
-    ghost output = { λ json. Some (value_text (point_value json.0)) };
+impl Value for Point {
+    ghost value = { point_value };
 
     #[tactic(auto, unfolding(crate::specs::Values::point_value))]
-    fn fmt<W: fmt::Write>(&self, f: &mut Formatter<W>) -> fmt::Result {
-        let (x, y) = (self.0.x(), self.0.y());
+    fn write<W: fmt::Write>(&self, f: &mut Formatter<W>) -> fmt::Result {
+        let (x, y) = (self.x(), self.y());
         write!(f, "[{x},{y}]")
+    }
+
+    #[tactic(auto, unfolding(crate::specs::Values::point_value))]
+    fn numbers(&self) {
+        self.x().numbers();
+        self.y().numbers();
     }
 }
 
 /// The diameter of a hole in pm.
 #[tactic(auto, unfolding(crate::specs::Values::diameter_of))]
-pub(crate) fn diameter(hole: &Hole) -> i64
+fn diameter(hole: &Hole) -> i64
     ensures { result ≡ pos (diameter_of hole.now) }
 {
     2 * hole.radius()
 }
 
 /// A hole: `{"drill":2,"hole":1,"from_pm":[0,0],"to_pm":[0,0],"diameter_pm":400000000}`.
-#[derive(Clone, Copy)]
-pub(crate) struct HoleJson<'a>(pub(crate) &'a PlacedHole);
-
-impl Display for HoleJson<'_> {
-    ghost output = { λ json. Some (value_text (hole_value json.0.now)) };
+impl Value for PlacedHole {
+    ghost value = { hole_value };
 
     #[tactic(auto, unfolding(crate::specs::Values::hole_value, json::specs::Print::escape_byte))]
-    fn fmt<W: fmt::Write>(&self, f: &mut Formatter<W>) -> fmt::Result {
-        let hole = &self.0.hole;
-        let (drill, number) = (self.0.place.drill as u128 + 1, self.0.place.number);
-        let (from, to) = (PointJson(hole.from()), PointJson(hole.to()));
-        let diameter = diameter(hole);
+    fn write<W: fmt::Write>(&self, f: &mut Formatter<W>) -> fmt::Result {
+        let (drill, number) = (self.place.drill as u128 + 1, self.place.number);
+        let (from, to) = (self.hole.from(), self.hole.to());
+        let (from, to, diameter) = (Text(&from), Text(&to), diameter(&self.hole));
         write!(
             f,
             r#"{{"drill":{drill},"hole":{number},"from_pm":{from},"to_pm":{to},"diameter_pm":{diameter}}}"#
         )
     }
-}
 
-/// The role of a drill file: `plated` or `unplated`.
-fn drill_role(plated: bool) -> &'static str
-    ensures { result.now ≡ drill_role plated }
-{
-    if plated { "plated" } else { "unplated" }
-}
-
-/// The first and the last layer of a span, by their numbers from 1, or null: `[1,2]`.
-#[derive(Clone, Copy)]
-struct SpanJson(Option<Span>);
-
-impl Display for SpanJson {
-    ghost output = { λ json. Some (value_text (span_value json.0)) };
-
-    fn fmt<W: fmt::Write>(&self, f: &mut Formatter<W>) -> fmt::Result {
-        match self.0 {
-            Some(span) => write!(f, "[{},{}]", span.first(), span.last()),
-            None => f.write_str("null"),
-        }
+    #[tactic(auto, unfolding(crate::specs::Values::hole_value))]
+    fn numbers(&self) {
+        (self.place.drill as u128 + 1).numbers();
+        self.place.number.numbers();
+        self.hole.from().numbers();
+        self.hole.to().numbers();
+        diameter(&self.hole).numbers();
     }
 }
 
-/// A copper file, by its number: `{"number":1,"role":"copper","name":"top","pads":1,"other":0}`, and in the wide profile with `"contours":2` at its end.
-#[derive(Clone, Copy)]
-struct LayerJson<'a> {
-    profile: Profile,
-    number: u128,
-    name: &'a str,
-    pads: usize,
-    other: usize,
-    contours: usize,
-}
+/// The first and the last layer of a span, by their numbers from 1: `[1,2]`.
+impl Value for Span {
+    ghost value = { λ span. array_of (whole span.first ∷ whole span.last ∷ []) };
 
-impl Display for LayerJson<'_> {
-    ghost output = { λ json. Some (value_text (copper_value json.profile json.number json.name.now json.pads json.other json.contours)) };
-
-    #[tactic(auto, unfolding(crate::specs::Values::layer_value, crate::specs::Values::wide_layer_value, json::specs::Print::escape_byte))]
-    fn fmt<W: fmt::Write>(&self, f: &mut Formatter<W>) -> fmt::Result {
-        let (number, name) = (self.number, Escaped(self.name));
-        let (pads, other, contours) = (self.pads, self.other, self.contours);
-        match self.profile {
-            Profile::Strict => write!(
-                f,
-                r#"{{"number":{number},"role":"copper","name":"{name}","pads":{pads},"other":{other}}}"#
-            ),
-            Profile::Wide => write!(
-                f,
-                r#"{{"number":{number},"role":"copper","name":"{name}","pads":{pads},"other":{other},"contours":{contours}}}"#
-            ),
-        }
+    fn write<W: fmt::Write>(&self, f: &mut Formatter<W>) -> fmt::Result {
+        write!(f, "[{},{}]", self.first(), self.last())
     }
-}
 
-/// The last member of a drill file whose own comments contradict its role, and none of another, with the closing bracket:
-/// `,"contradicted":true}`.
-#[derive(Clone, Copy)]
-struct DrillRest(bool);
-
-impl Display for DrillRest {
-    ghost output = { λ rest. Some (more_members (members_of (contradicted_member rest.0))) };
-
-    #[tactic(auto, unfolding(json::specs::Print::escape_byte))]
-    fn fmt<W: fmt::Write>(&self, f: &mut Formatter<W>) -> fmt::Result {
-        f.write_str(if self.0 {
-            r#","contradicted":true}"#
-        } else {
-            "}"
-        })
-    }
-}
-
-/// A drill file of one role, by its number: `{"number":2,"role":"plated","name":"pth","round":1,"slots":0,"span":null}`, with
-/// `"contradicted":true` at its end where its own comments contradict its role.
-#[derive(Clone, Copy)]
-struct DrillJson<'a> {
-    number: u128,
-    name: &'a str,
-    plated: bool,
-    span: Option<Span>,
-    contradicted: bool,
-    round: usize,
-    slots: usize,
-}
-
-impl Display for DrillJson<'_> {
-    ghost output = { λ json. Some (value_text (drill_value json.number json.name.now json.plated json.span json.contradicted json.round json.slots)) };
-
-    #[tactic(auto, unfolding(crate::specs::Values::drill_value, json::specs::Print::escape_byte))]
-    fn fmt<W: fmt::Write>(&self, f: &mut Formatter<W>) -> fmt::Result {
-        let (number, name) = (self.number, Escaped(self.name));
-        let (round, slots) = (self.round, self.slots);
-        let (role, span) = (Escaped(drill_role(self.plated)), SpanJson(self.span));
-        let rest = DrillRest(self.contradicted);
-        write!(
-            f,
-            r#"{{"number":{number},"role":"{role}","name":"{name}","round":{round},"slots":{slots},"span":{span}{rest}"#
-        )
-    }
-}
-
-/// A mixed drill file, by its number:
-/// `{"number":2,"role":"mixed","name":"all","round":2,"slots":0,"unplated":1,"span":null}`.
-#[derive(Clone, Copy)]
-struct MixedJson<'a> {
-    number: u128,
-    name: &'a str,
-    span: Option<Span>,
-    round: usize,
-    slots: usize,
-    unplated: usize,
-}
-
-impl Display for MixedJson<'_> {
-    ghost output = { λ json. Some (value_text (mixed_value json.number json.name.now json.span json.round json.slots json.unplated)) };
-
-    #[tactic(auto, unfolding(crate::specs::Values::mixed_value, json::specs::Print::escape_byte))]
-    fn fmt<W: fmt::Write>(&self, f: &mut Formatter<W>) -> fmt::Result {
-        let (number, name) = (self.number, Escaped(self.name));
-        let (round, slots, unplated) = (self.round, self.slots, self.unplated);
-        let span = SpanJson(self.span);
-        write!(
-            f,
-            r#"{{"number":{number},"role":"mixed","name":"{name}","round":{round},"slots":{slots},"unplated":{unplated},"span":{span}}}"#
-        )
+    fn numbers(&self) {
+        u128::from(self.first()).numbers();
+        u128::from(self.last()).numbers();
     }
 }
 
@@ -256,7 +160,8 @@ pub(crate) struct FileJson<'a> {
     pub(crate) sum: FileSum,
 }
 
-/// Writes a copper file.
+/// Writes a copper file, in the wide profile with `"contours":2` at its end.
+#[tactic(auto, unfolding(crate::specs::Values::layer_value, crate::specs::Values::wide_layer_value, json::specs::Print::escape_byte))]
 fn write_layer<W: fmt::Write>(
     f: &mut Formatter<W>,
     file: &FileJson,
@@ -266,18 +171,63 @@ fn write_layer<W: fmt::Write>(
 ) -> fmt::Result
     ensures { DisplaysOnOk W.write_str_gives f.old result (Some (value_text (copper_value file.now.profile file.now.number file.now.name.now pads other contours))) f.new }
 {
-    let layer = LayerJson {
-        profile: file.profile,
-        number: file.number,
-        name: file.name,
-        pads,
-        other,
-        contours,
-    };
-    write!(f, "{layer}")
+    let (number, name) = (file.number, Escaped(file.name));
+    match file.profile {
+        Profile::Strict => write!(
+            f,
+            r#"{{"number":{number},"role":"copper","name":"{name}","pads":{pads},"other":{other}}}"#
+        ),
+        Profile::Wide => write!(
+            f,
+            r#"{{"number":{number},"role":"copper","name":"{name}","pads":{pads},"other":{other},"contours":{contours}}}"#
+        ),
+    }
+}
+
+/// The role of a drill file: `plated` or `unplated`.
+fn drill_role(plated: bool) -> &'static str
+    ensures { result.now ≡ drill_role plated }
+{
+    if plated { "plated" } else { "unplated" }
+}
+
+/// The last member of a drill file whose own comments contradict its role, and none of another, with the closing bracket.
+#[tactic(auto, unfolding(json::specs::Print::escape_byte))]
+fn drill_rest(contradicted: bool) -> &'static str
+    ensures text { result.now ≡ more_members (members_of (contradicted_member contradicted)) }
+    ensures numbers { HasNumbers (object_of (contradicted_member contradicted)) }
+{
+    if contradicted {
+        r#","contradicted":true}"#
+    } else {
+        "}"
+    }
+}
+
+/// Writes a drill file of one role, with `"contradicted":true` at its end where its own comments contradict its role.
+#[tactic(auto, unfolding(crate::specs::Values::drill_value, json::specs::Print::escape_byte))]
+fn write_drill<W: fmt::Write>(
+    f: &mut Formatter<W>,
+    file: &FileJson,
+    plated: bool,
+    span: Option<Span>,
+    contradicted: bool,
+    round: usize,
+    slots: usize,
+) -> fmt::Result
+    ensures { DisplaysOnOk W.write_str_gives f.old result (Some (value_text (drill_value file.now.number file.now.name.now plated span contradicted round slots))) f.new }
+{
+    let (number, name) = (file.number, Escaped(file.name));
+    let (role, span) = (Escaped(drill_role(plated)), Text(&span));
+    let rest = drill_rest(contradicted);
+    write!(
+        f,
+        r#"{{"number":{number},"role":"{role}","name":"{name}","round":{round},"slots":{slots},"span":{span}{rest}"#
+    )
 }
 
 /// Writes a mixed drill file.
+#[tactic(auto, unfolding(crate::specs::Values::mixed_value, json::specs::Print::escape_byte))]
 fn write_mixed<W: fmt::Write>(
     f: &mut Formatter<W>,
     file: &FileJson,
@@ -288,21 +238,17 @@ fn write_mixed<W: fmt::Write>(
 ) -> fmt::Result
     ensures { DisplaysOnOk W.write_str_gives f.old result (Some (value_text (mixed_value file.now.number file.now.name.now span round slots unplated))) f.new }
 {
-    let mixed = MixedJson {
-        number: file.number,
-        name: file.name,
-        span,
-        round,
-        slots,
-        unplated,
-    };
-    write!(f, "{mixed}")
+    let (number, name, span) = (file.number, Escaped(file.name), Text(&span));
+    write!(
+        f,
+        r#"{{"number":{number},"role":"mixed","name":"{name}","round":{round},"slots":{slots},"unplated":{unplated},"span":{span}}}"#
+    )
 }
 
-impl Display for FileJson<'_> {
-    ghost output = { λ json. Some (value_text (file_value json.profile json.number json.name.now json.sum)) };
+impl Value for FileJson<'_> {
+    ghost value = { λ file. file_value file.profile file.number file.name.now file.sum };
 
-    fn fmt<W: fmt::Write>(&self, f: &mut Formatter<W>) -> fmt::Result {
+    fn write<W: fmt::Write>(&self, f: &mut Formatter<W>) -> fmt::Result {
         match self.sum {
             FileSum::Layer {
                 pads,
@@ -315,18 +261,7 @@ impl Display for FileJson<'_> {
                 contradicted,
                 round,
                 slots,
-            } => {
-                let drill = DrillJson {
-                    number: self.number,
-                    name: self.name,
-                    plated,
-                    span,
-                    contradicted,
-                    round,
-                    slots,
-                };
-                write!(f, "{drill}")
-            }
+            } => write_drill(f, self, plated, span, contradicted, round, slots),
             FileSum::Mixed {
                 span,
                 round,
@@ -335,74 +270,107 @@ impl Display for FileJson<'_> {
             } => write_mixed(f, self, span, round, slots, unplated),
         }
     }
+
+    #[tactic(auto, unfolding(crate::specs::Values::layer_value, crate::specs::Values::wide_layer_value, crate::specs::Values::drill_value, crate::specs::Values::mixed_value))]
+    fn numbers(&self) {
+        self.number.numbers();
+        match self.sum {
+            FileSum::Layer {
+                pads,
+                other,
+                contours,
+            } => {
+                pads.numbers();
+                other.numbers();
+                contours.numbers();
+            }
+            FileSum::Drill {
+                span,
+                contradicted,
+                round,
+                slots,
+                ..
+            } => {
+                round.numbers();
+                slots.numbers();
+                span.numbers();
+                let _rest = drill_rest(contradicted);
+            }
+            FileSum::Mixed {
+                span,
+                round,
+                slots,
+                unplated,
+            } => {
+                round.numbers();
+                slots.numbers();
+                unplated.numbers();
+                span.numbers();
+            }
+        }
+    }
 }
 
 /// A drill file whose coordinates seem to be off by a factor: `{"drill":2,"bare":3,"factor":"25.4","then":0}`.
-#[derive(Clone, Copy)]
-pub(crate) struct ScaleJson<'a>(pub(crate) &'a UnitMistake);
-
-impl Display for ScaleJson<'_> {
-    ghost output = { λ json. Some (value_text (scale_value json.0.now)) };
+impl Value for UnitMistake {
+    ghost value = { scale_value };
 
     #[tactic(auto, unfolding(crate::specs::Values::scale_value, json::specs::Print::escape_byte))]
-    fn fmt<W: fmt::Write>(&self, f: &mut Formatter<W>) -> fmt::Result {
-        let line = self.0;
-        let (drill, bare, then) = (line.drill as u128 + 1, line.bare, line.then);
-        let factor = Escaped(factor_word(line.factor));
+    fn write<W: fmt::Write>(&self, f: &mut Formatter<W>) -> fmt::Result {
+        let (drill, bare, then) = (self.drill as u128 + 1, self.bare, self.then);
+        let factor = Escaped(factor_word(self.factor));
         write!(
             f,
             r#"{{"drill":{drill},"bare":{bare},"factor":"{factor}","then":{then}}}"#
         )
     }
-}
 
-/// The least ring of a row, or null.
-#[derive(Clone, Copy)]
-struct LeastJson(Option<LeastRing>);
-
-impl Display for LeastJson {
-    ghost output = { λ json. Some (value_text (or_null picometres (option_map (λ least. least.ring) json.0))) };
-
-    fn fmt<W: fmt::Write>(&self, f: &mut Formatter<W>) -> fmt::Result {
-        match self.0 {
-            Some(least) => write!(f, "{}", least.ring),
-            None => f.write_str("null"),
-        }
+    #[tactic(auto, unfolding(crate::specs::Values::scale_value))]
+    fn numbers(&self) {
+        (self.drill as u128 + 1).numbers();
+        self.bare.numbers();
+        self.then.numbers();
     }
 }
 
-/// The number of the first hole with the least ring, or null.
-#[derive(Clone, Copy)]
-struct LeastHoleJson(Option<LeastRing>);
+/// The least ring of a row; none where all its holes are bare.
+fn least_ring(line: &RingLine) -> Option<i64>
+    ensures { result ≡ least_ring line.now }
+{
+    line.least.map(|least| least.ring)
+}
 
-impl Display for LeastHoleJson {
-    ghost output = { λ json. Some (value_text (or_null whole (option_map (λ least. least.hole) json.0))) };
-
-    fn fmt<W: fmt::Write>(&self, f: &mut Formatter<W>) -> fmt::Result {
-        match self.0 {
-            Some(least) => write!(f, "{}", least.hole),
-            None => f.write_str("null"),
-        }
-    }
+/// The number of the first hole with the least ring.
+fn least_hole(line: &RingLine) -> Option<usize>
+    ensures { result ≡ least_hole line.now }
+{
+    line.least.map(|least| least.hole)
 }
 
 /// A row of rings: `{"layer":1,"drill":2,"diameter_pm":400000000,"holes":1,"bare":0,"least_pm":125000000,"hole":1}`.
-#[derive(Clone, Copy)]
-pub(crate) struct RowJson<'a>(pub(crate) &'a RingLine);
-
-impl Display for RowJson<'_> {
-    ghost output = { λ json. Some (value_text (row_value json.0.now)) };
+impl Value for RingLine {
+    ghost value = { row_value };
 
     #[tactic(auto, unfolding(crate::specs::Values::row_value, json::specs::Print::escape_byte))]
-    fn fmt<W: fmt::Write>(&self, f: &mut Formatter<W>) -> fmt::Result {
-        let line = self.0;
-        let (layer, drill) = (line.layer as u128 + 1, line.drill as u128 + 1);
-        let (holes, bare) = (line.holes, line.bare);
-        let (least, hole) = (LeastJson(line.least), LeastHoleJson(line.least));
+    fn write<W: fmt::Write>(&self, f: &mut Formatter<W>) -> fmt::Result {
+        let (layer, drill) = (self.layer as u128 + 1, self.drill as u128 + 1);
+        let (diameter, holes, bare) = (Text(&self.diameter), self.holes, self.bare);
+        let (least, hole) = (least_ring(self), least_hole(self));
+        let (least, hole) = (Text(&least), Text(&hole));
         write!(
             f,
-            r#"{{"layer":{layer},"drill":{drill},"diameter_pm":{},"holes":{holes},"bare":{bare},"least_pm":{least},"hole":{hole}}}"#,
-            line.diameter
+            r#"{{"layer":{layer},"drill":{drill},"diameter_pm":{diameter},"holes":{holes},"bare":{bare},"least_pm":{least},"hole":{hole}}}"#
         )
+    }
+
+    #[tactic(auto, unfolding(crate::specs::Values::row_value))]
+    fn numbers(&self) {
+        (self.layer as u128 + 1).numbers();
+        (self.drill as u128 + 1).numbers();
+        self.diameter.numbers();
+        self.holes.numbers();
+        self.bare.numbers();
+        least_ring(self).numbers();
+        least_hole(self).numbers();
     }
 }

@@ -1,7 +1,7 @@
 -- Names that proofs of this crate cite, passed on from one place. Declares nothing.
 pub use Rattle.std.proofs.Common.{Bool, List, None, Option, Some, [], ap, ap₂, arith, cond, drop, false, get_or, length, length-drop, map, min, pos, refl, reverse, rules, suc, sym, take, tests, true, w64, ℕ, ℤ, ⊎_elim, ◌*◌, ◌++◌, ◌+◌, ◌-◌, ◌<◌, ◌∙◌, ◌∷◌, ◌≡◌, ◌≤◌}
 pub use Rattle.print_text.specs.Inner.{AreRuns, IsRun, gap_lines, group_lines, ring_lines, smaller}
-pub use Rattle.print_text.specs.Texts.{causes_text, conflict_line, gap_line, gaps_text, group_line, group_words, groups_text, is_alike, is_first_alike, is_shown, kind_line, last_lines, layer_text, number_of, ring_line, rules_line, scale_line, size_words, smallest, smallest_line, smallest_lines, summary_text, waived_report_text}
+pub use Rattle.print_text.specs.Texts.{causes_text, conflict_line, gap_line, gaps_text, group_line, group_words, groups_text, is_alike, is_first_alike, is_shown, kind_line, last_lines, layer_text, number_of, ring_line, rules_line, scale_line, size_words, smallest, smallest_line, summary_text, waived_report_text}
 unfoldable pub use Rattle.print_text.specs.Texts.{head_text, scale_words}
 pub use Rattle.report.specs.Acceptances.{acceptance_at, is_waived}
 pub use Rattle.report.specs.Causes.{ring_of}

@@ -1,7 +1,7 @@
 //! The kinds of causes, in the order in which a report counts them.
 
 ghost use Rattle.std.specs.Prelude.{◌≡◌};
-ghost use Rattle.print_text.specs.Causes.{flash_kind, hint, is_of_kind, kind_of, kind_words, macro_hint};
+ghost use Rattle.print_text.specs.Causes.{flash_kind, hint, kind_of, kind_words};
 
 use grid_units::Profile;
 use pad_shapes::Why;
@@ -73,13 +73,6 @@ pub(crate) fn kind_of(cause: &RingCause) -> CauseKind
     }
 }
 
-/// Whether a cause is of a kind.
-pub(crate) fn is_of_kind(kind: CauseKind, cause: &RingCause) -> bool
-    ensures { result ≡ is_of_kind kind cause.now }
-{
-    kind_of(cause) == kind
-}
-
 /// The words for a kind, as in a line of a hole.
 pub(crate) fn kind_words(kind: CauseKind) -> &'static str
     ensures { result.now ≡ kind_words kind }
@@ -108,20 +101,6 @@ pub fn words_for_cause(cause: &RingCause) -> &'static str
     kind_words(kind_of(cause))
 }
 
-/// The hint for flashes by a macro: in the wide profile those of some forms are judged.
-fn macro_hint(profile: Profile) -> &'static str
-    ensures { result.now ≡ macro_hint profile }
-{
-    match profile {
-        Profile::Strict => {
-            "--profile wide counts macros whose shape is known, such as rounded rectangles; or choose circle, oval or rectangle: see `ringcheck explain macro`"
-        }
-        Profile::Wide => {
-            "macros of this form are not judged: choose circle, oval or rectangle: see `ringcheck explain macro`"
-        }
-    }
-}
-
 /// The hint that a report in a profile prints for a kind.
 pub(crate) fn hint(profile: Profile, kind: CauseKind) -> &'static str
     ensures { result.now ≡ hint profile kind }
@@ -136,7 +115,14 @@ pub(crate) fn hint(profile: Profile, kind: CauseKind) -> &'static str
         CauseKind::Edge => {
             "move the hole or enlarge the pad: rings in rounded pads and contours are measured to their edge"
         }
-        CauseKind::Macro => macro_hint(profile),
+        CauseKind::Macro => match profile {
+            Profile::Strict => {
+                "--profile wide counts macros whose shape is known, such as rounded rectangles; or choose circle, oval or rectangle: see `ringcheck explain macro`"
+            }
+            Profile::Wide => {
+                "macros of this form are not judged: choose circle, oval or rectangle: see `ringcheck explain macro`"
+            }
+        },
         CauseKind::Polygon => "polygon flashes are not judged",
         CauseKind::Holed => "flashes with a hole are not judged",
         CauseKind::Scaled => "scaled flashes are not judged",

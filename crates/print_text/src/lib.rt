@@ -13,7 +13,6 @@ mod report_text;
 mod runs;
 mod summary;
 mod tallies;
-mod waived;
 mod words;
 
 pub use fewer::FewerWords;
@@ -21,4 +20,4 @@ pub use kind::words_for_cause;
 pub use lines::{RulesWords, WaivedWords};
 pub use measures::MeasureText;
 pub use report_text::{Particulars, ReportText};
-pub use waived::no_acceptances;
+pub use tallies::no_acceptances;

@@ -4,6 +4,7 @@ ghost use Rattle.std.specs.Prelude.{◌≡◌, ◌≤◌, map, Some};
 ghost use Rattle.print_text.specs.Texts.{conflict_line, gap_line, gaps_line, profile_words, idle_line, kind_line, last_line, layer_line, more_line, pair_words, ring_line, rule_words, rules_line, rules_words, scale_line, size_words, smallest_line, too_small_words, waived_words, acceptance_words, ring_words};
 
 use crate::kind::{CauseKind, hint, kind_words};
+use crate::measure_lines::NoPage;
 use crate::tallies::rings_of_kind;
 use crate::words::{CauseWords, HoleWords, MeasuredWords};
 use grid_units::{Line, Profile, Rules, ShortMillimetres, name_of};
@@ -377,15 +378,11 @@ impl Line<FileNames<'_>> for RoleConflict {
     }
 }
 
-/// The file of waivers, as the page of the lines of its records.
-#[derive(Clone, Copy)]
-pub(crate) struct WaiverFile;
-
 /// The line of a waiver that waives no finding, by the number of its record: `waiver 8 matches no finding`.
-impl Line<WaiverFile> for usize {
+impl Line<NoPage> for usize {
     ghost text = { λ _ number. idle_line number };
 
-    fn fmt_on<W: fmt::Write>(&self, _page: &WaiverFile, f: &mut Formatter<W>) -> fmt::Result {
+    fn fmt_on<W: fmt::Write>(&self, _page: &NoPage, f: &mut Formatter<W>) -> fmt::Result {
         write!(f, "waiver {self} matches no finding\n")
     }
 }

@@ -8,9 +8,9 @@ use report::{GapLine, HolePlace, LeastRing, Meets, Met, RingLine, UnitMistake, f
 use std::fmt;
 use std::fmt::{Display, Formatter};
 
-/// What the lines of a measure share: nothing.
+/// What lines share that share nothing.
 #[derive(Clone, Copy)]
-pub(crate) struct MeasurePage;
+pub(crate) struct NoPage;
 
 /// The least ring and its hole, or `none`.
 #[derive(Clone, Copy)]
@@ -28,11 +28,11 @@ impl Display for LeastWords {
 }
 
 /// The line of the rings of one layer, drill file and diameter, with its line end. Files and layers are numbered from 1.
-impl Line<MeasurePage> for RingLine {
+impl Line<NoPage> for RingLine {
     ghost text = { λ _ line. ring_line line };
 
     #[tactic(auto, unfolding(crate::specs::MeasureLines::ring_line))]
-    fn fmt_on<W: fmt::Write>(&self, _page: &MeasurePage, f: &mut Formatter<W>) -> fmt::Result {
+    fn fmt_on<W: fmt::Write>(&self, _page: &NoPage, f: &mut Formatter<W>) -> fmt::Result {
         let (layer, drill) = (self.layer as u128 + 1, self.drill as u128 + 1);
         let (diameter, least) = (Millimetres(self.diameter), LeastWords(self.least));
         let (holes, bare) = (self.holes, self.bare);
@@ -42,11 +42,11 @@ impl Line<MeasurePage> for RingLine {
 }
 
 /// The line of a drill file whose coordinates seem to be off by a factor, with its line end. Files are numbered from 1.
-impl Line<MeasurePage> for UnitMistake {
+impl Line<NoPage> for UnitMistake {
     ghost text = { λ _ line. scale_line line };
 
     #[tactic(auto, unfolding(crate::specs::MeasureLines::scale_line))]
-    fn fmt_on<W: fmt::Write>(&self, _page: &MeasurePage, f: &mut Formatter<W>) -> fmt::Result {
+    fn fmt_on<W: fmt::Write>(&self, _page: &NoPage, f: &mut Formatter<W>) -> fmt::Result {
         let (drill, bare) = (self.drill as u128 + 1, self.bare);
         let (factor, then) = (factor_word(self.factor), self.then);
         write!(

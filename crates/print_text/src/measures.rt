@@ -3,7 +3,7 @@
 ghost use Rattle.std.specs.Prelude.{Some};
 ghost use Rattle.print_text.specs.MeasureLines.{measure_text};
 
-use crate::measure_lines::{GapLineText, MeasurePage, MeetsText};
+use crate::measure_lines::{GapLineText, MeetsText, NoPage};
 use grid_units::Lines;
 use report::{GapLine, Meets, RingLine, UnitMistake};
 use std::fmt;
@@ -28,11 +28,11 @@ impl Display for MeasureText<'_> {
 
     fn fmt<W: fmt::Write>(&self, f: &mut Formatter<W>) -> fmt::Result {
         let rings = Lines {
-            page: &MeasurePage,
+            page: &NoPage,
             lines: self.rings,
         };
         let scales = Lines {
-            page: &MeasurePage,
+            page: &NoPage,
             lines: self.scales,
         };
         match self.gap {

@@ -68,21 +68,14 @@ impl Display for WithoutWords {
 
 /// The greatest ring that the package meets, or why it meets none.
 #[derive(Clone, Copy)]
-struct RingMetWords {
-    /// How many findings are of holes that have no pad.
-    without: usize,
-    /// The greatest ring for the other holes.
-    in_pads: Met,
-    /// The greatest ring of all holes.
-    ring: Met,
-}
+struct RingMetWords(MeetsLine);
 
 impl Display for RingMetWords {
-    ghost output = { λ words. Some (ring_met_words words.without words.in_pads words.ring) };
+    ghost output = { λ words. Some (ring_met_words words.0.without words.0.meets.in_pads words.0.meets.ring) };
 
     fn fmt<W: fmt::Write>(&self, f: &mut Formatter<W>) -> fmt::Result {
-        let (without, in_pads) = (self.without, self.in_pads);
-        match self.ring {
+        let (without, in_pads) = (self.0.without, self.0.meets.in_pads);
+        match self.0.meets.ring {
             Met::Any => f.write_str("any annular ring is met"),
             Met::UpTo(length) => write!(f, "annular ring {} is met", ShortMillimetres(length)),
             Met::None => write!(
@@ -125,11 +118,7 @@ impl Display for MeetsLine {
 
     #[tactic(auto, unfolding(crate::specs::Texts::meets_line))]
     fn fmt<W: fmt::Write>(&self, f: &mut Formatter<W>) -> fmt::Result {
-        let ring = RingMetWords {
-            without: self.without,
-            in_pads: self.meets.in_pads,
-            ring: self.meets.ring,
-        };
-        write!(f, "{ring}; {}\n", GapMetWords(self.meets.gap))
+        let (ring, gap) = (RingMetWords(*self), GapMetWords(self.meets.gap));
+        write!(f, "{ring}; {gap}\n")
     }
 }

@@ -4,22 +4,22 @@ ghost use Rattle.std.specs.Prelude.{◌≡◌, ◌+◌, ◌++◌, ℕ, IfOk, Lis
 ghost use Rattle.std.specs.Fmt.{DisplaysOnOk};
 ghost use Rattle.std.specs.List.{enumerate_from, flat_map};
 ghost use Rattle.print_text.specs.Inner.{AreRuns, IsRun, gap_lines, ring_lines};
-ghost use Rattle.print_text.specs.Texts.{causes_text, gaps_text, groups_text, head_text, last_lines, layer_text, smallest_lines, summary_text, waived_report_text};
+ghost use Rattle.print_text.specs.Texts.{causes_text, gaps_text, groups_text, head_text, last_lines, layer_text, summary_text, waived_report_text};
 
 use crate::fewer::{FewerLine, FewerWords};
 use crate::kind::CAUSE_KINDS;
 use crate::lines::{
     FileNames, GapLine, GapsLine, LastLine, LayerLine, MoreLine, ProfileRings, RingLine, RulesLine,
-    SmallestLine, WaiverFile,
+    SmallestLine,
 };
+use crate::measure_lines::NoPage;
 use crate::met_lines::MeetsLine;
 use crate::runs::{Run, runs_of};
 use crate::summary::write_groups;
 use crate::tallies::{
-    gaps_hidden_count, is_shown, is_shown_on, rings_hidden, rings_on, rings_without_pad,
-    smallest_gap, smallest_ring,
+    gaps_hidden_count, is_on, is_shown, rings_hidden, rings_on, rings_without_pad, smallest_gap,
+    smallest_ring, waived_on,
 };
-use crate::waived::waived_on;
 use grid_units::{Lines, Rules, name_of};
 use report::{
     Acceptances, BoardReport, GapLack, LayerHead, RingLack, acceptance_of, count_waived,
@@ -52,22 +52,19 @@ fn write_rings<W: fmt::Write>(f: &mut Formatter<W>, page: &RingPage, run: Run) -
     let (names, rules, rings) = (page.names, page.rules, page.rings);
     for i in run.first..run.end {
         let lack = &rings[i];
-        if !is_shown_on(lack, run.layer, page.limit, i as u128) {
+        if !is_on(lack, run.layer, is_shown(page.limit, i as u128)) {
             continue;
         }
         let why = acceptance_of(page.accepted, i);
         let number = i as u128 + 1;
-        write!(
-            f,
-            "{}",
-            RingLine {
-                names,
-                rules,
-                number,
-                lack,
-                why
-            }
-        )?;
+        let line = RingLine {
+            names,
+            rules,
+            number,
+            lack,
+            why,
+        };
+        write!(f, "{line}")?;
     }
     Ok(())
 }
@@ -175,17 +172,14 @@ fn write_gaps<W: fmt::Write>(f: &mut Formatter<W>, text: &GapsText) -> fmt::Resu
         }
         let why = acceptance_of(text.accepted, i);
         let number = position + 1;
-        write!(
-            f,
-            "{}",
-            GapLine {
-                names,
-                rules,
-                number,
-                lack,
-                why
-            }
-        )?;
+        let line = GapLine {
+            names,
+            rules,
+            number,
+            lack,
+            why,
+        };
+        write!(f, "{line}")?;
     }
     Ok(())
 }
@@ -248,32 +242,6 @@ fn write_findings<W: fmt::Write>(
     write_summary(f, page, runs, layers, findings)
 }
 
-/// The smallest ring and gap of the findings.
-#[derive(Clone, Copy)]
-struct SmallestLines<'a> {
-    rules: &'a Rules,
-    rings: &'a [RingLack],
-    gaps: &'a [GapLack],
-}
-
-impl Display for SmallestLines<'_> {
-    ghost output = { λ text. Some (smallest_lines text.rules.now text.rings.now text.gaps.now) };
-
-    fn fmt<W: fmt::Write>(&self, f: &mut Formatter<W>) -> fmt::Result {
-        let ring = SmallestLine {
-            words: "smallest ring ",
-            rule: self.rules.ring(),
-            least: smallest_ring(self.rings),
-        };
-        let gap = SmallestLine {
-            words: "smallest gap ",
-            rule: self.rules.gap(),
-            least: smallest_gap(self.gaps),
-        };
-        write!(f, "{ring}{gap}")
-    }
-}
-
 /// The causes, and the smallest ring and gap.
 #[derive(Clone, Copy)]
 struct CausesText<'a>(&'a BoardReport);
@@ -291,12 +259,17 @@ impl Display for CausesText<'_> {
             page: &page,
             lines: &CAUSE_KINDS,
         };
-        let smallest = SmallestLines {
-            rules: &self.0.rules,
-            rings,
-            gaps: &self.0.gaps,
+        let ring = SmallestLine {
+            words: "smallest ring ",
+            rule: self.0.rules.ring(),
+            least: smallest_ring(rings),
         };
-        write!(f, "{kinds}{smallest}")
+        let gap = SmallestLine {
+            words: "smallest gap ",
+            rule: self.0.rules.gap(),
+            least: smallest_gap(&self.0.gaps),
+        };
+        write!(f, "{kinds}{ring}{gap}")
     }
 }
 
@@ -317,7 +290,7 @@ impl Display for LastLines<'_> {
         let findings = rings as u128 + gaps as u128;
         let waived = count_waived(self.report, self.accepted);
         let idle = Lines {
-            page: &WaiverFile,
+            page: &NoPage,
             lines: self.accepted.idle,
         };
         let last = LastLine { findings, waived };

@@ -2,7 +2,7 @@
 
 ghost use Rattle.std.specs.Prelude.{◌≡◌, ◌≤◌, ◌==◌, ◌&&◌, Some, length, if◌then◌else◌, None};
 ghost use Rattle.std.specs.Fmt.{DisplaysOnOk};
-ghost use Rattle.std.specs.List.{count_by, enumerate_from, filter, filter_map, list_any};
+ghost use Rattle.std.specs.List.{enumerate_from, filter, filter_map, list_any};
 ghost use Rattle.print_text.specs.Inner.{IsRun, group_lines};
 ghost use Rattle.print_text.specs.Texts.{group_line, holes_words, is_alike, is_first_alike, smallest, smallest_words};
 ghost use Rattle.report.specs.Causes.{ring_of};
@@ -39,13 +39,6 @@ fn starts_group(rings: &[RingLack], run: Run, place: usize, one: &RingLack) -> b
         return false;
     }
     !is_any_alike(&rings[run.first..place], one)
-}
-
-/// The number of rings that are like this one.
-fn count_alike(rings: &[RingLack], one: &RingLack) -> usize
-    ensures { result ≡ count_by (is_alike one.now) rings.now }
-{
-    rings.iter().filter(|other| is_alike(one, other)).count()
 }
 
 /// The ring of a hole in its pad, if the ring is like this one.
@@ -112,8 +105,8 @@ impl Display for GroupLine<'_> {
     fn fmt<W: fmt::Write>(&self, f: &mut Formatter<W>) -> fmt::Result {
         let (name, rings, one) = (self.name, self.rings, self.one);
         let diameter = ShortMillimetres(2 * one.at.hole.radius());
-        let (holes, least) = (count_alike(rings, one), smallest_alike(rings, one));
-        let words = holes_words(holes);
+        let holes = rings.iter().filter(|other| is_alike(one, other)).count();
+        let (words, least) = (holes_words(holes), smallest_alike(rings, one));
         write!(
             f,
             "{name}, {diameter}: {holes}{words}{}\n",

@@ -1,15 +1,16 @@
-//! Counts of findings and of those that are shown, and the smallest ring and gap.
+//! Counts of findings and of those that are shown or waived, and the smallest ring and gap.
 
-ghost use Rattle.std.specs.Prelude.{◌≡◌, ◌≤◌, ◌==◌, ◌&&◌, if◌then◌else◌, length, map, not};
+ghost use Rattle.std.specs.Prelude.{◌≡◌, ◌≤◌, ◌==◌, ◌&&◌, ℕ, List, Option, if◌then◌else◌, length, map, not};
 ghost use Rattle.std.specs.List.{count_by, enumerate_from, filter, filter_map};
 ghost use Rattle.print_text.specs.Causes.{is_of_kind};
 ghost use Rattle.print_text.specs.Inner.{IsRun, smaller};
-ghost use Rattle.print_text.specs.Texts.{has_no_pad, is_shown, smallest};
+ghost use Rattle.print_text.specs.Texts.{board_report_text, has_no_pad, is_shown, smallest, waived_on, waived_report_text};
 ghost use Rattle.report.specs.Causes.{ring_of};
+ghost use Rattle.report.specs.declared.BoardReport.{BoardReport as TheBoardReport};
 
-use crate::kind::{CauseKind, is_of_kind};
+use crate::kind::{CauseKind, kind_of};
 use crate::runs::Run;
-use report::{GapLack, RingCause, RingLack, ring_of};
+use report::{Acceptances, GapLack, RingLack, is_waived, ring_of};
 
 /// Whether the finding at a position of the whole report, from 0, is shown.
 pub(crate) fn is_shown(limit: Option<usize>, position: u128) -> bool
@@ -42,41 +43,25 @@ pub(crate) fn rings_of_kind(rings: &[RingLack], kind: CauseKind) -> usize
 {
     rings
         .iter()
-        .filter(|lack| is_of_kind(kind, &lack.cause))
+        .filter(|lack| kind_of(&lack.cause) == kind)
         .count()
 }
 
-/// Whether a hole has no pad that counts, so that its ring is not measured.
-fn has_no_pad(cause: &RingCause) -> bool
-    ensures { result ≡ has_no_pad cause.now }
-{
-    ring_of(cause).is_none()
-}
-
-/// The number of rings of holes that have no pad that counts.
+/// The number of rings of holes that have no pad that counts, so that their rings are not measured.
 pub(crate) fn rings_without_pad(rings: &[RingLack]) -> usize
     ensures { result ≡ count_by (λ lack. has_no_pad lack.cause) rings.now }
 {
-    rings.iter().filter(|lack| has_no_pad(&lack.cause)).count()
+    rings
+        .iter()
+        .filter(|lack| ring_of(&lack.cause).is_none())
+        .count()
 }
 
-/// Whether a ring at a position of the whole report is on a layer, and shown.
-pub(crate) fn is_shown_on(
-    lack: &RingLack,
-    layer: usize,
-    limit: Option<usize>,
-    position: u128,
-) -> bool
-    ensures { result ≡ ((lack.now.layer == layer) && is_shown limit position) }
+/// Whether a ring is on a layer, and passes a test.
+pub(crate) fn is_on(lack: &RingLack, layer: usize, passes: bool) -> bool
+    ensures { result ≡ ((lack.now.layer == layer) && passes) }
 {
-    lack.layer == layer && is_shown(limit, position)
-}
-
-/// Whether a ring at a position of the whole report is on a layer, and not shown.
-fn is_hidden_on(lack: &RingLack, layer: usize, limit: Option<usize>, position: u128) -> bool
-    ensures { result ≡ ((lack.now.layer == layer) && not (is_shown limit position)) }
-{
-    lack.layer == layer && !is_shown(limit, position)
+    lack.layer == layer && passes
 }
 
 /// 1 if a test passes, else 0.
@@ -94,7 +79,7 @@ pub(crate) fn rings_hidden(rings: &[RingLack], run: Run, limit: Option<usize>) -
 {
     let mut left = 0;
     for i in run.first..run.end {
-        left += one_if(is_hidden_on(&rings[i], run.layer, limit, i as u128));
+        left += one_if(is_on(&rings[i], run.layer, !is_shown(limit, i as u128)));
     }
     left
 }
@@ -143,4 +128,27 @@ pub(crate) fn smallest_gap(gaps: &[GapLack]) -> Option<i64>
         least = smaller(least, Some(gaps[i].gap));
     }
     least
+}
+
+/// The number of rings on the layer of a run that are waived.
+pub(crate) fn waived_on(accepted: &[Option<&str>], run: Run, rings: &[RingLack]) -> usize
+    requires { IsRun rings.now (length rings.now) run.layer run }
+    ensures { result ≡ waived_on accepted.now run.layer rings.now }
+{
+    let mut waived = 0;
+    for i in run.first..run.end {
+        waived += one_if(is_on(&rings[i], run.layer, is_waived(accepted, i)));
+    }
+    waived
+}
+
+/// No reasons: the text of a report with these is that of a report without waivers.
+pub fn no_acceptances() -> Acceptances<'static>
+    ensures { (names : List (List ℕ)) (report : TheBoardReport) (fewer : ℕ) (limit : Option ℕ) → waived_report_text names report fewer limit result ≡ board_report_text names report fewer limit }
+{
+    Acceptances {
+        rings: &[],
+        gaps: &[],
+        idle: &[],
+    }
 }

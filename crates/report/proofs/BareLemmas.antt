@@ -61,37 +61,8 @@ module _ (pads : List WidePad) (h : GridHole) (round : is_round h ≡ true) wher
   uncovered none = not_false (list_any (λ (pad : WidePad). wide_pad_covers pad h.from 0) pads) (list_any_none (λ (pad : WidePad). wide_pad_covers pad h.from 0) pads (λ k d inside.
       refused (wide_pad_covers (get_or pads k d) h.from 0) (λ e. either_way (covers_both_ends wide_pad_covers (get_or pads k d) h.from h.to 0) (ends (get_or pads k d) e) (none d k 0 inside))))
 
-  -- the best pad of a round hole decides whether it is bare
-  told : (b : Option BestPad) → IsBestPad wide_pad_covers pads h b → is_uncovered pads h.from ≡ has_no_best_pad b
-  told None k = uncovered k
-  told (Some best) k =
-      let d : WidePad = Plain (Disc (record { centre = h.from; radius = 0 })) in
-      ap not (list_any_at (λ (pad : WidePad). wide_pad_covers pad h.from 0) pads best.pad d k.inside (covered (get_or pads best.pad d) best.depth (k.covered d)))
-
 pub bare_is_uncovered : BareIsUncovered
 bare_is_uncovered pads h round = (λ bare. uncovered pads h round bare, λ none. shallow pads h round none)
-
--- so does the best pad of the hole at a place
-by_best : (pads : List WidePad) (h : GridHole) (b : Option BestPad) → IsBestPad wide_pad_covers pads h b → (is_round h && is_uncovered pads h.from) ≡ (is_round h && has_no_best_pad b)
-by_best pads h b is = by (is_round h) refl
-  where
-    by : (t : Bool) → is_round h ≡ t → (t && is_uncovered pads h.from) ≡ (t && has_no_best_pad b)
-    by true e = told pads h e b is
-    by false e = refl
-
-module _ (pads : List WidePad) (holes : List Drilled) (bests : List (Option BestPad)) (all : AreBestPads wide_pad_covers pads holes bests) (k : ℕ) (d : Drilled) (b : Option BestPad) (inside : k < length holes) where
-  here : is_bare pads (get_or holes k d) ≡ (is_round (get_or holes k d).hole && has_no_best_pad (get_or bests k b))
-  here =
-      let size = all.size in
-      let same : get_or bests k b ≡ get_or bests k None = get_or_default bests k b None (omega (arith, inside, size)) in
-      let there : get_or holes k d ≡ get_or holes k default_hole = get_or_default holes k d default_hole inside in
-      ap (is_bare pads) there ∙ (by_best pads (hole_at holes k) (get_or bests k None) (all.each k inside) ∙ (ap (λ (o : Option BestPad). is_round (hole_at holes k) && has_no_best_pad o) (sym same) ∙ ap (λ (e : Drilled). is_round e.hole && has_no_best_pad (get_or bests k b)) (sym there)))
-
-  pub bare_more : (bare : ℕ) (t : Bool) → t ≡ (is_round (get_or holes k d).hole && has_no_best_pad (get_or bests k b)) → t ≡ true → bare ≡ count_by (is_bare pads) (take k holes) → bare + 1 ≡ count_by (is_bare pads) (take (k + 1) holes)
-  bare_more bare t is e was = ap (λ (n : ℕ). n + 1) was ∙ sym (count_by_more_yes (is_bare pads) holes k d inside (here ∙ (sym is ∙ e)))
-
-  pub bare_still : (bare : ℕ) (t : Bool) → t ≡ (is_round (get_or holes k d).hole && has_no_best_pad (get_or bests k b)) → t ≡ false → bare ≡ count_by (is_bare pads) (take k holes) → bare ≡ count_by (is_bare pads) (take (k + 1) holes)
-  bare_still bare t is e was = was ∙ sym (count_by_more_no (is_bare pads) holes k d inside (here ∙ (sym is ∙ e)))
 
 -- whether a round hole is bare
 given_bare : (pads : List WidePad) (h : GridHole) (b : Bool) → is_round h ≡ true → (b ≡ true) ↔ IsBare wide_pad_covers pads h → is_uncovered pads h.from ≡ b

@@ -14,7 +14,7 @@ pub use Rattle.pad_shapes.specs.declared.wide_pad.WidePad.{WidePad}
 pub use Rattle.report.specs.Causes.{AreGroups, HasNoFlash, HasNoPad, HolesHaveTheirPoints, IsCause, IsGroup, IsRingInPad, IsWithin, MarksBare, UncountedPads, half_apart, hole_shape, is_in_hole, is_in_shape, is_small, lies_in_pad, lower_end_at, other_in, other_row, others, pad_place, pad_places, uncounted_pads, upper_end_at}
 pub use Rattle.report.specs.Inner.CauseParts.{HasPassed, IsFirstIn, cause_without_pad, other_cause, plain_cause, uncounted_cause}
 pub use Rattle.report.specs.Inner.RescaledCounts.{AddsRange, AreCounted, AreHoleRanges, AreRescaled, AreRescaledRanges, AreSuspects, AreTried, IsFewest, IsRescaled, IsRescaledRange, IsScaledPoint, IsSuspect, IsTried, holes_of, open_part}
-pub use Rattle.report.specs.UnitMistakes.{AreUnitMistakes, BareIsUncovered, IsFirstFewest, IsRoundedDown, IsUnitMistake, IsUnitMistakeOrNone, bare_count, bare_count_with, factors, holes_in, is_bare, is_bare_with, is_on_grid, is_uncovered, round_count, scaled, scaled_point}
+pub use Rattle.report.specs.UnitMistakes.{AreUnitMistakes, BareIsUncovered, IsFirstFewest, IsRoundedDown, IsUnitMistake, IsUnitMistakeOrNone, bare_count, bare_count_with, factors, holes_in, is_bare, is_bare_with, is_on_grid, is_uncovered, round_count, scaled_coordinate, scaled_point}
 pub use Rattle.report.specs.declared.RingCause.{RingCause}
 pub use Rattle.report.specs.declared.UnitFactor.{UnitFactor}
 pub use Rattle.report.specs.declared.counts.HoleRange.{HoleRange}

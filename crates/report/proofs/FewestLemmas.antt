@@ -71,27 +71,19 @@ module _ (count : UnitFactor → ℕ) where
       };
     }
 
-both : (t : Bool) → t ≡ true → t ≡ false → ⊥
-both true e f = cc
-both false e f = cc
-
 module _ (pads : List WidePad) (holes : List Drilled) (bare : ℕ) (is : bare ≡ bare_count pads holes) where
   -- no line where too few are bare
-  pub too_few : (t : Bool) → ((t ≡ true) ↔ (round_count holes < 2 * bare)) → t ≡ false → (line : UnitMistake) → IsUnitMistake pads holes line → ⊥
-  too_few t tells f line scale = (
-      let most = scale.most in
-      let e : t ≡ true = tells.1 (omega (arith, most, scale.bare, is)) in
-      both t e f)
+  pub too_few : 2 * bare ≤ round_count holes → (line : UnitMistake) → IsUnitMistake pads holes line → ⊥
+  too_few few line scale = (let most = scale.most in omega (arith, most, scale.bare, is, few))
 
   -- nor where too many would be
-  pub too_many : (fewest : Fewest) → IsFewest (bare_count_with pads holes) factors fewest → (t : Bool) → ((t ≡ true) ↔ (2 * fewest.bare < bare)) → t ≡ false → (line : UnitMistake) → IsUnitMistake pads holes line → ⊥
-  too_many fewest is_fewest t tells f line scale = (
+  pub too_many : (fewest : Fewest) → IsFewest (bare_count_with pads holes) factors fewest → bare ≤ 2 * fewest.bare → (line : UnitMistake) → IsUnitMistake pads holes line → ⊥
+  too_many fewest is_fewest many line scale = (
       let count = bare_count_with pads holes in
       let few = scale.few in
       let least = is_fewest.first.fewest line.factor scale.first.place scale.first.inside in
       let here : count (get_or factors scale.first.place line.factor) ≡ count line.factor = ap count (scale.first.at line.factor) in
-      let e : t ≡ true = tells.1 (omega (arith, few, least, here, is_fewest.bare, scale.then, scale.bare, is)) in
-      both t e f)
+      omega (arith, few, least, here, is_fewest.bare, scale.then, scale.bare, is, many))
 
 -- a file has one line
 pub one_scale : (pads : List WidePad) (holes : List Drilled) (a b : UnitMistake) → a.drill ≡ b.drill → IsUnitMistake pads holes a → IsUnitMistake pads holes b → a ≡ b

@@ -100,6 +100,26 @@ lesser_is h seen (Some first) other inside is = by (nat_lt other.place first.pla
     by true e = comes_first h seen first other inside e is
     by false e = not_before h seen first other e is
 
+-- the earlier of two flashes is one of them, and no later than either
+pub earlier_is : (a b first : Other) → first ≡ (if nat_lt b.place a.place then b else a) → ((first ≡ a) ⊎ (first ≡ b)) × (first.place ≤ a.place) × (first.place ≤ b.place)
+earlier_is a b first is = by (nat_lt b.place a.place) refl is
+  where
+    before : (m n : ℕ) → nat_lt m n ≡ true → m ≤ n
+    before m n e = grind (arith, nat_tests)
+
+    after : (m n : ℕ) → nat_lt m n ≡ false → n ≤ m
+    after m n e = grind (arith, nat_tests)
+
+    by : (t : Bool) → nat_lt b.place a.place ≡ t → first ≡ (if t then b else a) → ((first ≡ a) ⊎ (first ≡ b)) × (first.place ≤ a.place) × (first.place ≤ b.place)
+    by true e same =
+        let place : first.place ≡ b.place = ap (λ (o : Other). o.place) same in
+        let low = before b.place a.place e in
+        (inr same, omega (arith, place, low), omega (arith, place))
+    by false e same =
+        let place : first.place ≡ a.place = ap (λ (o : Other). o.place) same in
+        let low = after b.place a.place e in
+        (inl same, omega (arith, place), omega (arith, place, low))
+
 -- a box that is widened for the next flash holds all flashes so far
 pub one_more : (all : List Other) (i : ℕ) (item : Other) (b wide : Bounds) → i < length all → item ≡ get_or all i item → IsWithin wide item → ((held : Other) → IsWithin b held → IsWithin wide held) → All (IsWithin b) (take i all)
     → All (IsWithin wide) (take (i + 1) all)

@@ -1,5 +1,5 @@
 -- Holes that are moved one by one, and the factor with the fewest of them bare.
-use Rattle.report.proofs.Common.{◌≡◌, ◌↔◌, ℕ, ℤ, ◌+◌, ◌-◌, ◌<◌, ◌&&◌, ◌||◌, not, Bool, true, false, cond, Option, Some, None, List, [], ◌∷◌, ◌++◌, length, take, get_or, refl, sym, subst, ap, ◌∙◌, arith, IsSome, IfSome, unsigned_abs, int_eq, count_by, sum_by, Decides-int_eq, length-append, GridPoint, IsCoordinate, max_coordinate, both_le, le_both, GridHole, is_round, WidePad, Drilled, UnitFactor, bare_count, bare_count_with, is_bare, is_bare_with, is_on_grid, is_uncovered, round_count, scaled, scaled_point, AreRescaled, IsRescaled, IsScaledPoint}
+use Rattle.report.proofs.Common.{◌≡◌, ◌↔◌, ℕ, ℤ, ◌+◌, ◌-◌, ◌<◌, ◌&&◌, ◌||◌, not, Bool, true, false, cond, Option, Some, None, List, [], ◌∷◌, ◌++◌, length, take, get_or, refl, sym, subst, ap, ◌∙◌, arith, IsSome, IfSome, unsigned_abs, int_eq, count_by, sum_by, Decides-int_eq, length-append, GridPoint, IsCoordinate, max_coordinate, both_le, le_both, GridHole, is_round, WidePad, Drilled, UnitFactor, bare_count, bare_count_with, is_bare, is_bare_with, is_on_grid, is_uncovered, round_count, scaled_coordinate, scaled_point, AreRescaled, IsRescaled, IsScaledPoint}
 use Rattle.std.proofs.lemmas.List.Sums.{sum_by-append, sum_by-cons, sum_by_more}
 
 -- how many of a list there are with one more at its end
@@ -82,9 +82,9 @@ pub all_bare : (factor : UnitFactor) (pads : List WidePad) (holes rescaled : Lis
 all_bare factor pads holes rescaled round few bare is all size among = omega (arith, is.bare pads, is.few, all, size, among)
 
 -- a point at its new place
-pub placed_at : (factor : UnitFactor) (p : GridPoint) (x y : ℤ) (r : Option GridPoint) → x ≡ scaled factor p.x → y ≡ scaled factor p.y → IsSome r ↔ (IsCoordinate x × IsCoordinate y) → IfSome r (λ q. q ≡ record { x = x; y = y }) → IsScaledPoint factor p r
+pub placed_at : (factor : UnitFactor) (p : GridPoint) (x y : ℤ) (r : Option GridPoint) → x ≡ scaled_coordinate factor p.x → y ≡ scaled_coordinate factor p.y → IsSome r ↔ (IsCoordinate x × IsCoordinate y) → IfSome r (λ q. q ≡ record { x = x; y = y }) → IsScaledPoint factor p r
 placed_at factor p x y None at_x at_y valid value = refused (is_on_grid (scaled_point factor p)) (λ e.
-    let both = both_le (unsigned_abs (scaled factor p.x)) max_coordinate (unsigned_abs (scaled factor p.y)) max_coordinate e in
+    let both = both_le (unsigned_abs (scaled_coordinate factor p.x)) max_coordinate (unsigned_abs (scaled_coordinate factor p.y)) max_coordinate e in
     let some = valid.1 (subst IsCoordinate (sym at_x) both.0, subst IsCoordinate (sym at_y) both.1) in cc)
   where
     refused : (b : Bool) → (b ≡ true → ⊥) → b ≡ false
@@ -92,6 +92,6 @@ placed_at factor p x y None at_x at_y valid value = refused (is_on_grid (scaled_
     refused false f = refl
 placed_at factor p x y (Some q) at_x at_y valid value =
     let both = valid.0 refl in (
-      le_both (unsigned_abs (scaled factor p.x)) max_coordinate (unsigned_abs (scaled factor p.y)) max_coordinate (subst IsCoordinate at_x both.0) (subst IsCoordinate at_y both.1),
+      le_both (unsigned_abs (scaled_coordinate factor p.x)) max_coordinate (unsigned_abs (scaled_coordinate factor p.y)) max_coordinate (subst IsCoordinate at_x both.0) (subst IsCoordinate at_y both.1),
       value ∙ (λ i. record { x = at_x i; y = at_y i }),
     )

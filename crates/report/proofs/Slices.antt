@@ -23,21 +23,6 @@ module _ (pads : List WidePad) (holes : List Drilled) (a b : ℕ) (inside : b �
   same_hole : (k : ℕ) → k < b - a → hole_at (slice_range holes a b) k ≡ hole_at holes (a + k)
   same_hole k less = ap (λ (d : Drilled). d.hole) (slice_at holes a b k default_hole less)
 
-  -- the best pads of a part of the holes
-  pub bests_of_part : (bests : List (Option BestPad)) → AreBestPads wide_pad_covers pads holes bests → AreBestPads wide_pad_covers pads (slice_range holes a b) (slice_range bests a b)
-  bests_of_part bests all = (
-      let own = slice_size holes a b inside in
-      let size = all.size in
-      let theirs = slice_size bests a b (omega (arith, size, inside)) in
-      record {
-        size = theirs ∙ sym own;
-        each = λ k less. (
-            let low : k < b - a = omega (arith, less, own) in
-            let there = all.each (a + k) (omega (arith, low, inside)) in
-            subst (λ (h : GridHole). IsBestPad wide_pad_covers pads h (get_or (slice_range bests a b) k None)) (sym (same_hole k low))
-            (subst (λ (o : Option BestPad). IsBestPad wide_pad_covers pads (hole_at holes (a + k)) o) (sym (slice_at bests a b k None low)) there));
-      })
-
   -- which holes of a part are bare
   pub bare_of_part : (bare : List Bool) → AreBare wide_pad_covers pads holes bare → AreBare wide_pad_covers pads (slice_range holes a b) (slice_range bare a b)
   bare_of_part bare all = (

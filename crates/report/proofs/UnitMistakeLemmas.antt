@@ -1,9 +1,15 @@
 -- Files whose holes are tried at other places, and their lines.
-use Rattle.report.proofs.Common.{◌≡◌, ◌↔◌, ℕ, ◌*◌, ◌<◌, ◌≤◌, ◌==◌, ◌⊎◌, inl, inr, Bool, true, false, Some, None, Option, List, length, map, get_or, refl, sym, subst, arith, slice_range, Decides-eqb, All-map, WidePad, Drilled, UnitFactor, AreUnitMistakes, IsUnitMistakeOrNone, bare_count_with, factors, holes_in, AreCounted, AreSuspects, AreHoleRanges, AreTried, IsSuspect, IsFewest, IsTried, holes_of, open_part, HoleRange, Fewest, Tried, Suspect, FileRange}
+use Rattle.report.proofs.Common.{◌≡◌, ◌↔◌, ℕ, ◌*◌, ◌<◌, ◌≤◌, ◌==◌, ◌⊎◌, inl, inr, Bool, true, false, Some, None, Option, List, length, map, get_or, refl, sym, subst, arith, slice_range, Decides-eqb, All-map, wide_pad_covers, AreBare, AreBestPads, BestPad, WidePad, Drilled, UnitFactor, AreUnitMistakes, IsUnitMistakeOrNone, bare_count_with, factors, holes_in, AreCounted, AreSuspects, AreHoleRanges, AreTried, IsSuspect, IsFewest, IsTried, holes_of, open_part, HoleRange, Fewest, Tried, Suspect, FileRange}
 use Rattle.std.proofs.Common.{if◌then◌else◌}
 use Rattle.report.specs.declared.UnitMistake.{UnitMistake}
+use Rattle.board.proofs.BareLemmas.{bare_by_bests}
+use Rattle.board.specs.Rows.{has_no_best_pad}
 use Rattle.report.proofs.FewestLemmas.{too_many}
 use Rattle.report.proofs.PairedLists.{PairedLists}
+
+-- the best pads of holes tell which of them are bare
+pub told_by : (pads : List WidePad) (holes : List Drilled) (bests : List (Option BestPad)) (bare : List Bool) → bare ≡ map has_no_best_pad bests → AreBestPads wide_pad_covers pads holes bests → AreBare wide_pad_covers pads holes bare
+told_by pads holes bests bare is all = subst (AreBare wide_pad_covers pads holes) (sym is) (bare_by_bests wide_pad_covers pads holes bests all)
 
 -- ---- lists that belong to each other
 
@@ -80,9 +86,9 @@ module _ (pads : List WidePad) (holes : List Drilled) where
     same_holes start end = (λ k. slice_range holes (start k) (end k))
 
     -- no line where too many would be bare
-    pub no_line : (t : Bool) → ((t ≡ true) ↔ (2 * fewest.bare < suspect.bare)) → t ≡ false → IsUnitMistakeOrNone pads (holes_in holes file) drill None
-    no_line t tells f line scale = elim is.either [
-      | inl doubted ↦ too_many pads (holes_in holes file) suspect.bare doubted.bare fewest (subst (λ (hs : List Drilled). IsFewest (bare_count_with pads hs) factors fewest) (same_holes doubted.start doubted.end) are) t tells f line scale
+    pub no_line : suspect.bare ≤ 2 * fewest.bare → IsUnitMistakeOrNone pads (holes_in holes file) drill None
+    no_line many line scale = elim is.either [
+      | inl doubted ↦ too_many pads (holes_in holes file) suspect.bare doubted.bare fewest (subst (λ (hs : List Drilled). IsFewest (bare_count_with pads hs) factors fewest) (same_holes doubted.start doubted.end) are) many line scale
       | inr undoubted ↦ undoubted.none line scale
     ]
 

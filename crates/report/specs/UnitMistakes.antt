@@ -35,16 +35,16 @@ factor_word kind.Inch = codes "25.4"
 factor_word kind.PerInch = codes "1/25.4"
 
 -- a coordinate times a factor, rounded down: 25 pm by 1/10 is 2 pm, -25 pm is -3 pm
-abbrev pub scaled : UnitFactor → ℤ → ℤ
-scaled factor z = int_div_euclid (pos (multiplier factor) *ℤ z) (pos (divisor factor))
+abbrev pub scaled_coordinate : UnitFactor → ℤ → ℤ
+scaled_coordinate factor z = int_div_euclid (pos (multiplier factor) *ℤ z) (pos (divisor factor))
 
 -- rounded down: a whole number is at most a coordinate times a factor just where it is at most the scaled coordinate
 abbrev pub IsRoundedDown : Type 0
-IsRoundedDown = (factor : UnitFactor) (z whole : ℤ) → ((pos (divisor factor) *ℤ whole) ≤ℤ (pos (multiplier factor) *ℤ z)) ↔ (whole ≤ℤ scaled factor z)
+IsRoundedDown = (factor : UnitFactor) (z whole : ℤ) → ((pos (divisor factor) *ℤ whole) ≤ℤ (pos (multiplier factor) *ℤ z)) ↔ (whole ≤ℤ scaled_coordinate factor z)
 
 -- a point with both coordinates times a factor, rounded down
 abbrev pub scaled_point : UnitFactor → GridPoint → GridPoint
-scaled_point factor p = record { x = scaled factor p.x; y = scaled factor p.y }
+scaled_point factor p = record { x = scaled_coordinate factor p.x; y = scaled_coordinate factor p.y }
 
 -- no coordinate is beyond ten metres
 abbrev pub is_on_grid : GridPoint → Bool

@@ -1,10 +1,10 @@
 //! How many round holes are bare, where they are, and with their coordinates times a factor.
 
-ghost use Rattle.std.specs.Prelude.{◌≡◌, ◌&&◌, ◌≤◌, length, List, IfOk};
+ghost use Rattle.std.specs.Prelude.{◌≡◌, ◌&&◌, ◌≤◌, length, List, map, IfOk};
 ghost use Rattle.grid_units.specs.Holes.{is_round};
 ghost use Rattle.pad_shapes.specs.WidePads.{wide_pad_covers};
 ghost use Rattle.pad_shapes.specs.declared.wide_pad.WidePad.{WidePad as ThePad};
-ghost use Rattle.board.specs.BestPads.{AreBestPads, AreBare};
+ghost use Rattle.board.specs.BestPads.{AreBare};
 ghost use Rattle.board.specs.Rows.{has_no_best_pad};
 ghost use Rattle.report.specs.UnitMistakes.{bare_count, round_count};
 ghost use Rattle.report.specs.Inner.RescaledCounts.{AreRescaled, IsRescaled};
@@ -26,26 +26,14 @@ pub(crate) fn round_among(holes: &[Drilled]) -> usize
         .count()
 }
 
-/// Whether a hole is round and bare, by its best pad.
-fn is_bare(drilled: &Drilled, best: Option<BestPad>) -> bool
-    ensures { result ≡ (is_round drilled.now.hole && has_no_best_pad best) }
+/// Whether each of some holes is bare, by their best pads.
+pub(crate) fn bare_by_bests(
+    alloc: Global,
+    bests: &[Option<BestPad>],
+) -> Result<Vec<bool>, AllocError>
+    ensures { IfOk result (λ bare. bare.items ≡ map has_no_best_pad bests.now) }
 {
-    drilled.hole.is_round() && best.is_none()
-}
-
-/// How many of some holes are round and bare, by their best pads.
-pub fn bare_among(bests: &[Option<BestPad>], holes: &[Drilled]) -> usize
-    requires { length bests.now ≡ length holes.now }
-    ensures exact { (pads : List ThePad) → AreBestPads wide_pad_covers pads holes.now bests.now → result ≡ bare_count pads holes.now }
-    ensures few { result ≤ length holes.now }
-{
-    let mut bare = 0;
-    for (place, drilled) in holes.iter().enumerate() {
-        if is_bare(drilled, bests[place]) {
-            bare += 1;
-        }
-    }
-    bare
+    bests.iter().map(|best| best.is_none()).collect(alloc)
 }
 
 /// Whether a hole is round and, as is given, bare.

@@ -1,6 +1,6 @@
 //! Boxes that hold the points of some flashes.
 
-ghost use Rattle.std.specs.Prelude.{◌≡◌, ◌⊎◌, ◌<◌, ◌≤◌, true, false, length};
+ghost use Rattle.std.specs.Prelude.{◌≡◌, ◌⊎◌, ◌<◌, true, false, length};
 ghost use Rattle.std.specs.Int.{int_max, int_min};
 ghost use Rattle.grid_units.specs.Points.{IsCoordinate};
 ghost use Rattle.pad_shapes.specs.Rounded.{is_outline};
@@ -8,7 +8,7 @@ ghost use Rattle.pad_shapes.specs.Zones.{IsInZone};
 ghost use Rattle.report.specs.Causes.{IsBounds, IsWithin, is_in_shape};
 ghost use Rattle.report.specs.declared.other.Other.{Other as TheOther};
 
-use crate::other::Other;
+use crate::other::{Other, earlier_flash};
 use grid_units::Point;
 use pad_shapes::{PadShape, Rounded, Zone};
 
@@ -66,15 +66,6 @@ fn corner(across: Point, up: Point) -> Point
     Point::new(across.x(), up.y()).unwrap()
 }
 
-/// Whichever of two flashes has the lesser place.
-fn earlier_of(a: Other, b: Other) -> Other
-    ensures among { (result ≡ a) ⊎ (result ≡ b) }
-    ensures a { result.place ≤ a.place }
-    ensures b { result.place ≤ b.place }
-{
-    if b.place < a.place { b } else { a }
-}
-
 impl Bounds {
     /// The box of one flash.
     fn at(other: Other) -> Bounds
@@ -97,7 +88,7 @@ impl Bounds {
         Bounds {
             least: lesser_corner(self.least, other.at),
             greatest: greater_corner(self.greatest, other.at),
-            first: earlier_of(self.first, other),
+            first: earlier_flash(Some(self.first), other),
         }
     }
 

@@ -2,31 +2,20 @@
 
 ghost use Rattle.std.specs.Prelude.{◌≡◌, ◌<◌, IfOk, get_or, length, not, true};
 ghost use Rattle.ring_rules.specs.Places.{hole_at};
-ghost use Rattle.report.specs.Causes.{MarksBare, MarkUncounted, uncounted_pads};
+ghost use Rattle.report.specs.Causes.{MarkUncounted, uncounted_pads};
 ghost use Rattle.report.specs.Inner.CauseParts.{uncounted_cause};
 
 use crate::{FurtherCopper, RingCause};
 use board::bare_holes;
-use pad_shapes::WidePad;
 use ring_rules::Drilled;
 use std::alloc::{AllocError, Global};
 
 /// Of each hole whether it lies in no shape of a macro's flash, and whether in no contour, of those that a layer's profile does not
-/// count. Both lists are empty where there are no such pads.
+/// count.
 #[derive(Drop)]
 pub(crate) struct UncountedCover {
     macros: Vec<bool>,
     contours: Vec<bool>,
-}
-
-/// Of each hole whether it lies in no pad. Nothing is searched, and the list is empty, where there are no pads.
-fn bare_in(alloc: Global, pads: &[WidePad], holes: &[Drilled]) -> Result<Vec<bool>, AllocError>
-    ensures { IfOk result (λ bare. MarksBare pads.now holes.now bare.items) }
-{
-    if pads.is_empty() {
-        return Ok(Vec::new(alloc));
-    }
-    bare_holes(alloc, pads, holes)
 }
 
 /// Whether the hole at a place lies in a pad, by the marks of the holes that do not.
@@ -49,8 +38,8 @@ impl UncountedCover {
         ensures { IfOk result (MarkUncounted (uncounted_pads uncounted.entry) holes.now) }
     {
         Ok(UncountedCover {
-            macros: bare_in(alloc, uncounted.macros, holes)?,
-            contours: bare_in(alloc, uncounted.contours, holes)?,
+            macros: bare_holes(alloc, uncounted.macros, holes)?,
+            contours: bare_holes(alloc, uncounted.contours, holes)?,
         })
     }
 

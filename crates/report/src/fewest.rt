@@ -33,11 +33,8 @@ fn open_part(tried: &Tried) -> HoleRange
     ensures { result ≡ open_part tried.now }
 {
     let HoleRange { start, end } = tried.range;
-    if tried.fewest.bare == 0 {
-        HoleRange { start, end: start }
-    } else {
-        HoleRange { start, end }
-    }
+    let end = if tried.fewest.bare == 0 { start } else { end };
+    HoleRange { start, end }
 }
 
 /// The holes of each stretch that a further factor is tried at.

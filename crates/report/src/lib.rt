@@ -18,7 +18,6 @@ mod other;
 mod scaled;
 mod waived;
 
-pub use bare::bare_among;
 pub use board::Met;
 pub use figures::{conflict_words, factor_word, flash_of, lack_of, ring_of};
 use grid_units::{Hole, Rules};

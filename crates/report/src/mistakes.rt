@@ -1,16 +1,16 @@
 //! The lines of drill files whose coordinates seem to be off by a factor.
 
-ghost use Rattle.std.specs.Prelude.{◌≡◌, ◌↔◌, ◌*◌, ◌<◌, ◌≤◌, List, length, map, IfOk, IsTrue};
+ghost use Rattle.std.specs.Prelude.{◌≡◌, ◌≤◌, List, length, map, IfOk};
 ghost use Rattle.pad_shapes.specs.WidePads.{wide_pad_covers};
 ghost use Rattle.pad_shapes.specs.declared.wide_pad.WidePad.{WidePad as ThePad};
 ghost use Rattle.ring_rules.specs.declared.finding.Drilled.{Drilled as TheDrilled};
-ghost use Rattle.board.specs.BestPads.{AreBestPads};
+ghost use Rattle.board.specs.BestPads.{AreBare, AreBestPads};
 ghost use Rattle.report.specs.UnitMistakes.{AreFileRanges, AreUnitMistakes, IsUnitMistakeOrNone, bare_count_with, factors, holes_in};
 ghost use Rattle.report.specs.Inner.RescaledCounts.{AreSuspects, AreTried, IsSuspect, IsFewest, holes_of};
 ghost use Rattle.report.specs.declared.mistakes.FileRange.{FileRange as TheFileRange};
 
 use crate::UnitMistake;
-use crate::bare::{bare_among, round_among};
+use crate::bare::{bare_by_bests, round_among, round_bare_count};
 use crate::counts::HoleRange;
 use crate::fewest::{Fewest, Tried, try_factors};
 use board::BestPad;
@@ -37,61 +37,38 @@ struct Suspect {
     bare: usize,
 }
 
-/// Whether twice a number is above another one.
-fn is_twice_above(number: usize, other: usize) -> bool
-    ensures { IsTrue result ↔ (other < 2 * number) }
-{
-    (other as u128) < 2 * (number as u128)
-}
-
-/// Whether twice a number is below another one.
-fn is_twice_below(number: usize, other: usize) -> bool
-    ensures { IsTrue result ↔ (2 * number < other) }
-{
-    2 * (number as u128) < (other as u128)
-}
-
-/// Which holes of a file are to be tried at other places, by the best pads of all holes.
-fn suspect_of(holes: &[Drilled], bests: &[Option<BestPad>], file: FileRange) -> Suspect
+/// Which holes of a file are to be tried at other places, given of each hole whether it is bare.
+fn suspect_of(holes: &[Drilled], bare: &[bool], file: FileRange) -> Suspect
     requires ordered { file.start ≤ file.end }
     requires inside { file.end ≤ length holes.now }
-    requires size { length bests.now ≡ length holes.now }
-    ensures { (pads : List ThePad) → AreBestPads wide_pad_covers pads holes.now bests.now → IsSuspect pads holes.now file result }
+    requires size { length bare.now ≡ length holes.now }
+    ensures { (pads : List ThePad) → AreBare wide_pad_covers pads holes.now bare.now → IsSuspect pads holes.now file result }
 {
-    let own = &holes[file.start..file.end];
-    let bare = bare_among(&bests[file.start..file.end], own);
-    if !is_twice_above(bare, round_among(own)) {
-        return Suspect {
-            range: HoleRange {
-                start: file.start,
-                end: file.start,
-            },
-            bare: 0,
-        };
+    let (start, end) = (file.start, file.end);
+    let own = &holes[start..end];
+    let bare = round_bare_count(&bare[start..end], own);
+    if (round_among(own) as u128) < 2 * (bare as u128) {
+        let range = HoleRange { start, end };
+        return Suspect { range, bare };
     }
-    Suspect {
-        range: HoleRange {
-            start: file.start,
-            end: file.end,
-        },
-        bare,
-    }
+    let range = HoleRange { start, end: start };
+    Suspect { range, bare: 0 }
 }
 
 /// Which holes of each file are to be tried at other places.
 fn suspects_of(
     alloc: Global,
     holes: &[Drilled],
-    bests: &[Option<BestPad>],
+    bare: &[bool],
     files: &[FileRange],
 ) -> Result<Vec<Suspect>, AllocError>
     requires files { AreFileRanges holes.now files.now }
-    requires size { length bests.now ≡ length holes.now }
-    ensures { IfOk result (λ suspects. (pads : List ThePad) → AreBestPads wide_pad_covers pads holes.now bests.now → AreSuspects pads holes.now files.now suspects.items) }
+    requires size { length bare.now ≡ length holes.now }
+    ensures { IfOk result (λ suspects. (pads : List ThePad) → AreBare wide_pad_covers pads holes.now bare.now → AreSuspects pads holes.now files.now suspects.items) }
 {
     let mut suspects = Vec::new(alloc);
     for file in files {
-        suspects.push(suspect_of(holes, bests, *file))?;
+        suspects.push(suspect_of(holes, bare, *file))?;
     }
     Ok(suspects)
 }
@@ -108,15 +85,15 @@ fn line_of(drill: usize, suspect: Suspect, fewest: Fewest) -> Option<UnitMistake
     ensures { (pads : List ThePad) (holes : List TheDrilled) (file : TheFileRange) → file.drill ≡ drill → IsSuspect pads holes file suspect
         → IsFewest (bare_count_with pads (holes_of holes suspect.range)) factors fewest → IsUnitMistakeOrNone pads (holes_in holes file) drill result }
 {
-    if !is_twice_below(fewest.bare, suspect.bare) {
-        return None;
+    if 2 * (fewest.bare as u128) < (suspect.bare as u128) {
+        return Some(UnitMistake {
+            drill,
+            bare: suspect.bare,
+            factor: fewest.factor,
+            then: fewest.bare,
+        });
     }
-    Some(UnitMistake {
-        drill,
-        bare: suspect.bare,
-        factor: fewest.factor,
-        then: fewest.bare,
-    })
+    None
 }
 
 /// The line of each file, given the factor by which the fewest of its holes would be bare.
@@ -159,7 +136,8 @@ pub fn unit_mistakes(
     requires bests { AreBestPads wide_pad_covers pads.now holes.now bests.now }
     ensures { IfOk result (λ lines. AreUnitMistakes pads.now holes.now files.now lines.items) }
 {
-    let suspects = suspects_of(alloc, holes, bests, files)?;
+    let bare = bare_by_bests(alloc, bests)?;
+    let suspects = suspects_of(alloc, holes, &bare, files)?;
     let ranges = ranges_of(alloc, &suspects)?;
     let tried = try_factors(alloc, pads, holes, &ranges)?;
     lines_by(alloc, files, &suspects, &tried)

@@ -3,7 +3,7 @@
 ghost use Rattle.std.specs.Prelude.{◌≡◌, ◌++◌, ◌∷◌, [], List, nat_lt, IfOk, if◌then◌else◌};
 ghost use Rattle.std.specs.List.Sorted.{IsPermutation};
 ghost use Rattle.std.specs.Option.{option_map_or};
-ghost use Rattle.report.specs.Causes.{is_in_shape, other_row, others};
+ghost use Rattle.report.specs.Causes.{other_row, others};
 ghost use Rattle.report.specs.Inner.CauseParts.{IsFirstIn};
 
 use grid_units::Point;
@@ -89,18 +89,11 @@ pub(crate) fn earlier_flash(first: Option<Other>, other: Other) -> Other
     }
 }
 
-/// Whether a point lies in a hole.
-fn is_in_hole(hole: &Rounded, at: Point) -> bool
-    ensures { result ≡ is_in_shape hole.now at }
-{
-    hole.covers(at, 0)
-}
-
 /// The earliest flash in a hole, of those so far and one more.
 fn earlier_in_hole(first: Option<Other>, other: Other, hole: &Rounded) -> Option<Other>
     ensures { (seen : List Other) → IsFirstIn seen hole.now first → IsFirstIn (seen ++ other ∷ []) hole.now result }
 {
-    if !is_in_hole(hole, other.at) {
+    if !hole.covers(other.at, 0) {
         return first;
     }
     Some(earlier_flash(first, other))

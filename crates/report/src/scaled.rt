@@ -2,7 +2,7 @@
 
 ghost use Rattle.std.specs.Prelude.{◌≡◌, ◌≤◌, ◌<◌, pos};
 ghost use Rattle.grid_units.specs.Points.{IsCoordinate};
-ghost use Rattle.report.specs.UnitMistakes.{divisor, multiplier, scaled};
+ghost use Rattle.report.specs.UnitMistakes.{divisor, multiplier, scaled_coordinate};
 ghost use Rattle.report.specs.Inner.RescaledCounts.{IsScaledPoint};
 
 use crate::UnitFactor;
@@ -35,7 +35,7 @@ fn divisor(factor: UnitFactor) -> i64
 /// A coordinate in pm times a factor, rounded down.
 fn scaled(coordinate: i64, factor: UnitFactor) -> i64
     requires { IsCoordinate coordinate }
-    ensures { result ≡ scaled factor coordinate }
+    ensures { result ≡ scaled_coordinate factor coordinate }
 {
     (multiplier(factor) * coordinate).div_euclid(divisor(factor))
 }

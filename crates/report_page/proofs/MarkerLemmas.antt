@@ -24,7 +24,7 @@ use Rattle.package_check.specs.Package.{FileView, index_of, pads_of}
 use Rattle.package_check.specs.declared.contents.Content.{Content}
 use Rattle.package_check.specs.declared.contents.Content.TheVariants as content
 use Rattle.package_check.specs.WiderProfile.{is_gap}
-use Rattle.picture.specs.Elements.{finding_start, finding_text, finding_words, group_end, lack, naming}
+use Rattle.picture.specs.Elements.{finding_start, finding_text, finding_words, group_end, lack, id_attribute}
 use Rattle.picture.specs.Outlines.{shown_outline}
 use Rattle.picture.specs.Panels.{lacks_text, panel_text}
 use Rattle.picture.specs.Scenes.{drawn_finding, drawn_findings, drawn_gap, drawn_ring}
@@ -85,7 +85,7 @@ ring_marked pen place n hole =
 pub gap_marked : (pen : Pen) (place : Place) (n : ℕ) (a b : GridHole) → place.first ≡ true → HasSubslice (finding_text pen place (Gap n a b)) (marker_start n)
 gap_marked pen place n a b first =
     let words = finding_words pen place (Gap n a b) in
-    let named : codes "id" ≡ naming place (Gap n a b) = sym (ap (λ (t : Bool). if t then codes "id" else codes "data-id") first) in
+    let named : codes "id" ≡ id_attribute place (Gap n a b) = sym (ap (λ (t : Bool). if t then codes "id" else codes "data-id") first) in
     subst (λ (attribute : List ℕ). HasSubslice (finding_start attribute n words ++ (lack pen (Gap n a b) ++ group_end)) (marker_start n)) named
     (in_front (finding_start (codes "id") n words) (lack pen (Gap n a b) ++ group_end) (marker_start n) (starts n words))
 

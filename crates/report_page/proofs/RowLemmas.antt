@@ -6,7 +6,7 @@ use Rattle.grid_units.specs.Holes.{GridRules}
 use Rattle.report.specs.Acceptances.{acceptance_at}
 use Rattle.report.specs.declared.GapLack.{GapLack}
 use Rattle.print_text.specs.Texts.{number_of}
-use Rattle.picture.specs.Escapes.{escaped}
+use Rattle.picture.specs.Escapes.{escaped_name}
 use Rattle.grid_units.specs.HoleWords.{name_of}
 
 -- what one more element gives, by its position
@@ -37,8 +37,8 @@ gap_added names rules accepted first gaps i d lt =
 
 -- one more file
 pub file_added : (profile : Profile) (names : List (List ℕ)) (files : List FileSum) (i : ℕ) (d : FileSum) → i < length files
-    → file_items profile names (take (i + 1) (enumerate_from 0 files)) ≡ file_items profile names (take i (enumerate_from 0 files)) ++ file_words profile (escaped (name_of names i)) (get_or files i d)
+    → file_items profile names (take (i + 1) (enumerate_from 0 files)) ≡ file_items profile names (take i (enumerate_from 0 files)) ++ file_words profile (escaped_name (name_of names i)) (get_or files i d)
 file_added profile names files i d lt =
     let place : 0 + i ≡ i = omega arith in
-    texts_more (λ (file : ℕ × FileSum). file_words profile (escaped (name_of names file.0)) file.1) 0 files i d lt
-    ∙ ap (λ (j : ℕ). file_items profile names (take i (enumerate_from 0 files)) ++ file_words profile (escaped (name_of names j)) (get_or files i d)) place
+    texts_more (λ (file : ℕ × FileSum). file_words profile (escaped_name (name_of names file.0)) file.1) 0 files i d lt
+    ∙ ap (λ (j : ℕ). file_items profile names (take i (enumerate_from 0 files)) ++ file_words profile (escaped_name (name_of names j)) (get_or files i d)) place

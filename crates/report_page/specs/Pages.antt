@@ -29,7 +29,7 @@ use Rattle.board_report.specs.Measures.{IsMeasure}
 use Rattle.board.specs.Boards.{BoardView}
 use Rattle.package_check.specs.Boards.{IsBoard}
 use Rattle.board.specs.declared.FileSum.{FileSum}
-use Rattle.picture.specs.Escapes.{escaped}
+use Rattle.picture.specs.Escapes.{escaped_name}
 use Rattle.pad_shapes.specs.declared.drawn.Drawn.{Drawn}
 use Rattle.drawing.specs.Pages.{IsDrawn, declaration, number_of as file_number, svg_text}
 use Rattle.report_page.specs.declared.frame.TheConstants.{BEFORE_RULES, BEFORE_SCRIPT, BEFORE_STYLE, BODY, CAPTION, COLUMNS, END, FIGURE, FILES, HEAD, PREMISES, STRICT_PROMISE, TOOL_COLUMNS, TOOLS, WIDE_PROMISE}
@@ -79,13 +79,13 @@ program_words program = codes "</p>\n<p>program: " ++ program
 abbrev pub particulars_text : Particulars → GridRules → ℕ → List ℕ
 particulars_text about rules findings =
     fewer_note findings about.fewer
-    ++ (board_words (escaped about.manifest.now) ++ ((rules_words rules ++ profile_words rules.profile) ++ program_words (escaped about.program.now)))
+    ++ (board_words (escaped_name about.manifest.now) ++ ((rules_words rules ++ profile_words rules.profile) ++ program_words (escaped_name about.program.now)))
 
 -- ---- the drill files whose own comments contradict their role
 
 -- the warning of a drill file whose own comments contradict its role, and what comes before the next paragraph
 abbrev pub conflict_warning : List (List ℕ) → RoleConflict → List ℕ
-conflict_warning names line = warning_words (escaped (name_of names line.drill)) (conflict_words line.plated) (codes "</p>\n<p>")
+conflict_warning names line = warning_words (escaped_name (name_of names line.drill)) (conflict_words line.plated) (codes "</p>\n<p>")
 
 -- ---- the files, and what a pass promises
 
@@ -132,7 +132,7 @@ file_words profile name (sums.Mixed span round slots unplated) = file_item (code
 
 -- the files of these, with their places
 abbrev pub file_items : Profile → List (List ℕ) → List (ℕ × FileSum) → List ℕ
-file_items profile names files = flat_map (λ file. file_words profile (escaped (name_of names file.0)) file.1) files
+file_items profile names files = flat_map (λ file. file_words profile (escaped_name (name_of names file.0)) file.1) files
 
 -- what a pass promises in a profile
 abbrev pub promise : Profile → List ℕ
@@ -152,7 +152,7 @@ button file name =
 
 -- the button of a layer: its panel in the picture has the same number
 abbrev pub layer_button : List (List ℕ) → LayerHead → List ℕ
-layer_button names head = button (file_number head.file) (escaped (name_of names head.file))
+layer_button names head = button (file_number head.file) (escaped_name (name_of names head.file))
 
 -- ---- the cells of a row
 
@@ -167,7 +167,7 @@ hole_at_words number name hole = codes "hole " ++ (decimal number ++ (codes " of
 
 -- a hole with its place in the package
 abbrev pub hole_words : List (List ℕ) → PlacedHole → List ℕ
-hole_words names at = hole_at_words at.place.number (escaped (name_of names at.place.drill)) at.hole
+hole_words names at = hole_at_words at.place.number (escaped_name (name_of names at.place.drill)) at.hole
 
 -- the diameter of a hole
 abbrev pub diameter_words : GridHole → List ℕ
@@ -192,7 +192,7 @@ cause_words cause = kind_words (kind_of cause) ++ flash_words cause
 -- the reason why a finding is waived, if it is
 abbrev pub reason_words : Option (Bor (List ℕ)) → List ℕ
 reason_words None = []
-reason_words (Some why) = escaped why.now
+reason_words (Some why) = escaped_name why.now
 
 -- between two cells
 abbrev pub next_cell : List ℕ
@@ -220,7 +220,7 @@ ring_place layer hole at = layer ++ (next_cell ++ (hole ++ (next_cell ++ (diamet
 abbrev pub ring_row : List (List ℕ) → List LayerHead → GridRules → ℕ → RingLack → Option (Bor (List ℕ)) → List ℕ
 ring_row names layers rules number lack why =
     row_start number (codes "annular ring")
-    ++ (ring_place (escaped (layer_name names (slice_get layers lack.layer))) (hole_words names lack.at) lack.at.hole
+    ++ (ring_place (escaped_name (layer_name names (slice_get layers lack.layer))) (hole_words names lack.at) lack.at.hole
     ++ ring_end (ring_words lack.cause) (pos rules.ring) (cause_words lack.cause) (reason_words why))
 
 -- the cells of a gap to the diameters: all layers, the two holes and their diameters
@@ -296,7 +296,7 @@ tool_end least rule mark = least ++ (next_cell ++ (short_millimetres rule ++ (ne
 -- the row of the holes of one drill file and diameter on one layer, by the line of a measure for them
 abbrev pub tool_row : List (List ℕ) → GridRules → RingLine → List ℕ
 tool_row names rules line =
-    tool_start (escaped (name_of names line.layer)) (escaped (name_of names line.drill)) line.diameter
+    tool_start (escaped_name (name_of names line.layer)) (escaped_name (name_of names line.drill)) line.diameter
     ++ (tool_counts line.holes line.bare ++ tool_end (least_words line.least) (pos rules.ring) (mark_words (pos rules.ring) line.bare line.least))
 
 -- the rows of the tool table, in the order of the measure: by layer, drill file and diameter

@@ -3,7 +3,7 @@
 ghost use Rattle.std.specs.Prelude.{◌≡◌, map, Some};
 ghost use Rattle.std.specs.Fmt.{DisplaysOnOk};
 ghost use Rattle.std.specs.List.{enumerate_from};
-ghost use Rattle.picture.specs.Escapes.{escaped};
+ghost use Rattle.picture.specs.Escapes.{escaped_name};
 ghost use Rattle.report_page.specs.Pages.{amount, contour_words, copper_words, drill_role, drill_words, file_items, file_words, files_text, mixed_words, promise, span_words};
 
 use crate::frame::{FILES, PREMISES, STRICT_PROMISE, WIDE_PROMISE};
@@ -162,7 +162,7 @@ struct FileItem<'a> {
 }
 
 impl Display for FileItem<'_> {
-    ghost output = { λ it. Some (file_words it.profile (escaped it.name.now) it.file) };
+    ghost output = { λ it. Some (file_words it.profile (escaped_name it.name.now) it.file) };
 
     #[tactic(auto, unfolding(crate::specs::Pages::file_item))]
     fn fmt<W: fmt::Write>(&self, f: &mut Formatter<W>) -> fmt::Result {

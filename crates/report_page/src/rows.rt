@@ -4,7 +4,7 @@ ghost use Rattle.std.specs.Prelude.{pos, length, map, slice_get, Some};
 ghost use Rattle.std.specs.Fmt.{DisplaysOnOk};
 ghost use Rattle.std.specs.List.{enumerate_from};
 ghost use Rattle.grid_units.specs.HoleWords.{two_lengths};
-ghost use Rattle.picture.specs.Escapes.{escaped};
+ghost use Rattle.picture.specs.Escapes.{escaped_name};
 ghost use Rattle.report_page.specs.Pages.{cause_words, gap_end, gap_place, gap_row, gap_rows, hole_words, layer_name, next_cell, reason_words, ring_end, ring_place, ring_row, ring_rows, ring_words, table_rows};
 
 use crate::cells::{
@@ -25,7 +25,7 @@ struct RingPlace<'a> {
 }
 
 impl Display for RingPlace<'_> {
-    ghost output = { λ row. Some (ring_place (escaped (layer_name (map (λ name. name.now) row.names.now) (slice_get row.layers.now row.lack.now.layer))) (hole_words (map (λ name. name.now) row.names.now) row.lack.now.at) row.lack.now.at.hole) };
+    ghost output = { λ row. Some (ring_place (escaped_name (layer_name (map (λ name. name.now) row.names.now) (slice_get row.layers.now row.lack.now.layer))) (hole_words (map (λ name. name.now) row.names.now) row.lack.now.at) row.lack.now.at.hole) };
 
     #[tactic(auto, unfolding(crate::specs::Pages::ring_place))]
     fn fmt<W: fmt::Write>(&self, f: &mut Formatter<W>) -> fmt::Result {

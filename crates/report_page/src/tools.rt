@@ -1,7 +1,7 @@
 //! The rows of the tool table: one for each layer, drill file and diameter at which holes need a ring.
 
 ghost use Rattle.std.specs.Prelude.{◌≡◌, map, Some};
-ghost use Rattle.picture.specs.Escapes.{escaped};
+ghost use Rattle.picture.specs.Escapes.{escaped_name};
 ghost use Rattle.grid_units.specs.HoleWords.{name_of};
 ghost use Rattle.report_page.specs.Pages.{lacks_ring, least_words, mark_words, tool_counts, tool_end, tool_row, tool_start};
 
@@ -63,7 +63,7 @@ struct ToolStart<'a> {
 }
 
 impl Display for ToolStart<'_> {
-    ghost output = { λ row. Some (tool_start (escaped (name_of (map (λ name. name.now) row.names.now) row.line.now.layer)) (escaped (name_of (map (λ name. name.now) row.names.now) row.line.now.drill)) row.line.now.diameter) };
+    ghost output = { λ row. Some (tool_start (escaped_name (name_of (map (λ name. name.now) row.names.now) row.line.now.layer)) (escaped_name (name_of (map (λ name. name.now) row.names.now) row.line.now.drill)) row.line.now.diameter) };
 
     #[tactic(auto, unfolding(crate::specs::Pages::tool_start))]
     fn fmt<W: fmt::Write>(&self, f: &mut Formatter<W>) -> fmt::Result {

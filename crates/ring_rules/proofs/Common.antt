@@ -11,7 +11,7 @@ pub use Rattle.ring_rules.specs.Cells.{cell_at, cell_of, column_of, place_of, ro
 pub use Rattle.ring_rules.specs.Cores.{ClearHolesAreApart, are_clear, positive_part, range_distance, square_of_cores}
 pub use Rattle.ring_rules.specs.Findings.{finding_of, gap_findings, hole_findings, is_oblique, is_refused_slot, is_ring_finding, lacks_ring, layer_findings, ring_findings}
 pub use Rattle.ring_rules.specs.Inner.ClashingPairs.{AddsClashes, AreClashing, IsClash, IsPairBefore, ListsClash, ListsClashes, in_order}
-pub use Rattle.ring_rules.specs.Inner.Forms.{HasForm, HaveForms, default_entry, form_at, moved, spot_of, spot_with}
+pub use Rattle.ring_rules.specs.Inner.Forms.{HasForm, HaveForms, default_entry, form_at, hole_of_form, spot_of, spot_with}
 pub use Rattle.ring_rules.specs.Inner.FoundPlaces.{AddsFound, IsSpotInZone, ListsFound}
 pub use Rattle.ring_rules.specs.Inner.Marks.{HasNoMarkFrom, NoMarkPassesFrom, RemovesMarks, gives_ring_at, is_marked}
 unfoldable pub use Rattle.ring_rules.specs.Inner.Marks.{gives_ring}

@@ -1,13 +1,13 @@
 -- Entries with their forms: what they stand for, and that more forms and more entries change nothing of it.
-use Rattle.ring_rules.proofs.Common.{◌≡◌, ℕ, ℤ, ◌<◌, ◌≤◌, List, [], ◌∷◌, ◌++◌, length, get_or, map, sym, ap, subst, ◌∙◌, arith, ints, get_or-map, length-map, map_push, same_lists, GridPoint, IsCoordinate, GridHole, moved, form_at, spot_with, spot_of, HasForm, default_entry, HaveForms, Spot, Entry}
+use Rattle.ring_rules.proofs.Common.{◌≡◌, ℕ, ℤ, ◌<◌, ◌≤◌, List, [], ◌∷◌, ◌++◌, length, get_or, map, sym, ap, subst, ◌∙◌, arith, ints, get_or-map, length-map, map_push, same_lists, GridPoint, IsCoordinate, GridHole, hole_of_form, form_at, spot_with, spot_of, HasForm, default_entry, HaveForms, Spot, Entry}
 use Rattle.std.specs.Prelude.{◌+ℤ◌, ◌-ℤ◌}
 
 abbrev pub hole_of : GridPoint → ℤ → ℤ → ℕ → GridHole
 hole_of from x y radius = record { from = from; to = record { x = x; y = y }; radius = radius }
 
 -- a hole of a form, by its second end
-pub moved_to : (form : GridHole) (from to : GridPoint) → to.x ≡ (moved form from).to.x → to.y ≡ (moved form from).to.y → hole_of from to.x to.y form.radius ≡ moved form from
-moved_to form from to x y = ap (λ (v : ℤ). hole_of from v to.y form.radius) x ∙ ap (λ (v : ℤ). hole_of from (moved form from).to.x v form.radius) y
+pub moved_to : (form : GridHole) (from to : GridPoint) → to.x ≡ (hole_of_form form from).to.x → to.y ≡ (hole_of_form form from).to.y → hole_of from to.x to.y form.radius ≡ hole_of_form form from
+moved_to form from to x y = ap (λ (v : ℤ). hole_of from v to.y form.radius) x ∙ ap (λ (v : ℤ). hole_of from (hole_of_form form from).to.x v form.radius) y
 
 reaches : (a b c d : ℤ) → (b -ℤ a) ≡ (d -ℤ c) → (c +ℤ (b -ℤ a)) ≡ d
 reaches a b c d same = omega (arith, ints, same)
@@ -16,7 +16,7 @@ abbrev spot_made : GridHole → ℕ → Spot
 spot_made hole place = record { hole = hole; place = place }
 
 -- the spot that an entry stands for, by its parts
-pub entry_is : (forms : List GridHole) (e : Entry) (s : Spot) → moved (form_at forms e.form) e.from ≡ s.hole → e.place ≡ s.place → spot_of forms e ≡ s
+pub entry_is : (forms : List GridHole) (e : Entry) (s : Spot) → hole_of_form (form_at forms e.form) e.from ≡ s.hole → e.place ≡ s.place → spot_of forms e ≡ s
 entry_is forms e s hole place = ap (λ (h : GridHole). spot_made h e.place) hole ∙ ap (spot_made s.hole) place
 
 module _ (forms more : List GridHole) (longer : length forms ≤ length more) (kept : (n : ℕ) → n < length forms → form_at more n ≡ form_at forms n) where

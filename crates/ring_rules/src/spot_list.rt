@@ -4,7 +4,7 @@ ghost use Rattle.std.specs.Prelude.{◌≡◌, ℕ, ◌<◌, ◌≤◌, ◌≤�
 ghost use Rattle.std.specs.List.Sorted.{IsPermutation};
 ghost use Rattle.grid_units.specs.Points.{IsCoordinate};
 ghost use Rattle.ring_rules.specs.Spots.{spot_at, point_at};
-ghost use Rattle.ring_rules.specs.Inner.Forms.{moved, form_at, spot_of, HasForm};
+ghost use Rattle.ring_rules.specs.Inner.Forms.{hole_of_form, form_at, spot_of, HasForm};
 ghost use Rattle.ring_rules.specs.Inner.SpotLists.{PutsInOrder};
 ghost use Rattle.ring_rules.specs.declared.spot_list.Entry.{Entry};
 
@@ -66,8 +66,8 @@ fn way_y(hole: &Hole) -> i64
 
 /// The x of the second end of a hole of a form that begins at a point.
 fn end_x(form: &Hole, from: Point) -> i64
-    requires { IsCoordinate (moved form.now from).to.x }
-    ensures value { result ≡ (moved form.now from).to.x }
+    requires { IsCoordinate (hole_of_form form.now from).to.x }
+    ensures value { result ≡ (hole_of_form form.now from).to.x }
     ensures in_range { IsCoordinate result }
 {
     from.x() + way_x(form)
@@ -75,8 +75,8 @@ fn end_x(form: &Hole, from: Point) -> i64
 
 /// The y of that end.
 fn end_y(form: &Hole, from: Point) -> i64
-    requires { IsCoordinate (moved form.now from).to.y }
-    ensures value { result ≡ (moved form.now from).to.y }
+    requires { IsCoordinate (hole_of_form form.now from).to.y }
+    ensures value { result ≡ (hole_of_form form.now from).to.y }
     ensures in_range { IsCoordinate result }
 {
     from.y() + way_y(form)
@@ -84,10 +84,10 @@ fn end_y(form: &Hole, from: Point) -> i64
 
 /// That end.
 fn end_of(form: &Hole, from: Point) -> Point
-    requires x { IsCoordinate (moved form.now from).to.x }
-    requires y { IsCoordinate (moved form.now from).to.y }
-    ensures x { result.x ≡ (moved form.now from).to.x }
-    ensures y { result.y ≡ (moved form.now from).to.y }
+    requires x { IsCoordinate (hole_of_form form.now from).to.x }
+    requires y { IsCoordinate (hole_of_form form.now from).to.y }
+    ensures x { result.x ≡ (hole_of_form form.now from).to.x }
+    ensures y { result.y ≡ (hole_of_form form.now from).to.y }
 {
     Point::new(end_x(form, from), end_y(form, from)).unwrap()
 }
@@ -101,9 +101,9 @@ fn hole_between(from: Point, to: Point, form: &Hole) -> Hole
 
 /// The hole of a form that begins at a point.
 fn moved(form: &Hole, from: Point) -> Hole
-    requires x { IsCoordinate (moved form.now from).to.x }
-    requires y { IsCoordinate (moved form.now from).to.y }
-    ensures { result ≡ moved form.now from }
+    requires x { IsCoordinate (hole_of_form form.now from).to.x }
+    requires y { IsCoordinate (hole_of_form form.now from).to.y }
+    ensures { result ≡ hole_of_form form.now from }
 {
     let to = end_of(form, from);
     hole_between(from, to, form)
@@ -111,7 +111,7 @@ fn moved(form: &Hole, from: Point) -> Hole
 
 /// Whether two holes have the same form.
 fn is_like(form: &Hole, hole: &Hole) -> bool
-    ensures { result ≡ true → moved form.now hole.now.from ≡ hole.now }
+    ensures { result ≡ true → hole_of_form form.now hole.now.from ≡ hole.now }
 {
     way_x(form) == way_x(hole) && way_y(form) == way_y(hole) && form.radius() == hole.radius()
 }
@@ -140,7 +140,7 @@ fn recent_place(hole: &Hole) -> usize
 /// The number of a hole's form, if it was met lately.
 fn known_form(forms: &[Hole], recent: &[u32], hole: &Hole) -> Option<u32>
     ensures listed { IfSome result (λ n. n < length forms.now) }
-    ensures form { IfSome result (λ n. moved (form_at forms.now n) hole.now.from ≡ hole.now) }
+    ensures form { IfSome result (λ n. hole_of_form (form_at forms.now n) hole.now.from ≡ hole.now) }
 {
     let number = *recent.get(recent_place(hole))?;
     let form = forms.get(number as usize)?;
@@ -156,7 +156,7 @@ fn form_number(forms: &mut Vec<Hole>, recent: &mut [u32], hole: &Hole) -> Result
     ensures longer { length forms.old.items ≤ length forms.new.items }
     ensures kept { (n : ℕ) → n < length forms.old.items → form_at forms.new.items n ≡ form_at forms.old.items n }
     ensures listed { IfOk result (λ n. n < length forms.new.items) }
-    ensures form { IfOk result (λ n. moved (form_at forms.new.items n) hole.now.from ≡ hole.now) }
+    ensures form { IfOk result (λ n. hole_of_form (form_at forms.new.items n) hole.now.from ≡ hole.now) }
     ensures x { IsCoordinate hole.now.to.x }
     ensures y { IsCoordinate hole.now.to.y }
 {

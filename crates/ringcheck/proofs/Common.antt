@@ -6,7 +6,7 @@ pub use Rattle.grid_units.specs.declared.profile.Profile.{Profile}
 pub use Rattle.grid_units.specs.declared.profile.Profile.TheVariants.{Strict, Wide}
 pub use Rattle.manifest.specs.Manifest.{manifest_in}
 pub use Rattle.manifest.specs.declared.Entry.{Entry}
-pub use Rattle.package_check.specs.Boards.{IsBoard, Returns, reported}
+pub use Rattle.package_check.specs.Boards.{IsBoard, Returns, report_of_board}
 pub use Rattle.package_check.specs.CheckViews.{CheckView, setting_of}
 pub use Rattle.package_check.specs.Checking.{HasJudged, HasJudgedAll, TakesCopper, drill_files, layer_number}
 pub use Rattle.package_check.specs.Holding.{HasTaken, HasTakenAll}
@@ -16,7 +16,7 @@ pub use Rattle.package_check.specs.declared.PackageFault.{PackageFault}
 pub use Rattle.ringcheck.specs.CheckStatus.{Checks, HasFiles, HasTable, HoldsForPackage, IsPackageRefusal, IsParsedCheckStatus, RefusedAmong, RefusedFile, SaysPackage, bad_file, file_views_among, long_file, refused_file, refused_manifest, setting_in, sources, status_of}
 pub use Rattle.ringcheck.specs.DrawStatus.{IsOutlinedDrawStatus, IsParsedDrawStatus, PrintsPicture}
 pub use Rattle.ringcheck.specs.Inner.Halting.{AfterHalt, AfterNoTable, Halts, HaltsTable, OfFiles, OfTaken, RefusesTable, refusal}
-pub use Rattle.ringcheck.specs.Inner.Jobs.{Holds, SaysJob, given, job_profile, job_style}
+pub use Rattle.ringcheck.specs.Inner.Jobs.{Holds, SaysJob, given_waivers, job_profile, job_style}
 pub use Rattle.ringcheck.specs.Inner.Loading.{AreFirstOf, CopperGoesOn, EndsAt, GoesOn, HasLoaded, LoadsCopper, LoadsCopperTo, LoadsFile, LoadsKind, OfCheckedCopper, RefusesLong, is_kind_at, is_kind_of, source}
 pub use Rattle.ringcheck.specs.MeasureStatus.{IsParsedMeasureStatus, PrintsMeasure, measure_page, measure_style}
 pub use Rattle.ringcheck.specs.ParsedWords.{parse_check, parse_draw, parse_measure, parse_report, profile_of}

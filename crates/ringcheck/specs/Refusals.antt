@@ -98,12 +98,12 @@ abbrev pub indented_row : List ℕ → List ℕ
 indented_row row = codes "  " ++ (row ++ ascii.line_feed ∷ [])
 
 -- the lines of a page, each after two spaces
-abbrev pub indented : List ℕ → List ℕ
-indented page = flat_map indented_row (lines page)
+abbrev pub indented_lines : List ℕ → List ℕ
+indented_lines page = flat_map indented_row (lines page)
 
 -- the text is a line with what is said below it and then the page of this reason, which begins with the reason's name and fits a screen
 abbrev pub HasPage : Reason → List ℕ → List ℕ → List ℕ → Type 0
-HasPage why line said text = (page : List ℕ) × HasHeading (reason_name why) page × FitsScreen page × (text ≡ line ++ (said ++ indented page))
+HasPage why line said text = (page : List ℕ) × HasHeading (reason_name why) page × FitsScreen page × (text ≡ line ++ (said ++ indented_lines page))
 
 -- the text of a refusal in a style: its line, this line with what is said of it and the page of its reason below it, or its JSON
 abbrev pub IsRefusalText : RefusalStyle → Refusal → List ℕ → Type 0

@@ -31,7 +31,8 @@ is_mixed _ = false
 -- A file is left as it was, or its text is rewritten; a text that is rewritten is one of the strict profile. A mixed file is left as it was, and so is one of the wide profile
 -- that contradicts its role: the place where it is refused for what it says of its platings may change.
 abbrev pub IsRewritten : FileView → FileView → Type 0
-IsRewritten x y = (y ≡ x) ⊎ ((text : List ℕ) × (is_mixed x.role ≡ false) × (x.setting.profile ≡ Wide → IsUncontradicted x) × Rewrites (kind_of x.role) x.bytes (Ok text) × (y ≡ with_bytes x text))
+IsRewritten x y = (y ≡ x) ⊎ ((text : List ℕ) × (is_mixed x.role ≡ false) × (x.setting.profile ≡ Wide → IsUncontradicted x)
+    × Rewrites (kind_of x.role) x.bytes (Ok text) × (y ≡ with_bytes x text))
 
 -- two lists of files: of the first any files, all or none, are rewritten in the second
 abbrev pub AreRewritten : List FileView → List FileView → Type 0
@@ -42,4 +43,5 @@ AreRewritten (x ∷ xs) (y ∷ ys) = IsRewritten x y × AreRewritten xs ys
 
 -- a package in which any files are rewritten has the same answer, in whatever profiles its files are read
 abbrev pub RewritingKeepsAnswers : Type 0
-RewritingKeepsAnswers = (xs ys : List FileView) (rules : GridRules) (answer : Result ReportView (ℕ × Fault)) → AreRewritten xs ys → IsAnswer xs rules answer ↔ IsAnswer ys rules answer
+RewritingKeepsAnswers = (xs ys : List FileView) (rules : GridRules) (answer : Result ReportView (ℕ × Fault)) → AreRewritten xs ys
+    → IsAnswer xs rules answer ↔ IsAnswer ys rules answer

@@ -5,7 +5,7 @@ ghost use Rattle.manifest.specs.declared.Entry.{Entry as TheEntry};
 ghost use Rattle.ringcheck_files.specs.Outcomes.{HasCause, HasRisen};
 ghost use Rattle.ringcheck.specs.DrawStatus.{IsOutlinedDrawStatus, IsParsedDrawStatus};
 ghost use Rattle.ringcheck.specs.Inner.Halting.{IsUnreadAt, OfFiles};
-ghost use Rattle.ringcheck.specs.Inner.Jobs.{Holds, SaysJob, given, job_profile};
+ghost use Rattle.ringcheck.specs.Inner.Jobs.{Holds, SaysJob, given_waivers, job_profile};
 ghost use Rattle.manifest.specs.Manifest.{manifest_in};
 ghost use Rattle.command_line.specs.declared.commands.TheConstants.{PROGRAM};
 ghost use Rattle.ringcheck.specs.declared.jobs.Job.TheVariants as jobs;
@@ -301,7 +301,7 @@ fn report_outlined<L: Loader, W: Write, E: Write>(
     loader: &mut L,
     to: &mut Streams<W, E>,
 ) -> Result<Status, Failure>
-    ensures says { IfOk result (IsOutlinedReportStatus (L.has loader.old) name.now named.0 named.1 named.2 (given waivers) (option_map (λ w. w.now) outline.entry) (texts W.contents E.contents to.old) (texts W.contents E.contents to.new)) }
+    ensures says { IfOk result (IsOutlinedReportStatus (L.has loader.old) name.now named.0 named.1 named.2 (given_waivers waivers) (option_map (λ w. w.now) outline.entry) (texts W.contents E.contents to.old) (texts W.contents E.contents to.new)) }
     ensures cause { IfOk result (HasCause (L.failed loader.old) (L.failed loader.new)) }
 {
     let (rules, limit, format) = named;

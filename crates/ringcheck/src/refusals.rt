@@ -9,8 +9,8 @@ ghost use Rattle.print_json.specs.Packages.{input_error_value};
 ghost use Rattle.print_json.specs.Values.{json_text};
 ghost use Rattle.ringcheck.specs.CheckStatus as tables;
 ghost use Rattle.ringcheck.specs.CheckStatus.{refusal_of_text, role_and_file_at, RefusedAmong};
-ghost use Rattle.ringcheck.specs.Inner.Halting.{AfterHalt, AfterNoTable, Halts, PrintsUnread, explained, is_role_of, refusal, refusal_of_table, refusal_sentence};
-ghost use Rattle.ringcheck.specs.Refusals.{PrintsRefusal, WritesRefusal, beside, indented, refusal_json, refusal_line};
+ghost use Rattle.ringcheck.specs.Inner.Halting.{AfterHalt, AfterNoTable, Halts, PrintsUnread, explained_refusal, is_role_of, refusal, refusal_of_table, refusal_sentence};
+ghost use Rattle.ringcheck.specs.Refusals.{PrintsRefusal, WritesRefusal, beside, indented_lines, refusal_json, refusal_line};
 ghost use Rattle.ringcheck.specs.Refusals as wording;
 ghost use Rattle.ringcheck.specs.Sentences.{found_folder_sentence, unread_json, unread_line, unread_sentence, unread_text, unread_words};
 ghost use Rattle.ringcheck_files.specs.Words.{Says};
@@ -194,7 +194,7 @@ impl Display for RefusalLine<'_> {
 struct Indented<'a>(&'a str);
 
 impl Display for Indented<'_> {
-    ghost output = { λ page. Some (indented page.0.now) };
+    ghost output = { λ page. Some (indented_lines page.0.now) };
 
     fn fmt<W: fmt::Write>(&self, f: &mut Formatter<W>) -> fmt::Result {
         for row in self.0.lines() {
@@ -392,7 +392,7 @@ fn print_explained<W: Write, E: Write>(
     fault: Fault,
     said: RefusalSentence,
 ) -> Result<(), Failure>
-    ensures { OnOk result (PrintsRefusal style (explained said.entry what.entry fault) (texts W.contents E.contents to.old) (texts W.contents E.contents to.new)) }
+    ensures { OnOk result (PrintsRefusal style (explained_refusal said.entry what.entry fault) (texts W.contents E.contents to.old) (texts W.contents E.contents to.new)) }
 {
     let subject = what;
     let line = RefusalLine { subject, fault };

@@ -6,7 +6,7 @@ ghost use Rattle.package_check.specs.Holding.{HasTakenAll};
 ghost use Rattle.package_check.specs.Package.{FileView};
 ghost use Rattle.report.specs.declared.Acceptances.{Acceptances as TheAcceptances};
 ghost use Rattle.ringcheck.specs.Inner.Halting.{OfTaken};
-ghost use Rattle.ringcheck.specs.Inner.Jobs.{given};
+ghost use Rattle.ringcheck.specs.Inner.Jobs.{given_waivers};
 ghost use Rattle.ringcheck.specs.Inner.Reporting.{IsReportOn};
 ghost use Rattle.ringcheck.specs.ReportStatus.{IsFewer, Judges, PrintsPage, PrintsReport, asks_wide, has_none, kept_for, says_fewer};
 
@@ -169,7 +169,7 @@ pub(crate) fn print_judged<W: Write>(
     options: &Order,
     out: &mut W,
 ) -> Result<bool, Failure>
-    ensures { IfOk result (λ passes. (accepted : TheAcceptances) × Judges (given options.now.waivers) (map (λ name. name.now) reported.now.names.now) reported.now.report.now passes accepted
+    ensures { IfOk result (λ passes. (accepted : TheAcceptances) × Judges (given_waivers options.now.waivers) (map (λ name. name.now) reported.now.names.now) reported.now.report.now passes accepted
         × PrintsReport options.now.format (map (λ name. name.now) reported.now.names.now) reported.now.board.now options.now.outline.items reported.now.report.now reported.now.about.now options.now.limit accepted (W.contents out.old) (W.contents out.new)) }
 {
     match &options.waivers {

@@ -21,7 +21,7 @@ pub use Rattle.layer_image.specs.Layers.{IsLayerTextIn, LayerImage, ReadingIsUni
 pub use Rattle.pad_shapes.specs.declared.wide_pad.WidePad.{WidePad}
 pub use Rattle.ringcheck_files.specs.Inner.{HasHandedOn, IsNextRead, extra_reads}
 pub use Rattle.ringcheck_files.specs.Inner.Writing.{HoldsLines, IsWriterAfter, ShowsReadFault}
-pub use Rattle.ringcheck_files.specs.KnownWords.{IsPageOf, is_near, known_word, listed, listed_in_any_case}
+pub use Rattle.ringcheck_files.specs.KnownWords.{IsPageOf, is_near, known_word, listed_word, listed_in_any_case}
 pub use Rattle.ringcheck_files.specs.ManifestStatus.{HasAllLoaded, HasLoaded, HasRisenBy, IsHeldStatus, IsManifestStatus, IsProposalText, LoadedView, PrintsProposal, are_containers, bytes, count_unread, first_said, folder, is_container, is_entry_name, is_unread, loaded_file, loaded_files, loaded_view, long, said_of, unread}
 pub use Rattle.ringcheck_files.specs.PageWords.{EachWordIsListed, FitsScreen, HasHeading, IsExplained, all_reasons, all_topics, all_words, topic_word}
 pub use Rattle.ringcheck_files.specs.Rewriting.{KeepsCommands, RewritesDrill, RewritesLayer, RewritingIsIdempotent, RewritingIsUnique}

@@ -1,5 +1,5 @@
 -- Each listed word has a page, and a search of the list finds only listed words.
-use Rattle.ringcheck_files.proofs.Common.{◌≡◌, ◌↔◌, ◌++◌, ℕ, Bool, Bor, true, false, List, [], ◌∷◌, IfSome, IsSome, MatchOption, Option, Some, None, cond, map, inl, inr, refl, sym, subst, find, AllByRecursion, option_or, bytes_eq, str_eq_ignore_ascii_case, reason_name, Reason, IsPageOf, known_word, listed, listed_in_any_case, FitsScreen, HasHeading, IsExplained, all_reasons, all_topics, all_words, topic_word}
+use Rattle.ringcheck_files.proofs.Common.{◌≡◌, ◌↔◌, ◌++◌, ℕ, Bool, Bor, true, false, List, [], ◌∷◌, IfSome, IsSome, MatchOption, Option, Some, None, cond, map, inl, inr, refl, sym, subst, find, AllByRecursion, option_or, bytes_eq, str_eq_ignore_ascii_case, reason_name, Reason, IsPageOf, known_word, listed_word, listed_in_any_case, FitsScreen, HasHeading, IsExplained, all_reasons, all_topics, all_words, topic_word}
 use Rattle.ringcheck_files.specs.declared.topic.Topic.{Topic}
 
 -- the names of reasons, before other explained words
@@ -39,7 +39,7 @@ chosen_holds P (Some y) second x p q e = p e
 pub known_is_explained : (word known : List ℕ) → known_word word ≡ Some known → IsExplained known
 known_is_explained word known e =
     let holds = λ (test : List ℕ → Bool) (is : find test all_words ≡ Some known). found_holds IsExplained test all_words known all_explained is in
-    chosen_holds IsExplained (listed word) (listed_in_any_case word) known (holds (λ x. bytes_eq x word)) (holds (λ x. str_eq_ignore_ascii_case x word)) e
+    chosen_holds IsExplained (listed_word word) (listed_in_any_case word) known (holds (λ x. bytes_eq x word)) (holds (λ x. str_eq_ignore_ascii_case x word)) e
 
 -- the page of a known word
 pub page_of_known : (word known : List ℕ) (page : Option (Bor (List ℕ))) → Some known ≡ known_word word → (IsSome page ↔ IsExplained known) → IfSome page (λ p. HasHeading known p.now)

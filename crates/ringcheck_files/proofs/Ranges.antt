@@ -4,7 +4,7 @@ use Rattle.std.specs.Prelude.{All}
 use Rattle.std.proofs.lemmas.List.Elements.{All-from_recursion, All-take}
 use Rattle.grid_units.specs.declared.zero_filling.Zeros.{Zeros}
 use Rattle.grid_units.specs.declared.zero_filling.Zeros.TheVariants.{Leading, Trailing, Full}
-use Rattle.grid_units.specs.Numbers.{is_digit, is_digits, value, without_sign, is_negative, signed, to_units, whole, fraction, is_decimal, fits_eight_decimals, value_without_point, parse_decimal, zeros_to_fill, zero_filled, parse_zero_filled}
+use Rattle.grid_units.specs.Numbers.{is_digit, is_digits, value, without_sign, is_negative, signed_value, to_units, whole, fraction, is_decimal, fits_eight_decimals, value_without_point, parse_decimal, zeros_to_fill, zero_filled, parse_zero_filled}
 use Rattle.grid_units.proofs.ResultLemmas.{bind_ok}
 use Rattle.grid_units.proofs.DigitLemmas.{to_units_is, filled_lt}
 use Rattle.grid_units.proofs.ZeroFillingLemmas.{filled_is, filled_bound, scaled_is, scaled_bound, wide}
@@ -23,7 +23,7 @@ abs_neg : (n : ℕ) → unsigned_abs (neg_ℤ (pos n)) ≡ n
 abs_neg zero = refl
 abs_neg (suc n) = refl
 
-abs_signed : (text : List ℕ) (n : ℕ) → unsigned_abs (signed text n) ≡ n
+abs_signed : (text : List ℕ) (n : ℕ) → unsigned_abs (signed_value text n) ≡ n
 abs_signed text n = by (is_negative text)
   where
     by : (t : Bool) → unsigned_abs (cond t (neg_ℤ (pos n)) (pos n)) ≡ n
@@ -36,9 +36,9 @@ unfolding parse_decimal
 dec_small text v e = by (is_decimal text) (fits_eight_decimals (fraction text)) (ltb 999999 (value (whole text))) refl refl refl e
   where
     by : (d c l : Bool) → is_decimal text ≡ d → fits_eight_decimals (fraction text) ≡ c → ltb 999999 (value (whole text)) ≡ l
-        → cond d (cond c (cond l (Err TooFar) (Ok (signed text (to_units (value_without_point text) (length (fraction text)))))) (Err TooFine)) (Err BadNumber) ≡ Ok v → IsDec v
+        → cond d (cond c (cond l (Err TooFar) (Ok (signed_value text (to_units (value_without_point text) (length (fraction text)))))) (Err TooFine)) (Err BadNumber) ≡ Ok v → IsDec v
     by true true false h c l k =
-        let same : signed text (to_units (value_without_point text) (length (fraction text))) ≡ v = cc in
+        let same : signed_value text (to_units (value_without_point text) (length (fraction text))) ≡ v = cc in
         let first : List ℕ = take 8 (fraction text) in
         let digits = both_true (list_all is_digit (whole text)) (list_all is_digit (fraction text)) (both_true (list_all is_digit (whole text) && list_all is_digit (fraction text)) (not (eqb (length (whole text) + length (fraction text)) 0)) h).0 in
         let behind : All (λ b. is_digit b ≡ true) first = All-take (λ b. is_digit b ≡ true) 8 (fraction text) (are_digits (fraction text) digits.1) in
@@ -73,10 +73,10 @@ pub zeros_small : (text : List ℕ) (i d : ℕ) (zeros : Zeros) (v : ℤ) → Ar
 unfolding parse_zero_filled
 zeros_small text i d zeros v s e = by (is_digits (without_sign text)) refl e
   where
-    by : (t : Bool) → is_digits (without_sign text) ≡ t → cond t (zeros_to_fill zeros (i + d) (length (without_sign text)) >>= λ k. Ok (signed text (to_units (zero_filled (without_sign text) k) d))) (Err BadNumber) ≡ Ok v → IsDec v
+    by : (t : Bool) → is_digits (without_sign text) ≡ t → cond t (zeros_to_fill zeros (i + d) (length (without_sign text)) >>= λ k. Ok (signed_value text (to_units (zero_filled (without_sign text) k) d))) (Err BadNumber) ≡ Ok v → IsDec v
     by true h f =
-        let b = bind_ok (zeros_to_fill zeros (i + d) (length (without_sign text))) (λ k. Ok (signed text (to_units (zero_filled (without_sign text) k) d))) v f in
-        let same : signed text (to_units (zero_filled (without_sign text) b.0) d) ≡ v = let g = b.2 in cc in
+        let b = bind_ok (zeros_to_fill zeros (i + d) (length (without_sign text))) (λ k. Ok (signed_value text (to_units (zero_filled (without_sign text) k) d))) v f in
+        let same : signed_value text (to_units (zero_filled (without_sign text) b.0) d) ≡ v = let g = b.2 in cc in
         let digits = are_digits (without_sign text) (both_true (not (eqb (length (without_sign text)) 0)) (list_all is_digit (without_sign text)) h).1 in
         let n = zero_filled (without_sign text) b.0 in
         let fits : length (without_sign text) + b.0 ≤ i + d = missing_fits zeros (i + d) (length (without_sign text)) b.0 b.1 in

@@ -1,7 +1,7 @@
 -- A text is rewritten in one way.
 use Rattle.ringcheck_files.proofs.Common.{◌≡◌, ◌↔◌, ◌⊎◌, ℕ, List, Result, Ok, Err, refl, sym, ap, ◌∙◌, inl, inr, Fault, Strict, canonical_text, without_places, LayerImage, ReadsLayer, ReadingIsUniqueIn, DrillCommand, IsDrillText, RewritesLayer, RewritesDrill, RewritingIsUnique}
 use Rattle.drill_text.specs.Profiles as drills
-use Rattle.drill_text.specs.Writing.{written}
+use Rattle.drill_text.specs.Writing.{rewritten_text}
 use Rattle.ringcheck_files.specs.declared.rewrite.Kind.TheVariants as kind
 
 module _ {X : Type 0} (says : Result X Fault → Type 0) (text : X → Result (List ℕ) Fault) (once : (a b : Result X Fault) → says a → says b → a ≡ b) where
@@ -31,11 +31,11 @@ module _ (layer_once : ReadingIsUniqueIn)
   layer_seen bytes (Err f) (inl h) = inr (f, h, refl)
   layer_seen bytes (Err f) (inr h) = inl h
 
-  drill_seen : (bytes : List ℕ) (a : Result (List ℕ) Fault) → RewritesDrill bytes a → Seen (drills.Reads bytes) written (drill_once bytes) a
+  drill_seen : (bytes : List ℕ) (a : Result (List ℕ) Fault) → RewritesDrill bytes a → Seen (drills.Reads bytes) rewritten_text (drill_once bytes) a
   drill_seen bytes (Ok t) h = inl (h.0, (texts bytes h.0).1 h.1, h.2)
   drill_seen bytes (Err f) (inl h) = inr (f, h, refl)
   drill_seen bytes (Err f) (inr h) = inl (h.0, (texts bytes h.0).1 h.1, h.2)
 
   pub unique_rewriting : RewritingIsUnique
   unique_rewriting kind.Layer bytes a b h k = one_seen (ReadsLayer bytes) (λ (l : LayerImage). canonical_text (without_places l.commands)) (layer_once Strict bytes) a b (layer_seen bytes a h) (layer_seen bytes b k)
-  unique_rewriting kind.Drill bytes a b h k = one_seen (drills.Reads bytes) written (drill_once bytes) a b (drill_seen bytes a h) (drill_seen bytes b k)
+  unique_rewriting kind.Drill bytes a b h k = one_seen (drills.Reads bytes) rewritten_text (drill_once bytes) a b (drill_seen bytes a h) (drill_seen bytes b k)

@@ -29,7 +29,7 @@ layer_back bytes text a h e =
     let again : IsLayerTextIn Strict text back.entries = record { spells = reads_spells Strict text back.entries back.reads; legal = subst (IsLegal broken_rule) (sym back.same) h.0.legal } in
     (image_of back.entries, (again, refl), sym back.same)
 
-drill_back : (bytes text : List ℕ) (cs : List DrillCommand) → IsDrillText bytes cs → drills.written cs ≡ Ok text → IsDrillText text cs
+drill_back : (bytes text : List ℕ) (cs : List DrillCommand) → IsDrillText bytes cs → drills.rewritten_text cs ≡ Ok text → IsDrillText text cs
 drill_back bytes text cs h e =
     let short = short_text (drills.canonical_lines cs) text e in
     let back : SpellsText (drills.canonical_lines cs) cs = round_trip cs (saying.text_sayable bytes cs h.spells) (text_typed bytes cs h.spells) short.1 in

@@ -14,7 +14,7 @@ use Rattle.drill_lines.specs.declared.command.Part.TheVariants as part
 use Rattle.drill_lines.specs.declared.command.Settings.{Settings}
 use Rattle.drill_lines.specs.declared.command.DrillCommand.TheVariants.{Comment, Start, UnitLine, Tool, HeaderEnd, UnitCode, Pick, Hit, Slot, Finish}
 use Rattle.drill_lines.specs.Formats.{Digits, AreDigitCounts}
-use Rattle.drill_lines.specs.Lines.{trimmed}
+use Rattle.drill_lines.specs.Lines.{without_end_blanks}
 use Rattle.drill_lines.specs.Header.{is_zero, is_digit_count, digit_counts, pattern_from, pattern, unit_format, unit_line, is_format_digit, parse_format, file_format}
 use Rattle.drill_lines.specs.Tools.{is_point, is_diameter_letter, is_tool_letter, is_skipped_letter, are_fields, tool_number, diameter_of, diameter_run, tool_fields, tool_line, pick_fields, pick_line}
 use Rattle.drill_lines.specs.HoleLines.{default_format, format_in, zeros_in, coordinate_of, coordinate, Runs, runs_of, has_run, coordinates, slot_line, hole_from, hole_line}
@@ -316,9 +316,9 @@ next_typed before (Some c) h k = AllR-append IsInRange before (c ∷ []) h (k c 
 spelled_typed : (before new : List DrillCommand) (lines : List (List ℕ)) → AllByRecursion IsInRange before → spelled_after before lines ≡ Ok new → AllByRecursion IsInRange new
 spelled_typed before new [] h e = let same : before ≡ new = cc in subst (AllByRecursion IsInRange) same h
 spelled_typed before new (line ∷ lines) h e =
-    let b = bind_ok (meaning (settings_after before) (trimmed line)) (λ command. spelled_after (before ++ option_to_list command) lines) new e in
+    let b = bind_ok (meaning (settings_after before) (without_end_blanks line)) (λ command. spelled_after (before ++ option_to_list command) lines) new e in
     spelled_typed (before ++ option_to_list b.0) new lines
-    (next_typed before b.0 h (λ c k. typed_is (meaning (settings_after before) (trimmed line)) c (line_typed (settings_after before) (trimmed line) (has_format before h)) (b.1 ∙ ap (λ (o : Option DrillCommand). Ok o) k))) b.2
+    (next_typed before b.0 h (λ c k. typed_is (meaning (settings_after before) (without_end_blanks line)) c (line_typed (settings_after before) (without_end_blanks line) (has_format before h)) (b.1 ∙ ap (λ (o : Option DrillCommand). Ok o) k))) b.2
 
 typed_after : (before cs : List DrillCommand) → AreTyped before → AllByRecursion IsInRange cs → AreTyped (before ++ cs)
 typed_after before [] h k = subst AreTyped (sym (append-nil before)) h

@@ -14,8 +14,8 @@ abbrev pub is_near : List ℕ → List ℕ → Bool
 is_near known word = nat_le 3 (length word) && (begins_with known word || begins_with word known)
 
 -- the listed word that is just this one
-abbrev pub listed : List ℕ → Option (List ℕ)
-listed word = find (λ known. bytes_eq known word) all_words
+abbrev pub listed_word : List ℕ → Option (List ℕ)
+listed_word word = find (λ known. bytes_eq known word) all_words
 
 -- the first listed word that is equal to this one but for the case of its letters: `small` for `SMALL`
 abbrev pub listed_in_any_case : List ℕ → Option (List ℕ)
@@ -23,7 +23,7 @@ listed_in_any_case word = find (λ known. str_eq_ignore_ascii_case known word) a
 
 -- the word with a page that a word is: itself where it is listed, else the first that is equal to it but for case
 abbrev pub known_word : List ℕ → Option (List ℕ)
-known_word word = option_or (listed word) (listed_in_any_case word)
+known_word word = option_or (listed_word word) (listed_in_any_case word)
 
 -- the first listed word that is near this one
 abbrev pub near_word : List ℕ → Option (List ℕ)

@@ -6,7 +6,7 @@ use Rattle.layer_image.specs.Layers.{LayerImage, ReadsLayer}
 use Rattle.drill_lines.specs.declared.command.DrillCommand.{DrillCommand}
 use Rattle.drill_text.specs.Profiles as drills
 use Rattle.drill_text.specs.Texts.{IsDrillText}
-use Rattle.drill_text.specs.Writing.{written}
+use Rattle.drill_text.specs.Writing.{rewritten_text}
 use Rattle.ringcheck_files.specs.declared.rewrite.Kind.{Kind}
 use Rattle.ringcheck_files.specs.declared.rewrite.Kind.TheVariants as kind
 
@@ -17,8 +17,8 @@ RewritesLayer bytes (Err fault) = ReadsLayer bytes (Err fault) ⊎ ((layer : Lay
 
 -- the bytes are a drill text of commands that have this canonical text; or they have this fault, or that text is too long
 abbrev pub RewritesDrill : List ℕ → Result (List ℕ) Fault → Type 0
-RewritesDrill bytes (Ok text) = (commands : List DrillCommand) × IsDrillText bytes commands × (written commands ≡ Ok text)
-RewritesDrill bytes (Err fault) = drills.Reads bytes (Err fault) ⊎ ((commands : List DrillCommand) × IsDrillText bytes commands × (written commands ≡ Err fault))
+RewritesDrill bytes (Ok text) = (commands : List DrillCommand) × IsDrillText bytes commands × (rewritten_text commands ≡ Ok text)
+RewritesDrill bytes (Err fault) = drills.Reads bytes (Err fault) ⊎ ((commands : List DrillCommand) × IsDrillText bytes commands × (rewritten_text commands ≡ Err fault))
 
 -- the bytes, read as a file of this kind, are rewritten as this text, or there is this fault
 abbrev pub Rewrites : Kind → List ℕ → Result (List ℕ) Fault → Type 0

@@ -11,7 +11,7 @@ pub use Rattle.std.specs.List.{All, AllByRecursion, enumerate_from, filter, flat
 pub use Rattle.std.specs.Prelude.{Vec, if◌then◌else◌, option_map}
 pub use Rattle.std.specs.Str.{bytes_eq}
 pub use Rattle.waivers.specs.Findings.{finding_record, gap_fields, head_record, ring_fields}
-pub use Rattle.waivers.specs.Inner.{checked_waiver, has_first_place, has_place, is_used, is_waived_by, is_waived_by_first, joined, place_at, unless_broken, unused_numbers, unused_records}
+pub use Rattle.waivers.specs.Inner.{checked_waiver, has_first_place, has_place, is_used, is_waived_by, is_waived_by_first, record_key, place_at, unless_broken, unused_numbers, unused_records}
 pub use Rattle.waivers.specs.Reading.{broken_rule, first_wrong, is_heading, is_kind, is_waiver_reason, reason_limit, unless_wrong, waiver_of, waivers, waivers_after_head, waivers_of}
 pub use Rattle.waivers.specs.Waiving.{IsWaived, compared_fields, idle_numbers, reason_at, report_fields, waived_by, waives, waives_nothing}
 pub use Rattle.waivers.specs.declared.Waiver.{Waiver}

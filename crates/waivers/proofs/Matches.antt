@@ -1,5 +1,5 @@
 -- The first waiver whose fields are those of a finding, found by its key.
-use Rattle.waivers.proofs.Common.{◌≡◌, ◌∙◌, ◌≤◌, ◌+◌, ◌++◌, ℕ, List, [], ◌∷◌, Bool, Option, Some, map, length, arith, refl, ap, sym, position_from, bytes_eq, bytes_eq-Decides, slice_eq-Decides, default_writer, read_back, row_text, CsvRecord, Waiver, joined, compared_fields, waived_by, waives}
+use Rattle.waivers.proofs.Common.{◌≡◌, ◌∙◌, ◌≤◌, ◌+◌, ◌++◌, ℕ, List, [], ◌∷◌, Bool, Option, Some, map, length, arith, refl, ap, sym, position_from, bytes_eq, bytes_eq-Decides, slice_eq-Decides, default_writer, read_back, row_text, CsvRecord, Waiver, record_key, compared_fields, waived_by, waives}
 use Rattle.std.specs.Cmp.Lexicographic.{pointwise}
 use Rattle.std.proofs.lemmas.Bool.Decides.{Decides-like, same_from_decides}
 use Rattle.std.proofs.lemmas.Iterator.Adapters.{position_from-zero}
@@ -21,7 +21,7 @@ whole [] lt = absurd (omega arith)
 whole (field ∷ rest) lt = refl
 
 -- records with equal texts are equal
-same_row : (a b : CsvRecord) → 2 ≤ length a → 2 ≤ length b → joined a ≡ joined b → a ≡ b
+same_row : (a b : CsvRecord) → 2 ≤ length a → 2 ≤ length b → record_key a ≡ record_key b → a ≡ b
 same_row a b full_a full_b e =
     let rows : row_text default_writer a ≡ row_text default_writer b = row_joined a full_a ∙ (ap (λ (text : List ℕ). text ++ 10 ∷ []) e ∙ sym (row_joined b full_b)) in
     let read : Some (after (read_back a)) ≡ Some (after (read_back b)) =
@@ -29,10 +29,10 @@ same_row a b full_a full_b e =
     sym (whole a full_a) ∙ (ap (λ (p : Read). p.0) (some_is (after (read_back a)) (after (read_back b)) read) ∙ whole b full_b)
 
 -- keys are equal just where all fields are
-key_is : (a b : CsvRecord) → 2 ≤ length a → 2 ≤ length b → bytes_eq (joined a) (joined b) ≡ pointwise bytes_eq a b
+key_is : (a b : CsvRecord) → 2 ≤ length a → 2 ≤ length b → bytes_eq (record_key a) (record_key b) ≡ pointwise bytes_eq a b
 key_is a b full_a full_b =
-    same_from_decides {P = a ≡ b} (bytes_eq (joined a) (joined b)) (pointwise bytes_eq a b)
-    (Decides-like (bytes_eq (joined a) (joined b)) (same_row a b full_a full_b) (λ e. ap joined e) (bytes_eq-Decides (joined a) (joined b)))
+    same_from_decides {P = a ≡ b} (bytes_eq (record_key a) (record_key b)) (pointwise bytes_eq a b)
+    (Decides-like (bytes_eq (record_key a) (record_key b)) (same_row a b full_a full_b) (λ e. ap record_key e) (bytes_eq-Decides (record_key a) (record_key b)))
     (slice_eq-Decides bytes_eq-Decides a b (pointwise bytes_eq a b) refl)
 
 -- the first place in a list of images
@@ -53,19 +53,19 @@ map_same : {A B : Type 0} (f g : A → B) → ((x : A) → f x ≡ g x) → (xs 
 map_same f g same [] = refl
 map_same f g same (x ∷ xs) = λ i. (same x i ∷ map_same f g same xs i)
 
-module _ {K : Type 0} (bytes : K → List ℕ) (keys : List K) (all : List Waiver) (same : map bytes keys ≡ map (λ waiver. joined (compared_fields waiver)) all) where
+module _ {K : Type 0} (bytes : K → List ℕ) (keys : List K) (all : List Waiver) (same : map bytes keys ≡ map (λ waiver. record_key (compared_fields waiver)) all) where
   -- the first key equal to a finding's is at the place of the first waiver that waives it
-  first_is : (finding : CsvRecord) → 2 ≤ length finding → position_from (λ key. bytes_eq (bytes key) (joined finding)) 0 keys ≡ waived_by all finding
+  first_is : (finding : CsvRecord) → 2 ≤ length finding → position_from (λ key. bytes_eq (bytes key) (record_key finding)) 0 keys ≡ waived_by all finding
   first_is finding full =
-      let test = λ (key : List ℕ). bytes_eq key (joined finding) in
-      sym (from_map bytes test 0 keys) ∙ (ap (position_from test 0) same ∙ (from_map (λ (waiver : Waiver). joined (compared_fields waiver)) test 0 all
-      ∙ (from_same (λ (waiver : Waiver). bytes_eq (joined (compared_fields waiver)) (joined finding)) (waives finding) (λ waiver. key_is (compared_fields waiver) finding (omega arith) full) 0 all
+      let test = λ (key : List ℕ). bytes_eq key (record_key finding) in
+      sym (from_map bytes test 0 keys) ∙ (ap (position_from test 0) same ∙ (from_map (λ (waiver : Waiver). record_key (compared_fields waiver)) test 0 all
+      ∙ (from_same (λ (waiver : Waiver). bytes_eq (record_key (compared_fields waiver)) (record_key finding)) (waives finding) (λ waiver. key_is (compared_fields waiver) finding (omega arith) full) 0 all
       ∙ sym (position_from-zero (waives finding) all))))
 
   -- the places that a table of first keys holds for the keys of findings
   pub all_found : {X : Type 0} (fields : X → CsvRecord) (lacks : List X) (wanted : List K) (places : List (Option ℕ)) (found : List ℕ → Option ℕ) → ((lack : X) → 2 ≤ length (fields lack))
-      → ((key : List ℕ) → found key ≡ position_from (λ other. bytes_eq (bytes other) key) 0 keys) → map bytes wanted ≡ map (λ lack. joined (fields lack)) lacks → places ≡ map (λ key. found (bytes key)) wanted
+      → ((key : List ℕ) → found key ≡ position_from (λ other. bytes_eq (bytes other) key) 0 keys) → map bytes wanted ≡ map (λ lack. record_key (fields lack)) lacks → places ≡ map (λ key. found (bytes key)) wanted
       → places ≡ map (λ lack. waived_by all (fields lack)) lacks
   all_found fields lacks wanted places found full table are is =
-      is ∙ (sym (map_twice bytes found wanted) ∙ (ap (map found) are ∙ (map_twice (λ lack. joined (fields lack)) found lacks
-      ∙ map_same (λ lack. found (joined (fields lack))) (λ lack. waived_by all (fields lack)) (λ lack. table (joined (fields lack)) ∙ first_is (fields lack) (full lack)) lacks)))
+      is ∙ (sym (map_twice bytes found wanted) ∙ (ap (map found) are ∙ (map_twice (λ lack. record_key (fields lack)) found lacks
+      ∙ map_same (λ lack. found (record_key (fields lack))) (λ lack. waived_by all (fields lack)) (λ lack. table (record_key (fields lack)) ∙ first_is (fields lack) (full lack)) lacks)))

@@ -1,10 +1,10 @@
 -- Fields as CSV: which stand between quotes, and what stands there.
-use Rattle.waivers.proofs.Common.{◌≡◌, ◌≢◌, ◌∙◌, ◌<◌, ◌≤◌, ◌+◌, ◌*◌, ◌/◌, ◌%◌, ◌^◌, ◌++◌, ◌==◌, ◌||◌, ℕ, zero, suc, ℤ, pos, negsuc, unsigned_abs, Bool, true, false, cond, nat_lt, List, [], ◌∷◌, length, get_or, codes, arith, rules, refl, ap, sym, append-nil, append_assoc, ne_eqb, AllByRecursion, default_writer, escaped, field_text, fields_text, is_blank, needs_byte, needs_quotes, row_text, CsvRecord, finding_record, head_record, joined}
+use Rattle.waivers.proofs.Common.{◌≡◌, ◌≢◌, ◌∙◌, ◌<◌, ◌≤◌, ◌+◌, ◌*◌, ◌/◌, ◌%◌, ◌^◌, ◌++◌, ◌==◌, ◌||◌, ℕ, zero, suc, ℤ, pos, negsuc, unsigned_abs, Bool, true, false, cond, nat_lt, List, [], ◌∷◌, length, get_or, codes, arith, rules, refl, ap, sym, append-nil, append_assoc, ne_eqb, AllByRecursion, default_writer, escaped, field_text, fields_text, is_blank, needs_byte, needs_quotes, row_text, CsvRecord, finding_record, head_record, record_key}
 use Rattle.std.specs.Fmt.{decimal, digit_glyph, digits, digits_onto}
 use Rattle.std.proofs.lemmas.List.Folds.{list_any-append}
 use Rattle.grid_units.specs.Holes.{GridHole, is_round}
 use Rattle.grid_units.specs.Points.{GridPoint}
-use Rattle.grid_units.specs.Spellings.{fraction_text, minus, places, trimmed}
+use Rattle.grid_units.specs.Spellings.{fraction_text, minus, places, without_end_zeros}
 use Rattle.grid_units.specs.LengthWords.{short_millimetres}
 use Rattle.grid_units.specs.HoleWords.{drilled_words, ends_words, point_words, two_lengths}
 
@@ -73,10 +73,10 @@ unfolding places
 places_high zero n = tt
 places_high (suc w) n = high_append (places w (n / 10)) ((48 + n % 10) ∷ []) (places_high w (n / 10)) (omega arith, tt)
 
-trimmed_high : (ds : List ℕ) → IsHigh ds → IsHigh (trimmed ds)
-unfolding trimmed
+trimmed_high : (ds : List ℕ) → IsHigh ds → IsHigh (without_end_zeros ds)
+unfolding without_end_zeros
 trimmed_high [] h = tt
-trimmed_high (d ∷ ds) h = high_either _ [] (d ∷ trimmed ds) tt (h.0, trimmed_high ds h.1)
+trimmed_high (d ∷ ds) h = high_either _ [] (d ∷ without_end_zeros ds) tt (h.0, trimmed_high ds h.1)
 
 point_high : (ds : List ℕ) → IsHigh ds → IsHigh (fraction_text ds)
 point_high [] h = tt
@@ -91,7 +91,7 @@ unfolding short_millimetres
 short_high z =
     let n = unsigned_abs z in
     let whole = decimal (n / 10 ^ 9) in
-    let rest = trimmed (places 9 (n % 10 ^ 9)) in
+    let rest = without_end_zeros (places 9 (n % 10 ^ 9)) in
     high_append (minus z ++ whole) (fraction_text rest) (high_append (minus z) whole (minus_high z) (decimal_high (n / 10 ^ 9))) (point_high rest (trimmed_high (places 9 (n % 10 ^ 9)) (places_high 9 (n % 10 ^ 9))))
 
 plain_byte : (b : ℕ) → 45 ≤ b → needs_byte default_writer b ≡ false
@@ -154,32 +154,32 @@ hole_quoted name hole =
 
 -- ---- records
 
-fields_joined : (field : List ℕ) (rest : CsvRecord) → fields_text default_writer (field ∷ rest) ≡ 44 ∷ joined (field ∷ rest)
+fields_joined : (field : List ℕ) (rest : CsvRecord) → fields_text default_writer (field ∷ rest) ≡ 44 ∷ record_key (field ∷ rest)
 unfolding fields_text
 fields_joined field [] = ap (λ (text : List ℕ). 44 ∷ text) (append-nil (field_text default_writer field))
 fields_joined field (next ∷ rest) = ap (λ (text : List ℕ). 44 ∷ (field_text default_writer field ++ text)) (fields_joined next rest)
 
 -- a record of two fields or more
-pub row_joined : (row : CsvRecord) → 2 ≤ length row → row_text default_writer row ≡ joined row ++ 10 ∷ []
+pub row_joined : (row : CsvRecord) → 2 ≤ length row → row_text default_writer row ≡ record_key row ++ 10 ∷ []
 unfolding is_blank
 row_joined [] lt = absurd (omega arith)
 row_joined (field ∷ []) lt = absurd (omega arith)
 row_joined (field ∷ next ∷ rest) lt = ap (λ (text : List ℕ). (field_text default_writer field ++ text) ++ 10 ∷ []) (fields_joined next rest)
 
 -- one more field, which is empty
-joined_more : (field : List ℕ) (rest : CsvRecord) → joined (field ∷ (rest ++ [] ∷ [])) ≡ joined (field ∷ rest) ++ 44 ∷ []
+joined_more : (field : List ℕ) (rest : CsvRecord) → record_key (field ∷ (rest ++ [] ∷ [])) ≡ record_key (field ∷ rest) ++ 44 ∷ []
 joined_more field [] = refl
 joined_more field (next ∷ rest) =
     ap (λ (text : List ℕ). field_text default_writer field ++ 44 ∷ text) (joined_more next rest)
-    ∙ sym (append_assoc (field_text default_writer field) (44 ∷ joined (next ∷ rest)) (44 ∷ []))
+    ∙ sym (append_assoc (field_text default_writer field) (44 ∷ record_key (next ∷ rest)) (44 ∷ []))
 
 -- the record of a finding, with an empty reason at its end
-pub record_joined : (row : CsvRecord) → 2 ≤ length row → finding_record row ≡ joined row ++ 44 ∷ 10 ∷ []
+pub record_joined : (row : CsvRecord) → 2 ≤ length row → finding_record row ≡ record_key row ++ 44 ∷ 10 ∷ []
 record_joined [] lt = absurd (omega arith)
 record_joined (field ∷ []) lt = absurd (omega arith)
 record_joined (field ∷ next ∷ rest) lt =
     row_joined (field ∷ next ∷ (rest ++ [] ∷ [])) (omega arith)
-    ∙ (ap (λ (text : List ℕ). text ++ 10 ∷ []) (joined_more field (next ∷ rest)) ∙ append_assoc (joined (field ∷ next ∷ rest)) (44 ∷ []) (10 ∷ []))
+    ∙ (ap (λ (text : List ℕ). text ++ 10 ∷ []) (joined_more field (next ∷ rest)) ∙ append_assoc (record_key (field ∷ next ∷ rest)) (44 ∷ []) (10 ∷ []))
 
 pub head_is : codes "kind,layer,hole,and,has,why\n" ≡ head_record
 unfolding fields_text is_blank

@@ -30,10 +30,10 @@ waiver_with f = record { kind = f.kind.now; layer = f.layer.now; hole = f.hole.n
 
 -- the fields of a record as CSV, with a comma after each but the last, and no line end: `gap,,"pth, 0.4 at 0,0","pth, 0.4 at 0.5,0",0.1`.
 -- It is the key of five fields, which no other fields have
-abbrev pub joined : CsvRecord → List ℕ
-joined [] = []
-joined (field ∷ []) = field_text default_writer field
-joined (field ∷ next ∷ rest) = field_text default_writer field ++ comma ∷ joined (next ∷ rest)
+abbrev pub record_key : CsvRecord → List ℕ
+record_key [] = []
+record_key (field ∷ []) = field_text default_writer field
+record_key (field ∷ next ∷ rest) = field_text default_writer field ++ comma ∷ record_key (next ∷ rest)
 
 -- the place that a table holds for a key
 abbrev pub place_at : BTreeMap (Bor (List ℕ)) ℕ → List ℕ → Option ℕ

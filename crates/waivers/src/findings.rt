@@ -5,7 +5,7 @@ ghost use Rattle.csv.specs.Writing as Spec;
 ghost use Rattle.csv.specs.Writing.{default_writer, escaped, field_text, needs_byte};
 ghost use Rattle.grid_units.specs.LengthWords.{short_millimetres};
 ghost use Rattle.waivers.specs.Findings.{gap_fields, has_field, hole_field, layer_field, ring_fields};
-ghost use Rattle.waivers.specs.Inner.{joined};
+ghost use Rattle.waivers.specs.Inner.{record_key};
 ghost use Rattle.waivers.specs.Waiving.{compared_fields};
 
 use crate::Waiver;
@@ -124,7 +124,7 @@ pub(crate) struct RingFields<'a> {
 }
 
 impl Display for RingFields<'_> {
-    ghost output = { λ fields. Some (joined (ring_fields (map (λ name. name.now) fields.names.now) fields.layers.now fields.lack)) };
+    ghost output = { λ fields. Some (record_key (ring_fields (map (λ name. name.now) fields.names.now) fields.layers.now fields.lack)) };
 
     fn fmt<W: fmt::Write>(&self, f: &mut Formatter<W>) -> fmt::Result {
         let (names, at) = (self.names, self.lack.at);
@@ -142,7 +142,7 @@ pub(crate) struct GapFields<'a> {
 }
 
 impl Display for GapFields<'_> {
-    ghost output = { λ fields. Some (joined (gap_fields (map (λ name. name.now) fields.names.now) fields.lack)) };
+    ghost output = { λ fields. Some (record_key (gap_fields (map (λ name. name.now) fields.names.now) fields.lack)) };
 
     fn fmt<W: fmt::Write>(&self, f: &mut Formatter<W>) -> fmt::Result {
         let (names, at) = (self.names, self.lack.first);
@@ -158,7 +158,7 @@ impl Display for GapFields<'_> {
 pub(crate) struct WaiverFields<'a>(pub(crate) &'a Waiver);
 
 impl Display for WaiverFields<'_> {
-    ghost output = { λ fields. Some (joined (compared_fields fields.0.now)) };
+    ghost output = { λ fields. Some (record_key (compared_fields fields.0.now)) };
 
     fn fmt<W: fmt::Write>(&self, f: &mut Formatter<W>) -> fmt::Result {
         let waiver = self.0;

@@ -5,7 +5,7 @@ ghost use Rattle.std.specs.List.{position_from};
 ghost use Rattle.std.specs.Option.{option_or};
 ghost use Rattle.std.specs.Str.{bytes_eq};
 ghost use Rattle.waivers.specs.Findings.{gap_fields, ring_fields};
-ghost use Rattle.waivers.specs.Inner.{joined, place_at};
+ghost use Rattle.waivers.specs.Inner.{record_key, place_at};
 ghost use Rattle.waivers.specs.Waiving.{compared_fields};
 
 use crate::Waiver;
@@ -21,7 +21,7 @@ fn ring_key<'a>(
     layers: &'a [LayerHead],
     lack: &RingLack,
 ) -> Result<Vec<u8>, AllocError>
-    ensures { IfOk result (λ key. key.items ≡ joined (ring_fields (map (λ name. name.now) names.now) layers.now lack.now)) }
+    ensures { IfOk result (λ key. key.items ≡ record_key (ring_fields (map (λ name. name.now) names.now) layers.now lack.now)) }
 {
     let lack = *lack;
     let fields = RingFields {
@@ -39,7 +39,7 @@ pub(crate) fn ring_keys(
     layers: &[LayerHead],
     rings: &[RingLack],
 ) -> Result<Vec<Vec<u8>>, AllocError>
-    ensures { IfOk result (λ keys. map (λ key. key.items) keys.items ≡ map (λ lack. joined (ring_fields (map (λ name. name.now) names.now) layers.now lack)) rings.now) }
+    ensures { IfOk result (λ keys. map (λ key. key.items) keys.items ≡ map (λ lack. record_key (ring_fields (map (λ name. name.now) names.now) layers.now lack)) rings.now) }
 {
     let mut keys = Vec::new(alloc);
     for lack in rings {
@@ -50,7 +50,7 @@ pub(crate) fn ring_keys(
 
 /// The key of two holes that lack their gap.
 fn gap_key<'a>(alloc: Global, names: &'a [&'a str], lack: &GapLack) -> Result<Vec<u8>, AllocError>
-    ensures { IfOk result (λ key. key.items ≡ joined (gap_fields (map (λ name. name.now) names.now) lack.now)) }
+    ensures { IfOk result (λ key. key.items ≡ record_key (gap_fields (map (λ name. name.now) names.now) lack.now)) }
 {
     let lack = *lack;
     let fields = GapFields { names, lack };
@@ -63,7 +63,7 @@ pub(crate) fn gap_keys(
     names: &[&str],
     gaps: &[GapLack],
 ) -> Result<Vec<Vec<u8>>, AllocError>
-    ensures { IfOk result (λ keys. map (λ key. key.items) keys.items ≡ map (λ lack. joined (gap_fields (map (λ name. name.now) names.now) lack)) gaps.now) }
+    ensures { IfOk result (λ keys. map (λ key. key.items) keys.items ≡ map (λ lack. record_key (gap_fields (map (λ name. name.now) names.now) lack)) gaps.now) }
 {
     let mut keys = Vec::new(alloc);
     for lack in gaps {
@@ -74,7 +74,7 @@ pub(crate) fn gap_keys(
 
 /// The key of the fields of a waiver that are compared.
 fn waiver_key(alloc: Global, waiver: &Waiver) -> Result<Vec<u8>, AllocError>
-    ensures { IfOk result (λ key. key.items ≡ joined (compared_fields waiver.now)) }
+    ensures { IfOk result (λ key. key.items ≡ record_key (compared_fields waiver.now)) }
 {
     let fields = WaiverFields(waiver);
     Ok(format!(in alloc; "{fields}")?.into_bytes())
@@ -82,7 +82,7 @@ fn waiver_key(alloc: Global, waiver: &Waiver) -> Result<Vec<u8>, AllocError>
 
 /// The keys of waivers, in order.
 pub(crate) fn waiver_keys(alloc: Global, waivers: &[Waiver]) -> Result<Vec<Vec<u8>>, AllocError>
-    ensures { IfOk result (λ keys. map (λ key. key.items) keys.items ≡ map (λ waiver. joined (compared_fields waiver)) waivers.now) }
+    ensures { IfOk result (λ keys. map (λ key. key.items) keys.items ≡ map (λ waiver. record_key (compared_fields waiver)) waivers.now) }
 {
     let mut keys = Vec::new(alloc);
     for waiver in waivers {

@@ -18,13 +18,13 @@ one_unless_before place other = if nat_lt place other then 0 else 1
 
 -- how deep a hole must lie at least in the shape at a place that is better than its best so far, in pm: deeper than there, or as deep where
 -- the shape comes before it; 0 where it has none
-abbrev pub required : Option BestPad → ℕ → ℕ
-required None place = 0
-required (Some best) place = best.depth + one_unless_before place best.pad
+abbrev pub required_depth : Option BestPad → ℕ → ℕ
+required_depth None place = 0
+required_depth (Some best) place = best.depth + one_unless_before place best.pad
 
 -- the shape at a place is no better for a hole than its best so far
 abbrev pub IsNoBetter : {S : Type 0} → (S → GridPoint → ℕ → Bool) → List S → ℕ → GridHole → Option BestPad → Type 0
-IsNoBetter {S} covers pads place h best = (s : S) (reach : ℕ) → covers_both_ends covers (get_or pads place s) h.from h.to reach ≡ true → reach < required best place
+IsNoBetter {S} covers pads place h best = (s : S) (reach : ℕ) → covers_both_ends covers (get_or pads place s) h.from h.to reach ≡ true → reach < required_depth best place
 
 -- a shape of the list, and a depth of the hole in it, less than twenty metres
 pub record IsDepthInPad {S : Type 0} (covers : S → GridPoint → ℕ → Bool) (pads : List S) (h : GridHole) (best : BestPad) : Type 0 where
@@ -39,7 +39,7 @@ IsHeld covers pads h (Some best) = IsDepthInPad covers pads h best
 
 -- the best of a hole is still one of the shapes, and no shape that was no better before is better now
 pub record Improves {S : Type 0} (covers : S → GridPoint → ℕ → Bool) (pads : List S) (h : GridHole) (before after : Option BestPad) : Type 0 where
-  pub more : (place : ℕ) → required before place ≤ required after place
+  pub more : (place : ℕ) → required_depth before place ≤ required_depth after place
   pub held : IsHeld covers pads h before → IsHeld covers pads h after
 
 -- the shape at a place was tried at a hole

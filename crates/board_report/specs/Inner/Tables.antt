@@ -83,6 +83,6 @@ pub record AreFoundMistakes (board : BoardView) (found : List (Option UnitMistak
   pub each : (k : ℕ) (d : Option UnitMistake) → k < length board.files → IsUnitMistakeOfOrNone board k (get_or found k d)
 
 -- the line as a list, empty where there is none
-abbrev pub listed : Option UnitMistake → List UnitMistake
-listed None = []
-listed (Some line) = line ∷ []
+abbrev pub mistake_list : Option UnitMistake → List UnitMistake
+mistake_list None = []
+mistake_list (Some line) = line ∷ []

@@ -2,7 +2,7 @@
 use Rattle.std.specs.Prelude.{◌≡◌, ◌≤◌, ℕ, ℤ, true, not, ◌==◌, List, ◌∷◌, ◌++◌, length, Some, Ok}
 use Rattle.std.specs.List.{list_all}
 use Rattle.grid_units.specs.ReadPrefix.{IsPrefixDecimal}
-use Rattle.drill_lines.specs.Lines.{is_blank, trimmed}
+use Rattle.drill_lines.specs.Lines.{is_blank, without_end_blanks}
 use Rattle.drill_lines.specs.Meaning.{meaning}
 use Rattle.drill_lines.specs.declared.command.Coordinates.{Coordinates}
 use Rattle.drill_lines.specs.declared.command.Part.TheVariants as part
@@ -35,4 +35,4 @@ pub record HasLeadingHit (point : Coordinates) (len : ℕ) (bytes : List ℕ) : 
   pub count : length line ≡ len
   pub short : len ≤ 64
   pub inside : list_all (λ b. not (b == ascii.line_feed)) line ≡ true
-  pub spells : (settings : Settings) → settings.part ≡ part.Body → meaning settings (trimmed line) ≡ Ok (Some (command.Hit point))
+  pub spells : (settings : Settings) → settings.part ≡ part.Body → meaning settings (without_end_blanks line) ≡ Ok (Some (command.Hit point))

@@ -152,8 +152,8 @@ abbrev pub round_hole : StateView → ℕ → Option ℤ → Option ℤ → Resu
 round_hole s count x y = width_of s >>= λ width. (point_in (unit_or s.settings.unit) x y >>= λ at. hole_between count width at at)
 
 -- what stands after a line that gives this unit, these zeros and this format
-abbrev pub given : Option Units → Option Zeros → Option Digits → StateView → StateView
-given unit zeros format s = record {
+abbrev pub after_format : Option Units → Option Zeros → Option Digits → StateView → StateView
+after_format unit zeros format s = record {
   settings = record {
     part = s.settings.part;
     unit = given_last s.header_ended unit s.settings.unit;
@@ -168,8 +168,8 @@ given unit zeros format s = record {
 }
 
 -- what stands once this is the last point; a coordinate that it leaves out stays
-abbrev pub moved : Coordinates → StateView → StateView
-moved point s = record { settings = s.settings; header_ended = s.header_ended; diameter = s.diameter; tool = s.tool; x = option_or point.x s.x; y = option_or point.y s.y }
+abbrev pub at_last_point : Coordinates → StateView → StateView
+at_last_point point s = record { settings = s.settings; header_ended = s.header_ended; diameter = s.diameter; tool = s.tool; x = option_or point.x s.x; y = option_or point.y s.y }
 
 -- what the comments say after one more command
 abbrev pub heard : DrillCommand → PlatingWords → PlatingWords
@@ -223,7 +223,7 @@ AddsOrRefuses old hole new (Err stops.Memory) = Unit {0}
 abbrev pub DrillsOrRefuses : DrillState → Coordinates → Coordinates → DrillState → Result (Unit {0}) ItemFail → Type 0
 DrillsOrRefuses old first second new (Ok _) = (hole : GridHole) × (hole_in (state_of old) (length old.holes.items) first second ≡ Ok hole)
     × (hole_rule old.words.kind (picked_plating old) ≡ None)
-    × (state_of new ≡ moved second (moved first (state_of old)))
+    × (state_of new ≡ at_last_point second (at_last_point first (state_of old)))
     × (new.holes.items ≡ old.holes.items ++ hole ∷ [])
     × (new.plated.items ≡ old.plated.items ++ mark_of old.words.kind (picked_plating old))
     × (new.tools ≡ old.tools)

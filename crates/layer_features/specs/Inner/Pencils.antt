@@ -9,8 +9,8 @@ use Rattle.layer_features.specs.declared.drawn_apertures.DrawnAperture.{DrawnApe
 use Rattle.layer_features.specs.declared.drawn_apertures.DrawnApertures.{DrawnApertures}
 use Rattle.layer_features.specs.declared.macros.Macros.{Macros}
 use Rattle.layer_features.specs.declared.pencil.Pencil.{Pencil}
-use Rattle.layer_state.specs.Lookback.{aperture_selected, region_set, scale_set, turn_set, unit_set, x_set, y_set}
-use Rattle.layer_features.specs.Drawn.{DrawState, decimals_set, drawn_aperture_set, macro_set, mirror_set, mode_set, quadrant_set}
+use Rattle.layer_state.specs.Lookback.{aperture_selected, block_set, region_set, scale_set, turn_set, unit_set, x_set, y_set}
+use Rattle.layer_features.specs.Drawn.{DrawState, decimals_set, drawn_aperture_set, macro_set, mirroring_set, mode_set, quadrant_set}
 
 -- the aperture that a table has for a number, if any
 abbrev pub drawn_aperture_at : DrawnApertures → ℕ → Option DrawnAperture
@@ -35,7 +35,8 @@ draw_state pencil = record {
   y = pencil.y;
   scale = pencil.scale;
   turn = pencil.turn;
-  mirrored = pencil.mirrored;
+  mirroring = pencil.mirroring;
+  block = pencil.block;
 }
 
 -- the state after one more command
@@ -53,5 +54,6 @@ after_command c s = record {
   y = unwrap_or (y_set c) s.y;
   scale = unwrap_or (scale_set c) s.scale;
   turn = unwrap_or (turn_set c) s.turn;
-  mirrored = unwrap_or (mirror_set c) s.mirrored;
+  mirroring = unwrap_or (mirroring_set c) s.mirroring;
+  block = unwrap_or (block_set c) s.block;
 }

@@ -4,7 +4,6 @@ use Rattle.std.specs.List.{cons_option}
 use Rattle.gerber_commands.specs.declared.command.Command.{Command}
 use Rattle.gerber_commands.specs.declared.command.Command.TheVariants as command
 use Rattle.gerber_text.specs.declared.fast_path.LeadingOperation.{LeadingOperation}
-use Rattle.layer_state.specs.Lookback.{block_set}
 use Rattle.layer_features.specs.Drawn.{DrawState}
 use Rattle.layer_features.specs.Inner.Pencils.{after_command, draw_state}
 use Rattle.layer_features.specs.declared.clearing.Clearing.{Clearing}
@@ -12,7 +11,7 @@ use Rattle.layer_features.specs.declared.copper.Copper.{Copper}
 use Rattle.layer_features.specs.declared.part.Part.{Part}
 use Rattle.layer_features.specs.Clearing.{draws, polarity_set}
 use Rattle.layer_features.specs.Contours.{contour_of, part_by, starts_region}
-use Rattle.layer_features.specs.FurtherPads.{CopperState, ended_copies, mirroring_set, plot_state}
+use Rattle.layer_features.specs.FurtherPads.{CopperState, ended_copies, plot_state}
 use Rattle.layer_features.specs.Inner.Steps.{changes_block, max_regions}
 
 -- the command of an operation that a reader has passed
@@ -20,12 +19,12 @@ abbrev pub command_of : LeadingOperation → Command
 command_of operation = command.Operate operation.action operation.x operation.y operation.i operation.j
 
 -- a state whose number of regions counts no further than one more than the most
-abbrev pub capped : CopperState → CopperState
-capped s = record { draw = s.draw; mirroring = s.mirroring; block = s.block; parts = s.parts; regions = min s.regions (suc max_regions); clearing = s.clearing }
+abbrev pub with_capped_regions : CopperState → CopperState
+with_capped_regions s = record { draw = s.draw; parts = s.parts; regions = min s.regions (suc max_regions); clearing = s.clearing }
 
 -- the fields as the state that the next command meets
 abbrev pub copper_state : Copper → CopperState
-copper_state c = record { draw = draw_state c.pencil; mirroring = c.mirroring; block = c.block; parts = c.parts.items; regions = c.regions; clearing = c.clearing }
+copper_state c = record { draw = draw_state c.pencil; parts = c.parts.items; regions = c.regions; clearing = c.clearing }
 
 -- the parts of the last region after one more command
 abbrev pub parts_after : Command → DrawState → List Part → List Part
@@ -42,10 +41,8 @@ clearing_with c s = record {
 abbrev pub after : Command → CopperState → CopperState
 after c s = record {
   draw = after_command c s.draw;
-  mirroring = unwrap_or (mirroring_set c) s.mirroring;
-  block = unwrap_or (block_set c) s.block;
   parts = parts_after c s.draw s.parts;
-  regions = min (s.regions + ended_copies s.block c) (suc max_regions);
+  regions = min (s.regions + ended_copies s.draw.block c) (suc max_regions);
   clearing = clearing_with c s.clearing;
 }
 
@@ -55,7 +52,7 @@ MakeSameContour kept parts = (more : List Part) → contour_of (kept ++ more) �
 
 -- a state with other parts of the last region
 abbrev pub with_parts : List Part → CopperState → CopperState
-with_parts parts s = record { draw = s.draw; mirroring = s.mirroring; block = s.block; parts = parts; regions = s.regions; clearing = s.clearing }
+with_parts parts s = record { draw = s.draw; parts = parts; regions = s.regions; clearing = s.clearing }
 
 -- a state stands for another: it has parts that make the same contour as those of the other, and else it is the same
 pub record IsLike (s t : CopperState) : Type 0 where

@@ -3,7 +3,7 @@ use Rattle.std.specs.Prelude.{ℕ, ℤ, nat_le, List, [], ◌∷◌, length, if�
 use Rattle.std.specs.Result.{result_ok}
 use Rattle.grid_units.specs.Ascii as ascii
 use Rattle.grid_units.specs.Numbers.{parse_decimal}
-use Rattle.macro_shapes.specs.Values.{Environment, assigned}
+use Rattle.macro_shapes.specs.Values.{Environment, with_value}
 use Rattle.macro_shapes.specs.Inner.Reading.{start, run}
 use Rattle.macro_shapes.specs.Pieces.{split_by, code_of, max_variables}
 use Rattle.macro_shapes.specs.Inner.Bytes.{starts_comment, starts_definition}
@@ -30,7 +30,7 @@ piece_fields variables piece = parts_fields variables (split_by ascii.comma piec
 -- what a piece that is no comment adds to what those after it give
 abbrev pub on_definition : Option (ℕ × List ℕ) → Environment → List ℕ → (Environment → Option (List Fields)) → Option (List Fields)
 on_definition None variables piece go = option_and_then (λ f. option_map (λ fs. f ∷ fs) (go variables)) (piece_fields variables piece)
-on_definition (Some d) variables piece go = option_and_then (λ v. go (assigned variables d.0 v)) (value_of variables d.1)
+on_definition (Some d) variables piece go = option_and_then (λ v. go (with_value variables d.0 v)) (value_of variables d.1)
 
 -- what a piece adds to what those after it give
 abbrev pub on_piece : Environment → List ℕ → (Environment → Option (List Fields)) → Option (List Fields)

@@ -11,16 +11,16 @@ use Rattle.macro_shapes.specs.Signs.{sign_of}
 use Rattle.macro_shapes.specs.Values.{Environment, in_range, operand_value, product, quotient}
 
 -- a term after what stands before it: `$1` alone, `-$1`, `2+$1`
-abbrev pub added : Option (ℤ × Addition) → ℤ → Option ℤ
-added None b = Some b
-added (Some (a, Plus)) b = in_range (a +ℤ b)
-added (Some (a, Minus)) b = in_range (a -ℤ b)
+abbrev pub sum_with : Option (ℤ × Addition) → ℤ → Option ℤ
+sum_with None b = Some b
+sum_with (Some (a, Plus)) b = in_range (a +ℤ b)
+sum_with (Some (a, Minus)) b = in_range (a -ℤ b)
 
 -- a factor after what stands before it: `$1` alone, `2x$1`, `2/$1`
-abbrev pub multiplied : Option (ℤ × Multiplication) → ℤ → Option ℤ
-multiplied None b = Some b
-multiplied (Some (a, Times)) b = product a b
-multiplied (Some (a, Over)) b = quotient a b
+abbrev pub product_with : Option (ℤ × Multiplication) → ℤ → Option ℤ
+product_with None b = Some b
+product_with (Some (a, Times)) b = product a b
+product_with (Some (a, Over)) b = quotient a b
 
 -- what was read up to the operand at hand: what stands before each open bracket, the innermost first, what stands before the operand
 -- inside of them, and the value of brackets that closed just here
@@ -34,12 +34,12 @@ abbrev pub at : List Frame → Frame → Option ℤ → State
 at outer frame closed = record { outer = outer; frame = frame; closed = closed }
 
 -- what stands before an operand inside of its brackets
-abbrev pub framed : Option (ℤ × Addition) → Option (ℤ × Multiplication) → Frame
-framed before_term before_factor = record { before_term = before_term; before_factor = before_factor }
+abbrev pub frame_after : Option (ℤ × Addition) → Option (ℤ × Multiplication) → Frame
+frame_after before_term before_factor = record { before_term = before_term; before_factor = before_factor }
 
 -- nothing stands before the operand
 abbrev pub fresh : Frame
-fresh = framed None None
+fresh = frame_after None None
 
 -- the state before the first byte
 abbrev pub start : State
@@ -57,11 +57,11 @@ factor_of variables s text = closed_or variables s.closed text
 
 -- the value of the term that ends here
 abbrev pub term_of : Environment → State → List ℕ → Option ℤ
-term_of variables s text = option_and_then (multiplied s.frame.before_factor) (factor_of variables s text)
+term_of variables s text = option_and_then (product_with s.frame.before_factor) (factor_of variables s text)
 
 -- the value of the sum that ends here
 abbrev pub sum_of : Environment → State → List ℕ → Option ℤ
-sum_of variables s text = option_and_then (added s.frame.before_term) (term_of variables s text)
+sum_of variables s text = option_and_then (sum_with s.frame.before_term) (term_of variables s text)
 
 -- no factor stands here yet
 abbrev pub is_before_factor : State → List ℕ → Bool
@@ -77,31 +77,31 @@ unfoldable pub open_bracket : State → List ℕ → Option State
 open_bracket s text = if is_before_factor s text && nat_lt (length s.outer) 16 then Some (at (s.frame ∷ s.outer) fresh None) else None
 
 -- the state after brackets with this value, back in what stands before them
-abbrev pub popped : List Frame → ℤ → Option State
-popped [] v = None
-popped (frame ∷ outer) v = Some (at outer frame (Some v))
+abbrev pub after_brackets : List Frame → ℤ → Option State
+after_brackets [] v = None
+after_brackets (frame ∷ outer) v = Some (at outer frame (Some v))
 
 -- the state after `)`, which ends a sum
 unfoldable pub close_bracket : Environment → State → List ℕ → Option State
-close_bracket variables s text = option_and_then (popped s.outer) (sum_of variables s text)
+close_bracket variables s text = option_and_then (after_brackets s.outer) (sum_of variables s text)
 
 -- the value before the sign of a sum: 0 before the first term
 abbrev pub before_sign : Environment → State → List ℕ → Option ℤ
 before_sign variables s text = if is_leading s text then Some (pos 0) else sum_of variables s text
 
 -- the state after the sign of a sum
-unfoldable pub summed : Environment → State → List ℕ → Addition → Option State
-summed variables s text a = option_map (λ v. at s.outer (framed (Some (v, a)) None) None) (before_sign variables s text)
+unfoldable pub after_addition : Environment → State → List ℕ → Addition → Option State
+after_addition variables s text a = option_map (λ v. at s.outer (frame_after (Some (v, a)) None) None) (before_sign variables s text)
 
 -- the state after the sign of a product
 unfoldable pub multiplied_on : Environment → State → List ℕ → Multiplication → Option State
-multiplied_on variables s text m = option_map (λ v. at s.outer (framed s.frame.before_term (Some (v, m))) None) (term_of variables s text)
+multiplied_on variables s text m = option_map (λ v. at s.outer (frame_after s.frame.before_term (Some (v, m))) None) (term_of variables s text)
 
 -- the state after a sign
 abbrev pub step : Environment → State → List ℕ → Sign → Option State
 step variables s text Open = open_bracket s text
 step variables s text Close = close_bracket variables s text
-step variables s text (Add a) = summed variables s text a
+step variables s text (Add a) = after_addition variables s text a
 step variables s text (Multiply m) = multiplied_on variables s text m
 
 -- the value of what was read, where no bracket is open
@@ -110,8 +110,8 @@ unless_open [] v = v
 unless_open (frame ∷ outer) v = None
 
 -- the value at the end of the text
-abbrev pub finished : Environment → State → List ℕ → Option ℤ
-finished variables s text = unless_open s.outer (sum_of variables s text)
+abbrev pub final_value : Environment → State → List ℕ → Option ℤ
+final_value variables s text = unless_open s.outer (sum_of variables s text)
 
 -- goes on with a byte of an operand, or with a sign
 abbrev pub on_byte : {A : Type 0} → Option Sign → A → (Sign → A) → A
@@ -120,6 +120,6 @@ on_byte (Some sign) stay go = go sign
 
 -- the value of what was read and what follows it
 unfoldable pub run : Environment → State → List ℕ → List ℕ → Option ℤ
-run variables s held [] = finished variables s held
+run variables s held [] = final_value variables s held
 run variables s held (b ∷ bs) =
     on_byte (sign_of b) (run variables s (held ++ b ∷ []) bs) (λ k. option_and_then (λ t. run variables t [] bs) (step variables s held k))

@@ -7,7 +7,7 @@ use Rattle.grid_units.specs.declared.lengths.Unit.{Unit as Units}
 use Rattle.grid_units.specs.Points.{GridPoint}
 use Rattle.pad_shapes.specs.Rounded.{GridRounded}
 use Rattle.macro_shapes.specs.Primitives.{grid_point, is_same, rounded_of}
-use Rattle.macro_shapes.specs.Shapes.{crossing, rectangle_along}
+use Rattle.macro_shapes.specs.Shapes.{crossing_sides, rectangle_along}
 use Rattle.macro_shapes.specs.declared.primitive.Primitive.{Primitive}
 
 -- a number below zero where this is so: `-5` of 5
@@ -15,8 +15,8 @@ abbrev pub negated_if : Bool → ℕ → ℤ
 negated_if negative n = if negative then neg_ℤ (pos n) else pos n
 
 -- the second of two points that follow one another, where it is another than the first
-abbrev pub moved : GridPoint × GridPoint → Option GridPoint
-moved pair = if is_same pair.1 pair.0 then None else Some pair.1
+abbrev pub other_point : GridPoint × GridPoint → Option GridPoint
+other_point pair = if is_same pair.1 pair.0 then None else Some pair.1
 
 -- the ends of a line after the first one: none where they are equal
 abbrev pub other_end : GridPoint → GridPoint → List GridPoint
@@ -28,7 +28,7 @@ rounded_or_along a b width size = option_map_or (rounded_of a (other_end a b)) s
 
 -- the sides of the second primitive, where that is a rectangle which crosses the first one
 abbrev pub second_crossing : GridPoint → ℕ → ℕ → List Primitive → Option (ℕ × ℕ)
-second_crossing c w h qs = option_and_then (crossing c w h) (slice_get qs 1)
+second_crossing c w h qs = option_and_then (crossing_sides c w h) (slice_get qs 1)
 
 -- a value as a length in pm, none beyond 10 m
 abbrev pub length_of : Units → ℤ → Option ℤ

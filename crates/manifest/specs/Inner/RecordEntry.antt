@@ -8,11 +8,7 @@ use Rattle.grid_units.specs.declared.fault.Reason.TheVariants.{BadSpan}
 use Rattle.manifest.specs.declared.Entry.{Entry}
 use Rattle.manifest.specs.declared.Role.{Role}
 use Rattle.manifest.specs.declared.validation.NamedFile.{NamedFile}
-use Rattle.manifest.specs.Manifest.{CsvRecord, are_span_numbers, first_broken_rule, entry_of, is_bad_span, is_layer_number, span_of_fields}
-
--- the number of a layer that a text spells, None where it is not one to nine digits
-abbrev pub layer_number : List ℕ → Option ℕ
-layer_number text = if is_layer_number text then Some (value text) else None
+use Rattle.manifest.specs.Manifest.{CsvRecord, are_span_numbers, first_broken_rule, entry_of, is_bad_span, span_of_fields}
 
 -- the span of layers with these numbers, None where they are not those of a span
 abbrev pub span_of_numbers : List ℕ → List ℕ → Option LayerSpan

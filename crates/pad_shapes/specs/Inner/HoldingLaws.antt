@@ -135,8 +135,8 @@ scaled n a b m h =
     let k : (n * n) * (a * a + b * b) ≤ (n * n) * (m * m) = mul-le-mul_left (n * n) h in
     omega (arith, k)
 
-pub unscaled : (n a b m : ℕ) → 1 ≤ n → (n * a) * (n * a) + (n * b) * (n * b) ≤ (n * m) * (n * m) → a * a + b * b ≤ m * m
-unscaled n a b m some h =
+pub without_factor : (n a b m : ℕ) → 1 ≤ n → (n * a) * (n * a) + (n * b) * (n * b) ≤ (n * m) * (n * m) → a * a + b * b ≤ m * m
+without_factor n a b m some h =
     let one : 1 ≤ n * n = mul-le 1 1 n n some some in
     cancel (n * n) (a * a + b * b) (m * m) one (omega (arith, h))
 
@@ -149,7 +149,7 @@ mean_step-le i j reach m dx dy fx fy tx ty px py some at_x at_y near first secon
     let all : ((i + j) * px) * ((i + j) * px) + ((i + j) * py) * ((i + j) * py) ≤ ((i + j) * reach + (i * m + j * m)) * ((i + j) * reach + (i * m + j * m)) =
     two_steps-le dx dy (i * fx + j * tx) (i * fy + j * ty) ((i + j) * px) ((i + j) * py) ((i + j) * reach) (i * m + j * m) at_x at_y near ends in
     let length : (i + j) * reach + (i * m + j * m) ≡ (i + j) * (reach + m) = omega arith in
-    unscaled (i + j) px py (reach + m) some (subst (λ l. ((i + j) * px) * ((i + j) * px) + ((i + j) * py) * ((i + j) * py) ≤ l * l) length all)
+    without_factor (i + j) px py (reach + m) some (subst (λ l. ((i + j) * px) * ((i + j) * px) + ((i + j) * py) * ((i + j) * py) ≤ l * l) length all)
 
 obround_near : (o : GridObround) (reach i j : ℕ) (f t p : GridPoint) (x y : ℤ) → 1 ≤ i + j → x ≡ pos i *ℤ f.x +ℤ pos j *ℤ t.x → y ≡ pos i *ℤ f.y +ℤ pos j *ℤ t.y
     → square_length (pos (i + j) *ℤ p.x -ℤ x) (pos (i + j) *ℤ p.y -ℤ y) ≤ square ((i + j) * reach) → obround_covers o f reach ≡ true → obround_covers o t reach ≡ true → IsInObround o p

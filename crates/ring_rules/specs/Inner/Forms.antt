@@ -7,8 +7,8 @@ use Rattle.ring_rules.specs.declared.spots.Spot.{Spot}
 use Rattle.ring_rules.specs.declared.spot_list.Entry.{Entry}
 
 -- the hole of the same form that begins at a point
-abbrev pub moved : GridHole → GridPoint → GridHole
-moved form from = record { from = from; to = record { x = from.x +ℤ (form.to.x -ℤ form.from.x); y = from.y +ℤ (form.to.y -ℤ form.from.y) }; radius = form.radius }
+abbrev pub hole_of_form : GridHole → GridPoint → GridHole
+hole_of_form form from = record { from = from; to = record { x = from.x +ℤ (form.to.x -ℤ form.from.x); y = from.y +ℤ (form.to.y -ℤ form.from.y) }; radius = form.radius }
 
 -- the form with a number
 abbrev pub form_at : List GridHole → ℕ → GridHole
@@ -16,7 +16,7 @@ form_at forms n = get_or forms n default_hole.hole
 
 -- the spot that an entry of this form stands for
 abbrev pub spot_with : GridHole → Entry → Spot
-spot_with form entry = record { hole = moved form entry.from; place = entry.place }
+spot_with form entry = record { hole = hole_of_form form entry.from; place = entry.place }
 
 -- the spot that an entry stands for
 abbrev pub spot_of : List GridHole → Entry → Spot

@@ -45,8 +45,8 @@ refusal_sentence (sentence.Archive name) = archive_sentence name.now
 refusal_sentence (sentence.Role number role file) = role_sentence number role.now file.now
 
 -- the refusal of a subject, of which this sentence is said
-abbrev pub explained : RefusalSentence → Subject → Fault → Refusal
-explained said what why = of_explained (refusal_sentence said) (refusal what why)
+abbrev pub explained_refusal : RefusalSentence → Subject → Fault → Refusal
+explained_refusal said what why = of_explained (refusal_sentence said) (refusal what why)
 
 -- what a halt says: `Is` of the refusal, or `Risen` where something cannot be read
 abbrev pub Halts : (Refusal → Type 0) → Type 0 → Halt → Type 0
@@ -62,12 +62,14 @@ IsUnreadAt _ index = ⊥
 -- just the text of something that cannot be read was written in this style, and beside it its sentence; it was looked for by this name
 abbrev pub PrintsUnread : RefusalStyle → Subject → List ℕ → Written → Written → Type 0
 PrintsUnread refusal_style what path before after =
-    (sought : Sought) × (sought.path.now ≡ path) × Appends before.0 after.0 (unread_text refusal_style what sought) × Says (beside refusal_style (Some (unread_words what sought))) before.1 after.1
+    (sought : Sought) × (sought.path.now ≡ path) × Appends before.0 after.0 (unread_text refusal_style what sought)
+    × Says (beside refusal_style (Some (unread_words what sought))) before.1 after.1
 
 -- what a status says where a halt was printed in this style; what cannot be read was looked for by this name
 abbrev pub AfterHalt : RefusalStyle → Halt → List ℕ → Written → Written → Status → Type 0
 AfterHalt refusal_style (halt.Refused what why) path before after s = (s ≡ status.Refused) × PrintsRefusal refusal_style (refusal what why) before after
-AfterHalt style (halt.Archive what why name) path before after s = (s ≡ status.Refused) × PrintsRefusal style (of_archive name.now (refusal what why)) before after
+AfterHalt style (halt.Archive what why name) path before after s = (s ≡ status.Refused)
+    × PrintsRefusal style (of_archive name.now (refusal what why)) before after
 AfterHalt refusal_style (halt.Unread what) path before after s = (s ≡ status.Device) × PrintsUnread refusal_style what path before after
 
 -- a manifest is refused for this reason because of the role of a record
@@ -102,7 +104,8 @@ OfTable parse has name what Risen (Err no_table) = HaltsTable (RefusesTable pars
 
 -- what came of the files of these entries in this profile: they are loaded and `Holds` is true of them, or one of them is refused or cannot be read
 abbrev pub OfFiles : {A : Type 0} → Relation → Profile → List Entry → Type 0 → (A → List FileView → Type 0) → Result A Halt → Type 0
-OfFiles has profile entries Risen Holds (Ok it) = (files : List (List ℕ)) × HasFiles (within file_limit has) entries files × Holds it (sources profile entries files)
+OfFiles has profile entries Risen Holds (Ok it) = (files : List (List ℕ)) × HasFiles (within file_limit has) entries files
+    × Holds it (sources profile entries files)
 OfFiles has profile entries Risen Holds (Err halt) = Halts (RefusedFile has profile entries) Risen halt
 
 -- what came of files that a reader has taken: `Holds` is true of them, or one of them is refused

@@ -17,8 +17,8 @@ use Rattle.ringcheck.specs.CheckStatus.{Checks, SaysPackage}
 use Rattle.waivers.specs.declared.Waiver.{Waiver}
 
 -- the waivers that a report is given, if any
-abbrev pub given : Option (Vec Waiver) → Option (List Waiver)
-given waivers = option_map (λ all. all.items) waivers
+abbrev pub given_waivers : Option (Vec Waiver) → Option (List Waiver)
+given_waivers waivers = option_map (λ all. all.items) waivers
 
 -- how a refusal is printed in place of a job's result
 abbrev pub job_style : Job → RefusalStyle
@@ -38,7 +38,7 @@ job_profile (job.Draw order) = order.profile
 abbrev pub Holds : Job → List ℕ → Option (List ℕ) → Option (List ℕ) → Bool → List FileView → Type 0
 Holds (job.Check rules) name before after = Checks rules before after
 Holds (job.Measure order) name before after = PrintsMeasure order before after
-Holds (job.Report options) name before after = Reports name options.rules options.limit options.format (given options.waivers) options.outline.items before after
+Holds (job.Report options) name before after = Reports name options.rules options.limit options.format (given_waivers options.waivers) options.outline.items before after
 Holds (job.Draw order) name before after = PrintsPicture order.rules order.outline.items before after
 
 -- what a status says of a job on the package under a name

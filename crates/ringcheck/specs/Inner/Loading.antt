@@ -56,16 +56,19 @@ OfHandedFile has index entry IsTaken Risen (Some halt) = Halts (RefusesLong has 
 
 -- between two states an open file has read just these bytes, whatever file of whatever package it is
 abbrev pub GoesOn : OpenFile → OpenFile → List ℕ → Type 0
-GoesOn start now bytes = (reader : PackageReader) (index : ℕ) (of : Role) (span : Option LayerSpan) (text : List ℕ) → HasOpened reader index of span start text → HasOpened reader index of span now (text ++ bytes)
+GoesOn start now bytes = (reader : PackageReader) (index : ℕ) (of : Role) (span : Option LayerSpan) (text : List ℕ)
+    → HasOpened reader index of span start text → HasOpened reader index of span now (text ++ bytes)
 
 -- between two states the open copper file of a check has read just these bytes, whatever file it is
 abbrev pub CopperGoesOn : CheckSink → CheckSink → List ℕ → Type 0
 CopperGoesOn start now bytes =
-    (first : CheckView) (index layer : ℕ) (span : Option LayerSpan) (text : List ℕ) → HasOpenedCopper first start.check index layer span start.file text → HasOpenedCopper first now.check index layer span now.file (text ++ bytes)
+    (first : CheckView) (index layer : ℕ) (span : Option LayerSpan) (text : List ℕ)
+    → HasOpenedCopper first start.check index layer span start.file text → HasOpenedCopper first now.check index layer span now.file (text ++ bytes)
 
 -- the file of an entry was loaded, and a reader has taken it
 abbrev pub LoadsFile : Relation → PackageReader → PackageReader → ℕ → Entry → Type 0
-LoadsFile has before after index entry = (bytes : List ℕ) × within file_limit has entry.file bytes × TakesFile before after index (source (reader_setting before) entry bytes)
+LoadsFile has before after index entry = (bytes : List ℕ) × within file_limit has entry.file bytes
+    × TakesFile before after index (source (reader_setting before) entry bytes)
 
 -- what came of handing the file of an entry to a reader: that it has taken it, or why the file cannot be loaded
 abbrev pub OfTakenFile : Relation → PackageReader → PackageReader → ℕ → Entry → Type 0 → Option Halt → Type 0
@@ -88,14 +91,17 @@ pub record HasLoaded (has : Relation) (profile : Profile) (entries : List Entry)
 -- Between two states of a reader the files of one kind below an index were loaded, and the reader has taken them. These are the files of the first entries of some
 -- list, whichever it is, of which other files were loaded before.
 abbrev pub LoadsKind : Relation → List Entry → PackageReader → PackageReader → Bool → ℕ → Type 0
-LoadsKind has entries before after copper end = (profile : Profile) (all : List Entry) (keep : Keep) (done : ℕ → Bool) → AreFirstOf entries all → reader_setting before ≡ setting_in profile all
-    → ((i : ℕ) → is_kind_at copper all i ≡ true → done i ≡ false) → HasLoaded has profile all (HasTaken before keep) done → HasLoaded has profile all (HasTaken after keep) (λ i. done i || (nat_lt i end && is_kind_at copper all i))
+LoadsKind has entries before after copper end = (profile : Profile) (all : List Entry) (keep : Keep) (done : ℕ → Bool) → AreFirstOf entries all
+    → reader_setting before ≡ setting_in profile all
+    → ((i : ℕ) → is_kind_at copper all i ≡ true → done i ≡ false) → HasLoaded has profile all (HasTaken before keep) done
+    → HasLoaded has profile all (HasTaken after keep) (λ i. done i || (nat_lt i end && is_kind_at copper all i))
 
 -- ---- the check
 
 -- the copper file of an entry was loaded, and a check has taken it, its layer having this number
 abbrev pub LoadsCopper : Relation → CheckView → CheckView → ℕ → ℕ → Entry → Type 0
-LoadsCopper has before after index layer entry = (bytes : List ℕ) × within file_limit has entry.file bytes × TakesCopper before after index layer (source (setting_of before) entry bytes)
+LoadsCopper has before after index layer entry = (bytes : List ℕ) × within file_limit has entry.file bytes
+    × TakesCopper before after index layer (source (setting_of before) entry bytes)
 
 -- what came of handing the copper file of an entry to a check: the check, which has taken it; or why the file cannot be loaded
 abbrev pub OfCheckedFile : Relation → CheckView → ℕ → ℕ → Entry → Type 0 → Result CheckView Halt → Type 0
@@ -104,11 +110,14 @@ OfCheckedFile has before index layer entry Risen (Err halt) = Halts (RefusesLong
 
 -- between two states of a check the copper files of these entries below an index were loaded, and the check has taken them; other files were loaded before
 abbrev pub LoadsCopperTo : Relation → List Entry → CheckView → CheckView → ℕ → Type 0
-LoadsCopperTo has entries before after end = (profile : Profile) (rules : GridRules) (done : ℕ → Bool) → setting_of before ≡ setting_in profile entries → ((i : ℕ) → is_kind_at true entries i ≡ true → done i ≡ false)
-    → HasLoaded has profile entries (λ all. HasJudged before all rules) done → HasLoaded has profile entries (λ all. HasJudged after all rules) (λ i. done i || (nat_lt i end && is_kind_at true entries i))
+LoadsCopperTo has entries before after end = (profile : Profile) (rules : GridRules) (done : ℕ → Bool)
+    → setting_of before ≡ setting_in profile entries → ((i : ℕ) → is_kind_at true entries i ≡ true → done i ≡ false)
+    → HasLoaded has profile entries (λ all. HasJudged before all rules) done
+    → HasLoaded has profile entries (λ all. HasJudged after all rules) (λ i. done i || (nat_lt i end && is_kind_at true entries i))
 
 -- what came of handing the copper files of these entries to a check: the check, which has taken them; or why the first of them that cannot be loaded
 -- cannot be, those before it having been taken
 abbrev pub OfCheckedCopper : Relation → List Entry → CheckView → Type 0 → Result CheckView Halt → Type 0
 OfCheckedCopper has entries before Risen (Ok after) = LoadsCopperTo has entries before after (length entries)
-OfCheckedCopper has entries before Risen (Err halt) = (end : ℕ) × EndsAt has entries Risen end (Some halt) × (last : CheckView) × LoadsCopperTo has entries before last end
+OfCheckedCopper has entries before Risen (Err halt) = (end : ℕ) × EndsAt has entries Risen end (Some halt) × (last : CheckView)
+    × LoadsCopperTo has entries before last end

@@ -1,9 +1,9 @@
 use Rattle.std.proofs.Common.{◌≡◌, ◌≤◌, length, take}
-use Rattle.drill_lines.specs.Lines.{trimmed}
+use Rattle.drill_lines.specs.Lines.{without_end_blanks}
 use Rattle.drill_lines.proofs.line.trimmed_len.Given as goal
 
 abbrev pub invariant-loop-len : goal.invariant-loop-len
-invariant-loop-len l = record { within : l.len ≤ length l.line; same : trimmed (take l.len l.line) ≡ trimmed l.line }
+invariant-loop-len l = record { within : l.len ≤ length l.line; same : without_end_blanks (take l.len l.line) ≡ without_end_blanks l.line }
 
 abbrev pub decreases-loop-len : goal.decreases-loop-len
 decreases-loop-len l = l.len

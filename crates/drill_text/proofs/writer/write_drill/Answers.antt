@@ -1,4 +1,4 @@
-use Rattle.drill_text.proofs.Common.{◌≡◌, ℕ, ◌+◌, ◌<◌, ◌≤◌, List, [], ◌∷◌, ◌++◌, Err, length, take, get_or, sym, ap, subst, ◌∙◌, arith, take_more, take_all, DrillCommand, canonical, text_limit, SpellsText, canonical_lines, written, vec_bytes, Fail, Answers}
+use Rattle.drill_text.proofs.Common.{◌≡◌, ℕ, ◌+◌, ◌<◌, ◌≤◌, List, [], ◌∷◌, ◌++◌, Err, length, take, get_or, sym, ap, subst, ◌∙◌, arith, take_more, take_all, DrillCommand, canonical, text_limit, SpellsText, canonical_lines, rewritten_text, vec_bytes, Fail, Answers}
 use Rattle.drill_text.proofs.RoundTrip.{AreTyped, typed_none, typed_more, text_more, text_prefix, written_long, written_short, round_trip}
 use Rattle.drill_text.proofs.writer.write_drill.Goals as goal
 
@@ -31,7 +31,7 @@ returns-then-len-gt-TEXT_LIMIT-clause-exact c =
     let new = c.put_line.new.text in
     let text = text_so_far cs n c.command-item.result c.loop-command.text.items new.items c.loop-command-test.true c.command-item.is c.loop-command.invariant.text c.in_ok-put_line.ensures.items in
     let long : text_limit < length (canonical_lines cs) = omega (arith, new.ok.0, ap length text, text_prefix cs (n + 1)) in
-    subst (λ (e : Fail). Answers vec_bytes (λ answer. answer ≡ written cs) (Err e)) (sym c.too_long.ensures) (written_long cs long)
+    subst (λ (e : Fail). Answers vec_bytes (λ answer. answer ≡ rewritten_text cs) (Err e)) (sym c.too_long.ensures) (written_long cs long)
 
 pub returns : goal.returns
 returns c =

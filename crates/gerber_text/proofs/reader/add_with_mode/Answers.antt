@@ -1,4 +1,4 @@
-use Rattle.gerber_text.proofs.Common.{◌≡◌, [], ◌∷◌, ◌++◌, List, ap, option_or_none, Command, Mode, modes_of, plot_of, placed}
+use Rattle.gerber_text.proofs.Common.{◌≡◌, [], ◌∷◌, ◌++◌, List, ap, option_or_none, Command, Mode, modes_of, plot_of, item_entries}
 use Rattle.gerber_text.proofs.PlottingLemmas.{plots_on}
 use Rattle.gerber_text.proofs.reader.add_with_mode.Goals as goal
 
@@ -7,5 +7,5 @@ returns-in_ok-add_mode_and_command-in-Some-clause-plotting c before held =
     let what = c.args.what in
     let two = Mode c.in-Some.mode ∷ what ∷ [] in
     let both : modes_of c.args.mode ++ what ∷ [] ≡ two = ap (λ m. modes_of m ++ what ∷ []) c.in-Some.is in
-    let added = placed c.args.place c.args.byte (modes_of c.args.mode ++ what ∷ []) in
-    plots_on before (before ++ added) (placed c.args.place c.args.byte two) what c.args.plotting _ (ap (λ (l : List Command). before ++ placed c.args.place c.args.byte l) both) (option_or_none (plot_of what)) held c.plots_after-plotting.ensures
+    let added = item_entries c.args.place c.args.byte (modes_of c.args.mode ++ what ∷ []) in
+    plots_on before (before ++ added) (item_entries c.args.place c.args.byte two) what c.args.plotting _ (ap (λ (l : List Command). before ++ item_entries c.args.place c.args.byte l) both) (option_or_none (plot_of what)) held c.plots_after-plotting.ensures

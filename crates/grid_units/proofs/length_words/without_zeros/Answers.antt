@@ -1,5 +1,5 @@
 use Rattle.std.proofs.Common.{◌≡◌, sym, ap, ◌∙◌, arith}
-use Rattle.grid_units.specs.Spellings.{places, trimmed}
+use Rattle.grid_units.specs.Spellings.{places, without_end_zeros}
 use Rattle.grid_units.proofs.TrailingZeros.{places_zero_at, places_kept_at, places_none, trimmed_none}
 use Rattle.grid_units.proofs.length_words.without_zeros.Goals as goal
 
@@ -15,4 +15,4 @@ returns-else-rest-eq0-clause-places c = sym (places_kept_at c.loop-width.width c
 pub returns-after-loop-width-clause-places : goal.returns-after-loop-width-clause-places
 returns-after-loop-width-clause-places c =
     let none : c.loop-width.width ≡ 0 = omega arith in
-    ap (λ w. places w c.loop-width.rest) none ∙ places_none c.loop-width.rest ∙ sym (ap (λ w. trimmed (places w c.loop-width.rest)) none ∙ ap trimmed (places_none c.loop-width.rest) ∙ trimmed_none) ∙ c.loop-width.invariant.same
+    ap (λ w. places w c.loop-width.rest) none ∙ places_none c.loop-width.rest ∙ sym (ap (λ w. without_end_zeros (places w c.loop-width.rest)) none ∙ ap without_end_zeros (places_none c.loop-width.rest) ∙ trimmed_none) ∙ c.loop-width.invariant.same

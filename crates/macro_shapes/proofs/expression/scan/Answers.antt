@@ -1,4 +1,4 @@
-use Rattle.macro_shapes.proofs.Common.{◌≡◌, ◌-◌, ◌∙◌, take, drop, sym, ap, None, Some, arith, lookup, step, finished}
+use Rattle.macro_shapes.proofs.Common.{◌≡◌, ◌-◌, ◌∙◌, take, drop, sym, ap, None, Some, arith, lookup, step, final_value}
 use Rattle.macro_shapes.specs.Inner.State.{state}
 use Rattle.macro_shapes.proofs.ScanLemmas.{byte_on, sign_on, sign_fails, text_ends, slice_is, rest_is}
 use Rattle.macro_shapes.proofs.expression.scan.Goals as goal
@@ -35,5 +35,5 @@ returns c =
     let variables = lookup c.args.variables.now in
     let s = state c.loop-i.reading in
     c.finish.ensures
-    ∙ (ap (finished variables s) (rest_is c.args.text.now c.loop-i.begin c.loop-i.i c.loop-i-test.false)
+    ∙ (ap (final_value variables s) (rest_is c.args.text.now c.loop-i.begin c.loop-i.i c.loop-i-test.false)
     ∙ (sym (text_ends variables s c.args.text.now c.loop-i.begin c.loop-i.i c.loop-i-test.false) ∙ c.loop-i.invariant.same))

@@ -1,35 +1,39 @@
-use Rattle.package_check.proofs.Common.{◌∙◌, ap, refl, subst, sym, ◌&&◌, ◌+◌, ◌++◌, ℕ, List, [], ltb, map, FileView, Setting, layer_count, file_view, TakesThose, setting_of, is_kind_at, Profile, PackageReader}
-use Rattle.package_check.proofs.PiecesLemmas.{joined_one}
+use Rattle.package_check.proofs.Common.{◌≡◌, ◌∙◌, ap, refl, subst, sym, true, false, ◌&&◌, ◌+◌, ltb, map, count_by, Setting, is_copper, is_kind, TakesThose, setting_of, is_kind_at, Profile, PackageReader}
 use Rattle.package_check.proofs.TakeSteps.{kind_all, kind_left, kind_none, kind_taken}
 use Rattle.package_check.proofs.package.take_kind.Goals as goal
-use Rattle.package_check.proofs.package.take_kind.Goals.{then-is_kind+in_ok-take, else-is_kind}
+use Rattle.package_check.proofs.package.take_kind.Goals.{then-is_kind+in_ok-give, else-is_kind}
 
 pub loop-index-init : goal.loop-index-init
-loop-index-init c = record { setting = refl; takes = λ profile same. kind_none (file_view (record { layers = layer_count c.args.files.now; profile = profile })) c.args.copper c.args.files.now c.args.reader.now }
+loop-index-init g c =
+    let setting = λ (profile : Profile). let s : Setting = record { layers = count_by (λ file. is_copper (g.S.SourceFile.role_of file)) c.args.files.now; profile = profile } in s in
+    record { setting = refl; takes = λ profile same. kind_none (g.S.SourceFile.seen (setting profile)) c.args.copper c.args.files.now c.args.reader.now }
 
 pub loop-index-preserved : goal.loop-index-preserved
-loop-index-preserved c =
+loop-index-preserved g c =
     let files = c.args.files.now in
-    let seen = λ (profile : Profile). file_view (record { layers = layer_count files; profile = profile }) in
+    let setting = λ (profile : Profile). let s : Setting = record { layers = count_by (λ file. is_copper (g.S.SourceFile.role_of file)) files; profile = profile } in s in
+    let seen = λ (profile : Profile). g.S.SourceFile.seen (setting profile) in
     let k = c.loop-index.index in
     let file = c.index-files-index.result in
     let inv = c.loop-index.invariant in
     let start = c.args.reader.now in
-    let of = λ (bytes : List ℕ) (setting : Setting). let s : FileView = record { role = file.role; name = file.name.now; span = file.span; bytes = bytes; setting = setting } in s in
+    let kind = λ (profile : Profile). ap (is_kind c.args.copper) (g.met.S.SourceFile.have_roles (setting profile) file ∙ sym c.role.ensures) ∙ sym c.is_kind.ensures in
     let so_far = λ (profile : Profile) (r : PackageReader). TakesThose start r (map (seen profile) files) (λ i. ltb i (k + 1) && is_kind_at c.args.copper (map (seen profile) files) i) in
     elim c.if-is_kind.branch [
-      | then-is_kind+in_ok-take w ↦ record {
-        setting = ap setting_of w.reader-is ∙ (w.in_ok-take.ensures.setting ∙ inv.setting);
+      | then-is_kind+in_ok-give w ↦ record {
+        setting = ap setting_of w.reader-is ∙ (w.in_ok-give.ensures.setting ∙ inv.setting);
         takes = λ profile same. subst (so_far profile) (sym w.reader-is)
-            (kind_taken (seen profile) c.args.copper files start c.loop-index.reader w.take.new.self k file (of (file.bytes.now ++ []) (setting_of c.loop-index.reader)) c.loop-index-test.true c.index-files-index.is (sym c.is_kind.ensures ∙ w.if-is_kind.true)
-            (λ j. of (joined_one file.bytes.now j) ((inv.setting ∙ same) j)) (inv.takes profile same) (w.in_ok-take.ensures.stands file.name.now));
+            (kind_taken (seen profile) c.args.copper files start c.loop-index.reader w.give.new.reader k file (g.S.SourceFile.seen (setting_of c.loop-index.reader) file) c.loop-index-test.true c.index-files-index.is (kind profile ∙ w.if-is_kind.true)
+            (λ j. g.S.SourceFile.seen ((inv.setting ∙ same) j) file) (inv.takes profile same) w.in_ok-give.ensures.stands);
       }
       | else-is_kind w ↦ record {
         setting = ap setting_of w.reader-is ∙ inv.setting;
         takes = λ profile same. subst (so_far profile) (sym w.reader-is)
-            (kind_left (seen profile) c.args.copper files start c.loop-index.reader k file c.loop-index-test.true c.index-files-index.is (sym c.is_kind.ensures ∙ w.if-is_kind.false) (inv.takes profile same));
+            (kind_left (seen profile) c.args.copper files start c.loop-index.reader k file c.loop-index-test.true c.index-files-index.is (kind profile ∙ w.if-is_kind.false) (inv.takes profile same));
       }
     ]
 
 pub returns-clause-takes : goal.returns-clause-takes
-returns-clause-takes c = λ profile same. kind_all (file_view (record { layers = layer_count c.args.files.now; profile = profile })) c.args.copper c.args.files.now c.args.reader.now c.loop-index.reader c.loop-index.index c.loop-index-test.false (c.loop-index.invariant.takes profile same)
+returns-clause-takes g c = λ profile same.
+    let setting : Setting = record { layers = count_by (λ file. is_copper (g.S.SourceFile.role_of file)) c.args.files.now; profile = profile } in
+    kind_all (g.S.SourceFile.seen setting) c.args.copper c.args.files.now c.args.reader.now c.loop-index.reader c.loop-index.index c.loop-index-test.false (c.loop-index.invariant.takes profile same)

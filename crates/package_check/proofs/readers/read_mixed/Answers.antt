@@ -1,4 +1,4 @@
-use Rattle.package_check.proofs.Common.{List, Ok, subst, sym, ◌∙◌, err_from_is_err_and, mixed_in, Drilled, ReadsMixed, marked}
+use Rattle.package_check.proofs.Common.{List, Ok, subst, sym, ◌∙◌, err_from_is_err_and, mixed_in, Drilled, ReadsMixed, holes_with_platings}
 use Rattle.drill_text.specs.declared.kept.Keep.TheVariants as keep
 use Rattle.package_check.proofs.OpenFiles.{mixed_fault, mixed_read}
 use Rattle.package_check.proofs.readers.read_mixed.Goals as goal
@@ -17,4 +17,4 @@ pub returns : goal.returns
 returns c = λ profile text stands.
     let drill = c.in_ok-drill.drill in
     let read = mixed_read profile c.args.span.now text drill (c.in_ok-drill.ensures.exact_by (mixed_in profile) keep.Holes text stands) in
-    subst (λ (hs : List Drilled). ReadsMixed profile c.args.span.now text (Ok hs)) (sym (c.in_ok-holes.ensures ∙ (λ i. marked c.args.span.now ((c.deref.ensures.value ∙ c.into_plated_holes-holes.ensures.holes) i) ((c.deref-2.ensures.value ∙ c.into_plated_holes-holes.ensures.plated) i)))) read
+    subst (λ (hs : List Drilled). ReadsMixed profile c.args.span.now text (Ok hs)) (sym (c.in_ok-holes.ensures ∙ (λ i. holes_with_platings c.args.span.now ((c.deref.ensures.value ∙ c.into_plated_holes-holes.ensures.holes) i) ((c.deref-2.ensures.value ∙ c.into_plated_holes-holes.ensures.plated) i)))) read

@@ -14,7 +14,7 @@ loop-i-preserved c =
     let i = c.loop-i.i in
     let limit = c.args.limit in
     let layer = c.args.run.layer in
-    let left = c.is_hidden_on.ensures ∙ ap (λ (x : RingLack). (x.layer == layer) && not (is_shown limit i)) c.index-rings-i.is in
+    let left = c.is_on.ensures ∙ ap₂ (λ (x : RingLack) (shown : Bool). (x.layer == layer) && not shown) c.index-rings-i.is c.is_shown.ensures in
     record {
       within = omega (arith, c.loop-i.invariant.within, c.one_if-left.ensures.within);
       counted = ap₂ (λ (a b : ℕ). a + b) c.loop-i.invariant.counted (c.one_if-left.ensures.value ∙ ap (λ (b : Bool). if b then 1 else 0) left)

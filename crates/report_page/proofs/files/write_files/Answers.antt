@@ -1,5 +1,5 @@
 use Rattle.report_page.proofs.Common.{◌∙◌, ◌++◌, ℕ, List, ap, ap₂, length, map, refl, sym, take, enumerate_from, has_written_append, has_written_of_eq, FileSum, file_items, file_words, marks_all}
-use Rattle.picture.specs.Escapes.{escaped}
+use Rattle.picture.specs.Escapes.{escaped_name}
 use Rattle.report_page.proofs.RowLemmas.{file_added}
 use Rattle.report_page.proofs.files.write_files.Goals as goal
 
@@ -11,7 +11,7 @@ loop-i-preserved g c = λ plain.
     let before = c.loop-i.invariant plain in
     let written = file_items text.profile names (take i (enumerate_from 0 text.files.now)) in
     has_written_of_eq _ _ _ _ _
-    (ap₂ (λ (name : List ℕ) (file : FileSum). written ++ file_words text.profile (escaped name) file) c.name_of-name.ensures c.index-files-i.is
+    (ap₂ (λ (name : List ℕ) (file : FileSum). written ++ file_words text.profile (escaped_name name) file) c.name_of-name.ensures c.index-files-i.is
     ∙ sym (file_added text.profile names text.files.now i c.index-files-i.result c.loop-i-test.true))
     (has_written_append _ _ _ _ _ _ before (c.in_ok-write.ensures.writes before.plain refl))
 

@@ -1,4 +1,4 @@
-use Rattle.ringcheck.proofs.Common.{Err, List, ℕ, refl, subst, IsBoard, Returns, reported, PackageFault}
+use Rattle.ringcheck.proofs.Common.{Err, List, ℕ, refl, subst, IsBoard, Returns, report_of_board, PackageFault}
 use Rattle.drawing.specs.Pages.{IsDrawn, drawing_text}
 use Rattle.layer_features.specs.declared.keep.Keep.TheVariants as keep
 use Rattle.package_check.proofs.BoardsLemmas.{reported_on}
@@ -16,7 +16,7 @@ returns-clause-answers g c all named stands =
       text = text;
       is = subst (λ (ns : List (List ℕ)). IsDrawn ns board order.outline.items order.rules text) named (rw c.as_slice-outline.ensures.value at c.in_ok-drawing.ensures);
       written = c.in_ok-write.ensures.bytes;
-      sound = λ required under none. c.passing_is_sound.ensures all required (reported required board) (reported_on all required board (reported required board) read.is.is refl) none;
+      sound = λ required under none. c.passing_is_sound.ensures all required (report_of_board required board) (reported_on all required board (report_of_board required board) read.is.is refl) none;
       passed = refl;
     }
 

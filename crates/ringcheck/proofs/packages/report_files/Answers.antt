@@ -1,4 +1,4 @@
-use Rattle.ringcheck.proofs.Common.{List, ℕ, subst, sym, file_limit, within, HasRisen, setting_in, sources, given, IsFewer, Judges, PrintsReport, asks_wide}
+use Rattle.ringcheck.proofs.Common.{List, ℕ, subst, sym, file_limit, within, HasRisen, setting_in, sources, given_waivers, IsFewer, Judges, PrintsReport, asks_wide}
 use Rattle.ringcheck.proofs.LoadSteps.{read_in}
 use Rattle.ringcheck.proofs.Outcomes.{named, refused_among}
 use Rattle.ringcheck.proofs.packages.report_files.Goals as goal
@@ -32,7 +32,7 @@ returns-clause-answers g c listed names =
         program = c.particulars-about.ensures.program;
         is_fewer = subst (λ (n : ℕ). IsFewer (asks_wide options.format options.rules report) all report n) (sym c.particulars-about.ensures.fewer) fewer;
         accepted = accepted;
-        judged = subst (λ (ns : List (List ℕ)). Judges (given options.waivers) ns report c.in_ok-passes.passes accepted) same judged;
+        judged = subst (λ (ns : List (List ℕ)). Judges (given_waivers options.waivers) ns report c.in_ok-passes.passes accepted) same judged;
         written = subst (λ (ns : List (List ℕ)). PrintsReport options.format ns board options.outline.items report about options.limit accepted (contents c.args.out.now) (contents c.print_judged.new.out)) same written;
       },
     )

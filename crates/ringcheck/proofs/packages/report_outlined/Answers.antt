@@ -1,4 +1,4 @@
-use Rattle.ringcheck.proofs.Common.{Some, inr, IfOk-weaker, texts, SaysPackage, given, IsOutlinedReportStatus, Reports, report_style}
+use Rattle.ringcheck.proofs.Common.{Some, inr, IfOk-weaker, texts, SaysPackage, given_waivers, IsOutlinedReportStatus, Reports, report_style}
 use Rattle.ringcheck.proofs.Outcomes.{says_along}
 use Rattle.ringcheck.proofs.packages.report_outlined.Goals as goal
 
@@ -10,7 +10,7 @@ returns-in-Ok-clause-says g c =
     let after = texts g.W.Write.contents g.E.Write.contents c.run_job-in-Ok.new.to in
     let name = c.args.name.now in
     let (rules, limit, form) = c.args.named in
-    let waivers = given c.args.waivers in
+    let waivers = given_waivers c.args.waivers in
     let outline = c.in-Ok.outline.items in
     let listed = rw c.in-Ok.is at c.in_ok-outline-in-Some.ensures.loaded in
     let holds = Reports name rules limit form waivers outline before.0 after.0 in

@@ -2,7 +2,7 @@ use Rattle.std.proofs.Common.{◌≡◌, ◌≤◌, ◌*◌, ◌^◌, ◌∙◌,
 use Rattle.std.specs.Prelude.{unsigned_abs}
 use Rattle.std.specs.Int.{int_min, int_max}
 use Rattle.std.proofs.lemmas.Int.{ints}
-use Rattle.drawing.specs.Boxes.{GridExtent, joined}
+use Rattle.drawing.specs.Boxes.{GridExtent, joint_extent}
 use Rattle.drawing.proofs.extent.Extent.joined.Goals as goal
 
 same : (z : ℤ) → unsigned_abs z ≤ 2 * 10 ^ 13 → to_z w64 (of_z w64 z) ≡ z
@@ -22,4 +22,4 @@ returns c =
     let right = same c.greater.result c.greater.ensures.near ∙ (c.greater.ensures.value ∙ ap₂ int_max (same one.right near.1.0) (same two.right also.1.0)) in
     let bottom = same c.lesser-2.result c.lesser-2.ensures.near ∙ (c.lesser-2.ensures.value ∙ ap₂ int_min (same one.bottom near.1.1.0) (same two.bottom also.1.1.0)) in
     let top = same c.greater-2.result c.greater-2.ensures.near ∙ (c.greater-2.ensures.value ∙ ap₂ int_max (same one.top near.1.1.1) (same two.top also.1.1.1)) in
-    extents _ _ _ _ _ _ _ _ left right bottom top ∙ ap₂ joined c.self.view_is c.other.view_is
+    extents _ _ _ _ _ _ _ _ left right bottom top ∙ ap₂ joint_extent c.self.view_is c.other.view_is

@@ -1,4 +1,4 @@
-use Rattle.drill_text.proofs.Common.{◌≡◌, ◌≤◌, ◌+◌, ℕ, suc, false, List, [], ◌∷◌, ◌++◌, length, take, map, Some, Ok, Err, sym, ap, subst, ◌∙◌, refl, arith, append_assoc, length-append, take_at, err_from_is_err_and, IfFault, with_place, Coordinates, Settings, Hit, trimmed, ReadsLine, Keep, Progress, HasLeadingHit, bytes_of, settings_after, rule_in, Kind, checked_by, spelled_in, Holds, Refuses}
+use Rattle.drill_text.proofs.Common.{◌≡◌, ◌≤◌, ◌+◌, ℕ, suc, false, List, [], ◌∷◌, ◌++◌, length, take, map, Some, Ok, Err, sym, ap, subst, ◌∙◌, refl, arith, append_assoc, length-append, take_at, err_from_is_err_and, IfFault, with_place, Coordinates, Settings, Hit, without_end_blanks, ReadsLine, Keep, Progress, HasLeadingHit, bytes_of, settings_after, rule_in, Kind, checked_by, spelled_in, Holds, Refuses}
 use Rattle.drill_lines.specs.declared.command.Part.TheVariants as part
 use Rattle.drill_lines.specs.declared.route.Route.TheVariants as route
 use Rattle.drill_lines.proofs.RouteLemmas.{drilling_line}
@@ -17,11 +17,11 @@ prefix point len bytes h =
 
 -- the line spells the hit in each profile, and the reader of lines stays as it is
 reads_hit : (old : Progress) (point : Coordinates) (len : ℕ) (bytes : List ℕ) (leads : HasLeadingHit point len bytes) (p : Kind) (keep : Keep) (text : List ℕ) (h : Holds old p keep text) → old.state.settings.part ≡ part.Body → old.reader.route ≡ route.Free false
-    → ReadsLine (Ok (Some (Hit point))) old.reader p.profile (settings_after h.commands) (map trimmed h.lines) (trimmed leads.line)
+    → ReadsLine (Ok (Some (Hit point))) old.reader p.profile (settings_after h.commands) (map without_end_blanks h.lines) (without_end_blanks leads.line)
 reads_hit old point len bytes leads p keep text h body drilling =
     let settings = settings_are old.state p.plating h.commands h.has_read.has_read.is_state in
     let inside : (settings_after h.commands).part ≡ part.Body = ap (λ (s : Settings). s.part) (sym settings) ∙ body in
-    drilling_line old.reader p.profile (settings_after h.commands) (map trimmed h.lines) (trimmed leads.line) (Some (Hit point)) h.has_read.lines drilling (leads.spells (settings_after h.commands) inside)
+    drilling_line old.reader p.profile (settings_after h.commands) (map without_end_blanks h.lines) (without_end_blanks leads.line) (Some (Hit point)) h.has_read.lines drilling (leads.spells (settings_after h.commands) inside)
 
 -- it is judged as the hit
 judged : (old : Progress) (point : Coordinates) (len : ℕ) (bytes : List ℕ) (leads : HasLeadingHit point len bytes) (p : Kind) (keep : Keep) (text : List ℕ) (h : Holds old p keep text) → old.state.settings.part ≡ part.Body → old.reader.route ≡ route.Free false

@@ -1,5 +1,5 @@
 -- The command is gone, and the last operation is that before it.
-use Rattle.gerber_text.proofs.Common.{◌≡◌, ◌+◌, ◌≤◌, Ok, ℕ, List, [], ◌∷◌, ◌++◌, length, take, drop, unwrap_or, refl, sym, ap, ◌∙◌, arith, length-append, length-take, nil_from_length, Command, item_limit, text_command, Entries, is_plotting, placed, spelled_in}
+use Rattle.gerber_text.proofs.Common.{◌≡◌, ◌+◌, ◌≤◌, Ok, ℕ, List, [], ◌∷◌, ◌++◌, length, take, drop, unwrap_or, refl, sym, ap, ◌∙◌, arith, length-append, length-take, nil_from_length, Command, item_limit, text_command, Entries, is_plotting, item_entries, spelled_in}
 use Rattle.gerber_text.proofs.LeadingTextLemmas.{plots_no, text_item}
 use Rattle.gerber_text.proofs.ReaderStepLemmas.{length-bytes_of}
 use Rattle.gerber_text.proofs.PlottingLemmas.{counted_gone, plots_on}
@@ -22,10 +22,10 @@ returns-clause-ok c none_held profile gone text h =
     let size : length item ≡ found.len = omega (arith, length-take found.len bytes, c.requires.within) in
     let short : length item ≤ item_limit = omega (arith, size, c.requires.begins.short) in
     let k = takes profile text item h.items h.rest (self.items + 1) before h.splits no_rest none h.commands f.one f.kept short (omega (arith, h.count)) in
-    let added = placed (self.items + 1) self.offset whats in
+    let added = item_entries (self.items + 1) self.offset whats in
     let after = (gone ++ added) ++ self.commands.items in
     let gone_on : before ++ added ≡ after = counted_gone gone self.commands.items added none_held in
-    let said : spelled_in profile (self.items + 1) (length text) item before ≡ Ok after = spelled_ok profile (self.items + 1) (length text) item before whats short (f.parses profile (is_plotting before)) ∙ (ap (λ b. Ok (before ++ placed (self.items + 1) b whats)) (sym h.offset) ∙ ap (λ (x : Entries). Ok x) gone_on) in
+    let said : spelled_in profile (self.items + 1) (length text) item before ≡ Ok after = spelled_ok profile (self.items + 1) (length text) item before whats short (f.parses profile (is_plotting before)) ∙ (ap (λ b. Ok (before ++ item_entries (self.items + 1) b whats)) (sym h.offset) ∙ ap (λ (x : Entries). Ok x) gone_on) in
     record {
       items = h.items ++ k.last ∷ [];
       rest = [];

@@ -1,4 +1,4 @@
-use Rattle.gerber_text.proofs.Common.{◌+◌, [], ◌∷◌, ◌++◌, take, drop, subst, arith, text_command, Holds, placed}
+use Rattle.gerber_text.proofs.Common.{◌+◌, [], ◌∷◌, ◌++◌, take, drop, subst, arith, text_command, Holds, item_entries}
 use Rattle.gerber_text.proofs.ShowsLemmas.{two_takes}
 use Rattle.gerber_text.proofs.reader.Progress.pass_text.Goals as goal
 
@@ -13,5 +13,5 @@ returns-clause-some c none_held profile gone text h =
     let self = c.args.self.now in
     let bytes = c.args.bytes.now in
     let item = c.in_ok-item.item in
-    let more = gone ++ placed (self.items + 1) self.offset (text_command item.kind (take item.text_len (drop 3 bytes)) ∷ []) in
+    let more = gone ++ item_entries (self.items + 1) self.offset (text_command item.kind (take item.text_len (drop 3 bytes)) ∷ []) in
     subst (Holds c.skip_breaks.new.self profile more) (two_takes text bytes item.len c.skip_breaks.result) (c.skip_breaks.ensures.ok profile more _ (c.count_text.ensures.ok none_held profile gone text h))

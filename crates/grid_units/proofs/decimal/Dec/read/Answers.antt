@@ -2,7 +2,7 @@ use Rattle.std.proofs.Common.{◌≡◌, ℕ, ℤ, pos, ◌≤◌, ◌^◌, ◌+
 use Rattle.std.specs.Prelude.{neg_ℤ}
 use Rattle.std.specs.List.{list_all}
 use Rattle.std.proofs.lemmas.Bool.{le-ltb}
-use Rattle.grid_units.specs.Numbers.{is_digit, value, whole, fraction, is_decimal, fits_eight_decimals, signed, to_units, value_without_point}
+use Rattle.grid_units.specs.Numbers.{is_digit, value, whole, fraction, is_decimal, fits_eight_decimals, signed_value, to_units, value_without_point}
 use Rattle.grid_units.proofs.DigitLemmas.{parse_decimal_ok, read_value, signed_equation, to_units_exact}
 use Rattle.grid_units.proofs.decimal.Dec.read.Goals as goal
 
@@ -19,7 +19,7 @@ coarse c = sym c.fits_eight_decimals.ensures ∙ c.if-not-fits_eight_decimals.fa
 small : (c : goal.After-signed) → c.capped_value-whole.result ≡ value c.split_at_point.result.0.now
 small c = omega (arith, c.capped_value-whole.ensures, c.if-whole-gt999999.false)
 
-read : (c : goal.After-signed) → c.signed.result ≡ signed c.args.text.now (to_units (value_without_point c.args.text.now) (length (fraction c.args.text.now)))
+read : (c : goal.After-signed) → c.signed.result ≡ signed_value c.args.text.now (to_units (value_without_point c.args.text.now) (length (fraction c.args.text.now)))
 read c =
     c.signed.ensures
     ∙ (λ i. cond (c.is_negative.ensures i) (neg_ℤ (pos (c.units_of.ensures.value i))) (pos (c.units_of.ensures.value i)))

@@ -16,8 +16,6 @@ returns c keep taken commands met own =
     }) (record {
       draw = c.set_point.ensures o.action o.i o.j ∙ (λ k. after_command (command.Operate o.action (c.get.ensures k) (c.get-2.ensures k) o.i o.j) (draw_state added.pencil));
       parts = c.in_ok-add_operation.ensures;
-      mirroring = refl;
-      block = refl;
       regions = refl;
       clearing = refl;
       kept = refl;

@@ -6,8 +6,6 @@ pub returns-clause-state : goal.returns-clause-state
 returns-clause-state c = record {
   rest = λ i. record {
     draw = c.in_ok-take.ensures i;
-    mirroring = c.mirroring_after-self.ensures i;
-    block = c.block_after-self.ensures i;
     parts = parts_after c.args.command.now (draw_state c.args.self.now.pencil) c.args.self.now.parts.items;
     regions = c.regions_after-self.ensures i;
     clearing = c.after_command-self.ensures i;

@@ -6,8 +6,6 @@ use Rattle.layer_features.proofs.copper.Copper.new.Goals as goal
 pub returns : goal.returns
 returns c = none_met c.args.keep _ (λ i. record {
   draw = c.new-pencil.ensures i;
-  mirroring = c.none-mirroring.ensures i;
-  block = c.no_repeat-block.ensures i;
   parts = c.new-parts.ensures.items i;
   regions = 0;
   clearing = c.none-clearing.ensures i;

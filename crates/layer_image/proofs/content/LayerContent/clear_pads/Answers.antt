@@ -1,4 +1,6 @@
-use Rattle.layer_image.proofs.Common.{subst, sym, HasContent, HasMetLegal, HasScannedFor, standing_in, LayerContent}
+-- The pads that are held are dropped, and the judge stays as it is.
+use Rattle.layer_image.proofs.Common.{subst, sym, HasContent, HasMetLegal, HasScannedFor, standing_in, without_places, LayerContent}
+use Rattle.layer_image.specs.declared.met.Met.{Met}
 use Rattle.layer_image.proofs.ContentLemmas.{flashes_taken}
 use Rattle.layer_image.proofs.content.LayerContent.clear_pads.Goals as goal
 
@@ -11,4 +13,6 @@ returns-in-Flashes-clause-gone c = λ profile keep taken before h.
 pub returns-in-Features-clause-gone : goal.returns-in-Features-clause-gone
 returns-in-Features-clause-gone c = λ profile keep taken before h.
     let was = subst (λ (l : LayerContent). HasContent profile keep taken l before) c.in-Features.is h in
-    (was.0, subst (λ (l : LayerContent). HasMetLegal keep (standing_in l taken) c.clear_pads-in-Features.new.self before) (sym c.in-Features.is) (c.clear_pads-in-Features.ensures.gone keep taken before was.1))
+    let old = c.in-Features.met in
+    let new : Met = record { alloc = old.alloc; scan = old.scan; copper = c.clear_pads-in-Features.new.self } in
+    (was.0, subst (λ (l : LayerContent). HasMetLegal keep (standing_in l taken) new before) (sym c.in-Features.is) (record { scanned = was.1.scanned; copper = c.clear_pads-in-Features.ensures.gone keep taken (without_places before) was.1.copper }))

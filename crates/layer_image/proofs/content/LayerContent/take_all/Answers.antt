@@ -1,4 +1,4 @@
-use Rattle.layer_image.proofs.Common.{◌++◌, subst, passed_entries, without_pads, HasContent, LayerContent}
+use Rattle.layer_image.proofs.Common.{◌++◌, subst, without_pads, HasContent, LayerContent}
 use Rattle.layer_image.proofs.ContentLemmas.{and_on, flashes_on}
 use Rattle.layer_image.proofs.content.LayerContent.take_all.Goals as goal
 

@@ -1,5 +1,5 @@
 -- The operation is judged, and its commands are gone.
-use Rattle.layer_image.proofs.Common.{◌≡◌, ◌++◌, sym, ap, subst, ◌∙◌, err_from_is_err_and, WordReader, StandsIn, held, passed_entries, keeps_commands}
+use Rattle.layer_image.proofs.Common.{◌≡◌, ◌++◌, sym, ap, subst, ◌∙◌, err_from_is_err_and, WordReader, StandsIn, held_entries, passed_entries, keeps_commands}
 use Rattle.layer_image.proofs.Pieces.{gone_shown, none_kept}
 use Rattle.layer_image.proofs.reader.LayerReader.take_leading.Goals as goal
 
@@ -34,7 +34,7 @@ returns-in-None-clause-err c profile keep taken text h =
       same_profile = h.same_profile;
       gone = h.gone;
       words = subst (λ (w : WordReader). StandsIn w profile h.gone text) (sym same) h.words;
-      none = ap held same ∙ h.none;
+      none = ap held_entries same ∙ h.none;
       content = h.content;
       kept = h.kept;
     })
@@ -48,7 +48,7 @@ returns-in-None-clause-ok c profile keep taken text h =
       same_profile = h.same_profile;
       gone = h.gone;
       words = subst (λ (w : WordReader). StandsIn w profile h.gone text) (sym same) h.words;
-      none = ap held same ∙ h.none;
+      none = ap held_entries same ∙ h.none;
       content = h.content;
       kept = h.kept;
     })

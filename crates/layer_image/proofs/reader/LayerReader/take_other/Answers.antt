@@ -1,5 +1,5 @@
 -- The text is met, and its command is gone.
-use Rattle.layer_image.proofs.Common.{◌≡◌, ℕ, List, [], ◌∷◌, ◌++◌, sym, ap, subst, ◌∙◌, WordReader, StandsIn, held, passed_text, text_entries, keeps_commands, text_command, placed, HasContent}
+use Rattle.layer_image.proofs.Common.{◌≡◌, ℕ, List, [], ◌∷◌, ◌++◌, sym, ap, subst, ◌∙◌, WordReader, StandsIn, held_entries, passed_text, text_entries, keeps_commands, text_command, item_entries, HasContent}
 use Rattle.layer_image.proofs.Pieces.{none_kept}
 use Rattle.layer_image.proofs.reader.LayerReader.take_other.Goals as goal
 
@@ -14,7 +14,7 @@ returns-in_ok-text-in-Some-clause-ok c profile keep taken text h =
       gone = gone;
       words = c.in-Some.ensures.some h.none profile h.gone text h.words;
       none = c.pass_text.ensures.held ∙ h.none;
-      content = subst (λ (t : List ℕ). HasContent profile keep taken c.text.new.self (h.gone ++ placed passed.place passed.byte (text_command passed.item.kind t ∷ []))) c.text_in.ensures (c.in_ok-text-in-Some.ensures profile keep taken h.gone passed.place passed.byte h.content);
+      content = subst (λ (t : List ℕ). HasContent profile keep taken c.text.new.self (h.gone ++ item_entries passed.place passed.byte (text_command passed.item.kind t ∷ []))) c.text_in.ensures (c.in_ok-text-in-Some.ensures profile keep taken h.gone passed.place passed.byte h.content);
       kept = h.kept ∙ none_kept (keeps_commands keep) h.gone gone (ap keeps_commands (sym h.same) ∙ c.requires.dropped);
     }
 
@@ -28,7 +28,7 @@ returns-in-None-clause-err c profile keep taken text h =
       same_profile = h.same_profile;
       gone = h.gone;
       words = subst (λ (w : WordReader). StandsIn w profile h.gone text) (sym same) h.words;
-      none = ap held same ∙ h.none;
+      none = ap held_entries same ∙ h.none;
       content = h.content;
       kept = h.kept;
     })
@@ -42,7 +42,7 @@ returns-in-None-clause-ok c profile keep taken text h =
       same_profile = h.same_profile;
       gone = h.gone;
       words = subst (λ (w : WordReader). StandsIn w profile h.gone text) (sym same) h.words;
-      none = ap held same ∙ h.none;
+      none = ap held_entries same ∙ h.none;
       content = h.content;
       kept = h.kept;
     })

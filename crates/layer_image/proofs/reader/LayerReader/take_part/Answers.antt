@@ -1,5 +1,5 @@
 -- The rule's fault comes before the fault of the item that these bytes end, and where there is none the commands are met and gone.
-use Rattle.layer_image.proofs.Common.{◌++◌, [], cond, sym, subst, ◌∙◌, take, err_from_is_err_and, Entries, held, LayerContent, HasContent, keeps_commands}
+use Rattle.layer_image.proofs.Common.{◌++◌, [], cond, sym, subst, ◌∙◌, take, err_from_is_err_and, Entries, held_entries, LayerContent, HasContent, keeps_commands}
 use Rattle.layer_state.proofs.KeptFlashesLemmas.{kept_append}
 use Rattle.layer_image.proofs.Pieces.{legal_content, part_shown, words_shown}
 use Rattle.layer_image.proofs.reader.LayerReader.take_part.Goals as goal
@@ -20,7 +20,7 @@ returns-in_err-len-clause-err c profile keep taken text h =
 
 pub returns-clause-ok : goal.returns-clause-ok
 returns-clause-ok c profile keep taken text h =
-    let now = held c.feed_part-outcome.new.self in
+    let now = held_entries c.feed_part-outcome.new.self in
     let content = subst (λ (x : Entries). HasContent profile keep taken c.take_all.new.self (h.gone ++ x)) c.commands.ensures.held (c.in_ok-take_all.ensures.ok profile keep taken h.gone h.content) in
     record {
       sound = c.in_ok-keep_commands.ensures.failed ∙ h.sound;

@@ -1,5 +1,5 @@
 -- The fast path shows that no rule applies, and what the flash leaves.
-use Rattle.layer_state.proofs.Common.{arith, rules, ◌≡◌, ℤ, Option, unwrap_or, FitsSigned, to_z, of_z, nat_le, unsigned_abs, ap, sym, ◌∙◌, to_z-of_z, w64, GridPoint, point_of, flash_count, state_of, moved}
+use Rattle.layer_state.proofs.Common.{arith, rules, ◌≡◌, ℤ, Option, unwrap_or, FitsSigned, to_z, of_z, nat_le, unsigned_abs, ap, sym, ◌∙◌, to_z-of_z, w64, GridPoint, point_of, flash_count, state_of, moved_what}
 use Rattle.layer_state.proofs.FastOperations.{flash_is_legal}
 use Rattle.layer_state.proofs.cached.CachedState.flash.Goals as goal
 
@@ -22,4 +22,4 @@ returns c =
     (ap (λ n. nat_le (unsigned_abs n) l.limit) (sym across) ∙ sym c.has.ensures ∙ c.if-not-has.false)
     (ap (λ n. nat_le (unsigned_abs n) l.limit) (sym up) ∙ sym c.has-else-not-has.ensures ∙ c.if-not-has-2.false)
     (sym c.has-2.ensures ∙ c.if-not-has-3.false) (sym c.has-else-not-has-3.ensures ∙ c.if-not-has-4.false)
-    (λ k. record { at = at k; what = (c.at.ensures ∙ ap (λ (p : GridPoint). moved p cached.cached.what) at) k })
+    (λ k. record { at = at k; what = (c.at.ensures ∙ ap (λ (p : GridPoint). moved_what p cached.cached.what) at) k })

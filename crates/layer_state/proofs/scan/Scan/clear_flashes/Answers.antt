@@ -1,5 +1,10 @@
-use Rattle.layer_state.proofs.Common.{without_places}
+use Rattle.layer_state.proofs.Common.{flashes_of, without_places}
 use Rattle.layer_state.proofs.scan.Scan.clear_flashes.Goals as goal
 
 pub returns-clause-gone : goal.returns-clause-gone
-returns-clause-gone c parts before h = record { met = record { is_state = c.clear_flashes.ensures.gone parts (without_places before) h.met.is_state; named = h.met.named }; legal = h.legal }
+returns-clause-gone c parts before h =
+    let state = h.met.is_state in
+    record {
+      met = record { is_state = record { state_after = state.state_after; flashes = c.clear_flashes.ensures.gone parts (flashes_of (without_places before)) state.flashes }; named = h.met.named };
+      legal = h.legal;
+    }

@@ -13,8 +13,8 @@ operate-requires-clause-few c =
     rw (c.get-in-Operate.ensures, c.get-in-Operate-2.ensures) (few_flashes (state_of c.args.self.now) (flash_count c.args.self.now.flashes) c.in-Operate.action c.in-Operate.x c.in-Operate.y c.in-Operate.i c.in-Operate.j
     (subst (λ (x : Command). makes_too_many_flashes (state_of c.args.self.now) (flash_count c.args.self.now.flashes) x ≡ false) c.in-Operate.is (not_too_many (state_of c.args.self.now) (flash_count c.args.self.now.flashes) c.args.command.now c.requires)))
 
-pub define-requires : goal.define-requires
-define-requires c =
+pub aperture_of-requires : goal.aperture_of-requires
+aperture_of-requires c =
     rw c.get.ensures (subst (λ (x : Command). sets_bad_size x ≡ false) c.in-Define.is (sizes_in_range (state_of c.args.self.now) (flash_count c.args.self.now.flashes) c.args.command.now c.requires))
 
 pub returns-in_ok-operate-in-Operate : goal.returns-in_ok-operate-in-Operate

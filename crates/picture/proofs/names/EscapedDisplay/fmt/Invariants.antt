@@ -1,4 +1,4 @@
-use Rattle.picture.proofs.Common.{◌≡◌, ◌++◌, ℕ, List, HasWritten, IsPlainFormatter, escaped, escaped_after}
+use Rattle.picture.proofs.Common.{◌≡◌, ◌++◌, ℕ, List, HasWritten, IsPlainFormatter, escaped_name, escaped_after}
 use Rattle.std.specs.Str.Iter.{chars_rest}
 use Rattle.picture.proofs.names.EscapedDisplay.fmt.Given as goal
 
@@ -6,4 +6,4 @@ use Rattle.picture.proofs.names.EscapedDisplay.fmt.Given as goal
 abbrev pub invariant-loop-character : goal.invariant-loop-character
 invariant-loop-character g l =
     IsPlainFormatter l.initial.f
-    → (done : List ℕ) × (first : ℕ) × (second : ℕ) × HasWritten g.W.Write.write_str_gives l.initial.f done l.f × (done ++ escaped_after first second (chars_rest l.character-iterator) ≡ escaped l.fn.self.0.now)
+    → (done : List ℕ) × (first : ℕ) × (second : ℕ) × HasWritten g.W.Write.write_str_gives l.initial.f done l.f × (done ++ escaped_after first second (chars_rest l.character-iterator) ≡ escaped_name l.fn.self.0.now)

@@ -15,9 +15,9 @@ gap_at-requires c =
 pub returns-then-place-rings : goal.returns-then-place-rings
 returns-then-place-rings c =
     let report = c.args.self.now.report.now in
-    subst HasNumbers (c.ring_at.ensures ∙ found_ring report.layers.items report.rings.items report.gaps.items c.args.self.now.accepted.now.rings.now c.args.self.now.accepted.now.gaps.now c.args.place (omega arith)) c.ring_numbers.ensures
+    subst HasNumbers (c.ring_at.ensures ∙ found_ring report.layers.items report.rings.items report.gaps.items c.args.self.now.accepted.now.rings.now c.args.self.now.accepted.now.gaps.now c.args.place (omega arith)) c.numbers.ensures
 
 pub returns-else-place-rings : goal.returns-else-place-rings
 returns-else-place-rings c =
     let report = c.args.self.now.report.now in
-    subst HasNumbers (c.gap_at.ensures ∙ found_gap report.layers.items report.rings.items report.gaps.items c.args.self.now.accepted.now.rings.now c.args.self.now.accepted.now.gaps.now c.args.place c.ring_count-rings.result c.ring_count-rings.ensures.value (omega arith)) c.gap_numbers.ensures
+    subst HasNumbers (c.gap_at.ensures ∙ found_gap report.layers.items report.rings.items report.gaps.items c.args.self.now.accepted.now.rings.now c.args.self.now.accepted.now.gaps.now c.args.place c.ring_count-rings.result c.ring_count-rings.ensures.value (omega arith)) c.numbers-else-place-rings.ensures

@@ -17,11 +17,11 @@ returns-then-place-rings g c = λ plain ok.
     let report = c.args.self.now.report.now in
     has_written_of_eq _ _ _ _ _
     (ap value_text (c.ring_at.ensures ∙ found_ring report.layers.items report.rings.items report.gaps.items c.args.self.now.accepted.now.rings.now c.args.self.now.accepted.now.gaps.now c.args.place (omega arith)))
-    (c.write.ensures.writes plain ok)
+    (c.write.ensures plain ok)
 
 pub returns-else-place-rings : goal.returns-else-place-rings
 returns-else-place-rings g c = λ plain ok.
     let report = c.args.self.now.report.now in
     has_written_of_eq _ _ _ _ _
     (ap value_text (c.gap_at.ensures ∙ found_gap report.layers.items report.rings.items report.gaps.items c.args.self.now.accepted.now.rings.now c.args.self.now.accepted.now.gaps.now c.args.place c.ring_count-rings.result c.ring_count-rings.ensures.value (omega arith)))
-    (c.write-else-place-rings.ensures.writes plain ok)
+    (c.write-else-place-rings.ensures plain ok)

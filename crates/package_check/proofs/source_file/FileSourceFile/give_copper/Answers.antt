@@ -1,0 +1,12 @@
+use Rattle.package_check.proofs.Common.{FileView, OnOk, TakesCopper, subst, sym}
+use Rattle.package_check.specs.CheckViews.{setting_of}
+use Rattle.package_check.proofs.FileKinds.{role_copper}
+use Rattle.package_check.proofs.PiecesLemmas.{joined_one}
+use Rattle.package_check.proofs.source_file.FileSourceFile.give_copper.Goals as goal
+
+pub returns-clause-stands : goal.returns-clause-stands
+returns-clause-stands c = λ copper.
+    let file = c.args.self.now in
+    subst (λ (source : FileView). OnOk c.take.result (TakesCopper c.args.check.now c.take.new.self c.args.index c.args.layer source))
+    (λ j. let s : FileView = record { role = sym (role_copper file.role copper) j; name = file.name.now; span = file.span; bytes = joined_one file.bytes.now j; setting = setting_of c.args.check.now } in s)
+    (c.take.ensures.stands file.name.now)

@@ -1,0 +1,6 @@
+use Rattle.print_json.proofs.Common.{append_assoc, has_written_of_eq, escape_byte, gap_value}
+use Rattle.print_json.proofs.findings.GapJsonValue.write.Goals as goal
+
+pub returns : goal.returns
+unfolding gap_value escape_byte
+returns g c = λ plain ok. has_written_of_eq _ _ _ _ _ (simp append_assoc) (c.write.ensures.writes plain ok)
