@@ -8,7 +8,5 @@ pub mod UnitMistakeLinesLemmas
 pub mod LayerBestsLemmas
 pub mod FilesWithHolesLemmas
 pub mod LayerLinesLemmas
-pub mod MatchedRows
 pub mod AddedEntries
-pub mod AgreementLemmas
 pub mod BestPads

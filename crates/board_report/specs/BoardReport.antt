@@ -1,9 +1,7 @@
 -- The report on a package: each finding of its check with its place, its cause and its figures. Lengths are whole picometres.
-use Rattle.std.specs.Prelude.{◌≡◌, ◌⊎◌, ℕ, pos, ◌+◌, ◌-◌, ◌-ℤ◌, Bool, not, List, [], length, get_or, map, count_by, Option, Some, None, if◌then◌else◌}
+use Rattle.std.specs.Prelude.{◌≡◌, ℕ, pos, ◌-◌, ◌-ℤ◌, Bool, true, false, not, List, [], get_or, map, count_by, Option, Some, None, if◌then◌else◌}
 use Rattle.std.specs.List.{AllZip, enumerate_from, filter, filter_map}
 use Rattle.grid_units.specs.Holes.{GridRules}
-use Rattle.grid_units.specs.declared.fault.Fault.{Fault}
-use Rattle.grid_units.specs.declared.profile.Profile.TheVariants.{Strict, Wide}
 use Rattle.pad_shapes.specs.declared.wide_pad.WidePad.{WidePad}
 use Rattle.pad_shapes.specs.declared.row.FeatureRow.{FeatureRow}
 use Rattle.ring_rules.specs.Places.{hole_at}
@@ -12,20 +10,13 @@ use Rattle.ring_rules.specs.declared.finding.Finding.{Finding}
 use Rattle.ring_rules.specs.declared.finding.Finding.TheVariants.{Gap, Oblique, Ring}
 use Rattle.board.specs.Gaps.{IsGap}
 use Rattle.board.specs.Meets.{needs_ring}
-use Rattle.layer_features.specs.Features.{pads_of, rows_of}
-use Rattle.layer_features.specs.declared.feature.Feature.{Feature}
 use Rattle.board.specs.Boards.{BoardView, board_findings}
-use Rattle.package_check.specs.Boards.{IsFlashedBoard}
-use Rattle.package_check.specs.Package.{FileView, IsFirstRefused, IsReport}
-use Rattle.package_check.specs.Reports.{ReportView}
-use Rattle.package_check.specs.Soundness.{IsSound}
-use Rattle.package_check.specs.WiderProfile.{in_wide, is_gap, read_in}
 use Rattle.board.specs.declared.FileSum.{FileSum}
 use Rattle.board.specs.declared.FileSum.TheVariants as sum
 use Rattle.board_report.specs.Measures.{IsMeasure}
 use Rattle.board_report.specs.Rows.{IsPlace}
 use Rattle.report.specs.declared.Measure.{Measure}
-use Rattle.report.specs.Causes.{AreMatched, IsCause, UncountedPads}
+use Rattle.report.specs.Causes.{IsCause, UncountedPads}
 use Rattle.report.specs.declared.GapLack.{GapLack}
 use Rattle.report.specs.declared.PlacedHole.{PlacedHole}
 use Rattle.report.specs.declared.LayerHead.{LayerHead}
@@ -33,6 +24,12 @@ use Rattle.report.specs.declared.RingCause.{RingCause}
 use Rattle.report.specs.declared.RingLack.{RingLack}
 use Rattle.report.specs.declared.RoleConflict.{RoleConflict}
 use Rattle.report.specs.declared.BoardReport.{BoardReport}
+
+-- whether a finding is that of a gap
+abbrev pub is_gap : Finding → Bool
+is_gap (Ring layer hole) = false
+is_gap (Oblique layer hole) = false
+is_gap (Gap first second) = true
 
 -- a finding of a ring, not of a gap
 abbrev pub is_of_ring : Finding → Bool
@@ -52,10 +49,6 @@ layer_uncounted board layer = record {
   macros = get_or board.macros (get_or board.layer_indexes layer 0) [];
   contours = get_or board.contours (get_or board.layer_indexes layer 0) [];
 }
-
--- the rows of the flashes and contours of a layer belong together with its pads: as many rows are pads as there are pads
-abbrev pub RowsAreMatched : Type 0
-RowsAreMatched = (features : List Feature) → AreMatched (rows_of features) (pads_of features)
 
 -- a hole of a board, by its place in the list of all holes: the index of its drill file, its number there from 1, and the hole itself
 pub record IsPlacedHole (board : BoardView) (place : ℕ) (at : PlacedHole) : Type 0 where
@@ -113,52 +106,3 @@ pub record IsBoardReport (required : GridRules) (board : BoardView) (output : Bo
   pub scales : output.scales.items ≡ measure.scales.items
   pub conflicts : output.conflicts.items ≡ filter_map conflict_in (enumerate_from 0 board.files)
   pub meets : output.meets ≡ measure.meets
-
--- the report on a package: that on the board of its files, with their rows
-pub record IsBoardReportOf (sources : List FileView) (required : GridRules) (output : BoardReport) : Type 0 where
-  pub board : BoardView
-  pub read : IsFlashedBoard sources board
-  pub is : IsBoardReport required board output
-
--- an entry has the drill file and the number of the hole at a place in the list of all holes
-abbrev pub MatchesHole : List FileSum → ℕ → PlacedHole → Type 0
-MatchesHole files hole at = IsPlace files hole (at.place)
-
--- an entry is that of a finding of a ring: it has the finding's layer and hole
-abbrev pub MatchesRing : List FileSum → Finding → RingLack → Type 0
-MatchesRing files (Ring layer hole) output = (output.layer ≡ layer) × MatchesHole files hole output.at
-MatchesRing files (Oblique layer hole) output = (output.layer ≡ layer) × MatchesHole files hole output.at
-MatchesRing files (Gap first second) output = ⊥
-
--- an entry is that of a finding of a gap: it has the finding's two holes
-abbrev pub MatchesGap : List FileSum → Finding → GapLack → Type 0
-MatchesGap files (Gap first second) output = MatchesHole files first output.first × MatchesHole files second output.second
-MatchesGap files _ output = ⊥
-
--- a report agrees with the check of its package: the check reports; its findings and the entries match one for one, in order, rings and gaps
--- each by themselves, so there are as many; and a package whose report has no entry is sound
-pub record AgreesWithCheck (sources : List FileView) (required : GridRules) (output : BoardReport) : Type 0 where
-  pub reported : (report : ReportView) × IsReport sources required report
-  pub rings : (report : ReportView) → IsReport sources required report → AllZip (MatchesRing report.files) (filter is_of_ring report.findings) output.rings.items
-  pub gaps : (report : ReportView) → IsReport sources required report → AllZip (MatchesGap report.files) (filter is_gap report.findings) output.gaps.items
-  pub count : (report : ReportView) → IsReport sources required report → length report.findings ≡ length output.rings.items + length output.gaps.items
-  pub sound : output.rings.items ≡ [] → output.gaps.items ≡ [] → IsSound sources required
-
--- the report on any package agrees with its check
-abbrev pub ReportAgreesWithCheck : Type 0
-ReportAgreesWithCheck = (sources : List FileView) (required : GridRules) (output : BoardReport) → IsBoardReportOf sources required output → AgreesWithCheck sources required output
-
--- how many findings a report has
-abbrev pub finding_count : BoardReport → ℕ
-finding_count report = length report.rings.items + length report.gaps.items
-
--- how many findings of the report on some files the wide profile does not have: those that it finds fewer in the same files, or 0 where it refuses one of them
-abbrev pub FindsFewer : List FileView → BoardReport → ℕ → Type 0
-FindsFewer sources report fewer =
-    ((wide : ReportView) × IsReport (map (read_in Wide) sources) (in_wide report.rules) wide × (fewer ≡ finding_count report - length wide.findings))
-    ⊎ ((fewer ≡ 0) × ((index : ℕ) × (fault : Fault) × IsFirstRefused (map (read_in Wide) sources) index fault))
-
--- the report on a board has so many findings fewer in the wide profile, whatever files they are that the strict profile reads as the board
-abbrev pub HasFewer : BoardView → BoardReport → ℕ → Type 0
-HasFewer board report fewer =
-    (sources : List FileView) → IsFlashedBoard (map (read_in Strict) sources) board → IsBoardReport report.rules board report → FindsFewer sources report fewer

@@ -1,7 +1,6 @@
--- The measure of a package: its least rings and gap, and the rules that it meets. Lengths are whole picometres.
-use Rattle.std.specs.Prelude.{◌≡◌, ◌↔◌, ℕ, ◌<◌, Option, List, [], length, get_or, Result, Ok, Err, ⊤}
+-- The measure of a board: its least rings and gap, and the rules that it meets. Lengths are whole picometres.
+use Rattle.std.specs.Prelude.{◌≡◌, ◌↔◌, ℕ, ◌<◌, Option, List, [], length, get_or}
 use Rattle.grid_units.specs.Holes.{GridRules}
-use Rattle.grid_units.specs.declared.fault.Fault.{Fault}
 use Rattle.grid_units.specs.declared.profile.Profile.{Profile}
 use Rattle.pad_shapes.specs.WidePads.{wide_pad_covers}
 use Rattle.board.specs.BestPads.{AreBestPads}
@@ -9,11 +8,6 @@ use Rattle.board.specs.Meets.{MeetsRings, MeetsRingsInPads, MeetsGaps, allows}
 use Rattle.board.specs.declared.best.BestPad.{BestPad}
 use Rattle.board.specs.declared.met.Met.{Met}
 use Rattle.board.specs.Boards.{BoardView, board_findings}
-use Rattle.package_check.specs.Boards.{IsBoard}
-use Rattle.package_check.specs.Package.{IsFirstRefused, IsReport, FileView}
-use Rattle.package_check.specs.Reports.{ReportView}
-use Rattle.package_check.specs.declared.PackageFault.{PackageFault}
-use Rattle.package_check.specs.declared.PackageFault.TheVariants as stop
 use Rattle.board_report.specs.Rows.{AreRingLines, IsGapLine, AreUnitMistakes}
 use Rattle.report.specs.declared.Measure.{Measure}
 
@@ -25,11 +19,6 @@ AllowsRules ring gap rules = allows ring rules.ring × allows gap rules.gap
 abbrev pub BoardPasses : Profile → BoardView → Met → Met → Type 0
 BoardPasses profile board ring gap = (rules : GridRules) → rules.profile ≡ profile → (board_findings rules board ≡ []) ↔ AllowsRules ring gap rules
 
--- the files of a package can be read, whatever the rules are, and in this profile its report has no findings under just the rules that are allowed
-pub record PackagePasses (profile : Profile) (sources : List FileView) (ring gap : Met) : Type 0 where
-  pub reported : (rules : GridRules) → (report : ReportView) × IsReport sources rules report
-  pub passes : (rules : GridRules) (report : ReportView) → rules.profile ≡ profile → IsReport sources rules report → (report.findings ≡ []) ↔ AllowsRules ring gap rules
-
 -- the measure of a board in a profile: the lines of its rings, its scales and its least gap, and the greatest rules that it meets
 pub record IsMeasure (profile : Profile) (board : BoardView) (measure : Measure) : Type 0 where
   pub lines : AreRingLines profile board measure.rings.items
@@ -39,32 +28,7 @@ pub record IsMeasure (profile : Profile) (board : BoardView) (measure : Measure)
   pub held : MeetsRingsInPads wide_pad_covers profile board.layers board.holes measure.meets.in_pads
   pub gaps : MeetsGaps board.holes measure.meets.gap
 
--- the measure of a package in a profile: that of the board of its files
-pub record IsMeasureOf (profile : Profile) (sources : List FileView) (measure : Measure) : Type 0 where
-  pub board : BoardView
-  pub read : IsBoard sources board
-  pub is : IsMeasure profile board measure
-
 -- the best pad of each hole of a board, on each of its first `count` layers
 pub record AreLayerBests (board : BoardView) (count : ℕ) (bests : List (List (Option BestPad))) : Type 0 where
   pub size : length bests ≡ count
   pub each : (layer : ℕ) → layer < count → AreBestPads wide_pad_covers (get_or board.layers layer []) board.holes (get_or bests layer [])
-
--- the answer is the measure of the package, or its first file that is refused; if memory runs out nothing is claimed
-abbrev pub AnswersMeasure : Profile → List FileView → Result Measure PackageFault → Type 0
-AnswersMeasure profile sources (Ok measure) = IsMeasureOf profile sources measure
-AnswersMeasure profile sources (Err stop.Memory) = ⊤
-AnswersMeasure profile sources (Err (stop.File index fault)) = IsFirstRefused sources index fault
-
--- a package has a measure just where a check reports on it, and is refused just as by a check, unless memory runs out
-abbrev pub RefusesAlike : Result ReportView (ℕ × Fault) → Result Measure PackageFault → Type 0
-RefusesAlike (Ok report) (Ok measure) = ⊤
-RefusesAlike (Err refusal) (Ok measure) = ⊥
-RefusesAlike (Ok report) (Err stop.Memory) = ⊤
-RefusesAlike (Err refusal) (Err stop.Memory) = ⊤
-RefusesAlike (Ok report) (Err (stop.File index fault)) = ⊥
-RefusesAlike (Err refusal) (Err (stop.File index fault)) = refusal ≡ (index, fault)
-
--- in each profile a package whose files can all be read passes under just the rules that its board meets
-abbrev pub MeasuredPasses : Type 0
-MeasuredPasses = (profile : Profile) (sources : List FileView) (board : BoardView) (ring gap : Met) → IsBoard sources board → MeetsRings wide_pad_covers profile board.layers board.holes ring → MeetsGaps board.holes gap → PackagePasses profile sources ring gap

@@ -12,34 +12,15 @@ use crate::gaps::gap_lacks;
 use crate::heads::{heads, role_conflicts};
 use crate::measure::measure_of;
 use crate::rings::ring_lacks;
-use board::{BestPad, ring_findings_from_bests};
+use board::{BestPad, Board, ring_findings_from_bests};
 use grid_units::Rules;
-use package_check::Board;
 use pad_shapes::WidePad;
 use report::BoardReport;
 use ring_rules::laws::findings_name_places;
 use ring_rules::{Finding, gap_findings};
 use std::alloc::{AllocError, Global};
 
-/// The findings of a board: those of rings, by the best pads of its layers, then those of gaps.
-fn rings_and_gaps(
-    alloc: Global,
-    board: &Board,
-    bests: &[Vec<Option<BestPad>>],
-    rules: Rules,
-) -> Result<Vec<Finding>, AllocError>
-    requires { AreBoardBests board.now bests.now }
-    ensures { IfOk result (λ found. found.items ≡ board_findings rules board.now) }
-{
-    let layers = board.layers(alloc)?;
-    let holes = board.holes();
-    let mut findings = ring_findings_from_bests(alloc, &layers, holes, bests, rules)?;
-    let gaps = gap_findings(alloc, holes, rules)?;
-    findings.extend_from_slice(&gaps)?;
-    Ok(findings)
-}
-
-/// The findings of a board, by the best pads of its layers, and that they name layers and holes of the board.
+/// The findings of a board: those of rings, by the best pads of its layers, then those of gaps. They name layers and holes of the board.
 fn findings_on(
     alloc: Global,
     board: &Board,
@@ -51,7 +32,12 @@ fn findings_on(
     ensures places { IfOk result (λ found. All (NamesPlaces (length board.now.layers) (length board.now.holes)) found.items) }
 {
     findings_name_places::<WidePad>();
-    rings_and_gaps(alloc, board, bests, rules)
+    let layers = board.layers(alloc)?;
+    let holes = board.holes();
+    let mut findings = ring_findings_from_bests(alloc, &layers, holes, bests, rules)?;
+    let gaps = gap_findings(alloc, holes, rules)?;
+    findings.extend_from_slice(&gaps)?;
+    Ok(findings)
 }
 
 /// The report on a board under these rules, in the profile that they name.

@@ -1,30 +1,20 @@
 //! The entries of holes that lack their gap.
 
-ghost use Rattle.std.specs.Prelude.{◌≡◌, ◌<◌, ◌≤ℤ◌, ◌-ℤ◌, IfOk, OnOk, length, neg_ℤ, pos};
+ghost use Rattle.std.specs.Prelude.{◌<◌, IfOk, OnOk, length};
 ghost use Rattle.std.specs.List.{All, AllZip, filter};
 ghost use Rattle.ring_rules.specs.WithoutFindings.{NamesPlaces};
 ghost use Rattle.board_report.specs.Rows.{AreFilesWithHoles};
 ghost use Rattle.board_report.specs.Inner.EntriesSoFar.{AddsEntry};
 ghost use Rattle.board_report.specs.BoardReport.{IsGapEntry, IsGapEntryOf};
-ghost use Rattle.package_check.specs.WiderProfile.{is_gap};
+ghost use Rattle.board_report.specs.BoardReport.{is_gap};
 
 use crate::FileHoles;
 use crate::places::hole_at;
-use board::gap_between;
+use board::{Board, gap_between};
 use grid_units::Rules;
-use package_check::Board;
 use report::GapLack;
 use ring_rules::Finding;
 use std::alloc::{AllocError, Global};
-
-/// The required gap less this one, in pm.
-fn lack_of(rules: Rules, gap: i64) -> i64
-    requires least { neg_ℤ (pos 10000000000000) ≤ℤ gap }
-    requires most { gap ≤ℤ pos 30000000000000 }
-    ensures { result ≡ pos rules.gap -ℤ gap }
-{
-    rules.gap() - gap
-}
 
 /// The entry of two holes that lack their gap.
 fn gap_lack(
@@ -46,7 +36,7 @@ fn gap_lack(
         first,
         second,
         gap,
-        lack: lack_of(rules, gap),
+        lack: rules.gap() - gap,
     }
 }
 

@@ -1,34 +1,23 @@
 //! The layers of a board, with the number of holes that need a ring on each.
 
-ghost use Rattle.std.specs.Prelude.{◌≡◌, IfOk, count_by, map};
+ghost use Rattle.std.specs.Prelude.{◌≡◌, IfOk, map};
 ghost use Rattle.std.specs.List.{enumerate_from, filter_map};
-ghost use Rattle.board.specs.Meets.{needs_ring};
 ghost use Rattle.board_report.specs.BoardReport.{head_of, conflict_in};
 
-use board::needs_ring;
-use package_check::{Board, FileSum};
+use board::{Board, FileSum, needs_ring};
 use report::{LayerHead, RoleConflict};
 use ring_rules::Drilled;
 use std::alloc::{AllocError, Global};
 
-/// The number of holes that need a ring on a layer, by the layer's place from 0.
-fn count_needed(layer: usize, holes: &[Drilled]) -> usize
-    ensures { result ≡ count_by (needs_ring layer) holes.now }
-{
-    holes
-        .iter()
-        .filter(|drilled| needs_ring(layer, drilled))
-        .count()
-}
-
-/// The head of a layer, by its place and the index of its file.
+/// The head of a layer, by its place from 0 and the index of its file.
 fn head_of(holes: &[Drilled], layer: usize, file: usize) -> LayerHead
     ensures { result ≡ head_of holes.now (layer, file) }
 {
-    LayerHead {
-        file,
-        needed: count_needed(layer, holes),
-    }
+    let needed = holes
+        .iter()
+        .filter(|drilled| needs_ring(layer, drilled))
+        .count();
+    LayerHead { file, needed }
 }
 
 /// The heads of a board's layers.

@@ -1,27 +1,20 @@
-//! The measure of a package.
+//! The measure of a board.
 
-ghost use Rattle.std.specs.Prelude.{◌≡◌, ◌++◌, ◌∷◌, [], ℕ, Result, IfOk, OnOk, false, true, length, map};
-ghost use Rattle.grid_units.specs.Holes.{GridRules};
-ghost use Rattle.grid_units.specs.declared.fault.Fault.{Fault as TheFault};
+ghost use Rattle.std.specs.Prelude.{◌≡◌, ◌++◌, ◌∷◌, [], IfOk, OnOk, false, true, length, map};
 ghost use Rattle.pad_shapes.specs.WidePads.{wide_pad_covers};
 ghost use Rattle.board.specs.Meets.{MeetsOnLayers};
-ghost use Rattle.package_check.specs.Package.{IsAnswer, file_views_in};
-ghost use Rattle.package_check.specs.Reports.{ReportView};
-ghost use Rattle.board_report.specs.Measures.{AnswersMeasure, AreLayerBests, BoardPasses, IsMeasure, PackagePasses, RefusesAlike};
+ghost use Rattle.board_report.specs.Measures.{AreLayerBests, BoardPasses, IsMeasure};
 ghost use Rattle.board_report.specs.Rows.{AreRingLines, AreUnitMistakes};
 
-use crate::laws::measured_passes;
 use crate::places::{files_with_holes, gap_line};
 use crate::rows::push_layer_lines;
 use crate::units::unit_mistakes;
 use board::laws::{gaps_pass, rings_pass};
 use board::{
-    BestPad, RingsMet, best_pads, gap_met_of_nearest, met_with_layer, met_without_layers,
+    BestPad, Board, RingsMet, best_pads, gap_met_of_nearest, met_with_layer, met_without_layers,
     nearest_holes,
 };
 use grid_units::Profile;
-use package_check::laws::unique_answer;
-use package_check::{Board, File, Keep, PackageFault, read_package};
 use pad_shapes::WidePad;
 use report::{GapLine, Measure, Meets, RingLine, UnitMistake};
 use std::alloc::{AllocError, Global};
@@ -115,14 +108,6 @@ pub(crate) fn measure_of(
     Ok((measure, rings.bests))
 }
 
-/// The measure of a board, without best pads.
-fn measure_alone(alloc: Global, board: &Board, profile: Profile) -> Result<Measure, AllocError>
-    ensures { IfOk result (IsMeasure profile board.now) }
-{
-    let (measure, _) = measure_of(alloc, board, profile, false)?;
-    Ok(measure)
-}
-
 /// The measure of a board that was read in a profile.
 ///
 /// # Errors
@@ -134,38 +119,6 @@ pub fn measure_board(alloc: Global, board: &Board, profile: Profile) -> Result<M
 {
     rings_pass::<WidePad>();
     gaps_pass();
-    measure_alone(alloc, board, profile)
-}
-
-fn measure_files(alloc: Global, profile: Profile, files: &[File]) -> Result<Measure, PackageFault>
-    ensures { AnswersMeasure profile (file_views_in profile files.now) result }
-{
-    match read_package(alloc, profile, files, Keep::Pads) {
-        Ok(board) => match measure_board(alloc, &board, profile) {
-            Ok(measure) => Ok(measure),
-            Err(_) => Err(PackageFault::Memory),
-        },
-        Err(fault) => Err(fault),
-    }
-}
-
-/// The measure of the package of these files in a profile. A check of them in that profile has no findings under just the rules that it
-/// allows: a ring of 0 or more, and a gap of 1 pm or more.
-///
-/// # Errors
-///
-/// As those of [`package_check::check_bytes`] on these files, whatever its rules are: the first file that is refused, by its index,
-/// with its fault; `Memory` when memory runs out.
-pub fn measure_bytes(
-    alloc: Global,
-    profile: Profile,
-    files: &[File],
-) -> Result<Measure, PackageFault>
-    ensures exact { AnswersMeasure profile (file_views_in profile files.now) result }
-    ensures same { (rules : GridRules) (answer : Result ReportView (ℕ × TheFault)) → IsAnswer (file_views_in profile files.now) rules answer → RefusesAlike answer result }
-    ensures passes { IfOk result (λ measure. PackagePasses profile (file_views_in profile files.now) measure.meets.ring measure.meets.gap) }
-{
-    unique_answer();
-    measured_passes();
-    measure_files(alloc, profile, files)
+    let (measure, _) = measure_of(alloc, board, profile, false)?;
+    Ok(measure)
 }

@@ -1,14 +1,13 @@
 //! The drill file of a hole and the hole's number there, from its place in the list of all holes.
 
-ghost use Rattle.std.specs.Prelude.{◌≡◌, ◌++◌, ◌∷◌, ◌+◌, ◌<◌, ◌≤◌, [], length, IfOk, OnOk};
+ghost use Rattle.std.specs.Prelude.{◌≡◌, ◌+◌, ◌<◌, ◌≤◌, length, IfOk};
 ghost use Rattle.std.specs.List.{Contains};
-ghost use Rattle.board.specs.NearestHoles.{IsNearest, IsNearestOf, IsPair};
+ghost use Rattle.board.specs.NearestHoles.{IsNearestOf, IsPair};
 ghost use Rattle.board.specs.Boards.{BoardView, holes_before};
-ghost use Rattle.board_report.specs.Rows.{AreFilesWithHoles, IsPlace, IsGapLine, IsLeastGap};
+ghost use Rattle.board_report.specs.Rows.{AreFilesWithHoles, IsPlace, IsGapLine};
 ghost use Rattle.board_report.specs.BoardReport.{IsPlacedHole};
 
-use board::Nearest;
-use package_check::{Board, hole_count};
+use board::{Board, Nearest, hole_count};
 use report::{GapLine, HolePlace, PlacedHole};
 use std::alloc::{AllocError, Global};
 
@@ -57,17 +56,6 @@ pub fn place_of(board: &Board, hole: usize) -> HolePlace
     unreachable!()
 }
 
-/// Adds a drill file if it has holes.
-fn push_if_filled(with_holes: &mut Vec<FileHoles>, file: FileHoles) -> Result<(), AllocError>
-    ensures some { file.start < file.end → OnOk result (with_holes.new.items ≡ with_holes.old.items ++ file ∷ []) }
-    ensures none { file.end ≤ file.start → OnOk result (with_holes.new.items ≡ with_holes.old.items) }
-{
-    if file.start < file.end {
-        with_holes.push(file)?;
-    }
-    Ok(())
-}
-
 /// The drill files of a board that have holes, in order, for [`place_among`].
 ///
 /// # Errors
@@ -81,7 +69,9 @@ pub fn files_with_holes(alloc: Global, board: &Board) -> Result<Vec<FileHoles>, 
     let mut start = 0;
     for drill in 0..files.len() {
         let end = end_of(board, drill, start);
-        push_if_filled(&mut with_holes, FileHoles { drill, start, end })?;
+        if start < end {
+            with_holes.push(FileHoles { drill, start, end })?;
+        }
         start = end;
     }
     Ok(with_holes)
@@ -111,25 +101,17 @@ pub fn place_among(files: &[FileHoles], hole: usize) -> HolePlace
     }
 }
 
-/// The line of the gap between two nearest holes.
-fn line_of(board: &Board, pair: Nearest) -> GapLine
-    requires { IsNearest board.now.holes (IsPair board.now.holes) pair }
-    ensures { IsLeastGap board.now result }
-{
-    GapLine {
-        gap: pair.gap,
-        first: place_of(board, pair.first),
-        second: place_of(board, pair.second),
-    }
-}
-
 /// The line of the least gap, if there are two holes.
 pub(crate) fn gap_line(board: &Board, nearest: Option<Nearest>) -> Option<GapLine>
     requires { IsNearestOf board.now.holes (IsPair board.now.holes) nearest }
     ensures { IsGapLine board.now result }
 {
     match nearest {
-        Some(pair) => Some(line_of(board, pair)),
+        Some(pair) => Some(GapLine {
+            gap: pair.gap,
+            first: place_of(board, pair.first),
+            second: place_of(board, pair.second),
+        }),
         None => None,
     }
 }

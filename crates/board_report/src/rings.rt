@@ -1,6 +1,6 @@
 //! The entries of holes that lack their rings.
 
-ghost use Rattle.std.specs.Prelude.{◌≡◌, ◌<◌, ◌++◌, ◌∷◌, [], IfOk, IfSome, OnOk, Ok, get_or, length};
+ghost use Rattle.std.specs.Prelude.{◌≡◌, ◌<◌, ◌++◌, ◌∷◌, [], IfOk, IfSome, OnOk, Ok, length};
 ghost use Rattle.std.specs.List.{All, AllZip, filter};
 ghost use Rattle.ring_rules.specs.WithoutFindings.{NamesPlaces};
 ghost use Rattle.board_report.specs.Rows.{AreFilesWithHoles};
@@ -10,10 +10,10 @@ ghost use Rattle.board_report.specs.BoardReport.{IsRingEntry, IsRingEntryAt, is_
 
 use crate::FileHoles;
 use crate::places::hole_at;
-use board::BestPad;
+use crate::rows::layer_index;
+use board::{BestPad, Board};
 use grid_units::Rules;
-use package_check::Board;
-use pad_shapes::{FeatureRow, WidePad};
+use pad_shapes::FeatureRow;
 use report::{CauseFinder, FurtherCopper, RingLack};
 use ring_rules::Finding;
 use std::alloc::{AllocError, Global};
@@ -21,9 +21,7 @@ use std::alloc::{AllocError, Global};
 /// The data made once for a board, for all entries of its rings.
 #[derive(Drop)]
 pub(crate) struct BoardData<'a> {
-    /// The pads of each layer.
-    pub(crate) layers: &'a [&'a [WidePad]],
-    /// The best of these for each hole.
+    /// The best pad of each layer for each hole.
     pub(crate) bests: &'a [Vec<Option<BestPad>>],
     /// The drill files that have holes.
     pub(crate) files: &'a [FileHoles],
@@ -39,28 +37,18 @@ pub(crate) struct CurrentLayer {
     pub(crate) causes: CauseFinder,
 }
 
-/// The index of the file of a layer, by its place among the copper files; 0 past the last.
-fn layer_file(board: &Board, layer: usize) -> usize
-    ensures { result ≡ get_or board.now.layer_indexes layer 0 }
-{
-    match board.layer_indexes().get(layer) {
-        Some(file) => *file,
-        None => 0,
-    }
-}
-
 /// The rows of a layer.
 fn layer_rows(board: &Board, layer: usize) -> &[FeatureRow]
     ensures { result.now ≡ layer_rows board.now layer }
 {
-    board.rows_of(layer_file(board, layer))
+    board.rows_of(layer_index(board, layer))
 }
 
 /// The pads of a layer that its profile does not count.
 fn layer_uncounted(board: &Board, layer: usize) -> FurtherCopper<'_>
     ensures { uncounted_pads result ≡ layer_uncounted board.now layer }
 {
-    let file = layer_file(board, layer);
+    let file = layer_index(board, layer);
     FurtherCopper {
         macros: board.macros_of(file),
         contours: board.contours_of(file),
@@ -86,21 +74,6 @@ fn cause_finder_on(
     }
 }
 
-/// The data of a layer.
-fn load_layer(
-    alloc: Global,
-    board: &Board,
-    board_data: &BoardData,
-    layer: usize,
-) -> Result<CurrentLayer, AllocError>
-    requires { IsBoardData board.now board_data.now }
-    ensures current { IfOk result (IsCurrentLayer board.now) }
-    ensures layer { IfOk result (λ current. current.layer ≡ layer) }
-{
-    let causes = cause_finder_on(alloc, board, board_data, layer)?;
-    Ok(CurrentLayer { layer, causes })
-}
-
 /// The data of a layer: those at hand, if they are of this layer.
 fn switch_layer(
     alloc: Global,
@@ -114,16 +87,13 @@ fn switch_layer(
     ensures current { IfOk result (IsCurrentLayer board.now) }
     ensures layer { IfOk result (λ current. current.layer ≡ layer) }
 {
-    match current {
-        Some(current) => {
-            if current.layer == layer {
-                Ok(current)
-            } else {
-                load_layer(alloc, board, board_data, layer)
-            }
+    if let Some(current) = current {
+        if current.layer == layer {
+            return Ok(current);
         }
-        None => load_layer(alloc, board, board_data, layer),
     }
+    let causes = cause_finder_on(alloc, board, board_data, layer)?;
+    Ok(CurrentLayer { layer, causes })
 }
 
 /// The entry of a hole that lacks its ring, by the data of the layer.
@@ -158,22 +128,6 @@ fn add<T: Copy>(all: &mut Vec<T>, item: Result<T, AllocError>) -> Result<(), All
     Ok(())
 }
 
-/// Appends the entry of a hole that lacks its ring, by the data of the layer.
-fn push_on_layer(
-    board: &Board,
-    board_data: &BoardData,
-    current: &CurrentLayer,
-    hole: usize,
-    output: &mut Vec<RingLack>,
-) -> Result<(), AllocError>
-    requires board_data { IsBoardData board.now board_data.now }
-    requires current { IsCurrentLayer board.now current.now }
-    requires hole { hole < length board.now.holes }
-    ensures { OnOk result ((lack : RingLack) × IsRingEntryAt board.now board_data.now.rules current.now.layer hole lack × (output.new.items ≡ output.old.items ++ lack ∷ [])) }
-{
-    add(output, ring_lack(board, board_data, current, hole))
-}
-
 /// Appends the entry of a hole that lacks its ring on a layer.
 fn push_at(
     alloc: Global,
@@ -191,7 +145,7 @@ fn push_at(
     ensures adds { OnOk result ((lack : RingLack) × IsRingEntryAt board.now board_data.now.rules layer hole lack × (output.new.items ≡ output.old.items ++ lack ∷ [])) }
 {
     let current = switch_layer(alloc, board, board_data, current, layer)?;
-    push_on_layer(board, board_data, &current, hole, output)?;
+    add(output, ring_lack(board, board_data, &current, hole))?;
     Ok(Some(current))
 }
 
@@ -218,26 +172,8 @@ fn push(
     }
 }
 
-/// The entries of those findings that are of rings, in order. The data of a layer are kept until a finding names another layer.
-fn ring_lacks_of(
-    alloc: Global,
-    board: &Board,
-    board_data: &BoardData,
-    findings: &[Finding],
-) -> Result<Vec<RingLack>, AllocError>
-    requires board_data { IsBoardData board.now board_data.now }
-    requires places { All (NamesPlaces (length board.now.layers) (length board.now.holes)) findings.now }
-    ensures { IfOk result (λ output. AllZip (IsRingEntry board.now board_data.now.rules) (filter is_of_ring findings.now) output.items) }
-{
-    let mut output = Vec::new(alloc);
-    let mut current = None;
-    for finding in findings {
-        current = push(alloc, board, board_data, current, *finding, &mut output)?;
-    }
-    Ok(output)
-}
-
-/// The entries of those findings that are of rings, in order, by the best pads of each layer and the drill files that have holes.
+/// The entries of those findings that are of rings, in order, by the best pads of each layer and the drill files that have holes. The data of
+/// a layer are kept until a finding names another layer.
 pub(crate) fn ring_lacks(
     alloc: Global,
     board: &Board,
@@ -251,12 +187,15 @@ pub(crate) fn ring_lacks(
     requires places { All (NamesPlaces (length board.now.layers) (length board.now.holes)) findings.now }
     ensures { IfOk result (λ output. AllZip (IsRingEntry board.now rules) (filter is_of_ring findings.now) output.items) }
 {
-    let layers = board.layers(alloc)?;
     let board_data = BoardData {
-        layers: &layers,
         bests,
         files,
         rules,
     };
-    ring_lacks_of(alloc, board, &board_data, findings)
+    let mut output = Vec::new(alloc);
+    let mut current = None;
+    for finding in findings {
+        current = push(alloc, board, &board_data, current, *finding, &mut output)?;
+    }
+    Ok(output)
 }

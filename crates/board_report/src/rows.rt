@@ -9,9 +9,8 @@ ghost use Rattle.board_report.specs.Rows.{AreFilesWithHoles, AreRowLines, IsRowL
 ghost use Rattle.board_report.specs.Inner.Tables.{IsRowOf, IsLayerFileHoles, IsTableOf, IsNumberedLeast, FitsFile, has_radius, items_at, row_of};
 
 use crate::places::FileHoles;
-use board::{BestPad, RingRow, needs_ring, ring_row};
+use board::{BestPad, Board, RingRow, needs_ring, ring_row};
 use grid_units::Profile;
-use package_check::Board;
 use report::{LeastRing, RingLine};
 use ring_rules::Drilled;
 use std::alloc::{AllocError, Global};
@@ -79,8 +78,8 @@ fn table_of(
     Ok(table)
 }
 
-/// The index of the copper file of a layer.
-fn layer_index(board: &Board, layer: usize) -> usize
+/// The index of the file of a layer, by its place among the copper files; 0 past the last.
+pub(crate) fn layer_index(board: &Board, layer: usize) -> usize
     ensures { result ≡ get_or board.now.layer_indexes layer 0 }
 {
     board.layer_indexes().get(layer).copied().unwrap_or(0)

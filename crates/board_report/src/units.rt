@@ -8,8 +8,7 @@ ghost use Rattle.board_report.specs.Inner.Tables.{AreSearched, AreFoundMistakes,
 
 use crate::places::end_of;
 use crate::rows::LayerFileHoles;
-use board::BestPad;
-use package_check::{Board, FileSum};
+use board::{BestPad, Board, FileSum};
 use pad_shapes::WidePad;
 use report::{FileRange, UnitMistake};
 use std::alloc::{AllocError, Global};

@@ -1,5 +1,7 @@
 -- The board of a package, and its holes with their places.
-use Rattle.package_check.proofs.Common.{◌≡◌, ◌+◌, ◌++◌, ℕ, List, [], ◌∷◌, length, map, take, drop, arith, refl, sym, ap, ap₂, ◌∙◌, Bool, true, false, cond, not, flat_map, enumerate_from, count_by, sum_by, length-append, length-map, flat_map-cons, sum_by-cons, GridHole, GridRules, is_round, LayerSpan, Drawn, Drilled, Numbered, Content, wide_pad_covers, WidePad, gap_findings, ring_findings, FileCountsAddUp, BoardView, IsBoard, board_findings, board_of, hole_count, numbered_from, numbered_in, report_of_board, FileView, IsReport, holes_of_all, findings, holes_of, layer_indexes, layers, report_on, sum_of, ReportView, drilled_in}
+use Rattle.package_check.proofs.Common.{Kept, contents_in, map-append, pads_of, ◌≡◌, ◌+◌, ◌++◌, ℕ, List, [], ◌∷◌, length, map, take, drop, arith, refl, sym, ap, ap₂, ◌∙◌, Bool, true, false, cond, not, flat_map, enumerate_from, count_by, sum_by, length-append, length-map, flat_map-cons, sum_by-cons, GridHole, GridRules, is_round, LayerSpan, Drawn, Drilled, Numbered, Content, wide_pad_covers, WidePad, gap_findings, ring_findings, FileCountsAddUp, BoardView, IsBoard, board_findings, board_of, hole_count, numbered_from, numbered_in, report_of_board, FileView, IsReport, holes_of_all, findings, holes_of, layer_indexes, layers, report_on, sum_of, ReportView, drilled_in}
+use Rattle.std.proofs.lemmas.Grind.{flat_map-append}
+use Rattle.std.proofs.lemmas.List.{flat_map_more}
 use Rattle.std.proofs.Math.Seq.{take-append_seam, drop-append_seam}
 use Rattle.std.specs.Prelude.{Option}
 use Rattle.pad_shapes.specs.declared.row.FeatureRow.{FeatureRow}
@@ -36,6 +38,13 @@ all_counted (c ∷ cs) =
 pub files_counted : FileCountsAddUp
 files_counted sources board b =
     ap (λ (s : BoardView). sum_by hole_count s.files) b.is ∙ (all_counted b.contents ∙ sym (ap (λ (s : BoardView). length s.holes) b.is))
+
+-- what the file in one more slot adds to the counts of the files, and to the pads of the layers
+pub sums_more : (kept : List (Option Kept)) (slot : Option Kept) → map sum_of (flat_map contents_in kept) ++ map sum_of (contents_in slot) ≡ map sum_of (flat_map contents_in (kept ++ slot ∷ []))
+sums_more kept slot = sym (map-append sum_of (flat_map contents_in kept) (contents_in slot)) ∙ ap (map sum_of) (flat_map_more contents_in [] kept slot)
+
+pub pads_more : (kept : List (Option Kept)) (slot : Option Kept) → flat_map pads_of (flat_map contents_in kept) ++ flat_map pads_of (contents_in slot) ≡ flat_map pads_of (flat_map contents_in (kept ++ slot ∷ []))
+pads_more kept slot = sym (flat_map-append pads_of (flat_map contents_in kept) (contents_in slot)) ∙ ap (flat_map pads_of) (flat_map_more contents_in [] kept slot)
 
 -- the holes of one file with their places
 placed_from : (file : ℕ) (plated : Bool) (span : Option LayerSpan) (n : ℕ) (holes : List GridHole)

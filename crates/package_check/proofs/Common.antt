@@ -36,13 +36,14 @@ pub use Rattle.package_check.specs.HoleViews.{HolesView}
 pub use Rattle.package_check.specs.Inner.Leftovers.{AreFileStarts, AreStartsOf, LeftView, count_in, holes_in, index_in, layer_indexes_in, left_in, left_report, rings_in, sums_in}
 pub use Rattle.package_check.specs.Judging.{HasTriedIn, HasTriedPadsOf, IsLeftOf, Judges, JudgesCopper, rings_of}
 pub use Rattle.package_check.specs.OpenFiles.{HasFailed, HasOpened, HasOpenedCopper, HasReadCopper, HasReadText, copper_keep, drill_role}
-pub use Rattle.package_check.specs.Package.{BytesHaveContent, FileView, FindingsNameTheirPlaces, HasContent, HasDrillContent, HasMixedContent, HaveContents, IsAnswer, IsFirstRefused, IsReport, NamesItsPlaces, Reads, ReadsBytes, ReadsCopper, ReadsHoles, ReadsMixedHoles, ReadsUnlessBadSpan, ReturnsExactly, ReturnsReport, Setting, bad_span, holes_of_all, file_view, file_views_in, findings, holes_of, index_of, is_bad_span, is_copper, layer_count, layer_indexes, layers, not_copper, numbered_holes, pads_of, pieced_file_view, pieced_file_views, pieced_layer_count, report_on, sum_of, unnamed_file, views_in}
+pub use Rattle.package_check.specs.Package.{BytesHaveContent, FileView, FindingsNameTheirPlaces, HasContent, HasDrillContent, HasMixedContent, HaveContents, IsAnswer, IsFirstRefused, IsReport, NamesItsPlaces, Reads, ReadsBytes, ReadsCopper, ReadsHoles, ReadsMixedHoles, ReadsUnlessBadSpan, ReturnsExactly, ReturnsReport, Setting, bad_span, holes_of_all, file_view, file_views_in, findings, holes_of, index_of, is_bad_span, is_copper, layer_count, layer_indexes, layers, not_copper, numbered_holes, pads_of, pieced_file_views, report_on, sum_of, unnamed_file, views_in}
 pub use Rattle.package_check.specs.Reports.{ReportView}
 pub use Rattle.package_check.specs.Soundness.{AreDrilledBy, HolesAreSaidOnce, IsRun, IsSound, LiesAsAllowed, MakePads, PadsAreSaidOnce, PassingIsSound, SaysHoles, SaysPads, SoundIsStraight}
 pub use Rattle.package_check.specs.SoundnessAsRead.{AreLegal, IsPlatedThrough, PassingIsSoundAsRead, SoundAsReadIsSound, drilled_in}
 pub use Rattle.package_check.specs.Texts.{file_line, finding_line, last_line, name_words, report_text, rules_line, span_words, text_of}
-unfoldable pub use Rattle.package_check.specs.Texts.{drill_words, file_lines, layer_words, length_words, slot_words}
-pub use Rattle.package_check.specs.WiderProfile.{FindsNoMore, IsUncontradicted, ReadIsUncontradicted, WideFindsNoMore, is_gap, read_in}
+unfoldable pub use Rattle.package_check.specs.Texts.{drill_words, file_lines, layer_words, length_words, place_words, slot_words}
+pub use Rattle.package_check.specs.WiderProfile.{FindsNoMore, IsUncontradicted, ReadIsUncontradicted, WideFindsNoMore, read_in}
+pub use Rattle.board_report.specs.BoardReport.{is_gap}
 pub use Rattle.board.specs.declared.FileSum.{FileSum}
 pub use Rattle.board.specs.declared.Numbered.{Numbered}
 pub use Rattle.package_check.specs.declared.PackageFault.{PackageFault}

@@ -29,7 +29,7 @@ one_index n (content.Layer image) = refl
 one_index n (content.Drill plated span drill) = refl
 one_index n (content.Mixed span holes) = refl
 
-indexes_from : (n : ℕ) (contents : List Content) → flat_map index_in (enumerate_from n (map sum_of contents)) ≡ flat_map index_of (enumerate_from n contents)
+pub indexes_from : (n : ℕ) (contents : List Content) → flat_map index_in (enumerate_from n (map sum_of contents)) ≡ flat_map index_of (enumerate_from n contents)
 indexes_from n [] = refl
 indexes_from n (c ∷ cs) =
     flat_map-cons index_in (n, sum_of c) (enumerate_from (n + 1) (map sum_of cs))

@@ -32,3 +32,7 @@ pub mod WiderFindings
 mod WiderContents
 mod WideBoards
 pub mod Uncontradicted
+pub mod AgreementLemmas
+pub mod MatchedRows
+pub mod MeasuredLemmas
+pub mod LayerFiles

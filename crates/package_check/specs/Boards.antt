@@ -72,6 +72,10 @@ pub record IsDrawnBoard (sources : List FileView) (board : BoardView) : Type 0 w
 abbrev pub FileCountsAddUp : Type 0
 FileCountsAddUp = (sources : List FileView) (board : BoardView) → IsBoard sources board → CountsAddUp board.files board.holes
 
+-- the board of a package has a copper file for each layer
+abbrev pub LayersHaveFiles : Type 0
+LayersHaveFiles = (sources : List FileView) (board : BoardView) → IsBoard sources board → length board.layers ≡ length board.layer_indexes
+
 -- the report on a board under these rules
 abbrev pub report_of_board : GridRules → BoardView → ReportView
 report_of_board rules board = record {

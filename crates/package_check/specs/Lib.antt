@@ -15,3 +15,5 @@ pub mod CheckViews
 pub mod Checking
 pub mod OpenFiles
 pub mod WiderProfile
+pub mod BoardReports
+pub mod Measures

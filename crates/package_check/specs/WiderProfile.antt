@@ -12,9 +12,10 @@ use Rattle.pad_shapes.specs.WidePads.{wide_pad_covers}
 use Rattle.pad_shapes.specs.declared.wide_pad.WidePad.{WidePad}
 use Rattle.ring_rules.specs.Findings.{gap_findings, layer_findings}
 use Rattle.ring_rules.specs.declared.finding.Finding.{Finding}
-use Rattle.ring_rules.specs.declared.finding.Finding.TheVariants.{Ring, Oblique, Gap}
+use Rattle.ring_rules.specs.declared.finding.Finding.TheVariants.{Ring, Oblique}
 use Rattle.manifest.specs.declared.Role.TheVariants as role
 use Rattle.board.specs.Boards.{BoardView}
+use Rattle.board_report.specs.BoardReport.{is_gap}
 use Rattle.package_check.specs.Boards.{IsFlashedBoard}
 use Rattle.package_check.specs.Package.{FileView, HasContent, IsFirstRefused, IsReport}
 use Rattle.package_check.specs.Reports.{ReportView}
@@ -25,12 +26,6 @@ use Rattle.package_check.specs.declared.contents.Content.{Content}
 -- the same file, read in a profile
 abbrev pub read_in : Profile → FileView → FileView
 read_in profile source = record { role = source.role; name = source.name; span = source.span; bytes = source.bytes; setting = record { layers = source.setting.layers; profile = profile } }
-
--- whether a finding is that of a gap
-abbrev pub is_gap : Finding → Bool
-is_gap (Ring layer hole) = false
-is_gap (Oblique layer hole) = false
-is_gap (Gap first second) = true
 
 -- A report in the wide profile beside that in the strict one: it has the same layers and holes, and the same gaps lack. A hole that lacks its ring on a layer lacks it in the strict profile too, or is an
 -- oblique slot there; and no slot is a finding for its angle alone.

@@ -1,31 +1,20 @@
 //! The board of the files of a package, from what each of them says.
 
-ghost use Rattle.std.specs.Prelude.{◌≡◌, ◌++◌, IfOk, OnOk, map, not, count_by};
+ghost use Rattle.std.specs.Prelude.{◌≡◌, ◌++◌, IfOk, OnOk, count_by, map, not};
 ghost use Rattle.std.specs.List.{flat_map};
 ghost use Rattle.grid_units.specs.Holes.{is_round};
-ghost use Rattle.package_check.specs.Holding.{shown_board};
-ghost use Rattle.package_check.specs.Package.{sum_of, layer_indexes, pads_of};
+ghost use Rattle.package_check.specs.Holding.{contents_in, shown_board, shown_in};
+ghost use Rattle.package_check.specs.Inner.Leftovers.{holes_in, layer_indexes_in};
+ghost use Rattle.package_check.specs.Package.{pads_of, sum_of};
 ghost use Rattle.package_check.specs.SoundnessAsRead.{drilled_in};
 
 use crate::contents::Content;
-use crate::slots::push;
+use crate::slots::{Kept, push};
 use board::{Board, FileSum, Shown};
 use grid_units::Hole;
 use pad_shapes::WidePad;
 use ring_rules::{Drilled, Span};
 use std::alloc::{AllocError, Global};
-
-fn round_holes(holes: &[Hole]) -> usize
-    ensures { result ≡ count_by is_round holes.now }
-{
-    holes.iter().filter(|hole| hole.is_round()).count()
-}
-
-fn slots(holes: &[Hole]) -> usize
-    ensures { result ≡ count_by (λ hole. not (is_round hole)) holes.now }
-{
-    holes.iter().filter(|hole| !hole.is_round()).count()
-}
 
 fn round_drilled(holes: &[Drilled]) -> usize
     ensures { result ≡ count_by (λ one. is_round one.hole) holes.now }
@@ -50,9 +39,9 @@ pub(crate) fn sum_of(content: &Content) -> FileSum
 {
     match content {
         Content::Layer(layer) => FileSum::Layer {
-            pads: layer.flashed(),
-            other: layer.other(),
-            contours: layer.contours(),
+            pads: layer.counts.flashed,
+            other: layer.counts.other,
+            contours: layer.counts.contours,
         },
         Content::Drill {
             plated,
@@ -61,35 +50,27 @@ pub(crate) fn sum_of(content: &Content) -> FileSum
         } => FileSum::Drill {
             plated: *plated,
             span: *span,
-            contradicted: drill.is_contradicted(),
-            round: round_holes(drill.holes()),
-            slots: slots(drill.holes()),
+            contradicted: drill.contradicted,
+            round: drill.holes.iter().filter(|hole| hole.is_round()).count(),
+            slots: drill.holes.iter().filter(|hole| !hole.is_round()).count(),
         },
         Content::Mixed { span, drill } => FileSum::Mixed {
             span: *span,
-            round: round_drilled(drill.holes()),
-            slots: drilled_slots(drill.holes()),
-            unplated: unplated(drill.holes()),
+            round: round_drilled(&drill.holes),
+            slots: drilled_slots(&drill.holes),
+            unplated: unplated(&drill.holes),
         },
     }
 }
 
-fn sums(alloc: Global, contents: &[Content]) -> Result<Vec<FileSum>, AllocError>
-    ensures { IfOk result (λ v. v.items ≡ map sum_of contents.now) }
-{
-    contents
-        .iter()
-        .map(|content| sum_of(content))
-        .collect(alloc)
-}
-
-fn layer_indexes(alloc: Global, contents: &[Content]) -> Result<Vec<usize>, AllocError>
-    ensures { IfOk result (λ v. v.items ≡ layer_indexes contents.now) }
+/// The index of each copper file among all files, from 0, by the counts of the files.
+pub(crate) fn layer_indexes(alloc: Global, files: &[FileSum]) -> Result<Vec<usize>, AllocError>
+    ensures { IfOk result (λ indexes. indexes.items ≡ layer_indexes_in files.now) }
 {
     let mut indexes = Vec::new(alloc);
-    for (file, content) in contents.iter().enumerate() {
-        if let Content::Layer(_) = content {
-            indexes.push(file)?;
+    for (index, file) in files.iter().enumerate() {
+        if let FileSum::Layer { .. } = file {
+            indexes.push(index)?;
         }
     }
     Ok(indexes)
@@ -124,77 +105,78 @@ pub(crate) fn push_holes(holes: &mut Vec<Drilled>, content: &Content) -> Result<
             plated,
             span,
             drill,
-        } => push_drilled(holes, *plated, span, drill.holes()),
-        Content::Mixed { drill, .. } => holes.extend_from_slice(drill.holes()),
+        } => push_drilled(holes, *plated, span, &drill.holes),
+        Content::Mixed { drill, .. } => holes.extend_from_slice(&drill.holes),
     }
 }
 
-/// Moves the content of a file to the list of its kind. Its own lists are freed once they are moved.
-fn add_content(
-    layers: &mut Vec<Vec<WidePad>>,
-    holes: &mut Vec<Drilled>,
-    content: Content,
-) -> Result<(), AllocError>
-    ensures layers { OnOk result (map (λ l. l.items) layers.new.items ≡ map (λ l. l.items) layers.old.items ++ pads_of content) }
-    ensures holes { OnOk result (holes.new.items ≡ holes.old.items ++ drilled_in content) }
-{
-    match content {
-        Content::Layer(layer) => push(layers, layer.into_pads()),
-        Content::Drill {
-            plated,
-            span,
-            drill,
-        } => push_drilled(holes, plated, &span, drill.holes()),
-        Content::Mixed { drill, .. } => holes.extend_from_slice(drill.holes()),
+/// How many holes the drill files in the slots have together, to reserve their list at once.
+pub(crate) fn hole_total(slots: &[Option<Kept>]) -> usize {
+    let mut total: usize = 0;
+    for slot in slots {
+        if let Some(kept) = slot {
+            total = total.saturating_add(len_of(&kept.content));
+        }
     }
+    total
 }
 
-/// Moves the contents of the files to the lists of their kinds, file by file.
-fn add_contents(
-    layers: &mut Vec<Vec<WidePad>>,
-    holes: &mut Vec<Drilled>,
-    contents: Vec<Content>,
-) -> Result<(), AllocError>
-    ensures layers { OnOk result (map (λ l. l.items) layers.new.items ≡ map (λ l. l.items) layers.old.items ++ flat_map pads_of contents.items) }
-    ensures holes { OnOk result (holes.new.items ≡ holes.old.items ++ flat_map drilled_in contents.items) }
-{
-    for content in contents {
-        add_content(layers, holes, content)?;
-    }
-    Ok(())
-}
-
-/// How many holes a file has, to reserve their list at once.
-pub(crate) fn len_of(content: &Content) -> usize {
+/// How many holes a file has.
+fn len_of(content: &Content) -> usize {
     match content {
         Content::Layer(_) => 0,
-        Content::Drill { drill, .. } => drill.holes().len(),
-        Content::Mixed { drill, .. } => drill.holes().len(),
+        Content::Drill { drill, .. } => drill.holes.len(),
+        Content::Mixed { drill, .. } => drill.holes.len(),
     }
 }
 
-/// How many holes all files have together.
-fn hole_total(contents: &[Content]) -> usize {
-    let mut hole_total: usize = 0;
-    for content in contents {
-        hole_total = hole_total.saturating_add(len_of(content));
-    }
-    hole_total
-}
-
-/// The board of files with these contents, and with what is kept of each to be shown.
-#[tactic(auto, using(crate::proofs::BoardsLemmas::all_counted))]
-pub(crate) fn board_of(
-    alloc: Global,
-    contents: Vec<Content>,
-    shown: Vec<Shown>,
-) -> Result<Board, AllocError>
-    ensures { IfOk result (λ board. board ≡ shown_board contents.items shown.items) }
+/// Moves the pads of a file to the list of layers, where it is a copper file.
+fn push_pads(layers: &mut Vec<Vec<WidePad>>, content: Content) -> Result<(), AllocError>
+    ensures { OnOk result (map (λ l. l.items) layers.new.items ≡ map (λ l. l.items) layers.old.items ++ pads_of content) }
 {
-    let files = sums(alloc, &contents)?;
-    let layer_indexes = layer_indexes(alloc, &contents)?;
+    match content {
+        Content::Layer(layer) => push(layers, layer.pads),
+        Content::Drill { .. } | Content::Mixed { .. } => Ok(()),
+    }
+}
+
+/// Moves what is kept in a slot to the lists of a board. The file's own list of holes is freed.
+fn add_slot(
+    files: &mut Vec<FileSum>,
+    layers: &mut Vec<Vec<WidePad>>,
+    holes: &mut Vec<Drilled>,
+    views: &mut Vec<Shown>,
+    slot: Option<Kept>,
+) -> Result<(), AllocError>
+    ensures files { OnOk result (files.new.items ≡ files.old.items ++ map sum_of (contents_in slot)) }
+    ensures layers { OnOk result (map (λ l. l.items) layers.new.items ≡ map (λ l. l.items) layers.old.items ++ flat_map pads_of (contents_in slot)) }
+    ensures holes { OnOk result (holes.new.items ≡ holes.old.items ++ holes_in slot) }
+    ensures shown { OnOk result (views.new.items ≡ views.old.items ++ shown_in slot) }
+{
+    match slot {
+        Some(kept) => {
+            let Kept { content, shown } = kept;
+            push(files, sum_of(&content))?;
+            push_holes(holes, &content)?;
+            push(views, shown)?;
+            push_pads(layers, content)
+        }
+        None => Ok(()),
+    }
+}
+
+/// The board of the files whose slots are filled, in the order of their indexes.
+#[tactic(auto, using(crate::proofs::BoardsLemmas::sums_more, crate::proofs::BoardsLemmas::pads_more))]
+pub(crate) fn board_of(alloc: Global, slots: Vec<Option<Kept>>) -> Result<Board, AllocError>
+    ensures { IfOk result (λ board. board ≡ shown_board (flat_map contents_in slots.items) (flat_map shown_in slots.items)) }
+{
+    let mut files = Vec::with_capacity(alloc, slots.len())?;
     let mut layers = Vec::new(alloc);
-    let mut holes = Vec::with_capacity(alloc, hole_total(&contents))?;
-    add_contents(&mut layers, &mut holes, contents)?;
+    let mut holes = Vec::with_capacity(alloc, hole_total(&slots))?;
+    let mut shown = Vec::with_capacity(alloc, slots.len())?;
+    for slot in slots {
+        add_slot(&mut files, &mut layers, &mut holes, &mut shown, slot)?;
+    }
+    let layer_indexes = layer_indexes(alloc, &files)?;
     Ok(Board::new(files, layers, layer_indexes, holes, shown))
 }

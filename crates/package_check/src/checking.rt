@@ -1,7 +1,7 @@
 //! The check of a package whose drill files are read before its copper files.
 
 ghost use Rattle.std.specs.Prelude.{◌≡◌, ◌++◌, ◌∷◌, ℕ, List, [], Err, IfOk, Ok, OnErr, OnOk, Option, Result, Some, alloc_error, false, length, map};
-ghost use Rattle.std.specs.List.{concat, flat_map, sum_by};
+ghost use Rattle.std.specs.List.{concat, sum_by};
 ghost use Rattle.grid_units.specs.Holes.{GridRules};
 ghost use Rattle.grid_units.specs.Spans.{LayerSpan};
 ghost use Rattle.grid_units.specs.declared.fault.Fault.{Fault as TheFault};
@@ -10,7 +10,7 @@ ghost use Rattle.manifest.specs.declared.Role.TheVariants as role;
 ghost use Rattle.package_check.specs.CheckViews.{CheckView, holes_in_slot, holes_of, is_drill_in, setting_of};
 ghost use Rattle.package_check.specs.Checking.{HasJudged, HasJudgedAll, TakesCopper};
 ghost use Rattle.package_check.specs.Holding.{HasTaken, ReadsInto, is_kind_at, kept_at, setting_of as reader_setting};
-ghost use Rattle.package_check.specs.Inner.Leftovers.{count_in, holes_in, layer_indexes_in, left_in, left_report, rings_in, sums_in};
+ghost use Rattle.package_check.specs.Inner.Leftovers.{count_in, holes_in, left_in, left_report, rings_in, sums_in};
 ghost use Rattle.package_check.specs.Judging.{Judges};
 ghost use Rattle.package_check.specs.OpenFiles.{HasOpenedCopper, HasReadCopper};
 ghost use Rattle.package_check.specs.Package.{FileView, IsAnswer, NamesItsPlaces, ReturnsExactly, ReturnsReport, unnamed_file};
@@ -19,14 +19,13 @@ ghost use Rattle.package_check.specs.Soundness.{IsSound};
 ghost use Rattle.package_check.specs.SoundnessAsRead.{AreLegal};
 ghost use Rattle.package_check.specs.declared.PackageFault.TheVariants as stop;
 ghost use Rattle.package_check.specs.declared.checking.Judged.{Judged as TheJudged};
-ghost use Rattle.ring_rules.specs.Findings.{gap_findings};
 
-use crate::boards::{len_of, push_holes, sum_of};
+use crate::boards::{hole_total, layer_indexes, push_holes, sum_of};
 use crate::indexed_holes::IndexedHoles;
 use crate::laws::{findings_name_their_places, passing_is_sound, unique_answer, unique_reading};
 use crate::open_copper::{CopperReading, OpenCopper};
 use crate::package_reader::{is_wanted, next_stop, outcome};
-use crate::report::report_of;
+use crate::package_report::report_of;
 use crate::slots::{Kept, push, put};
 use crate::{FileSum, PackageFault, PackageReader, Report};
 use grid_units::{Fail, Rules};
@@ -66,17 +65,6 @@ impl Model for PackageCheck {
     ghost invariant = { λ c. sum_by holes_in_slot c.slots.items ≡ length c.holes.holes };
 }
 
-/// How many holes the drill files have together, to reserve their list at once.
-fn hole_total(slots: &[Option<Kept>]) -> usize {
-    let mut total: usize = 0;
-    for slot in slots {
-        if let Some(kept) = slot {
-            total = total.saturating_add(len_of(&kept.content));
-        }
-    }
-    total
-}
-
 /// Appends what is left of the drill file in a slot, and its holes.
 fn add_drill(
     alloc: Global,
@@ -98,22 +86,6 @@ fn add_drill(
     }
 }
 
-/// Appends what is left of the drill files in the slots, and their holes. Each file's own list of holes is freed once it is appended.
-fn add_drills(
-    alloc: Global,
-    kept: Vec<Option<Kept>>,
-    holes: &mut Vec<Drilled>,
-    slots: &mut Vec<Option<Judged>>,
-) -> Result<(), AllocError>
-    ensures holes { OnOk result (holes.new.items ≡ holes.old.items ++ flat_map holes_in kept.items) }
-    ensures slots { OnOk result (map left_in slots.new.items ≡ map left_in slots.old.items ++ map count_in kept.items) }
-{
-    for slot in kept {
-        add_drill(alloc, &slot, holes, slots)?;
-    }
-    Ok(())
-}
-
 impl PackageReader {
     /// Goes on to the copper files, where all drill files of the package were taken and no copper file was.
     ///
@@ -133,7 +105,10 @@ impl PackageReader {
         } = self;
         let mut drilled = Vec::with_capacity(alloc, hole_total(&kept))?;
         let mut slots = Vec::with_capacity(alloc, kept.len())?;
-        add_drills(alloc, kept, &mut drilled, &mut slots)?;
+        // Each file's own list of holes is freed once it is appended.
+        for slot in kept {
+            add_drill(alloc, &slot, &mut drilled, &mut slots)?;
+        }
         let holes = IndexedHoles::new(alloc, drilled, rules)?;
         Ok(PackageCheck {
             alloc,
@@ -180,7 +155,10 @@ impl PackageCheck {
         ensures fails { OnErr result (self.new.stopped ≡ Some stop.Memory) }
     {
         let mut file = self.begin(index, layer, span);
-        self.read_pieces(&mut file, pieces);
+        for piece in pieces {
+            // Where memory ran out, the end says so.
+            let _ = self.take_piece(&mut file, piece);
+        }
         self.end(file)
     }
 
@@ -211,27 +189,7 @@ impl PackageCheck {
     pub fn take_piece(&mut self, file: &mut OpenCopper, piece: &[u8]) -> Result<(), AllocError>
         ensures { (start : CheckView) (index layer : ℕ) (span : Option LayerSpan) (text : List ℕ) → HasOpenedCopper start self.old index layer span file.old text → HasOpenedCopper start self.new index layer span file.new (text ++ piece.now) }
     {
-        self.read_piece(file, piece);
-        if file.is_out_of_memory() {
-            return Err(AllocError);
-        }
-        Ok(())
-    }
-
-    /// Reads the next piece of the file that is open, unless it has failed.
-    fn read_piece(&mut self, file: &mut OpenCopper, piece: &[u8])
-        ensures { (start : CheckView) (index layer : ℕ) (span : Option LayerSpan) (text : List ℕ) → HasOpenedCopper start self.old index layer span file.old text → HasOpenedCopper start self.new index layer span file.new (text ++ piece.now) }
-    {
-        file.read(self.alloc, &mut self.holes, piece);
-    }
-
-    /// Reads the next pieces of the file that is open.
-    fn read_pieces(&mut self, file: &mut OpenCopper, pieces: &[&[u8]])
-        ensures { (start : CheckView) (index layer : ℕ) (span : Option LayerSpan) (text : List ℕ) → HasOpenedCopper start self.old index layer span file.old text → HasOpenedCopper start self.new index layer span file.new (text ++ concat (map (λ piece. piece.now) pieces.now)) }
-    {
-        for piece in pieces {
-            self.read_piece(file, piece);
-        }
+        file.read(self.alloc, &mut self.holes, piece)
     }
 
     /// Ends the file that is open and has taken its whole text: with that the check has taken it, as [`PackageCheck::take`] says.
@@ -299,13 +257,6 @@ impl PackageCheck {
         unique_answer();
         findings_name_their_places();
         passing_is_sound();
-        self.answer()
-    }
-
-    fn answer(self) -> Result<Report, PackageFault>
-        ensures exact { (sources : List FileView) (rules : GridRules) → HasJudgedAll self sources rules → ReturnsReport sources rules result }
-        ensures failed { self.stopped ≡ Some stop.Memory → result ≡ Err stop.Memory }
-    {
         unique_reading();
         match self.stopped {
             Some(fault) => Err(fault),
@@ -335,68 +286,8 @@ fn add_left(
     }
 }
 
-/// Moves what is left of the files in the slots to the lists of counts and of findings, slot by slot.
-fn add_all_left(
-    files: &mut Vec<FileSum>,
-    findings: &mut Vec<Finding>,
-    slots: Vec<Option<Judged>>,
-) -> Result<(), AllocError>
-    ensures files { OnOk result (files.new.items ≡ files.old.items ++ flat_map sums_in slots.items) }
-    ensures findings { OnOk result (findings.new.items ≡ findings.old.items ++ flat_map rings_in slots.items) }
-{
-    for slot in slots {
-        add_left(files, findings, slot)?;
-    }
-    Ok(())
-}
-
-/// The index of each copper file among all files, from 0, by the counts of the files.
-fn layer_indexes(alloc: Global, files: &[FileSum]) -> Result<Vec<usize>, AllocError>
-    ensures { IfOk result (λ indexes. indexes.items ≡ layer_indexes_in files.now) }
-{
-    let mut indexes = Vec::new(alloc);
-    for (index, file) in files.iter().enumerate() {
-        if let FileSum::Layer { .. } = file {
-            indexes.push(index)?;
-        }
-    }
-    Ok(indexes)
-}
-
-/// The counts of the files in the slots, and the findings of rings layer by layer, with these of gaps after them.
-fn left_with_gaps(
-    alloc: Global,
-    slots: Vec<Option<Judged>>,
-    gaps: Vec<Finding>,
-) -> Result<(Vec<FileSum>, Vec<Finding>), AllocError>
-    ensures files { IfOk result (λ left. left.0.items ≡ flat_map sums_in slots.items) }
-    ensures findings { IfOk result (λ l. l.1.items ≡ flat_map rings_in slots.items ++ gaps.items) }
-{
-    let mut files = Vec::with_capacity(alloc, slots.len())?;
-    let mut findings = Vec::new(alloc);
-    add_all_left(&mut files, &mut findings, slots)?;
-    findings.extend_from_slice(&gaps)?;
-    Ok((files, findings))
-}
-
-/// The report on the files in the slots: their counts, the findings of rings layer by layer, and then these of gaps between the holes.
-#[tactic(auto, using(crate::proofs::JudgedLayers::sums_counted))]
-fn report_with_gaps(
-    alloc: Global,
-    rules: Rules,
-    holes: Vec<Drilled>,
-    slots: Vec<Option<Judged>>,
-    gaps: Vec<Finding>,
-) -> Result<Report, AllocError>
-    requires { sum_by holes_in_slot slots.items ≡ length holes.items }
-    ensures { gaps.items ≡ gap_findings rules.gap holes.items → IfOk result (λ report. report ≡ left_report rules holes.items slots.items) }
-{
-    let (files, findings) = left_with_gaps(alloc, slots, gaps)?;
-    let layers = layer_indexes(alloc, &files)?;
-    report_of(alloc, rules, files, layers, holes, findings)
-}
-
 /// The report on the files in the slots: their counts, the findings of rings layer by layer, and then those of gaps.
+#[tactic(auto, using(crate::proofs::JudgedLayers::sums_counted))]
 fn report_on_slots(
     alloc: Global,
     holes: IndexedHoles,
@@ -405,8 +296,15 @@ fn report_on_slots(
     requires { sum_by holes_in_slot slots.items ≡ length holes.holes }
     ensures { IfOk result (λ report. report ≡ left_report holes.rules holes.holes slots.items) }
 {
-    let (rules, gaps) = (holes.rules(), holes.gap_findings(alloc));
-    report_with_gaps(alloc, rules, holes.into_holes(), slots, gaps?)
+    let (rules, gaps) = (holes.rules(), holes.gap_findings(alloc)?);
+    let mut files = Vec::with_capacity(alloc, slots.len())?;
+    let mut findings = Vec::new(alloc);
+    for slot in slots {
+        add_left(&mut files, &mut findings, slot)?;
+    }
+    findings.extend_from_slice(&gaps)?;
+    let layers = layer_indexes(alloc, &files)?;
+    report_of(alloc, rules, files, layers, holes.into_holes(), findings)
 }
 
 /// What is left of a file: its counts, and the findings of rings on its layer.

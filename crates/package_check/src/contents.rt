@@ -1,5 +1,5 @@
 // What the check reads of a file of a package.
-ghost use Rattle.std.specs.Prelude.{◌≡◌, ℕ, List, Ok, OnOk, true};
+ghost use Rattle.std.specs.Prelude.{◌≡◌, ℕ, List, OnOk, true};
 ghost use Rattle.grid_units.specs.Results.{Answers};
 ghost use Rattle.grid_units.specs.declared.fault.Fail.TheVariants as fails;
 ghost use Rattle.drill_text.specs.Holding.{StandsBy};
@@ -7,13 +7,13 @@ ghost use Rattle.drill_text.specs.Profiles.{mixed_in};
 ghost use Rattle.grid_units.specs.declared.profile.Profile.{Profile as TheProfile};
 ghost use Rattle.drill_text.specs.declared.kept.Keep.TheVariants as drill_keep;
 ghost use Rattle.layer_features.specs.Kept.{keeps_drawn, keeps_rows};
-ghost use Rattle.package_check.specs.FileTexts.{Draws, ReadsLayer, drill_kind};
+ghost use Rattle.package_check.specs.FileTexts.{Draws, drill_kind};
 ghost use Rattle.package_check.specs.Holding.{HasShown, is_kind};
 ghost use Rattle.package_check.specs.OpenFiles.{CopperStandsIn};
-ghost use Rattle.package_check.specs.Package.{ReadsCopper, ReadsHoles, ReadsMixedHoles, bad_span, is_bad_span, is_copper, not_copper};
+ghost use Rattle.package_check.specs.Package.{ReadsCopper, ReadsHoles, ReadsMixedHoles, is_bad_span, is_copper};
 
 use crate::Role;
-use crate::readers::{Drill, Layer, MixedDrill, read_holes, read_layer_view, read_mixed};
+use crate::readers::{Drill, Layer, MixedDrill, marked, view};
 use board::Shown;
 use drill_text::DrillReader;
 use grid_units::{Fail, Fault, Reason};
@@ -36,40 +36,18 @@ pub(crate) enum Content {
     },
 }
 
-/// The refusal of a file whose span is bad.
-pub(crate) fn bad_span() -> Fail
-    ensures { result ≡ fails.Refused bad_span }
+/// The refusal of a file as a whole, whatever its text is.
+pub(crate) fn refusal(reason: Reason) -> Fail
+    ensures { result ≡ fails.Refused (record { place = 0; byte = 0; reason = reason }) }
 {
     Fail::Refused(Fault {
         place: 0,
         byte: 0,
-        reason: Reason::BadSpan,
+        reason,
     })
 }
 
-/// The refusal of a copper file whose layer is not copper.
-pub(crate) fn not_copper() -> Fail
-    ensures { result ≡ fails.Refused not_copper }
-{
-    Fail::Refused(Fault {
-        place: 0,
-        byte: 0,
-        reason: Reason::NotCopper,
-    })
-}
-
-/// A layer as the content of a file, or NotCopper where it is not copper.
-fn require_copper(layer: Layer) -> Result<Content, Fail>
-    ensures { (profile : TheProfile) (bytes : List ℕ) → ReadsLayer profile bytes (Ok layer) → Answers (λ x. x) (ReadsCopper profile bytes) result }
-{
-    if layer.is_copper() {
-        Ok(Content::Layer(layer))
-    } else {
-        Err(not_copper())
-    }
-}
-
-/// The content of the copper file whose text the reader has read. What is kept of it to be shown is put into `shown`.
+/// The content of the copper file whose text the reader has read; it is refused where its layer is not copper. What is kept of it to be shown is put into `shown`.
 pub(crate) fn read_copper(
     alloc: Global,
     keep: Keep,
@@ -80,19 +58,30 @@ pub(crate) fn read_copper(
     ensures flashes { (profile : TheProfile) (text : List ℕ) → CopperStandsIn reader profile keep text → keeps_rows keep ≡ true → OnOk result (HasShown profile text shown.new) }
     ensures drawn { (profile : TheProfile) (text : List ℕ) → CopperStandsIn reader profile keep text → keeps_drawn keep ≡ true → OnOk result (Draws profile text shown.new.drawn.items) }
 {
-    let layer = read_layer_view(alloc, keep, shown, reader)?;
-    require_copper(layer)
+    let profile = reader.profile();
+    let image = reader.finish()?;
+    let layer = view(alloc, profile, keep, shown, image)?;
+    if layer.is_copper {
+        Ok(Content::Layer(layer))
+    } else {
+        Err(refusal(Reason::NotCopper))
+    }
 }
 
 /// The content of the drill file whose text the reader has read.
-pub(crate) fn read_drill_content(
+pub(crate) fn read_drill(
     plated: bool,
     span: Option<Span>,
     reader: DrillReader,
 ) -> Result<Content, Fail>
     ensures { (profile : TheProfile) (text : List ℕ) → StandsBy reader (drill_kind profile plated) drill_keep.Holes text → Answers (λ x. x) (ReadsHoles profile plated span text) result }
 {
-    let drill = read_holes(plated, reader)?;
+    let drill = reader.finish()?;
+    let contradicted = drill.contradicts(plated);
+    let drill = Drill {
+        holes: drill.into_holes(),
+        contradicted,
+    };
     Ok(Content::Drill {
         plated,
         span,
@@ -101,14 +90,17 @@ pub(crate) fn read_drill_content(
 }
 
 /// The content of the mixed drill file whose text the reader has read.
-pub(crate) fn read_mixed_content(
+pub(crate) fn read_mixed(
     alloc: Global,
     span: Option<Span>,
     reader: DrillReader,
 ) -> Result<Content, Fail>
     ensures { (profile : TheProfile) (text : List ℕ) → StandsBy reader (mixed_in profile) drill_keep.Holes text → Answers (λ x. x) (ReadsMixedHoles profile span text) result }
 {
-    let drill = read_mixed(alloc, &span, reader)?;
+    let drill = reader.finish()?;
+    let (holes, plated) = drill.into_plated_holes();
+    let holes = marked(alloc, &span, &holes, &plated)?;
+    let drill = MixedDrill { holes };
     Ok(Content::Mixed { span, drill })
 }
 

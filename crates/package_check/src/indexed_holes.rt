@@ -14,10 +14,10 @@ ghost use Rattle.ring_rules.specs.Search.{HasTried, IsRingIndexOf, IsSearchOver}
 
 use crate::FileSum;
 use crate::checking::Judged;
-use crate::contents::not_copper;
+use crate::contents::refusal;
 use crate::pad_size::{PadSize, are_unlike, likely_size, mean_size};
 use crate::readers::is_copper_function;
-use grid_units::{Fail, Rules};
+use grid_units::{Fail, Reason, Rules};
 use layer_image::{Layer, LayerReader, readings_in_profiles};
 use pad_shapes::{Pad, PadShape, WidePad};
 use ring_rules::{Drilled, Finding, LayerSearch, RingIndex};
@@ -25,7 +25,7 @@ use std::alloc::{AllocError, Global};
 use std::marker::Model;
 
 /// How many bytes of a layer are read before its pads are tried.
-pub(crate) const PIECE: usize = 65_536;
+const PIECE: usize = 65_536;
 
 /// The holes of all drill files of a package, file by file, with an index of them, by which rings and gaps are judged.
 #[derive(Drop)]
@@ -78,11 +78,6 @@ impl IndexedHoles {
         })
     }
 
-    /// Whether a new index is worth its time: no pad of the layer was tried, or an eighth as many by this index as there are holes.
-    fn is_worth_another(&self) -> bool {
-        self.is_fresh || self.holes.len() / 8 <= self.tried
-    }
-
     /// The search on the layer that is being read, if one has begun, over another index of these holes. It is taken out.
     fn take_search_over(
         &mut self,
@@ -119,22 +114,13 @@ impl IndexedHoles {
         Ok(())
     }
 
-    /// Forgets the pads of a layer that were tried.
-    fn forget_pads(&mut self)
-        ensures search { self.new.search ≡ None }
-        ensures holes { self.new.holes ≡ self.old.holes }
-        ensures rules { self.new.rules ≡ self.old.rules }
-    {
-        self.search = None;
-    }
-
     /// Forgets the search on a layer, so that the next pads are the first ones of another.
     pub(crate) fn forget_search(&mut self)
         ensures search { self.new.search ≡ None }
         ensures holes { self.new.holes ≡ self.old.holes }
         ensures rules { self.new.rules ≡ self.old.rules }
     {
-        self.forget_pads();
+        self.search = None;
         self.is_fresh = true;
     }
 
@@ -158,7 +144,8 @@ impl IndexedHoles {
         ensures holes { self.new.holes ≡ self.old.holes }
         ensures rules { self.new.rules ≡ self.old.rules }
     {
-        if !self.is_worth_another() {
+        // A new index is worth its time where no pad of the layer was tried, or an eighth as many by this index as there are holes.
+        if !self.is_fresh && self.tried < self.holes.len() / 8 {
             return Ok(());
         }
         match mean_size(pads) {
@@ -199,7 +186,7 @@ impl IndexedHoles {
         ensures rules { self.new.rules ≡ self.old.rules }
     {
         if forgets {
-            self.forget_pads();
+            self.search = None;
         }
     }
 
@@ -300,7 +287,7 @@ impl IndexedHoles {
         self.try_all(alloc, layer, rest.pads(), rest.wide_pads())?;
         let rings = self.rings(alloc, layer)?;
         if !is_copper_function(rest.file_function()) {
-            return Err(not_copper());
+            return Err(refusal(Reason::NotCopper));
         }
         let counts = rest.counts();
         let sum = FileSum::Layer {

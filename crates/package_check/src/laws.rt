@@ -1,11 +1,14 @@
 // Laws that follow from the definitions alone. A call of one does nothing, and gives its clause.
 ghost use Rattle.package_check.specs.AlikePackages.{SameAnswers, AnswerIsUnique, ReadingIsUnique, AnswerExists, ReadingExists};
-ghost use Rattle.package_check.specs.Boards.{FileCountsAddUp};
+ghost use Rattle.package_check.specs.BoardReports.{ReportAgreesWithCheck, RowsAreMatched};
+ghost use Rattle.package_check.specs.Boards.{FileCountsAddUp, LayersHaveFiles};
+ghost use Rattle.package_check.specs.Measures.{MeasuredPasses};
 ghost use Rattle.package_check.specs.Package.{FindingsNameTheirPlaces};
 ghost use Rattle.package_check.specs.Soundness.{HolesAreSaidOnce, PadsAreSaidOnce, PassingIsSound, SoundIsStraight};
 ghost use Rattle.package_check.specs.SoundnessAsRead.{PassingIsSoundAsRead, SoundAsReadIsSound};
 ghost use Rattle.package_check.specs.WiderProfile.{ReadIsUncontradicted, WideAnswersByBoard, WideFindsNoMore};
 
+use board::laws::{gaps_pass, rings_pass};
 use pad_shapes::WidePad;
 use ring_rules::laws::{findings_name_places, gaps_hold, holes_hold, rings_hold};
 
@@ -75,6 +78,11 @@ pub fn file_counts_add_up()
     ensures { FileCountsAddUp }
 {}
 
+/// The board of a package has a copper file for each layer.
+pub fn layers_have_files()
+    ensures { LayersHaveFiles }
+{}
+
 /// Packages whose files say the same have the same answer.
 pub fn same_answers()
     ensures { SameAnswers }
@@ -142,3 +150,25 @@ pub fn wide_answers_by_board()
     drill_text::laws::drill_texts();
     drill_text::laws::unique_reading();
 }
+
+/// In each profile a package whose files can all be read passes under just the rules that it meets.
+pub fn measured_passes()
+    ensures { MeasuredPasses }
+{
+    unique_answer();
+    rings_pass::<WidePad>();
+    gaps_pass();
+}
+
+/// The entries of a report are those of its check's findings, in order, and a package whose report has none is sound.
+pub fn report_agrees_with_check()
+    ensures { ReportAgreesWithCheck }
+{
+    unique_answer();
+    passing_is_sound();
+}
+
+/// As many rows of a layer are pads as it has pads, in both profiles.
+pub fn rows_are_matched()
+    ensures { RowsAreMatched }
+{}

@@ -4,7 +4,7 @@ ghost use Rattle.std.specs.Prelude.{◌≡◌, Some, map, slice_get};
 ghost use Rattle.std.specs.Fmt.{DisplaysOnOk};
 ghost use Rattle.package_check.specs.Texts.{contour_words, yes_or_no, file_line, file_lines, finding_line, gap_line, hole_line, last_line, lengths_of, line_if_found, profile_words, rules_line, span_words};
 
-use crate::{FileSum, Numbered, Report};
+use crate::{FileSum, Report};
 use grid_units::{Hole, Line, Profile, Rules, write_mm};
 use ring_rules::{Finding, Span};
 use std::fmt;
@@ -20,18 +20,13 @@ fn profile_words(profile: Profile) -> &'static str
     }
 }
 
-/// The first line, of the rules in millimetres: `rules ring=0.125000000 gap=0.250000000`.
-#[derive(Clone, Copy)]
-pub(crate) struct RulesLine(pub(crate) Rules);
-
-impl Display for RulesLine {
-    ghost output = { λ line. Some (rules_line line.0) };
-
-    fn fmt<W: fmt::Write>(&self, f: &mut Formatter<W>) -> fmt::Result {
-        let (ring, gap) = (write_mm(self.0.ring()), write_mm(self.0.gap()));
-        let profile = profile_words(self.0.profile());
-        write!(f, "rules ring={ring} gap={gap}{profile}\n")
-    }
+/// Writes the first line, of the rules in millimetres: `rules ring=0.125000000 gap=0.250000000`.
+pub(crate) fn write_rules<W: fmt::Write>(f: &mut Formatter<W>, rules: Rules) -> fmt::Result
+    ensures { DisplaysOnOk W.write_str_gives f.old result (Some (rules_line rules)) f.new }
+{
+    let (ring, gap) = (write_mm(rules.ring()), write_mm(rules.gap()));
+    let profile = profile_words(rules.profile());
+    write!(f, "rules ring={ring} gap={gap}{profile}\n")
 }
 
 fn yes_or_no(plated: bool) -> &'static str
@@ -73,61 +68,53 @@ impl Display for ContourWords {
     }
 }
 
-/// The line of a file, by its number from 1.
-#[derive(Clone, Copy)]
-struct FileLine<'a> {
+/// Writes the line of a file, by its number from 1.
+#[tactic(auto, unfolding(crate::specs::Texts::drill_words, crate::specs::Texts::layer_words))]
+fn write_file<W: fmt::Write>(
+    f: &mut Formatter<W>,
     profile: Profile,
     number: usize,
-    name: &'a str,
+    name: &str,
     sum: FileSum,
-}
-
-impl Display for FileLine<'_> {
-    ghost output = { λ line. Some (file_line line.profile line.number line.name.now line.sum) };
-
-    #[tactic(auto, unfolding(crate::specs::Texts::drill_words, crate::specs::Texts::layer_words))]
-    fn fmt<W: fmt::Write>(&self, f: &mut Formatter<W>) -> fmt::Result {
-        let (number, name) = (self.number, self.name);
-        match self.sum {
-            FileSum::Layer {
-                pads,
-                other,
-                contours,
-            } => {
-                let contours = ContourWords {
-                    profile: self.profile,
-                    contours,
-                };
-                write!(f, "file {number} layer pads={pads} other={other}{contours}")?;
-                write!(f, " name={name}\n")
-            }
-            FileSum::Drill {
-                plated,
-                span,
-                round,
-                slots,
-                ..
-            } => {
-                let (plated, span) = (yes_or_no(plated), SpanWords(span));
-                write!(
-                    f,
-                    "file {number} drill plated={plated} round={round} slots={slots}"
-                )?;
-                write!(f, "{span} name={name}\n")
-            }
-            FileSum::Mixed {
-                span,
-                round,
-                slots,
-                unplated,
-            } => {
-                let (plated, span) = ("mixed", SpanWords(span));
-                write!(
-                    f,
-                    "file {number} drill plated={plated} round={round} slots={slots}"
-                )?;
-                write!(f, " unplated={unplated}{span} name={name}\n")
-            }
+) -> fmt::Result
+    ensures { DisplaysOnOk W.write_str_gives f.old result (Some (file_line profile number name.now sum)) f.new }
+{
+    match sum {
+        FileSum::Layer {
+            pads,
+            other,
+            contours,
+        } => {
+            let contours = ContourWords { profile, contours };
+            write!(f, "file {number} layer pads={pads} other={other}{contours}")?;
+            write!(f, " name={name}\n")
+        }
+        FileSum::Drill {
+            plated,
+            span,
+            round,
+            slots,
+            ..
+        } => {
+            let (plated, span) = (yes_or_no(plated), SpanWords(span));
+            write!(
+                f,
+                "file {number} drill plated={plated} round={round} slots={slots}"
+            )?;
+            write!(f, "{span} name={name}\n")
+        }
+        FileSum::Mixed {
+            span,
+            round,
+            slots,
+            unplated,
+        } => {
+            let (plated, span) = ("mixed", SpanWords(span));
+            write!(
+                f,
+                "file {number} drill plated={plated} round={round} slots={slots}"
+            )?;
+            write!(f, " unplated={unplated}{span} name={name}\n")
         }
     }
 }
@@ -152,63 +139,30 @@ impl Display for FileLines<'_> {
             if index >= self.files.len() {
                 return Ok(());
             }
-            let (number, sum) = (index + 1, self.files[index]);
-            let line = FileLine {
-                profile: self.profile,
-                number,
-                name,
-                sum,
-            };
-            write!(f, "{line}")?;
+            write_file(f, self.profile, index + 1, name, self.files[index])?;
         }
         Ok(())
     }
 }
 
-/// The centre of a round hole or the ends of a slot, and the diameter, in millimetres, with a line end.
-#[derive(Clone, Copy)]
-struct HoleLengths<'a>(&'a Hole);
-
-impl Display for HoleLengths<'_> {
-    ghost output = { λ lengths. Some (lengths_of lengths.0.now) };
-
-    #[tactic(auto, unfolding(crate::specs::Texts::length_words, crate::specs::Texts::slot_words))]
-    fn fmt<W: fmt::Write>(&self, f: &mut Formatter<W>) -> fmt::Result {
-        let hole = self.0;
-        let (from, to) = (hole.from(), hole.to());
-        let (x, y) = (write_mm(from.x()), write_mm(from.y()));
-        let diameter = write_mm(2 * hole.radius());
-        if hole.is_round() {
-            return write!(f, " x={x} y={y} diameter={diameter}\n");
-        }
-        let (x2, y2) = (write_mm(to.x()), write_mm(to.y()));
-        write!(f, " x1={x} y1={y} x2={x2} y2={y2} diameter={diameter}\n")
+/// Writes the centre of a round hole or the ends of a slot, and the diameter, in millimetres, with a line end.
+#[tactic(auto, unfolding(crate::specs::Texts::length_words, crate::specs::Texts::slot_words))]
+fn write_lengths<W: fmt::Write>(f: &mut Formatter<W>, hole: &Hole) -> fmt::Result
+    ensures { DisplaysOnOk W.write_str_gives f.old result (Some (lengths_of hole.now)) f.new }
+{
+    let (from, to) = (hole.from(), hole.to());
+    let (x, y) = (write_mm(from.x()), write_mm(from.y()));
+    let diameter = write_mm(2 * hole.radius());
+    if hole.is_round() {
+        return write!(f, " x={x} y={y} diameter={diameter}\n");
     }
+    let (x2, y2) = (write_mm(to.x()), write_mm(to.y()));
+    write!(f, " x1={x} y1={y} x2={x2} y2={y2} diameter={diameter}\n")
 }
 
-/// The line of a hole that lacks its ring on a layer, which is given by the index of its file, from 0: `RING layer=1 drill=2 hole=1`,
-/// and the lengths of the hole.
-#[derive(Clone, Copy)]
-struct HoleLine<'a> {
-    kind: &'a str,
-    layer: usize,
-    hole: &'a Numbered,
-}
-
-impl Display for HoleLine<'_> {
-    ghost output = { λ line. Some (hole_line line.kind.now line.layer line.hole.now) };
-
-    #[tactic(auto, unfolding(crate::specs::Texts::place_words))]
-    fn fmt<W: fmt::Write>(&self, f: &mut Formatter<W>) -> fmt::Result {
-        let (kind, hole) = (self.kind, self.hole);
-        let (layer, drill) = (self.layer as u128 + 1, hole.file as u128 + 1);
-        let number = hole.number;
-        write!(f, "{kind} layer={layer} drill={drill} hole={number}")?;
-        write!(f, "{}", HoleLengths(&hole.drilled.hole))
-    }
-}
-
-/// Writes the line of a hole that lacks its ring on a layer. Writes nothing where the report has no such layer or hole.
+/// Writes the line of a hole that lacks its ring on a layer: `RING layer=1 drill=2 hole=1`, and the lengths of the hole. Writes nothing
+/// where the report has no such layer or hole.
+#[tactic(auto, unfolding(crate::specs::Texts::place_words))]
 fn write_hole<W: fmt::Write>(
     f: &mut Formatter<W>,
     kind: &str,
@@ -224,7 +178,10 @@ fn write_hole<W: fmt::Write>(
     let Some(hole) = &report.hole(hole) else {
         return Ok(());
     };
-    write!(f, "{}", HoleLine { kind, layer, hole })
+    let (layer, drill) = (layer as u128 + 1, hole.file as u128 + 1);
+    let number = hole.number;
+    write!(f, "{kind} layer={layer} drill={drill} hole={number}")?;
+    write_lengths(f, &hole.drilled.hole)
 }
 
 /// Writes the line of two holes that lack their gap. Writes nothing where the report has no such hole.
@@ -264,18 +221,12 @@ impl Line<Report> for Finding {
     }
 }
 
-/// The last line, by how many findings there are: `PASS` where there is none, else for example `FINDINGS 2`.
-#[derive(Clone, Copy)]
-pub(crate) struct LastLine(pub(crate) usize);
-
-impl Display for LastLine {
-    ghost output = { λ line. Some (last_line line.0) };
-
-    fn fmt<W: fmt::Write>(&self, f: &mut Formatter<W>) -> fmt::Result {
-        let findings = self.0;
-        if findings == 0 {
-            return f.write_str("PASS\n");
-        }
-        write!(f, "FINDINGS {findings}\n")
+/// Writes the last line, by how many findings there are: `PASS` where there is none, else for example `FINDINGS 2`.
+pub(crate) fn write_last<W: fmt::Write>(f: &mut Formatter<W>, findings: usize) -> fmt::Result
+    ensures { DisplaysOnOk W.write_str_gives f.old result (Some (last_line findings)) f.new }
+{
+    if findings == 0 {
+        return f.write_str("PASS\n");
     }
+    write!(f, "FINDINGS {findings}\n")
 }

@@ -11,12 +11,12 @@ ghost use Rattle.package_check.specs.OpenFiles.{HasFailed, HasReadCopper};
 ghost use Rattle.package_check.specs.Package.{unnamed_file};
 
 use crate::checking::Judged;
-use crate::contents::bad_span;
+use crate::contents::refusal;
 use crate::indexed_holes::IndexedHoles;
-use grid_units::{Fail, Profile};
+use grid_units::{Fail, Profile, Reason};
 use layer_image::{Keep, LayerReader, readings_in_profiles};
 use ring_rules::Span;
-use std::alloc::Global;
+use std::alloc::{AllocError, Global};
 use std::mem;
 
 /// What is being read of a copper file, or why nothing more of it is.
@@ -36,7 +36,7 @@ impl CopperReading {
         ensures { (holes : HolesView) (layer layers : ℕ) → holes.search ≡ None → holes.rules.profile ≡ profile → HasReadCopper holes layer span layers result [] }
     {
         match span {
-            Some(_) => CopperReading::Failed(bad_span()),
+            Some(_) => CopperReading::Failed(refusal(Reason::BadSpan)),
             None => CopperReading::Layer(LayerReader::in_profile(alloc, Keep::Pads, profile)),
         }
     }
@@ -92,7 +92,16 @@ pub struct OpenCopper {
 
 impl OpenCopper {
     /// Reads the next piece, unless the file has failed.
-    pub(crate) fn read(&mut self, alloc: Global, holes: &mut IndexedHoles, piece: &[u8])
+    ///
+    /// # Errors
+    ///
+    /// An `AllocError` where memory ran out while the file was read.
+    pub(crate) fn read(
+        &mut self,
+        alloc: Global,
+        holes: &mut IndexedHoles,
+        piece: &[u8],
+    ) -> Result<(), AllocError>
         ensures read { (span : Option LayerSpan) (layers : ℕ) (text : List ℕ) → HasReadCopper holes.old self.old.layer span layers self.old.reading text → HasReadCopper holes.new self.old.layer span layers self.new.reading (text ++ piece.now) }
         ensures index { self.new.index ≡ self.old.index }
         ensures layer { self.new.layer ≡ self.old.layer }
@@ -103,10 +112,9 @@ impl OpenCopper {
             // A call of `drop`: the proof need not go through the parts of the reader that was there.
             drop(mem::replace(&mut self.reading, CopperReading::Failed(fail)));
         }
-    }
-
-    /// Whether memory ran out while the file was read.
-    pub(crate) fn is_out_of_memory(&self) -> bool {
-        matches!(self.reading, CopperReading::Failed(Fail::Memory))
+        match self.reading {
+            CopperReading::Failed(Fail::Memory) => Err(AllocError),
+            _ => Ok(()),
+        }
     }
 }

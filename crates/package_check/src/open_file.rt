@@ -1,16 +1,11 @@
 //! A file of a package that is being read piece by piece.
 
-ghost use Rattle.std.specs.Prelude.{◌≡◌, ◌++◌, ℕ, List, [], IfErr, Ok, OnOk, map, true, false, Option};
-ghost use Rattle.std.specs.List.{concat};
-ghost use Rattle.grid_units.specs.Results.{Answers, IfFault};
+ghost use Rattle.std.specs.Prelude.{◌≡◌, ◌++◌, ℕ, List, [], IfErr, OnOk, true, false, Option};
+ghost use Rattle.grid_units.specs.Results.{Answers};
 ghost use Rattle.grid_units.specs.Spans.{LayerSpan};
-ghost use Rattle.grid_units.specs.declared.profile.Profile.{Profile as TheProfile};
-ghost use Rattle.layer_image.specs.Holding.{LayerStands, ShowsLayerFaultIn};
 ghost use Rattle.layer_features.specs.Kept.{keeps_drawn, keeps_rows};
 ghost use Rattle.layer_features.specs.declared.keep.Keep.{Keep as TheKeep};
-ghost use Rattle.pad_shapes.specs.declared.wide_pad.WidePad.{WidePad as ThePad};
 ghost use Rattle.manifest.specs.declared.Role.{Role as TheRole};
-ghost use Rattle.manifest.specs.declared.Role.TheVariants as role;
 ghost use Rattle.package_check.specs.FileTexts.{Draws, plating_in};
 ghost use Rattle.package_check.specs.Holding.{HasShown};
 ghost use Rattle.package_check.specs.OpenFiles.{HasFailed, HasOpened, HasReadText, copper_keep, drill_role};
@@ -18,14 +13,11 @@ ghost use Rattle.package_check.specs.Package.{Reads, Setting, is_bad_span, is_co
 ghost use Rattle.package_check.specs.declared.package_reader.PackageReader.{PackageReader as TheReader};
 
 use crate::Role;
-use crate::contents::{
-    Content, bad_span, is_bad_span, read_copper, read_drill_content, read_mixed_content,
-};
-use crate::indexed_holes::PIECE;
+use crate::contents::{Content, is_bad_span, read_copper, read_drill, read_mixed, refusal};
 use board::Shown;
 use drill_text::{DrillReader, PlatingKind};
-use grid_units::{Fail, Profile};
-use layer_image::{Keep, LayerReader, readings_in_profiles};
+use grid_units::{Fail, Profile, Reason};
+use layer_image::{Keep, LayerReader};
 use ring_rules::Span;
 use std::alloc::{AllocError, Global};
 use std::mem;
@@ -66,25 +58,6 @@ fn begin_drill(alloc: Global, plated: bool, profile: Profile) -> Reading
     Reading::Drill { plated, reader }
 }
 
-/// A mixed drill file of which nothing was read.
-fn begin_mixed(alloc: Global, profile: Profile) -> Reading
-    ensures { (keep : TheKeep) (span : Option LayerSpan) (layers : ℕ) → is_bad_span role.Mixed span layers ≡ false → HasReadText keep role.Mixed span (record { layers = layers; profile = profile }) result [] }
-{
-    Reading::Mixed(DrillReader::of_kind(
-        alloc,
-        drill_text::Keep::Holes,
-        profile,
-        PlatingKind::Mixed,
-    ))
-}
-
-/// A copper file of which nothing was read.
-fn begin_layer(alloc: Global, keep: Keep, profile: Profile) -> Reading
-    ensures { (span : Option LayerSpan) (layers : ℕ) → is_bad_span role.Copper span layers ≡ false → HasReadText keep role.Copper span (record { layers = layers; profile = profile }) result [] }
-{
-    Reading::Layer(LayerReader::in_profile(alloc, copper_keep(keep), profile))
-}
-
 impl Reading {
     /// A file of this role and span, in a package of so many copper files, of which nothing was read.
     pub(crate) fn begin(
@@ -98,13 +71,20 @@ impl Reading {
         ensures { HasReadText keep role span.now (record { layers = layers; profile = profile }) result [] }
     {
         if is_bad_span(role, *span, layers) {
-            return Reading::Failed(bad_span());
+            return Reading::Failed(refusal(Reason::BadSpan));
         }
         match role {
-            Role::Copper => begin_layer(alloc, keep, profile),
+            Role::Copper => {
+                Reading::Layer(LayerReader::in_profile(alloc, copper_keep(keep), profile))
+            }
             Role::Plated => begin_drill(alloc, true, profile),
             Role::Unplated => begin_drill(alloc, false, profile),
-            Role::Mixed => begin_mixed(alloc, profile),
+            Role::Mixed => Reading::Mixed(DrillReader::of_kind(
+                alloc,
+                drill_text::Keep::Holes,
+                profile,
+                PlatingKind::Mixed,
+            )),
         }
     }
 
@@ -116,7 +96,7 @@ impl Reading {
         layer_image::readings_in_profiles();
         drill_text::laws::readings_of_kinds();
         match self {
-            Reading::Layer(reader) => feed_layer(reader, piece),
+            Reading::Layer(reader) => reader.feed(piece),
             Reading::Drill { reader, .. } => reader.feed(piece),
             Reading::Mixed(reader) => reader.feed(piece),
             Reading::Failed(_) | Reading::Skipped => Ok(()),
@@ -131,14 +111,14 @@ impl Reading {
         shown: &mut Shown,
         span: Option<Span>,
     ) -> Result<Content, Fail>
-        ensures content { (of : TheRole) (layers : ℕ) (profile : TheProfile) (text : List ℕ) → HasReadText keep of span (record { layers = layers; profile = profile }) self text → Answers (λ x. x) (Reads (unnamed_file of span (record { layers = layers; profile = profile }) text)) result }
-        ensures flashes { (of : TheRole) (layers : ℕ) (profile : TheProfile) (text : List ℕ) → HasReadText keep of span (record { layers = layers; profile = profile }) self text → keeps_rows keep ≡ true → is_copper of ≡ true → OnOk result (HasShown profile text shown.new) }
-        ensures drawn { (of : TheRole) (layers : ℕ) (profile : TheProfile) (text : List ℕ) → HasReadText keep of span (record { layers = layers; profile = profile }) self text → keeps_drawn keep ≡ true → is_copper of ≡ true → OnOk result (Draws profile text shown.new.drawn.items) }
+        ensures content { (of : TheRole) (setting : Setting) (text : List ℕ) → HasReadText keep of span setting self text → Answers (λ x. x) (Reads (unnamed_file of span setting text)) result }
+        ensures flashes { (of : TheRole) (setting : Setting) (text : List ℕ) → HasReadText keep of span setting self text → keeps_rows keep ≡ true → is_copper of ≡ true → OnOk result (HasShown setting.profile text shown.new) }
+        ensures drawn { (of : TheRole) (setting : Setting) (text : List ℕ) → HasReadText keep of span setting self text → keeps_drawn keep ≡ true → is_copper of ≡ true → OnOk result (Draws setting.profile text shown.new.drawn.items) }
     {
         match self {
             Reading::Layer(reader) => read_copper(alloc, keep, shown, reader),
-            Reading::Drill { plated, reader } => read_drill_content(plated, span, reader),
-            Reading::Mixed(reader) => read_mixed_content(alloc, span, reader),
+            Reading::Drill { plated, reader } => read_drill(plated, span, reader),
+            Reading::Mixed(reader) => read_mixed(alloc, span, reader),
             Reading::Failed(fail) => Err(fail),
             Reading::Skipped => Err(Fail::Memory),
         }
@@ -163,35 +143,19 @@ impl OpenFile {
     pub fn take(&mut self, piece: &[u8]) -> Result<(), AllocError>
         ensures { (reader : TheReader) (index : ℕ) (of : TheRole) (span : Option LayerSpan) (text : List ℕ) → HasOpened reader index of span self.old text → HasOpened reader index of span self.new (text ++ piece.now) }
     {
-        self.read(piece);
+        if let Err(fail) = self.reading.feed(piece) {
+            // A call of `drop`: the proof need not go through the parts of the reader that was there.
+            drop(mem::replace(&mut self.reading, Reading::Failed(fail)));
+        }
         match self.reading {
             Reading::Failed(Fail::Memory) => Err(AllocError),
             _ => Ok(()),
         }
     }
-
-    /// Reads the next piece, unless the file has failed.
-    fn read(&mut self, piece: &[u8])
-        ensures { (reader : TheReader) (index : ℕ) (of : TheRole) (span : Option LayerSpan) (text : List ℕ) → HasOpened reader index of span self.old text → HasOpened reader index of span self.new (text ++ piece.now) }
-    {
-        if let Err(fail) = self.reading.feed(piece) {
-            // A call of `drop`: the proof need not go through the parts of the reader that was there.
-            drop(mem::replace(&mut self.reading, Reading::Failed(fail)));
-        }
-    }
-
-    /// Reads the next pieces.
-    pub(crate) fn read_pieces(&mut self, pieces: &[&[u8]])
-        ensures { (reader : TheReader) (index : ℕ) (of : TheRole) (span : Option LayerSpan) (text : List ℕ) → HasOpened reader index of span self.old text → HasOpened reader index of span self.new (text ++ concat (map (λ piece. piece.now) pieces.now)) }
-    {
-        for piece in pieces {
-            self.read(piece);
-        }
-    }
 }
 
 /// What is kept of a copper file of a package, of which no commands are kept: pads alone in place of a whole layer.
-pub(crate) fn copper_keep(keep: Keep) -> Keep
+fn copper_keep(keep: Keep) -> Keep
     ensures { result ≡ copper_keep keep }
 {
     match keep {
@@ -199,16 +163,4 @@ pub(crate) fn copper_keep(keep: Keep) -> Keep
         Keep::Rows => Keep::Rows,
         Keep::RowsAndDrawn => Keep::RowsAndDrawn,
     }
-}
-
-/// Feeds a piece of a layer to the reader, [`PIECE`] bytes at a time.
-pub(crate) fn feed_layer(reader: &mut LayerReader, piece: &[u8]) -> Result<(), Fail>
-    ensures ok { (profile : TheProfile) (keep : TheKeep) (taken : List ThePad) (text : List ℕ) → LayerStands reader.old profile keep taken text → OnOk result (LayerStands reader.new profile keep taken (text ++ piece.now)) }
-    ensures err { (profile : TheProfile) (keep : TheKeep) (taken : List ThePad) (text : List ℕ) → LayerStands reader.old profile keep taken text → IfErr result (IfFault (ShowsLayerFaultIn profile (text ++ piece.now))) }
-{
-    readings_in_profiles();
-    for chunk in piece.chunks(PIECE) {
-        reader.feed(chunk)?;
-    }
-    Ok(())
 }

@@ -13,8 +13,9 @@ ghost use Rattle.package_check.specs.Holding.{ReadsAt, is_wanted, next_stop};
 ghost use Rattle.package_check.specs.OpenFiles.{HasOpened, HasReadText};
 ghost use Rattle.package_check.specs.declared.PackageFault.TheVariants as stop;
 
+use crate::boards::board_of;
 use crate::open_file::{OpenFile, Reading};
-use crate::slots::{Kept, board_of_slots, put};
+use crate::slots::{Kept, put};
 use crate::{Board, PackageFault, Role};
 use board::Shown;
 use grid_units::{Fail, Profile};
@@ -88,7 +89,10 @@ impl PackageReader {
         ensures fails { OnErr result (IsOutOfMemory self.new) }
     {
         let mut file = self.begin(index, role, span);
-        file.read_pieces(pieces);
+        for piece in pieces {
+            // Where memory ran out, the end says so.
+            let _ = file.take(piece);
+        }
         self.end(file)
     }
 
@@ -97,23 +101,24 @@ impl PackageReader {
     pub fn begin(&self, index: usize, role: Role, span: Option<Span>) -> OpenFile
         ensures { HasOpened self.now index role span result [] }
     {
-        let reading = self.start(index, role, &span);
+        let reading = if is_wanted(self.stopped, index) {
+            Reading::begin(
+                self.alloc,
+                self.keep,
+                role,
+                &span,
+                self.layers,
+                self.profile,
+            )
+        } else {
+            Reading::Skipped
+        };
         OpenFile {
             index,
             role,
             span,
             reading,
         }
-    }
-
-    /// The file at this index, of which nothing was read; it is skipped where it stands after one that is refused.
-    fn start(&self, index: usize, role: Role, span: &Option<Span>) -> Reading
-        ensures { is_wanted self.now.stopped index ≡ true → HasReadText self.now.keep role span.now (setting_of self.now) result [] }
-    {
-        if !is_wanted(self.stopped, index) {
-            return Reading::Skipped;
-        }
-        Reading::begin(self.alloc, self.keep, role, span, self.layers, self.profile)
     }
 
     /// Ends a file that was opened and has taken its whole text: with that the reader has taken it, as [`PackageReader::take`] says.
@@ -178,7 +183,7 @@ impl PackageReader {
         readings_in_profiles();
         match self.stopped {
             Some(fault) => Err(fault),
-            None => match board_of_slots(self.alloc, self.slots) {
+            None => match board_of(self.alloc, self.slots) {
                 Ok(board) => Ok(board),
                 Err(_) => Err(PackageFault::Memory),
             },

@@ -5,7 +5,7 @@ ghost use Rattle.grid_units.specs.declared.profile.Profile.{Profile as TheProfil
 ghost use Rattle.package_check.specs.Package.{file_views_in};
 ghost use Rattle.package_check.specs.Texts.{report_text, text_of};
 
-use crate::lines::{LastLine, RulesLine};
+use crate::lines::{write_last, write_rules};
 use crate::{File, FileLines, Report};
 use grid_units::Lines;
 use std::alloc::{AllocError, Global};
@@ -27,19 +27,19 @@ impl Display for CheckText<'_> {
 
     fn fmt<W: fmt::Write>(&self, f: &mut Formatter<W>) -> fmt::Result {
         let (names, report) = (self.names, self.report);
-        let (files, found) = (report.files(), report.findings());
-        let profile = report.rules().profile();
+        let (rules, found) = (report.rules(), report.findings());
         let files = FileLines {
-            profile,
+            profile: rules.profile(),
             names,
-            files,
+            files: report.files(),
         };
         let findings = Lines {
             page: report,
             lines: found,
         };
-        let (rules, last) = (RulesLine(report.rules()), LastLine(found.len()));
-        write!(f, "{rules}{files}{findings}{last}")
+        write_rules(f, rules)?;
+        write!(f, "{files}{findings}")?;
+        write_last(f, found.len())
     }
 }
 

@@ -6,7 +6,7 @@ use Rattle.grid_units.specs.Points.{GridPoint, square, square_distance}
 use Rattle.pad_shapes.specs.Rounded.{GridRounded}
 use Rattle.pad_shapes.specs.declared.drawn.Drawn.{Drawn}
 use Rattle.pad_shapes.specs.declared.drawn.Drawn.TheVariants as drawn
-use Rattle.picture.specs.Elements.{after}
+use Rattle.picture.specs.Elements.{after, corner, line, path_open, point}
 use Rattle.picture.specs.declared.frame.Frame.{Frame}
 
 -- ---- arcs
@@ -41,6 +41,10 @@ unfoldable pub arc_to : ℤ → Bool → Bool → ℤ → ℤ → List ℕ
 arc_to radius large clockwise x y =
     after (codes "A") radius ++ (after (codes " ") radius ++ ((codes " 0 " ++ flag large) ++ ((codes " " ++ flag clockwise) ++ (after (codes " ") x ++ after (codes " ") y))))
 
+-- the next part of a path, along an arc to a point of the board
+abbrev pub arc_to_point : ℤ → Bool → Bool → GridPoint → List ℕ
+arc_to_point radius large clockwise to = arc_to radius large clockwise to.x (neg_ℤ to.y)
+
 -- a point on a circle, seen along one axis, and the one opposite: 1 is opposite 5 round 3
 abbrev pub opposite : ℤ → ℤ → ℤ
 opposite at centre = pos 2 *ℤ centre -ℤ at
@@ -49,52 +53,47 @@ opposite at centre = pos 2 *ℤ centre -ℤ at
 abbrev pub is_circle : GridPoint → GridPoint → Bool
 is_circle from to = int_eq from.x to.x && int_eq from.y to.y
 
+-- half a circle from a point of it, to the point opposite: `A1 1 0 0 1 -1 0`
+abbrev pub half_way : GridPoint → GridPoint → Bool → List ℕ
+half_way from centre clockwise = arc_to (pos (arc_radius from centre)) false clockwise (opposite from.x centre.x) (neg_ℤ (opposite from.y centre.y))
+
 -- a full circle from a point of it, as two half circles: to the point opposite, and back: `A1 1 0 0 1 -1 0A1 1 0 0 1 1 0`
 abbrev pub circle_way : GridPoint → GridPoint → Bool → List ℕ
-circle_way from centre clockwise =
-    arc_to (pos (arc_radius from centre)) false clockwise (opposite from.x centre.x) (neg_ℤ (opposite from.y centre.y))
-    ++ arc_to (pos (arc_radius from centre)) false clockwise from.x (neg_ℤ from.y)
+circle_way from centre clockwise = half_way from centre clockwise ++ arc_to_point (pos (arc_radius from centre)) false clockwise from
 
 -- an arc whose ends are two points: `A2 2 0 0 1 3 -4`
 abbrev pub open_way : GridPoint → GridPoint → GridPoint → Bool → List ℕ
-open_way from to centre clockwise = arc_to (pos (arc_radius from centre)) (is_large from to centre clockwise) clockwise to.x (neg_ℤ to.y)
+open_way from to centre clockwise = arc_to_point (pos (arc_radius from centre)) (is_large from to centre clockwise) clockwise to
 
 -- the way along an arc, from its start on
 unfoldable pub arc_way : GridPoint → GridPoint → GridPoint → Bool → List ℕ
 arc_way from to centre clockwise = if is_circle from to then circle_way from centre clockwise else open_way from to centre clockwise
 
--- an arc as an element, by its width, its start and its way: `<path stroke-width="0.2" d="M1 -2A2 2 0 0 1 3 -4"/>`
-unfoldable pub drawn_arc : ℤ → ℤ → ℤ → List ℕ → List ℕ
-drawn_arc width x y way = after (codes "<path stroke-width=\"") width ++ (after (codes "\" d=\"M") x ++ (after (codes " ") y ++ (way ++ codes "\"/>\n")))
+-- an arc from its start to its end, as a part of a path: `M1 -2A2 2 0 0 1 3 -4`
+abbrev pub edge_arc : GridPoint → GridPoint → GridPoint → Bool → List ℕ
+edge_arc from to centre clockwise = point (codes "M") from ++ arc_way from to centre clockwise
 
--- ---- lines and contours
-
--- a line, by its width and its ends: `<path stroke-width="0.2" d="M1 -2L3 -4"/>`
-unfoldable pub drawn_line : ℤ → ℤ → ℤ → ℤ → ℤ → List ℕ
-drawn_line width x y end_x end_y =
-    after (codes "<path stroke-width=\"") width ++ (after (codes "\" d=\"M") x ++ (after (codes " ") y ++ (after (codes "L") end_x ++ (after (codes " ") end_y ++ codes "\"/>\n"))))
-
--- where a line, an arc or a contour begins: `M1 -2`
-abbrev pub path_start : GridPoint → List ℕ
-path_start at = after (codes "M") at.x ++ after (codes " ") (neg_ℤ at.y)
-
--- the next corner of a contour: `L3 -4`
-unfoldable pub next_corner : ℤ → ℤ → List ℕ
-next_corner x y = after (codes "L") x ++ after (codes " ") y
+-- an arc as an element, by its width: `<path stroke-width="0.2" d="M1 -2A2 2 0 0 1 3 -4"/>`
+abbrev pub drawn_arc : GridPoint → GridPoint → GridPoint → ℤ → Bool → List ℕ
+drawn_arc from to centre width clockwise = path_open (codes "<path") width ++ (edge_arc from to centre clockwise ++ codes "\"/>\n")
 
 -- ---- flashes of macros
 
 -- the x of a corner about the point of a flash
 abbrev pub corner_x : GridPoint → GridPoint → ℤ
-corner_x at corner = at.x +ℤ corner.x
+corner_x at c = at.x +ℤ c.x
 
 -- and its y, downwards
 abbrev pub corner_y : GridPoint → GridPoint → ℤ
-corner_y at corner = neg_ℤ (at.y +ℤ corner.y)
+corner_y at c = neg_ℤ (at.y +ℤ c.y)
+
+-- a corner about the point of a flash, after the letter that says how it is reached: `M3 -4`
+abbrev pub moved_corner : List ℕ → GridPoint → GridPoint → List ℕ
+moved_corner letter at c = corner letter (corner_x at c) (corner_y at c)
 
 -- the next corner about the point of a flash: `L3 -4`
 abbrev pub flash_corner : GridPoint → GridPoint → List ℕ
-flash_corner at corner = next_corner (corner_x at corner) (corner_y at corner)
+flash_corner at c = moved_corner (codes "L") at c
 
 -- the width of the line round the corners: twice the radius
 abbrev pub flash_width : GridRounded → ℤ
@@ -114,29 +113,28 @@ shape_path ink at shape = drawn_polygon ink (flash_width shape) (corner_x at sha
 abbrev pub flash_ink : List ℕ
 flash_ink = codes "fill=\"#f0dcc0\""
 
--- a flash of a single corner: a line of no length
-abbrev pub drawn_dot : GridPoint → GridRounded → List ℕ
-drawn_dot at shape = drawn_line (flash_width shape) (corner_x at shape.first) (corner_y at shape.first) (corner_x at shape.first) (corner_y at shape.first)
+-- a shape of a single corner about a point: a line of no length, as an element with this start
+abbrev pub shape_dot : List ℕ → GridPoint → GridRounded → List ℕ
+shape_dot element at shape =
+    path_open element (flash_width shape) ++ (moved_corner (codes "M") at shape.first ++ (moved_corner (codes "L") at shape.first ++ codes "\"/>\n"))
 
--- a flash of a macro, by its point and the shape about it
-abbrev pub drawn_flash : GridPoint → GridRounded → List ℕ
-drawn_flash at shape =
-    if length shape.others == 0 then drawn_dot at shape
-    else shape_path flash_ink at shape
+-- a shape about a point: such a line for a single corner, else the path round its corners in this ink
+abbrev pub shape_text : List ℕ → List ℕ → GridPoint → GridRounded → List ℕ
+shape_text element ink at shape = if length shape.others == 0 then shape_dot element at shape else shape_path ink at shape
 
 -- ---- all parts
 
 -- the element of a line, an arc or a flash; nothing of a contour
 abbrev pub line_text : Drawn → List ℕ
-line_text (drawn.Line from to width) = drawn_line width from.x (neg_ℤ from.y) to.x (neg_ℤ to.y)
-line_text (drawn.Arc from to centre width clockwise) = drawn_arc width from.x (neg_ℤ from.y) (arc_way from to centre clockwise)
-line_text (drawn.Flash at shape) = drawn_flash at shape
+line_text (drawn.Line from to width) = line (codes "<path") width from to
+line_text (drawn.Arc from to centre width clockwise) = drawn_arc from to centre width clockwise
+line_text (drawn.Flash at shape) = shape_text (codes "<path") flash_ink at shape
 line_text _ = []
 
 -- a corner of a contour, before its first one these words, or its way along an arc; nothing of what is drawn outside of regions
 abbrev pub corner_text : List ℕ → Drawn → List ℕ
-corner_text before (drawn.Contour at) = before ++ path_start at
-corner_text before (drawn.Corner at) = next_corner at.x (neg_ℤ at.y)
+corner_text before (drawn.Contour at) = before ++ point (codes "M") at
+corner_text before (drawn.Corner at) = point (codes "L") at
 corner_text before (drawn.Bend from to centre clockwise) = arc_way from to centre clockwise
 corner_text before _ = []
 
@@ -158,16 +156,12 @@ unfoldable pub view_box : ℤ → ℤ → ℤ → ℤ → List ℕ
 view_box x y width height = after (codes "\" viewBox=\"") x ++ (after (codes " ") y ++ (after (codes " ") width ++ after (codes " ") height))
 
 -- the start of a picture within the panel, in the box of the board, at which what is drawn is cut
-unfoldable pub cut_at : Frame → List ℕ
+abbrev pub cut_at : Frame → List ℕ
 cut_at f = frame_start (codes "<svg class=\"drawn\"") f ++ view_box f.left (neg_ℤ f.top) f.width f.height
 
 -- the colours of what is drawn, which is pale, since it is not judged
 abbrev pub copper_colours : List ℕ
 copper_colours = codes "\" fill=\"none\" stroke=\"#f0dcc0\" stroke-linecap=\"round\"><title>drawn copper, not judged</title>\n"
-
--- the start of what is drawn
-abbrev pub copper_start : Frame → List ℕ
-copper_start f = cut_at f ++ copper_colours
 
 -- the start of the group of contours, and of a path without a corner
 abbrev pub contours_start : List ℕ
@@ -177,6 +171,10 @@ contours_start = codes "<g fill=\"#f0dcc0\" fill-rule=\"evenodd\" stroke=\"none\
 abbrev pub copper_end : List ℕ
 copper_end = codes "\"/>\n</g>\n</svg>\n"
 
+-- the lines, arcs and flashes, and the start of the contours
+abbrev pub copper_lines : List Drawn → List ℕ
+copper_lines parts = (copper_colours ++ flat_map line_text parts) ++ contours_start
+
 -- the contours, each a path of its own, and the end of what is drawn
 abbrev pub copper_contours : List Drawn → List ℕ
 copper_contours parts = flat_map (corner_text next_path) parts ++ copper_end
@@ -184,4 +182,4 @@ copper_contours parts = flat_map (corner_text next_path) parts ++ copper_end
 -- what is drawn, cut at the box of the board: the lines, arcs and flashes, then the contours, each a path of its own; nothing where nothing is drawn
 abbrev pub copper : Frame → List Drawn → List ℕ
 copper f parts =
-    if length parts == 0 then [] else ((copper_start f ++ flat_map line_text parts) ++ contours_start) ++ copper_contours parts
+    if length parts == 0 then [] else cut_at f ++ (copper_lines parts ++ copper_contours parts)

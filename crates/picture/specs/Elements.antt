@@ -4,6 +4,7 @@ use Rattle.std.specs.List.{enumerate_from, flat_map}
 use Rattle.grid_units.specs.Holes.{GridHole, is_round}
 use Rattle.grid_units.specs.Points.{GridPoint}
 use Rattle.pad_shapes.specs.Shapes.{GridRect, GridObround}
+use Rattle.pad_shapes.specs.Pads.{pad_height, pad_width}
 use Rattle.pad_shapes.specs.declared.pad.Pad.{Pad}
 use Rattle.pad_shapes.specs.declared.pad.Pad.TheVariants as pads
 use Rattle.grid_units.specs.HoleWords.{drilled_words}
@@ -26,35 +27,42 @@ unfoldable pub circle : List ℕ → ℤ → ℤ → ℤ → ℤ → List ℕ
 circle class x y radius width =
     codes "<circle class=\"" ++ (class ++ (after (codes "\" cx=\"") x ++ (after (codes "\" cy=\"") y ++ (after (codes "\" r=\"") radius ++ (after (codes "\" stroke-width=\"") width ++ codes "\"/>\n")))))
 
--- a straight line, by class, width and ends: `<path class="gap" stroke-width="0.7" d="M46.5 -15L47 -15"/>`
-unfoldable pub line : List ℕ → ℤ → ℤ → ℤ → ℤ → ℤ → List ℕ
-line class width x y end_x end_y =
-    codes "<path class=\"" ++ (class ++ (after (codes "\" stroke-width=\"") width ++ (after (codes "\" d=\"M") x ++ (after (codes " ") y ++ (after (codes "L") end_x ++ (after (codes " ") end_y ++ codes "\"/>\n"))))))
+-- the start of a path, by its element and the width of its line: `<path class="line" stroke-width="0.6" d="`
+unfoldable pub path_open : List ℕ → ℤ → List ℕ
+path_open element width = element ++ (after (codes " stroke-width=\"") width ++ codes "\" d=\"")
 
--- the start of a part of a path: `M8 -24.54`
-abbrev pub start : ℤ → ℤ → List ℕ
-start x y = after (codes "M") x ++ after (codes " ") y
+-- a corner of a path, after the letter that says how it is reached, `M` where the path begins there, `L` by a line: `M8 -24.54`
+unfoldable pub corner : List ℕ → ℤ → ℤ → List ℕ
+corner letter x y = after letter x ++ after (codes " ") y
+
+-- a point of the board as a corner of a path
+abbrev pub point : List ℕ → GridPoint → List ℕ
+point letter at = corner letter at.x (neg_ℤ at.y)
+
+-- a line from point to point, as a part of a path: `M1 -2L3 -4`
+abbrev pub edge : GridPoint → GridPoint → List ℕ
+edge from to = point (codes "M") from ++ point (codes "L") to
+
+-- a straight line as an element, by its start, its width and its ends: `<path class="gap" stroke-width="0.7" d="M46.5 -15L47 -15"/>`
+abbrev pub line : List ℕ → ℤ → GridPoint → GridPoint → List ℕ
+line element width from to = path_open element width ++ (edge from to ++ codes "\"/>\n")
+
+-- the sides of a rectangle as a part of a path, from its upper left corner, and the way back: `h1.2v0.9h-1.2z`
+unfoldable pub sides : ℤ → ℤ → ℤ → List ℕ
+sides width height back = after (codes "h") width ++ (after (codes "v") height ++ (after (codes "h") back ++ codes "z"))
 
 -- a rectangle as a part of a path: its upper left corner, its sides, and the way back: `M26.4 -24.45h1.2v0.9h-1.2z`
-unfoldable pub box : ℤ → ℤ → ℤ → ℤ → ℤ → List ℕ
+abbrev pub box : ℤ → ℤ → ℤ → ℤ → ℤ → List ℕ
 box x y width height back =
-    after (codes "M") x ++ (after (codes " ") y ++ (after (codes "h") width ++ (after (codes "v") height ++ (after (codes "h") back ++ codes "z"))))
+    corner (codes "M") x y ++ sides width height back
 
--- a part of a path along x: `M8 -24.54h2`
-unfoldable pub horizontal_line : ℤ → ℤ → ℤ → List ℕ
-horizontal_line x y length = start x y ++ after (codes "h") length
-
--- a part of a path along y: `M8 -24.54v2`
-unfoldable pub vertical_line : ℤ → ℤ → ℤ → List ℕ
-vertical_line x y length = start x y ++ after (codes "v") length
+-- a part of a path along an axis, `h` along x from its left end, `v` along y from its upper end: `M8 -24.54h2`
+unfoldable pub straight_part : List ℕ → ℤ → ℤ → ℤ → List ℕ
+straight_part axis x y length = after (codes "M") x ++ (after (codes " ") y ++ after axis length)
 
 -- a half circle as a part of a path, by its radius and the way along x to its end: `a0.375 0.375 0 1 0 0.75 0`
 unfoldable pub half_circle : ℤ → ℤ → List ℕ
 half_circle radius along = after (codes "a") radius ++ (after (codes " ") radius ++ (after (codes " 0 1 0 ") along ++ codes " 0"))
-
--- a circle as a part of a path: from its left side by two half circles to the right side and back: `M0.625 -2a0.375 0.375 0 1 0 0.75 0a0.375 0.375 0 1 0 -0.75 0z`
-unfoldable pub round_part : ℤ → ℤ → ℤ → ℤ → ℤ → List ℕ
-round_part left y radius there back = after (codes "M") left ++ (after (codes " ") y ++ (half_circle radius there ++ (half_circle radius back ++ codes "z")))
 
 -- the end of a path, with its title: `"><title>disc 0.6x0.6</title></path>`
 abbrev pub path_end : List ℕ → List ℕ
@@ -80,8 +88,8 @@ half_width o = min o.half_x o.half_y
 -- the line of an obround, from the centre of one round end to that of the other
 abbrev pub obround_line : GridObround → List ℕ
 obround_line o =
-    if nat_le o.half_y o.half_x then horizontal_line (o.centre.x -ℤ pos (o.half_x - o.half_y)) (neg_ℤ o.centre.y) (pos (2 * (o.half_x - o.half_y)))
-    else vertical_line o.centre.x (neg_ℤ (o.centre.y +ℤ pos (o.half_y - o.half_x))) (pos (2 * (o.half_y - o.half_x)))
+    if nat_le o.half_y o.half_x then straight_part (codes "h") (o.centre.x -ℤ pos (o.half_x - o.half_y)) (neg_ℤ o.centre.y) (pos (2 * (o.half_x - o.half_y)))
+    else straight_part (codes "v") o.centre.x (neg_ℤ (o.centre.y +ℤ pos (o.half_y - o.half_x))) (pos (2 * (o.half_y - o.half_x)))
 
 -- a rectangular pad as a part of a path
 abbrev pub rect_box : GridRect → List ℕ
@@ -90,29 +98,25 @@ rect_box r =
 
 -- a pad as a part of a path: a disc is a line of length 0, drawn with round ends: `M6 -5h0`
 abbrev pub outline : Pad → List ℕ
-outline (pads.Disc d) = horizontal_line d.centre.x (neg_ℤ d.centre.y) (pos 0)
+outline (pads.Disc d) = straight_part (codes "h") d.centre.x (neg_ℤ d.centre.y) (pos 0)
 outline (pads.Rect r) = rect_box r
 outline (pads.Obround o) = obround_line o
 
--- the start of a path of lines: `<path class="line" stroke-width="0.6" d="`
-unfoldable pub lines_start : ℤ → List ℕ
-lines_start width = after (codes "<path class=\"line\" stroke-width=\"") width ++ codes "\" d=\""
-
 -- the start of the path for pads like this one
 abbrev pub pads_start : Pad → List ℕ
-pads_start (pads.Disc d) = lines_start (pos (2 * d.radius))
+pads_start (pads.Disc d) = path_open (codes "<path class=\"line\"") (pos (2 * d.radius))
 pads_start (pads.Rect r) = codes "<path class=\"pad\" d=\""
-pads_start (pads.Obround o) = lines_start (pos (2 * half_width o))
+pads_start (pads.Obround o) = path_open (codes "<path class=\"line\"") (pos (2 * half_width o))
 
--- the kind of some pads and their sides along x and y: `disc 0.6x0.6`
-unfoldable pub sized_words : List ℕ → ℤ → ℤ → List ℕ
-sized_words kind width height = kind ++ (short_millimetres width ++ (codes "x" ++ short_millimetres height))
+-- the kind of a pad: `disc`, `rect` or `obround`
+abbrev pub pad_kind : Pad → List ℕ
+pad_kind (pads.Disc d) = codes "disc"
+pad_kind (pads.Rect r) = codes "rect"
+pad_kind (pads.Obround o) = codes "obround"
 
--- a pad in words: `disc 0.6x0.6`
-abbrev pub pad_words : Pad → List ℕ
-pad_words (pads.Disc d) = sized_words (codes "disc ") (pos (2 * d.radius)) (pos (2 * d.radius))
-pad_words (pads.Rect r) = sized_words (codes "rect ") (pos (2 * r.half_x)) (pos (2 * r.half_y))
-pad_words (pads.Obround o) = sized_words (codes "obround ") (pos (2 * o.half_x)) (pos (2 * o.half_y))
+-- a pad in words, its kind and its sides along x and y: `disc 0.6x0.6`
+unfoldable pub pad_words : Pad → List ℕ
+pad_words pad = pad_kind pad ++ (after (codes " ") (pos (pad_width pad)) ++ after (codes "x") (pos (pad_height pad)))
 
 -- two pads of one kind and size
 abbrev pub are_alike : Pad → Pad → Bool
@@ -153,11 +157,11 @@ arm pen = pen.unit / 3
 
 -- the horizontal line of a cross: `M19.2 -78h1.5`
 abbrev pub cross_bar : Pen → GridPoint → List ℕ
-cross_bar pen p = horizontal_line (p.x -ℤ pos (arm pen)) (neg_ℤ p.y) (pos (2 * arm pen))
+cross_bar pen p = straight_part (codes "h") (p.x -ℤ pos (arm pen)) (neg_ℤ p.y) (pos (2 * arm pen))
 
 -- the vertical line of a cross: `M20 -78.7v1.5`
 abbrev pub cross_post : Pen → GridPoint → List ℕ
-cross_post pen p = vertical_line p.x (neg_ℤ (p.y +ℤ pos (arm pen))) (pos (2 * arm pen))
+cross_post pen p = straight_part (codes "v") p.x (neg_ℤ (p.y +ℤ pos (arm pen))) (pos (2 * arm pen))
 
 -- the two lines of a cross
 unfoldable pub cross : Pen → GridPoint → List ℕ
@@ -189,19 +193,34 @@ ring_rim pen radius = min (pen.unit / 10) (radius / 8)
 abbrev pub hole_class : Bool → List ℕ
 hole_class plated = if plated then codes "plated" else codes "unplated"
 
--- the line of a slot from end to end, by its class and half its width: `<path class="slot" stroke-width="0.9" d="M99.1 -80L100.9 -80"/>`
+-- the line of a slot from end to end, by its start and half its width: `<path class="slot" stroke-width="0.9" d="M99.1 -80L100.9 -80"/>`
 abbrev pub slot : List ℕ → GridHole → ℕ → List ℕ
-slot class h half = line class (pos (2 * half)) h.from.x (neg_ℤ h.from.y) h.to.x (neg_ℤ h.to.y)
+slot element h half = line element (pos (2 * half)) h.from h.to
 
--- a round hole as a part of a path
+-- the left side of a round hole, where its path begins: `M0.625 -2`
+abbrev pub left_side : GridHole → List ℕ
+left_side h = corner (codes "M") (h.from.x -ℤ pos h.radius) (neg_ℤ h.from.y)
+
+-- the half circle from the left side of a round hole to its right side: `a0.375 0.375 0 1 0 0.75 0`
+abbrev pub way_there : GridHole → List ℕ
+way_there h = half_circle (pos h.radius) (pos (2 * h.radius))
+
+-- the half circle from its right side back: `a0.375 0.375 0 1 0 -0.75 0`
+abbrev pub way_back : GridHole → List ℕ
+way_back h = half_circle (pos h.radius) (neg_ℤ (pos (2 * h.radius)))
+
+-- a round hole as a part of a path: from its left side by two half circles to the right side and back: `M0.625 -2a0.375 0.375 0 1 0 0.75 0a0.375 0.375 0 1 0 -0.75 0z`
 abbrev pub round_hole : GridHole → List ℕ
-round_hole h = round_part (h.from.x -ℤ pos h.radius) (neg_ℤ h.from.y) (pos h.radius) (pos (2 * h.radius)) (neg_ℤ (pos (2 * h.radius)))
+round_hole h = left_side h ++ (way_there h ++ (way_back h ++ codes "z"))
 
--- a hole: a part of a path, or the two lines of a slot: `rim`, and the narrower `slot` on it
+-- the two lines of a slot: `rim`, and the narrower `slot` on it
+abbrev pub long_hole : Pen → GridHole → List ℕ
+long_hole pen h = slot (codes "<path class=\"rim\"") h h.radius ++ slot (codes "<path class=\"slot\"") h (h.radius - rim pen h.radius)
+
+-- a hole: a part of a path, or the two lines of a slot
 unfoldable pub hole : Pen → Drilled → List ℕ
 hole pen d =
-    if is_round d.hole then round_hole d.hole
-    else slot (codes "rim") d.hole d.hole.radius ++ slot (codes "slot") d.hole (d.hole.radius - rim pen d.hole.radius)
+    if is_round d.hole then round_hole d.hole else long_hole pen d.hole
 
 -- the class and the diameter of some holes in words: `plated hole, 0.75`
 unfoldable pub diameter_words : List ℕ → ℤ → List ℕ
@@ -215,9 +234,9 @@ hole_words d = diameter_words (hole_class d.plated) (pos (2 * d.hole.radius))
 unfoldable pub round_start : List ℕ → ℤ → List ℕ
 round_start class width = codes "<path class=\"" ++ (class ++ (after (codes "\" stroke-width=\"") width ++ codes "\" d=\""))
 
--- the start of a group of slots, with its title: `<g><title>plated hole, 0.75</title>`
-abbrev pub slots_start : List ℕ → List ℕ
-slots_start title = codes "<g><title>" ++ (title ++ codes "</title>\n")
+-- the start of a group, with its title: `<g><title>plated hole, 0.75</title>`
+abbrev pub group_start : List ℕ → List ℕ
+group_start title = codes "<g><title>" ++ (title ++ codes "</title>\n")
 
 -- the end of a group
 abbrev pub group_end : List ℕ
@@ -225,7 +244,7 @@ group_end = codes "</g>\n"
 
 -- the start of the path for round holes like this one, or of the group for slots like it
 abbrev pub holes_start : Pen → Drilled → List ℕ
-holes_start pen d = if is_round d.hole then round_start (hole_class d.plated) (pos (rim pen d.hole.radius)) else slots_start (hole_words d)
+holes_start pen d = if is_round d.hole then round_start (hole_class d.plated) (pos (rim pen d.hole.radius)) else group_start (hole_words d)
 
 -- the end of it: of a path with the title
 abbrev pub holes_end : Drilled → List ℕ
@@ -266,23 +285,23 @@ hole_paths pen holes = flat_map (placed_hole pen holes) (enumerate_from 0 holes)
 abbrev pub ring : Pen → GridHole → List ℕ
 ring pen h =
     if is_round h then circle (codes "ring") h.from.x (neg_ℤ h.from.y) (pos (h.radius + pen.ring)) (pos (ring_rim pen (h.radius + pen.ring)))
-    else slot (codes "ring") h (h.radius + pen.ring)
+    else slot (codes "<path class=\"ring\"") h (h.radius + pen.ring)
 
 -- halfway between two coordinates, rounded towards 0: of 1 and 4 it is 2
 abbrev pub halfway : ℤ → ℤ → ℤ
 halfway a b = int_div (a +ℤ b) (pos 2)
 
--- the x of the middle of a hole
-abbrev pub middle_x : GridHole → ℤ
-middle_x h = halfway h.from.x h.to.x
+-- the point halfway between two
+abbrev pub midpoint : GridPoint → GridPoint → GridPoint
+midpoint a b = record { x = halfway a.x b.x; y = halfway a.y b.y }
 
--- the y of the middle of a hole
-abbrev pub middle_y : GridHole → ℤ
-middle_y h = halfway h.from.y h.to.y
+-- the middle of a hole
+abbrev pub middle : GridHole → GridPoint
+middle h = midpoint h.from h.to
 
 -- the gap that is lacking between two holes, drawn from middle to middle
 abbrev pub gap : Pen → GridHole → GridHole → List ℕ
-gap pen a b = line (codes "gap") (pos (pen.unit * 3 / 10)) (middle_x a) (neg_ℤ (middle_y a)) (middle_x b) (neg_ℤ (middle_y b))
+gap pen a b = line (codes "<path class=\"gap\"") (pos (pen.unit * 3 / 10)) (middle a) (middle b)
 
 -- the element of a finding: its ring or its gap
 unfoldable pub lack : Pen → DrawnFinding → List ℕ
@@ -331,15 +350,10 @@ finding_text pen place found =
 
 -- ---- marks and numbers
 
--- the x of a finding's place: the middle of its hole, or halfway between the two holes
-abbrev pub place_x : DrawnFinding → ℤ
-place_x (Ring n h) = middle_x h
-place_x (Gap n a b) = halfway (middle_x a) (middle_x b)
-
--- the y of a finding's place, likewise
-abbrev pub place_y : DrawnFinding → ℤ
-place_y (Ring n h) = middle_y h
-place_y (Gap n a b) = halfway (middle_y a) (middle_y b)
+-- a finding's place: the middle of its hole, or halfway between those of its two holes
+abbrev pub place_of : DrawnFinding → GridPoint
+place_of (Ring n h) = middle h
+place_of (Gap n a b) = midpoint (middle a) (middle b)
 
 -- how far a finding's element reaches from its place: the radius with the ring, of a gap 0
 abbrev pub reach : Pen → DrawnFinding → ℕ
@@ -352,11 +366,11 @@ mark_radius pen found = max (reach pen found + pen.unit / 2) pen.unit
 
 -- the circle round a finding: `<circle class="mark" cx="20" cy="-78" r="2.3" stroke-width="0.4"/>`
 abbrev pub mark_circle : Pen → DrawnFinding → List ℕ
-mark_circle pen found = circle (codes "mark") (place_x found) (neg_ℤ (place_y found)) (pos (mark_radius pen found)) (pos (pen.unit / 5))
+mark_circle pen found = circle (codes "mark") (place_of found).x (neg_ℤ (place_of found).y) (pos (mark_radius pen found)) (pos (pen.unit / 5))
 
 -- the mark of a finding: a group with its title and its circle
 unfoldable pub mark : Pen → Place → DrawnFinding → List ℕ
-mark pen place found = codes "<g><title>" ++ (finding_words pen place found ++ (codes "</title>\n" ++ (mark_circle pen found ++ group_end)))
+mark pen place found = group_start (finding_words pen place found) ++ (mark_circle pen found ++ group_end)
 
 -- the start of a text after its first words: its place, and the unit that scales its letters: `1.4 -94.4) scale(2.3)">`
 unfoldable pub text_start : Pen → List ℕ → ℤ → ℤ → List ℕ
@@ -374,4 +388,4 @@ number_offset pen found = mark_radius pen found * 7 / 10
 -- the number of a finding, at the upper right of its mark, with its title
 unfoldable pub number : Pen → Place → DrawnFinding → List ℕ
 number pen place found =
-    number_at pen (place_x found +ℤ pos (number_offset pen found)) (neg_ℤ (place_y found +ℤ pos (number_offset pen found))) (number_of found) (finding_words pen place found)
+    number_at pen ((place_of found).x +ℤ pos (number_offset pen found)) (neg_ℤ ((place_of found).y +ℤ pos (number_offset pen found))) (number_of found) (finding_words pen place found)

@@ -35,6 +35,10 @@ board_box f = frame_start (codes "<rect class=\"board\"") f ++ codes "\"/>\n"
 abbrev pub name_start : Pen → Frame → List ℕ
 name_start pen f = text_start pen (codes "<text class=\"name\" transform=\"translate(") f.left (neg_ℤ (f.top +ℤ pos (pen.unit * 5 / 2)))
 
+-- the start of a panel, to the end of its name
+abbrev pub panel_head : Place → Frame → Pen → List ℕ
+panel_head place f pen = panel_start place ++ (name_start pen f ++ (escaped_name place.name.now ++ codes "</text>\n"))
+
 -- the start of the note, 0.8 units above the box: `<text class="note" transform="translate(1.4 -90.4) scale(2.3)">`
 abbrev pub note_start : Pen → Frame → List ℕ
 note_start pen f = text_start pen (codes "<text class=\"note\" transform=\"translate(") f.left (neg_ℤ (f.top +ℤ pos (pen.unit * 4 / 5)))
@@ -73,9 +77,9 @@ lacking_words pen count = if pen.has_rules then codes ", " ++ amount count (code
 unfoldable pub note : Pen → Scene → List ℕ
 note pen scene = drawn_words scene ++ (lacking_words pen (ring_count scene.lacks.items) ++ codes "</text>\n")
 
--- after the name of a panel: the end of its element, the note and the box
+-- after the name of a panel: the note and the box
 abbrev pub after_name : Pen → Frame → Scene → List ℕ
-after_name pen f scene = codes "</text>\n" ++ (note_start pen f ++ (note pen scene ++ board_box f))
+after_name pen f scene = note_start pen f ++ (note pen scene ++ board_box f)
 
 -- the findings that are marked and numbered: the first hundred
 abbrev pub marked_findings : List DrawnFinding → List DrawnFinding
@@ -96,7 +100,7 @@ ground_text pen frame drawn outline = copper frame drawn ++ outline_text pen out
 -- the contents of a panel: what is below the pads, then pads, crosses, holes and findings
 abbrev pub scene_text : Pen → Place → Frame → List Drawn → List Drawn → List Pad → List GridRounded → List GridPoint → List Drilled → List DrawnFinding → List ℕ
 scene_text pen place frame drawn outline pads rounded points holes lacks =
-    (((ground_text pen frame drawn outline ++ pads_text pads rounded) ++ crosses pen points) ++ hole_paths pen holes) ++ lacks_text pen place lacks
+    ground_text pen frame drawn outline ++ (pads_text pads rounded ++ (crosses pen points ++ (hole_paths pen holes ++ lacks_text pen place lacks)))
 
 -- the end of a panel
 abbrev pub panel_end : List ℕ
@@ -105,6 +109,7 @@ panel_end = codes "</g>\n"
 -- the text of a panel
 abbrev pub panel_text : Place → Frame → Pen → Scene → List ℕ
 panel_text place frame pen scene =
-    ((((panel_start place ++ name_start pen frame) ++ escaped_name place.name.now) ++ after_name pen frame scene)
-    ++ scene_text pen place frame scene.drawn.now scene.outline.now scene.pads.items scene.rounded.items scene.crosses.items scene.holes.now scene.lacks.items)
-    ++ panel_end
+    panel_head place frame pen
+    ++ (after_name pen frame scene
+    ++ (scene_text pen place frame scene.drawn.now scene.outline.now scene.pads.items scene.rounded.items scene.crosses.items scene.holes.now scene.lacks.items
+    ++ panel_end))

@@ -1,55 +1,19 @@
 //! What a layer draws, in a picture: its lines and arcs, its flashes of macros, and the contours of its regions. Coordinates and widths are in pm.
 
-ghost use Rattle.std.specs.Prelude.{◌≡◌, ◌≤◌, ◌++◌, ◌+ℤ◌, ◌-ℤ◌, ◌*ℤ◌, neg_ℤ, pos, unsigned_abs, false, Some};
+ghost use Rattle.std.specs.Prelude.{◌≡◌, ◌≤◌, ◌++◌, ◌+ℤ◌, ◌-ℤ◌, ◌*ℤ◌, neg_ℤ, pos, unsigned_abs, codes, Some};
 ghost use Rattle.std.specs.Fmt.{DisplaysOnOk};
 ghost use Rattle.std.specs.List.{flat_map};
 ghost use Rattle.grid_units.specs.Points.{IsCoordinate};
-ghost use Rattle.picture.specs.Copper.{arc_radius, arc_to, arc_way, copper, copper_contours, corner_text, corner_x, corner_y, drawn_arc, drawn_dot, drawn_flash, drawn_line, drawn_polygon, flag, flash_corner, flash_ink, flash_width, floor_root, is_circle, is_large, is_left, line_text, next_corner, open_way, opposite, path_start, shape_path};
+ghost use Rattle.picture.specs.Copper.{arc_radius, arc_to, arc_to_point, arc_way, circle_way, copper, copper_contours, copper_lines, corner_text, corner_x, corner_y, drawn_arc, drawn_polygon, edge_arc, flag, flash_corner, flash_width, floor_root, half_way, is_circle, is_large, is_left, line_text, moved_corner, open_way, opposite, shape_dot, shape_path, shape_text};
+ghost use Rattle.picture.specs.Elements.{point};
 
-use crate::cut::Cut;
-use crate::elements::down;
+use crate::cut::write_cut;
+use crate::elements::{down, write_corner, write_line, write_path_open, write_point};
 use crate::frame::Frame;
 use grid_units::{Line, Lines, Point, ShortMillimetres, square_length};
 use pad_shapes::{Drawn, Rounded};
 use std::fmt;
 use std::fmt::{Display, Formatter};
-
-/// A line that is drawn, by its width and its ends.
-#[derive(Clone, Copy)]
-struct DrawnLine {
-    width: i64,
-    x: i64,
-    y: i64,
-    end_x: i64,
-    end_y: i64,
-}
-
-impl Display for DrawnLine {
-    ghost output = { λ l. Some (drawn_line l.width l.x l.y l.end_x l.end_y) };
-
-    fn fmt<W: fmt::Write>(&self, f: &mut Formatter<W>) -> fmt::Result {
-        let (x, y) = (ShortMillimetres(self.x), ShortMillimetres(self.y));
-        let (end_x, end_y) = (ShortMillimetres(self.end_x), ShortMillimetres(self.end_y));
-        let width = ShortMillimetres(self.width);
-        write!(
-            f,
-            "<path stroke-width=\"{width}\" d=\"M{x} {y}L{end_x} {end_y}\"/>\n"
-        )
-    }
-}
-
-/// A line from point to point, with y downwards.
-fn line_of(from: &Point, to: &Point, width: i64) -> DrawnLine
-    ensures { drawn_line result.width result.x result.y result.end_x result.end_y ≡ drawn_line width from.now.x (neg_ℤ from.now.y) to.now.x (neg_ℤ to.now.y) }
-{
-    DrawnLine {
-        width,
-        x: from.x(),
-        y: down(from.y()),
-        end_x: to.x(),
-        end_y: down(to.y()),
-    }
-}
 
 /// The whole part of a square root.
 fn floor_root(n: u128) -> i64
@@ -88,7 +52,7 @@ fn product(a: i64, b: i64) -> i128
 }
 
 /// Whether, as seen from the centre, the second point lies less than half a turn counterclockwise of the first.
-pub(crate) fn is_left(from: &Point, to: &Point, centre: &Point) -> bool
+fn is_left(from: &Point, to: &Point, centre: &Point) -> bool
     ensures { result ≡ is_left from.now to.now centre.now }
 {
     let (x, y) = (offset(from.x(), centre.x()), offset(from.y(), centre.y()));
@@ -97,7 +61,7 @@ pub(crate) fn is_left(from: &Point, to: &Point, centre: &Point) -> bool
 }
 
 /// Whether an arc is longer than half a circle.
-fn is_large(from: &Point, to: &Point, centre: &Point, clockwise: bool) -> bool
+pub(crate) fn is_large(from: &Point, to: &Point, centre: &Point, clockwise: bool) -> bool
     ensures { result ≡ is_large from.now to.now centre.now clockwise }
 {
     if clockwise {
@@ -114,36 +78,31 @@ fn flag(set: bool) -> &'static str
     if set { "1" } else { "0" }
 }
 
-/// The next part of a path, along an arc: its radius, its flags and its end.
-#[derive(Clone, Copy)]
-struct ArcTo {
+/// Writes the next part of a path, along an arc: its radius, its flags and its end.
+#[tactic(auto, unfolding(crate::specs::Copper::arc_to))]
+fn write_arc_to<W: fmt::Write>(
+    f: &mut Formatter<W>,
     radius: i64,
     large: bool,
     clockwise: bool,
     x: i64,
     y: i64,
-}
-
-impl Display for ArcTo {
-    ghost output = { λ a. Some (arc_to a.radius a.large a.clockwise a.x a.y) };
-
-    #[tactic(auto, unfolding(crate::specs::Copper::arc_to))]
-    fn fmt<W: fmt::Write>(&self, f: &mut Formatter<W>) -> fmt::Result {
-        let radius = ShortMillimetres(self.radius);
-        let (large, sweep) = (flag(self.large), flag(self.clockwise));
-        let (x, y) = (ShortMillimetres(self.x), ShortMillimetres(self.y));
-        write!(f, "A{radius} {radius} 0 {large} {sweep} {x} {y}")
-    }
-}
-
-/// A point on a circle, seen along one axis, gives the one opposite.
-fn opposite(at: i64, centre: i64) -> i64
-    requires at { IsCoordinate at }
-    requires centre { IsCoordinate centre }
-    ensures value { result ≡ opposite at centre }
-    ensures in_range { unsigned_abs result ≤ 30000000000000 }
+) -> fmt::Result
+    ensures { DisplaysOnOk W.write_str_gives f.old result (Some (arc_to radius large clockwise x y)) f.new }
 {
-    2 * centre - at
+    let radius = ShortMillimetres(radius);
+    let (large, sweep) = (flag(large), flag(clockwise));
+    let (x, y) = (ShortMillimetres(x), ShortMillimetres(y));
+    write!(f, "A{radius} {radius} 0 {large} {sweep} {x} {y}")
+}
+
+/// The point of a circle opposite one, in a picture.
+fn opposite(from: &Point, centre: &Point) -> (i64, i64)
+    ensures x { result.0 ≡ opposite from.now.x centre.now.x }
+    ensures y { result.1 ≡ neg_ℤ (opposite from.now.y centre.now.y) }
+{
+    let (x, y) = (2 * centre.x() - from.x(), 2 * centre.y() - from.y());
+    (x, down(y))
 }
 
 /// Whether both ends of an arc are one point, so that it is a full circle.
@@ -153,114 +112,105 @@ fn is_circle(from: &Point, to: &Point) -> bool
     from.x() == to.x() && from.y() == to.y()
 }
 
-/// The way along an arc from its start on.
-#[derive(Clone, Copy)]
-pub(crate) struct ArcWay {
-    from: Point,
-    to: Point,
-    centre: Point,
+/// Writes the next part of a path, along an arc to a point of the board.
+fn write_arc_to_point<W: fmt::Write>(
+    f: &mut Formatter<W>,
+    radius: i64,
+    large: bool,
     clockwise: bool,
-}
-
-impl ArcWay {
-    /// The arc, where its ends are two points.
-    fn open(&self) -> ArcTo
-        ensures { arc_to result.radius result.large result.clockwise result.x result.y ≡ open_way self.now.from self.now.to self.now.centre self.now.clockwise }
-    {
-        let (from, to, centre) = (&self.from, &self.to, &self.centre);
-        ArcTo {
-            radius: arc_radius(from, centre),
-            large: is_large(from, to, centre, self.clockwise),
-            clockwise: self.clockwise,
-            x: to.x(),
-            y: down(to.y()),
-        }
-    }
-
-    /// The half circle from its start to the point opposite.
-    fn first_half(&self) -> ArcTo
-        ensures { arc_to result.radius result.large result.clockwise result.x result.y ≡ arc_to (pos (arc_radius self.now.from self.now.centre)) false self.now.clockwise (opposite self.now.from.x self.now.centre.x) (neg_ℤ (opposite self.now.from.y self.now.centre.y)) }
-    {
-        let (from, centre) = (&self.from, &self.centre);
-        ArcTo {
-            radius: arc_radius(from, centre),
-            large: false,
-            clockwise: self.clockwise,
-            x: opposite(from.x(), centre.x()),
-            y: down(opposite(from.y(), centre.y())),
-        }
-    }
-
-    /// The half circle from the point opposite back to its start.
-    fn second_half(&self) -> ArcTo
-        ensures { arc_to result.radius result.large result.clockwise result.x result.y ≡ arc_to (pos (arc_radius self.now.from self.now.centre)) false self.now.clockwise self.now.from.x (neg_ℤ self.now.from.y) }
-    {
-        let from = &self.from;
-        ArcTo {
-            radius: arc_radius(from, &self.centre),
-            large: false,
-            clockwise: self.clockwise,
-            x: from.x(),
-            y: down(from.y()),
-        }
-    }
-}
-
-impl Display for ArcWay {
-    ghost output = { λ a. Some (arc_way a.from a.to a.centre a.clockwise) };
-
-    #[tactic(auto, unfolding(crate::specs::Copper::arc_way))]
-    fn fmt<W: fmt::Write>(&self, f: &mut Formatter<W>) -> fmt::Result {
-        if is_circle(&self.from, &self.to) {
-            write!(f, "{}{}", self.first_half(), self.second_half())
-        } else {
-            write!(f, "{}", self.open())
-        }
-    }
-}
-
-/// The way along an arc from point to point.
-pub(crate) fn way_of(from: &Point, to: &Point, centre: &Point, clockwise: bool) -> ArcWay
-    ensures { arc_way result.from result.to result.centre result.clockwise ≡ arc_way from.now to.now centre.now clockwise }
+    to: &Point,
+) -> fmt::Result
+    ensures { DisplaysOnOk W.write_str_gives f.old result (Some (arc_to_point radius large clockwise to.now)) f.new }
 {
-    ArcWay {
-        from: *from,
-        to: *to,
-        centre: *centre,
-        clockwise,
+    write_arc_to(f, radius, large, clockwise, to.x(), down(to.y()))
+}
+
+/// Writes half a circle from a point of it, to the point opposite.
+fn write_half_way<W: fmt::Write>(
+    f: &mut Formatter<W>,
+    from: &Point,
+    centre: &Point,
+    clockwise: bool,
+) -> fmt::Result
+    ensures { DisplaysOnOk W.write_str_gives f.old result (Some (half_way from.now centre.now clockwise)) f.new }
+{
+    let (x, y) = opposite(from, centre);
+    write_arc_to(f, arc_radius(from, centre), false, clockwise, x, y)
+}
+
+/// Writes a full circle from a point of it, as two half circles: to the point opposite, and back.
+fn write_circle_way<W: fmt::Write>(
+    f: &mut Formatter<W>,
+    from: &Point,
+    centre: &Point,
+    clockwise: bool,
+) -> fmt::Result
+    ensures { DisplaysOnOk W.write_str_gives f.old result (Some (circle_way from.now centre.now clockwise)) f.new }
+{
+    write_half_way(f, from, centre, clockwise)?;
+    write_arc_to_point(f, arc_radius(from, centre), false, clockwise, from)
+}
+
+/// Writes the way along an arc whose ends are two points, from its start on.
+fn write_open_way<W: fmt::Write>(
+    f: &mut Formatter<W>,
+    from: &Point,
+    to: &Point,
+    centre: &Point,
+    clockwise: bool,
+) -> fmt::Result
+    ensures { DisplaysOnOk W.write_str_gives f.old result (Some (open_way from.now to.now centre.now clockwise)) f.new }
+{
+    let large = is_large(from, to, centre, clockwise);
+    write_arc_to_point(f, arc_radius(from, centre), large, clockwise, to)
+}
+
+/// Writes the way along an arc, from its start on.
+#[tactic(auto, unfolding(crate::specs::Copper::arc_way))]
+fn write_way<W: fmt::Write>(
+    f: &mut Formatter<W>,
+    from: &Point,
+    to: &Point,
+    centre: &Point,
+    clockwise: bool,
+) -> fmt::Result
+    ensures { DisplaysOnOk W.write_str_gives f.old result (Some (arc_way from.now to.now centre.now clockwise)) f.new }
+{
+    if is_circle(from, to) {
+        write_circle_way(f, from, centre, clockwise)
+    } else {
+        write_open_way(f, from, to, centre, clockwise)
     }
 }
 
-/// An arc that is drawn, by its width, its start and its way.
-#[derive(Clone, Copy)]
-struct DrawnArc {
+/// Writes an arc from its start to its end, as a part of a path.
+pub(crate) fn write_edge_arc<W: fmt::Write>(
+    f: &mut Formatter<W>,
+    from: &Point,
+    to: &Point,
+    centre: &Point,
+    clockwise: bool,
+) -> fmt::Result
+    ensures { DisplaysOnOk W.write_str_gives f.old result (Some (edge_arc from.now to.now centre.now clockwise)) f.new }
+{
+    write_point(f, "M", from)?;
+    write_way(f, from, to, centre, clockwise)
+}
+
+/// Writes an arc as an element, by its width.
+fn write_drawn_arc<W: fmt::Write>(
+    f: &mut Formatter<W>,
+    from: &Point,
+    to: &Point,
+    centre: &Point,
     width: i64,
-    x: i64,
-    y: i64,
-    way: ArcWay,
-}
-
-impl Display for DrawnArc {
-    ghost output = { λ a. Some (drawn_arc a.width a.x a.y (arc_way a.way.from a.way.to a.way.centre a.way.clockwise)) };
-
-    #[tactic(auto, unfolding(crate::specs::Copper::drawn_arc))]
-    fn fmt<W: fmt::Write>(&self, f: &mut Formatter<W>) -> fmt::Result {
-        let (x, y) = (ShortMillimetres(self.x), ShortMillimetres(self.y));
-        let (width, way) = (ShortMillimetres(self.width), &self.way);
-        write!(f, "<path stroke-width=\"{width}\" d=\"M{x} {y}{way}\"/>\n")
-    }
-}
-
-/// An arc from point to point, with y downwards.
-fn arc_of(from: &Point, to: &Point, centre: &Point, width: i64, clockwise: bool) -> DrawnArc
-    ensures { drawn_arc result.width result.x result.y (arc_way result.way.from result.way.to result.way.centre result.way.clockwise) ≡ drawn_arc width from.now.x (neg_ℤ from.now.y) (arc_way from.now to.now centre.now clockwise) }
+    clockwise: bool,
+) -> fmt::Result
+    ensures { DisplaysOnOk W.write_str_gives f.old result (Some (drawn_arc from.now to.now centre.now width clockwise)) f.new }
 {
-    DrawnArc {
-        width,
-        x: from.x(),
-        y: down(from.y()),
-        way: way_of(from, to, centre, clockwise),
-    }
+    write_path_open(f, "<path", width)?;
+    write_edge_arc(f, from, to, centre, clockwise)?;
+    f.write_str("\"/>\n")
 }
 
 /// A coordinate of a corner about the point of a flash.
@@ -287,6 +237,18 @@ fn corner_y(at: &Point, corner: Point) -> i64
     down(moved(at.y(), corner.y()))
 }
 
+/// Writes a corner about the point of a flash, after the letter that says how it is reached.
+fn write_flash_corner<W: fmt::Write>(
+    f: &mut Formatter<W>,
+    letter: &str,
+    at: &Point,
+    corner: Point,
+) -> fmt::Result
+    ensures { DisplaysOnOk W.write_str_gives f.old result (Some (moved_corner letter.now at.now corner)) f.new }
+{
+    write_corner(f, letter, corner_x(at, corner), corner_y(at, corner))
+}
+
 /// The width of the line round the corners of a flash.
 pub(crate) fn flash_width(shape: &Rounded) -> i64
     ensures { result ≡ flash_width shape.now }
@@ -302,11 +264,8 @@ struct FlashPoint(Point);
 impl Line<FlashPoint> for Point {
     ghost text = { λ flash corner. flash_corner flash.0 corner };
 
-    #[tactic(auto, unfolding(crate::specs::Copper::next_corner))]
     fn fmt_on<W: fmt::Write>(&self, flash: &FlashPoint, f: &mut Formatter<W>) -> fmt::Result {
-        let x = ShortMillimetres(corner_x(&flash.0, *self));
-        let y = ShortMillimetres(corner_y(&flash.0, *self));
-        write!(f, "L{x} {y}")
+        write_flash_corner(f, "L", &flash.0, *self)
     }
 }
 
@@ -353,35 +312,35 @@ pub(crate) fn path_of<'a>(ink: &'a str, at: &Point, shape: &'a Rounded) -> Shape
     }
 }
 
-/// The ink of a flash.
-fn flash_ink() -> &'static str
-    ensures { result.now ≡ flash_ink }
+/// Writes a shape of a single corner about a point: a line of no length, as an element with this start.
+fn write_dot<W: fmt::Write>(
+    f: &mut Formatter<W>,
+    element: &str,
+    at: &Point,
+    shape: &Rounded,
+) -> fmt::Result
+    ensures { DisplaysOnOk W.write_str_gives f.old result (Some (shape_dot element.now at.now shape.now)) f.new }
 {
-    "fill=\"#f0dcc0\""
+    write_path_open(f, element, flash_width(shape))?;
+    write_flash_corner(f, "M", at, shape.first())?;
+    write_flash_corner(f, "L", at, shape.first())?;
+    f.write_str("\"/>\n")
 }
 
-/// A flash of a single corner: a line of no length.
-fn dot_of(at: &Point, shape: &Rounded) -> DrawnLine
-    ensures { drawn_line result.width result.x result.y result.end_x result.end_y ≡ drawn_dot at.now shape.now }
-{
-    let (x, y) = (corner_x(at, shape.first()), corner_y(at, shape.first()));
-    DrawnLine {
-        width: flash_width(shape),
-        x,
-        y,
-        end_x: x,
-        end_y: y,
-    }
-}
-
-/// Writes a flash.
-fn write_flash<W: fmt::Write>(f: &mut Formatter<W>, at: &Point, shape: &Rounded) -> fmt::Result
-    ensures { DisplaysOnOk W.write_str_gives f.old result (Some (drawn_flash at.now shape.now)) f.new }
+/// Writes a shape about a point: such a line for a single corner, else the path round its corners in this ink.
+pub(crate) fn write_shape<W: fmt::Write>(
+    f: &mut Formatter<W>,
+    element: &str,
+    ink: &str,
+    at: &Point,
+    shape: &Rounded,
+) -> fmt::Result
+    ensures { DisplaysOnOk W.write_str_gives f.old result (Some (shape_text element.now ink.now at.now shape.now)) f.new }
 {
     if shape.others().is_empty() {
-        write!(f, "{}", dot_of(at, shape))
+        write_dot(f, element, at, shape)
     } else {
-        write!(f, "{}", path_of(flash_ink(), at, shape))
+        write!(f, "{}", path_of(ink, at, shape))
     }
 }
 
@@ -395,43 +354,28 @@ impl Line<LineElements> for Drawn {
 
     fn fmt_on<W: fmt::Write>(&self, _page: &LineElements, f: &mut Formatter<W>) -> fmt::Result {
         match self {
-            Drawn::Line { from, to, width } => write!(f, "{}", line_of(from, to, *width)),
+            Drawn::Line { from, to, width } => write_line(f, "<path", *width, from, to),
             Drawn::Arc {
                 from,
                 to,
                 centre,
                 width,
                 clockwise,
-            } => write!(f, "{}", arc_of(from, to, centre, *width, *clockwise)),
-            Drawn::Flash { at, shape } => write_flash(f, at, shape.get()),
+            } => write_drawn_arc(f, from, to, centre, *width, *clockwise),
+            Drawn::Flash { at, shape } => {
+                write_shape(f, "<path", "fill=\"#f0dcc0\"", at, shape.get())
+            }
             Drawn::Contour(_) | Drawn::Corner(_) | Drawn::Bend { .. } => Ok(()),
         }
     }
 }
 
-/// Writes where a line, an arc or a contour begins.
-pub(crate) fn write_path_start<W: fmt::Write>(f: &mut Formatter<W>, at: &Point) -> fmt::Result
-    ensures { DisplaysOnOk W.write_str_gives f.old result (Some (path_start at.now)) f.new }
-{
-    let (x, y) = (ShortMillimetres(at.x()), ShortMillimetres(down(at.y())));
-    write!(f, "M{x} {y}")
-}
-
 /// Writes the first corner of a contour, after these words.
 fn write_first_corner<W: fmt::Write>(f: &mut Formatter<W>, before: &str, at: &Point) -> fmt::Result
-    ensures { DisplaysOnOk W.write_str_gives f.old result (Some (before.now ++ path_start at.now)) f.new }
+    ensures { DisplaysOnOk W.write_str_gives f.old result (Some (before.now ++ point (codes "M") at.now)) f.new }
 {
     f.write_str(before)?;
-    write_path_start(f, at)
-}
-
-/// Writes the next corner of a contour.
-#[tactic(auto, unfolding(crate::specs::Copper::next_corner))]
-pub(crate) fn write_next_corner<W: fmt::Write>(f: &mut Formatter<W>, at: &Point) -> fmt::Result
-    ensures { DisplaysOnOk W.write_str_gives f.old result (Some (next_corner at.now.x (neg_ℤ at.now.y))) f.new }
-{
-    let (x, y) = (ShortMillimetres(at.x()), ShortMillimetres(down(at.y())));
-    write!(f, "L{x} {y}")
+    write_point(f, "M", at)
 }
 
 /// The contours of what is drawn, as paths or as parts of one.
@@ -449,13 +393,13 @@ impl Line<Contours> for Drawn {
         match self {
             Drawn::Line { .. } | Drawn::Arc { .. } | Drawn::Flash { .. } => Ok(()),
             Drawn::Contour(at) => write_first_corner(f, page.before, at),
-            Drawn::Corner(at) => write_next_corner(f, at),
+            Drawn::Corner(at) => write_point(f, "L", at),
             Drawn::Bend {
                 from,
                 to,
                 centre,
                 clockwise,
-            } => write!(f, "{}", way_of(from, to, centre, *clockwise)),
+            } => write_way(f, from, to, centre, *clockwise),
         }
     }
 }
@@ -474,29 +418,32 @@ fn write_contours<W: fmt::Write>(f: &mut Formatter<W>, drawn: &[Drawn]) -> fmt::
     write!(f, "{contours}\"/>\n</g>\n</svg>\n")
 }
 
-/// What a layer draws, cut at the box of the board: its lines, arcs and flashes, then its contours; nothing where it draws nothing.
-#[derive(Clone, Copy)]
-pub(crate) struct Copper<'a> {
-    pub(crate) frame: &'a Frame,
-    pub(crate) drawn: &'a [Drawn],
+/// Writes the lines, arcs and flashes of what is drawn, and the start of its contours.
+fn write_copper_lines<W: fmt::Write>(f: &mut Formatter<W>, drawn: &[Drawn]) -> fmt::Result
+    ensures { DisplaysOnOk W.write_str_gives f.old result (Some (copper_lines drawn.now)) f.new }
+{
+    let lines = Lines {
+        page: &LineElements,
+        lines: drawn,
+    };
+    write!(
+        f,
+        "\" fill=\"none\" stroke=\"#f0dcc0\" stroke-linecap=\"round\"><title>drawn copper, not judged</title>\n{lines}<g fill=\"#f0dcc0\" fill-rule=\"evenodd\" stroke=\"none\">\n<path d=\""
+    )
 }
 
-impl Display for Copper<'_> {
-    ghost output = { λ all. Some (copper all.frame.now all.drawn.now) };
-
-    fn fmt<W: fmt::Write>(&self, f: &mut Formatter<W>) -> fmt::Result {
-        if self.drawn.is_empty() {
-            return Ok(());
-        }
-        let cut = Cut(self.frame);
-        let lines = Lines {
-            page: &LineElements,
-            lines: self.drawn,
-        };
-        write!(
-            f,
-            "{cut}\" fill=\"none\" stroke=\"#f0dcc0\" stroke-linecap=\"round\"><title>drawn copper, not judged</title>\n{lines}<g fill=\"#f0dcc0\" fill-rule=\"evenodd\" stroke=\"none\">\n<path d=\""
-        )?;
-        write_contours(f, self.drawn)
+/// Writes what a layer draws, cut at the box of the board: its lines, arcs and flashes, then its contours; nothing where it draws nothing.
+pub(crate) fn write_copper<W: fmt::Write>(
+    f: &mut Formatter<W>,
+    frame: &Frame,
+    drawn: &[Drawn],
+) -> fmt::Result
+    ensures { DisplaysOnOk W.write_str_gives f.old result (Some (copper frame.now drawn.now)) f.new }
+{
+    if drawn.is_empty() {
+        return Ok(());
     }
+    write_cut(f, frame)?;
+    write_copper_lines(f, drawn)?;
+    write_contours(f, drawn)
 }

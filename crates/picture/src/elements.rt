@@ -1,13 +1,13 @@
 //! The forms of the elements of a picture. Lengths are in pm, printed in millimetres; in a picture y grows downwards.
 
-ghost use Rattle.std.specs.Prelude.{◌≡◌, ◌≤◌, ◌^◌, Some, neg_ℤ, unsigned_abs};
-ghost use Rattle.picture.specs.Elements.{box, circle, half_circle, horizontal_line, line, round_part, text_start, vertical_line};
+ghost use Rattle.std.specs.Prelude.{◌≡◌, ◌≤◌, ◌^◌, Some, neg_ℤ, unsigned_abs, ◌/◌, pos};
+ghost use Rattle.std.specs.Fmt.{DisplaysOnOk};
+ghost use Rattle.picture.specs.Elements.{arm, circle, corner, edge, line, path_open, point, rim, ring_rim, straight_part, text_start};
 
 use crate::frame::Pen;
-use crate::widths::unit;
-use grid_units::ShortMillimetres;
+use grid_units::{Point, ShortMillimetres};
 use std::fmt;
-use std::fmt::{Display, Formatter};
+use std::fmt::Formatter;
 
 /// The y in a picture of a y on the board: negated.
 pub(crate) fn down(y: i64) -> i64
@@ -17,184 +17,156 @@ pub(crate) fn down(y: i64) -> i64
     -y
 }
 
-/// A circle, by its class, its centre, its radius and the width of its line.
-#[derive(Clone, Copy)]
-pub(crate) struct Circle<'a> {
-    pub(crate) class: &'a str,
-    pub(crate) x: i64,
-    pub(crate) y: i64,
-    pub(crate) radius: i64,
-    pub(crate) width: i64,
-}
-
-impl Display for Circle<'_> {
-    ghost output = { λ c. Some (circle c.class.now c.x c.y c.radius c.width) };
-
-    fn fmt<W: fmt::Write>(&self, f: &mut Formatter<W>) -> fmt::Result {
-        let (x, y) = (ShortMillimetres(self.x), ShortMillimetres(self.y));
-        let (radius, width) = (ShortMillimetres(self.radius), ShortMillimetres(self.width));
-        write!(
-            f,
-            "<circle class=\"{}\" cx=\"{x}\" cy=\"{y}\" r=\"{radius}\" stroke-width=\"{width}\"/>\n",
-            self.class
-        )
-    }
-}
-
-/// A straight line, by its class, its width and its ends.
-#[derive(Clone, Copy)]
-pub(crate) struct StraightLine<'a> {
-    pub(crate) class: &'a str,
-    pub(crate) width: i64,
-    pub(crate) x: i64,
-    pub(crate) y: i64,
-    pub(crate) end_x: i64,
-    pub(crate) end_y: i64,
-}
-
-impl Display for StraightLine<'_> {
-    ghost output = { λ l. Some (line l.class.now l.width l.x l.y l.end_x l.end_y) };
-
-    fn fmt<W: fmt::Write>(&self, f: &mut Formatter<W>) -> fmt::Result {
-        let (x, y) = (ShortMillimetres(self.x), ShortMillimetres(self.y));
-        let (end_x, end_y) = (ShortMillimetres(self.end_x), ShortMillimetres(self.end_y));
-        let width = ShortMillimetres(self.width);
-        write!(f, "<path class=\"{}", self.class)?;
-        write!(
-            f,
-            "\" stroke-width=\"{width}\" d=\"M{x} {y}L{end_x} {end_y}\"/>\n"
-        )
-    }
-}
-
-/// A part of a path along x, by its left end and its length: `M8 -24.54h2`.
-#[derive(Clone, Copy)]
-pub(crate) struct Across {
-    pub(crate) x: i64,
-    pub(crate) y: i64,
-    pub(crate) length: i64,
-}
-
-impl Display for Across {
-    ghost output = { λ part. Some (horizontal_line part.x part.y part.length) };
-
-    #[tactic(auto, unfolding(crate::specs::Elements::horizontal_line))]
-    fn fmt<W: fmt::Write>(&self, f: &mut Formatter<W>) -> fmt::Result {
-        let (x, y) = (ShortMillimetres(self.x), ShortMillimetres(self.y));
-        write!(f, "M{x} {y}h{}", ShortMillimetres(self.length))
-    }
-}
-
-/// A part of a path along y, by its upper end and its length: `M8 -24.54v2`.
-#[derive(Clone, Copy)]
-pub(crate) struct Along {
-    pub(crate) x: i64,
-    pub(crate) y: i64,
-    pub(crate) length: i64,
-}
-
-impl Display for Along {
-    ghost output = { λ part. Some (vertical_line part.x part.y part.length) };
-
-    #[tactic(auto, unfolding(crate::specs::Elements::vertical_line))]
-    fn fmt<W: fmt::Write>(&self, f: &mut Formatter<W>) -> fmt::Result {
-        let (x, y) = (ShortMillimetres(self.x), ShortMillimetres(self.y));
-        write!(f, "M{x} {y}v{}", ShortMillimetres(self.length))
-    }
-}
-
-/// A rectangle as a part of a path, by its upper left corner, its sides and the way back: `M26.4 -24.45h1.2v0.9h-1.2z`.
-#[derive(Clone, Copy)]
-pub(crate) struct Rectangle {
-    pub(crate) x: i64,
-    pub(crate) y: i64,
-    pub(crate) width: i64,
-    pub(crate) height: i64,
-    pub(crate) back: i64,
-}
-
-impl Display for Rectangle {
-    ghost output = { λ part. Some (box part.x part.y part.width part.height part.back) };
-
-    fn fmt<W: fmt::Write>(&self, f: &mut Formatter<W>) -> fmt::Result {
-        let (x, y) = (ShortMillimetres(self.x), ShortMillimetres(self.y));
-        let (width, height) = (ShortMillimetres(self.width), ShortMillimetres(self.height));
-        let back = ShortMillimetres(self.back);
-        write!(f, "M{x} {y}h{width}v{height}h{back}z")
-    }
-}
-
-/// A half circle as a part of a path, by its radius and the way along x to its end: `a0.375 0.375 0 1 0 0.75 0`.
-#[derive(Clone, Copy)]
-struct HalfCircle {
+/// Writes a circle, by its class, its centre, its radius and the width of its line.
+pub(crate) fn write_circle<W: fmt::Write>(
+    f: &mut Formatter<W>,
+    class: &str,
+    x: i64,
+    y: i64,
     radius: i64,
-    along: i64,
+    width: i64,
+) -> fmt::Result
+    ensures { DisplaysOnOk W.write_str_gives f.old result (Some (circle class.now x y radius width)) f.new }
+{
+    let (x, y) = (ShortMillimetres(x), ShortMillimetres(y));
+    let (radius, width) = (ShortMillimetres(radius), ShortMillimetres(width));
+    write!(
+        f,
+        "<circle class=\"{class}\" cx=\"{x}\" cy=\"{y}\" r=\"{radius}\" stroke-width=\"{width}\"/>\n"
+    )
 }
 
-impl Display for HalfCircle {
-    ghost output = { λ part. Some (half_circle part.radius part.along) };
-
-    #[tactic(auto, unfolding(crate::specs::Elements::half_circle))]
-    fn fmt<W: fmt::Write>(&self, f: &mut Formatter<W>) -> fmt::Result {
-        let (radius, along) = (ShortMillimetres(self.radius), ShortMillimetres(self.along));
-        write!(f, "a{radius} {radius} 0 1 0 {along} 0")
-    }
+/// Writes the start of a path, by its element and the width of its line: `<path class="line" stroke-width="0.6" d="`.
+#[tactic(auto, unfolding(crate::specs::Elements::path_open))]
+pub(crate) fn write_path_open<W: fmt::Write>(
+    f: &mut Formatter<W>,
+    element: &str,
+    width: i64,
+) -> fmt::Result
+    ensures { DisplaysOnOk W.write_str_gives f.old result (Some (path_open element.now width)) f.new }
+{
+    let width = ShortMillimetres(width);
+    write!(f, "{element} stroke-width=\"{width}\" d=\"")
 }
 
-/// A circle as a part of a path, by its left side, its radius, and the ways along x to its right side and back.
-#[derive(Clone, Copy)]
-pub(crate) struct RoundPart {
-    pub(crate) left: i64,
-    pub(crate) y: i64,
-    pub(crate) radius: i64,
-    pub(crate) there: i64,
-    pub(crate) back: i64,
+/// Writes a corner of a path, after the letter that says how it is reached: `M1 -2` begins there, `L1 -2` is a line to it.
+#[tactic(auto, unfolding(crate::specs::Elements::corner))]
+pub(crate) fn write_corner<W: fmt::Write>(
+    f: &mut Formatter<W>,
+    letter: &str,
+    x: i64,
+    y: i64,
+) -> fmt::Result
+    ensures { DisplaysOnOk W.write_str_gives f.old result (Some (corner letter.now x y)) f.new }
+{
+    let (x, y) = (ShortMillimetres(x), ShortMillimetres(y));
+    write!(f, "{letter}{x} {y}")
 }
 
-impl Display for RoundPart {
-    ghost output = { λ part. Some (round_part part.left part.y part.radius part.there part.back) };
-
-    fn fmt<W: fmt::Write>(&self, f: &mut Formatter<W>) -> fmt::Result {
-        let (left, y, radius) = (
-            ShortMillimetres(self.left),
-            ShortMillimetres(self.y),
-            self.radius,
-        );
-        let there = HalfCircle {
-            radius,
-            along: self.there,
-        };
-        let back = HalfCircle {
-            radius,
-            along: self.back,
-        };
-        write!(f, "M{left} {y}{there}{back}z")
-    }
+/// Writes a point of the board as a corner of a path.
+pub(crate) fn write_point<W: fmt::Write>(
+    f: &mut Formatter<W>,
+    letter: &str,
+    at: &Point,
+) -> fmt::Result
+    ensures { DisplaysOnOk W.write_str_gives f.old result (Some (point letter.now at.now)) f.new }
+{
+    write_corner(f, letter, at.x(), down(at.y()))
 }
 
-/// The start of a text: its first words, its place, and the unit that scales its letters.
-#[derive(Clone, Copy)]
-pub(crate) struct TextStart<'a> {
-    pub(crate) pen: &'a Pen,
-    pub(crate) words: &'a str,
-    pub(crate) x: i64,
-    pub(crate) y: i64,
+/// Writes a line from point to point, as a part of a path.
+pub(crate) fn write_edge<W: fmt::Write>(
+    f: &mut Formatter<W>,
+    from: &Point,
+    to: &Point,
+) -> fmt::Result
+    ensures { DisplaysOnOk W.write_str_gives f.old result (Some (edge from.now to.now)) f.new }
+{
+    write_point(f, "M", from)?;
+    write_point(f, "L", to)
 }
 
-impl Display for TextStart<'_> {
-    ghost output = { λ start. Some (text_start start.pen.now start.words.now start.x start.y) };
+/// Writes a line from point to point, as an element with this start, by its width.
+pub(crate) fn write_line<W: fmt::Write>(
+    f: &mut Formatter<W>,
+    element: &str,
+    width: i64,
+    from: &Point,
+    to: &Point,
+) -> fmt::Result
+    ensures { DisplaysOnOk W.write_str_gives f.old result (Some (line element.now width from.now to.now)) f.new }
+{
+    write_path_open(f, element, width)?;
+    write_edge(f, from, to)?;
+    f.write_str("\"/>\n")
+}
 
-    #[tactic(auto, unfolding(crate::specs::Elements::text_start))]
-    fn fmt<W: fmt::Write>(&self, f: &mut Formatter<W>) -> fmt::Result {
-        let (words, x, y) = (
-            self.words,
-            ShortMillimetres(self.x),
-            ShortMillimetres(self.y),
-        );
-        write!(
-            f,
-            "{words}{x} {y}) scale({})\">",
-            ShortMillimetres(unit(self.pen))
-        )
-    }
+/// Writes a part of a path along an axis: `h` along x from its left end, `v` along y from its upper end, as `M8 -24.54h2`.
+#[tactic(auto, unfolding(crate::specs::Elements::straight_part))]
+pub(crate) fn write_straight<W: fmt::Write>(
+    f: &mut Formatter<W>,
+    axis: &str,
+    x: i64,
+    y: i64,
+    length: i64,
+) -> fmt::Result
+    ensures { DisplaysOnOk W.write_str_gives f.old result (Some (straight_part axis.now x y length)) f.new }
+{
+    let (x, y, length) = (
+        ShortMillimetres(x),
+        ShortMillimetres(y),
+        ShortMillimetres(length),
+    );
+    write!(f, "M{x} {y}{axis}{length}")
+}
+
+/// Writes the start of a text: its first words, its place, and the unit that scales its letters.
+#[tactic(auto, unfolding(crate::specs::Elements::text_start))]
+pub(crate) fn write_text_start<W: fmt::Write>(
+    f: &mut Formatter<W>,
+    pen: &Pen,
+    words: &str,
+    x: i64,
+    y: i64,
+) -> fmt::Result
+    ensures { DisplaysOnOk W.write_str_gives f.old result (Some (text_start pen.now words.now x y)) f.new }
+{
+    let (x, y, unit) = (
+        ShortMillimetres(x),
+        ShortMillimetres(y),
+        ShortMillimetres(pen.unit as i64),
+    );
+    write!(f, "{words}{x} {y}) scale({unit})\">")
+}
+
+/// The length of an arm of a cross: a third of a unit.
+pub(crate) fn arm(pen: &Pen) -> i64
+    ensures value { result ≡ pos (arm pen.now) }
+    ensures within { arm pen.now ≤ 10 ^ 13 }
+{
+    (pen.unit / 3) as i64
+}
+
+/// The width of the line round a circle: a tenth of a unit, at most a quarter of the radius.
+pub(crate) fn rim(pen: &Pen, radius: u64) -> u64
+    ensures value { result ≡ rim pen.now radius }
+    ensures within { result ≤ radius }
+    ensures thin { result ≤ 10 ^ 13 }
+{
+    (pen.unit / 10).min(radius / 4)
+}
+
+/// The width of the line round a ring: a tenth of a unit, at most an eighth of the radius.
+pub(crate) fn ring_rim(pen: &Pen, radius: u64) -> u64
+    ensures value { result ≡ ring_rim pen.now radius }
+    ensures thin { result ≤ 10 ^ 13 }
+{
+    (pen.unit / 10).min(radius / 8)
+}
+
+/// The width of the lines of crosses and marks: a fifth of a unit.
+pub(crate) fn mark_line_width(pen: &Pen) -> i64
+    ensures { result ≡ pos (pen.now.unit / 5) }
+{
+    (pen.unit / 5) as i64
 }

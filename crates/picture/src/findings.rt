@@ -3,16 +3,17 @@
 ghost use Rattle.std.specs.Prelude.{◌≡◌, ◌*◌, ◌≤◌, ◌^◌, ◌+ℤ◌, neg_ℤ, pos, Some, unsigned_abs};
 ghost use Rattle.std.specs.Fmt.{DisplaysOnOk};
 ghost use Rattle.grid_units.specs.Points.{IsCoordinate};
-ghost use Rattle.picture.specs.Elements.{circle, finding_text, gap, halfway, lack, line, mark, mark_circle, mark_radius, middle_x, middle_y, number, number_offset, place_x, place_y, reach, ring};
+ghost use Rattle.picture.specs.Elements.{finding_text, halfway, lack, mark, mark_circle, mark_radius, middle, midpoint, number, number_offset, place_of, reach, ring};
 ghost use Rattle.picture.specs.Panels.{lacks_text, marked_findings};
 
-use crate::elements::{Circle, StraightLine, TextStart, down};
+use crate::elements::{
+    down, mark_line_width, ring_rim, write_circle, write_line, write_text_start,
+};
 use crate::frame::Pen;
-use crate::holes::slot_line;
+use crate::holes::write_slot;
 use crate::scene::DrawnFinding;
 use crate::titles::{FindingPage, FindingWords, number_of, write_finding_start};
-use crate::widths::{gap_width, mark_line_width, ring_rim};
-use grid_units::{Hole, Line, Lines};
+use grid_units::{Hole, Line, Lines, Point};
 use std::fmt;
 use std::fmt::{Display, Formatter};
 
@@ -29,18 +30,18 @@ fn halfway(a: i64, b: i64) -> i64
     (a + b) / 2
 }
 
-fn middle_x(hole: &Hole) -> i64
-    ensures value { result ≡ middle_x hole.now }
-    ensures in_range { IsCoordinate result }
+/// The point halfway between two.
+fn midpoint(a: Point, b: Point) -> Point
+    ensures { result ≡ midpoint a b }
 {
-    halfway(hole.from().x(), hole.to().x())
+    Point::new(halfway(a.x(), b.x()), halfway(a.y(), b.y())).unwrap()
 }
 
-fn middle_y(hole: &Hole) -> i64
-    ensures value { result ≡ middle_y hole.now }
-    ensures in_range { IsCoordinate result }
+/// The middle of a hole.
+fn middle(hole: &Hole) -> Point
+    ensures { result ≡ middle hole.now }
 {
-    halfway(hole.from().y(), hole.to().y())
+    midpoint(hole.from(), hole.to())
 }
 
 /// Writes the required ring of a hole: a circle, of a slot a wide line.
@@ -49,41 +50,30 @@ fn write_ring<W: fmt::Write>(f: &mut Formatter<W>, pen: &Pen, hole: &Hole) -> fm
 {
     let radius = hole.radius().unsigned_abs() + pen.ring;
     if !hole.is_round() {
-        return write!(f, "{}", slot_line("ring", hole, radius));
+        return write_slot(f, "<path class=\"ring\"", hole, radius);
     }
-    let at = hole.from();
-    let circle = Circle {
-        class: "ring",
-        x: at.x(),
-        y: down(at.y()),
-        radius: radius as i64,
-        width: ring_rim(pen, radius) as i64,
-    };
-    write!(f, "{circle}")
+    let (x, y) = (hole.from().x(), down(hole.from().y()));
+    let width = ring_rim(pen, radius) as i64;
+    write_circle(f, "ring", x, y, radius as i64, width)
 }
 
-/// The insufficient gap between two holes: a line from middle to middle.
-fn gap_line(pen: &Pen, first: &Hole, second: &Hole) -> StraightLine<'static>
-    ensures { line result.class.now result.width result.x result.y result.end_x result.end_y ≡ gap pen.now first.now second.now }
-{
-    StraightLine {
-        class: "gap",
-        width: gap_width(pen),
-        x: middle_x(first),
-        y: down(middle_y(first)),
-        end_x: middle_x(second),
-        end_y: down(middle_y(second)),
-    }
-}
-
-/// Writes the ring or the gap of a finding.
+/// Writes the ring of a finding, or its gap: a line from middle to middle.
 #[tactic(auto, unfolding(crate::specs::Elements::lack))]
 fn write_lack<W: fmt::Write>(f: &mut Formatter<W>, pen: &Pen, found: &DrawnFinding) -> fmt::Result
     ensures { DisplaysOnOk W.write_str_gives f.old result (Some (lack pen.now found.now)) f.new }
 {
     match found {
         DrawnFinding::Ring { hole, .. } => write_ring(f, pen, hole),
-        DrawnFinding::Gap { first, second, .. } => { write!(f, "{}", gap_line(pen, first, second)) }
+        DrawnFinding::Gap { first, second, .. } => {
+            let width = (pen.unit * 3 / 10) as i64;
+            write_line(
+                f,
+                "<path class=\"gap\"",
+                width,
+                &middle(first),
+                &middle(second),
+            )
+        }
     }
 }
 
@@ -98,25 +88,13 @@ impl Line<FindingPage<'_>> for DrawnFinding {
     }
 }
 
-/// The x of a finding's place: the middle of its hole, or halfway between its two holes.
-fn place_x(found: &DrawnFinding) -> i64
-    ensures value { result ≡ place_x found.now }
-    ensures in_range { IsCoordinate result }
+/// A finding's place: the middle of its hole, or halfway between those of its two holes.
+fn place_of(found: &DrawnFinding) -> Point
+    ensures { result ≡ place_of found.now }
 {
     match found {
-        DrawnFinding::Ring { hole, .. } => middle_x(hole),
-        DrawnFinding::Gap { first, second, .. } => halfway(middle_x(first), middle_x(second)),
-    }
-}
-
-/// The y of a finding's place, likewise.
-fn place_y(found: &DrawnFinding) -> i64
-    ensures value { result ≡ place_y found.now }
-    ensures in_range { IsCoordinate result }
-{
-    match found {
-        DrawnFinding::Ring { hole, .. } => middle_y(hole),
-        DrawnFinding::Gap { first, second, .. } => halfway(middle_y(first), middle_y(second)),
+        DrawnFinding::Ring { hole, .. } => middle(hole),
+        DrawnFinding::Gap { first, second, .. } => midpoint(middle(first), middle(second)),
     }
 }
 
@@ -139,17 +117,23 @@ fn mark_radius(pen: &Pen, found: &DrawnFinding) -> u64
     (reach(pen, found) + pen.unit / 2).max(pen.unit)
 }
 
-/// The circle round a finding.
-fn mark_circle(pen: &Pen, found: &DrawnFinding) -> Circle<'static>
-    ensures { circle result.class.now result.x result.y result.radius result.width ≡ mark_circle pen.now found.now }
+/// Writes the circle round a finding.
+fn write_mark_circle<W: fmt::Write>(
+    f: &mut Formatter<W>,
+    pen: &Pen,
+    found: &DrawnFinding,
+) -> fmt::Result
+    ensures { DisplaysOnOk W.write_str_gives f.old result (Some (mark_circle pen.now found.now)) f.new }
 {
-    Circle {
-        class: "mark",
-        x: place_x(found),
-        y: down(place_y(found)),
-        radius: mark_radius(pen, found) as i64,
-        width: mark_line_width(pen),
-    }
+    let (at, radius) = (place_of(found), mark_radius(pen, found) as i64);
+    write_circle(
+        f,
+        "mark",
+        at.x(),
+        down(at.y()),
+        radius,
+        mark_line_width(pen),
+    )
 }
 
 /// The marks of findings.
@@ -164,8 +148,9 @@ impl Line<Marks<'_>> for DrawnFinding {
     fn fmt_on<W: fmt::Write>(&self, marks: &Marks<'_>, f: &mut Formatter<W>) -> fmt::Result {
         let page = &marks.0;
         let words = FindingWords { page, found: self };
-        let circle = mark_circle(page.pen, self);
-        write!(f, "<g><title>{words}</title>\n{circle}</g>\n")
+        write!(f, "<g><title>{words}</title>\n")?;
+        write_mark_circle(f, page.pen, self)?;
+        f.write_str("</g>\n")
     }
 }
 
@@ -179,14 +164,11 @@ fn number_offset(pen: &Pen, found: &DrawnFinding) -> i64
 
 /// The place of a finding's number in a picture.
 fn number_place(pen: &Pen, found: &DrawnFinding) -> (i64, i64)
-    ensures x { result.0 ≡ place_x found.now +ℤ pos (number_offset pen.now found.now) }
-    ensures y { result.1 ≡ neg_ℤ (place_y found.now +ℤ pos (number_offset pen.now found.now)) }
+    ensures x { result.0 ≡ (place_of found.now).x +ℤ pos (number_offset pen.now found.now) }
+    ensures y { result.1 ≡ neg_ℤ ((place_of found.now).y +ℤ pos (number_offset pen.now found.now)) }
 {
-    let number_offset = number_offset(pen, found);
-    (
-        place_x(found) + number_offset,
-        down(place_y(found) + number_offset),
-    )
+    let (at, offset) = (place_of(found), number_offset(pen, found));
+    (at.x() + offset, down(at.y() + offset))
 }
 
 /// The numbers of findings.
@@ -201,18 +183,15 @@ impl Line<Numbers<'_>> for DrawnFinding {
     fn fmt_on<W: fmt::Write>(&self, numbers: &Numbers<'_>, f: &mut Formatter<W>) -> fmt::Result {
         let page = &numbers.0;
         let (x, y) = number_place(page.pen, self);
-        let start = TextStart {
-            pen: page.pen,
-            words: "<text class=\"number\" transform=\"translate(",
+        write_text_start(
+            f,
+            page.pen,
+            "<text class=\"number\" transform=\"translate(",
             x,
             y,
-        };
+        )?;
         let title = FindingWords { page, found: self };
-        write!(
-            f,
-            "{start}<title>{title}</title>{}</text>\n",
-            number_of(self)
-        )
+        write!(f, "<title>{title}</title>{}</text>\n", number_of(self))
     }
 }
 

@@ -17,7 +17,6 @@ mod panel;
 mod rounded_pads;
 mod scene;
 mod titles;
-mod widths;
 
 pub use frame::{Frame, Pen, Place};
 pub use laws::{crosses_of_rows, escaped_names, one_path_per_size, strict_layers};

@@ -2,9 +2,9 @@
 
 ghost use Rattle.std.specs.Prelude.{◌≡◌, ◌*◌, ◌-◌, ◌≤◌, ◌<◌, ◌^◌, ◌+ℤ◌, ◌-ℤ◌, neg_ℤ, pos, nat_le, length, Some, unsigned_abs};
 ghost use Rattle.std.specs.Fmt.{DisplaysOnOk};
-ghost use Rattle.picture.specs.Elements.{are_alike, begins_pads, box, ends_pads, lines_start, obround_line, outline, pad_paths, pad_words, pads_end_at, pads_start, pads_start_at, rect_box, sized_words};
+ghost use Rattle.picture.specs.Elements.{are_alike, begins_pads, ends_pads, obround_line, outline, pad_paths, pad_words, pads_end_at, pads_start, pads_start_at, rect_box, sides};
 
-use crate::elements::{Across, Along, Rectangle, down};
+use crate::elements::{down, write_corner, write_path_open, write_straight};
 use grid_units::ShortMillimetres;
 use pad_shapes::{Obround, Pad, Rect};
 use std::fmt;
@@ -41,48 +41,49 @@ fn corner_and_sides(rect: &Rect) -> (i64, i64, i64, i64)
     )
 }
 
-/// A rectangular pad as a part of a path.
-fn rectangle(rect: &Rect) -> Rectangle
-    ensures { box result.x result.y result.width result.height result.back ≡ rect_box rect.now }
+/// Writes the sides of a rectangle, from its upper left corner on, and the way back: `h1.2v0.9h-1.2z`.
+#[tactic(auto, unfolding(crate::specs::Elements::sides))]
+fn write_sides<W: fmt::Write>(
+    f: &mut Formatter<W>,
+    width: i64,
+    height: i64,
+    back: i64,
+) -> fmt::Result
+    ensures { DisplaysOnOk W.write_str_gives f.old result (Some (sides width height back)) f.new }
+{
+    let (width, height) = (ShortMillimetres(width), ShortMillimetres(height));
+    write!(f, "h{width}v{height}h{}z", ShortMillimetres(back))
+}
+
+/// Writes a rectangular pad as a part of a path.
+fn write_rect<W: fmt::Write>(f: &mut Formatter<W>, rect: &Rect) -> fmt::Result
+    ensures { DisplaysOnOk W.write_str_gives f.old result (Some (rect_box rect.now)) f.new }
 {
     let (x, y, width, height) = corner_and_sides(rect);
-    Rectangle {
-        x,
-        y,
-        width,
-        height,
-        back: down(width),
-    }
+    write_corner(f, "M", x, y)?;
+    write_sides(f, width, height, down(width))
 }
 
-/// The line of a broad obround as a part of a path.
-fn broad_line(obround: &Obround) -> Across
+/// The left end of the line of a broad obround in a picture, and its length.
+fn broad_line(obround: &Obround) -> (i64, i64, i64)
     requires { obround.now.half_y ≤ obround.now.half_x }
-    ensures x { result.x ≡ obround.now.centre.x -ℤ pos (obround.now.half_x - obround.now.half_y) }
-    ensures y { result.y ≡ neg_ℤ obround.now.centre.y }
-    ensures length { result.length ≡ pos (2 * (obround.now.half_x - obround.now.half_y)) }
+    ensures x { result.0 ≡ obround.now.centre.x -ℤ pos (obround.now.half_x - obround.now.half_y) }
+    ensures y { result.1 ≡ neg_ℤ obround.now.centre.y }
+    ensures length { result.2 ≡ pos (2 * (obround.now.half_x - obround.now.half_y)) }
 {
     let (at, reach) = (obround.centre(), obround.half_x() - obround.half_y());
-    Across {
-        x: at.x() - reach,
-        y: down(at.y()),
-        length: 2 * reach,
-    }
+    (at.x() - reach, down(at.y()), 2 * reach)
 }
 
-/// The line of a high obround as a part of a path.
-fn high_line(obround: &Obround) -> Along
+/// The upper end of the line of a high obround in a picture, and its length.
+fn high_line(obround: &Obround) -> (i64, i64, i64)
     requires { obround.now.half_x ≤ obround.now.half_y }
-    ensures x { result.x ≡ obround.now.centre.x }
-    ensures y { result.y ≡ neg_ℤ (obround.now.centre.y +ℤ pos (obround.now.half_y - obround.now.half_x)) }
-    ensures length { result.length ≡ pos (2 * (obround.now.half_y - obround.now.half_x)) }
+    ensures x { result.0 ≡ obround.now.centre.x }
+    ensures y { result.1 ≡ neg_ℤ (obround.now.centre.y +ℤ pos (obround.now.half_y - obround.now.half_x)) }
+    ensures length { result.2 ≡ pos (2 * (obround.now.half_y - obround.now.half_x)) }
 {
     let (at, reach) = (obround.centre(), obround.half_y() - obround.half_x());
-    Along {
-        x: at.x(),
-        y: down(at.y() + reach),
-        length: 2 * reach,
-    }
+    (at.x(), down(at.y() + reach), 2 * reach)
 }
 
 /// Whether an obround is at least as wide as high.
@@ -97,88 +98,58 @@ fn write_obround<W: fmt::Write>(f: &mut Formatter<W>, obround: &Obround) -> fmt:
     ensures { DisplaysOnOk W.write_str_gives f.old result (Some (obround_line obround.now)) f.new }
 {
     if is_broad(obround) {
-        write!(f, "{}", broad_line(obround))
+        let (x, y, length) = broad_line(obround);
+        write_straight(f, "h", x, y, length)
     } else {
-        write!(f, "{}", high_line(obround))
+        let (x, y, length) = high_line(obround);
+        write_straight(f, "v", x, y, length)
     }
 }
 
-/// A pad as a part of a path.
-#[derive(Clone, Copy)]
-struct Outline<'a>(&'a Pad);
+/// Writes a pad as a part of a path.
+fn write_outline<W: fmt::Write>(f: &mut Formatter<W>, pad: &Pad) -> fmt::Result
+    ensures { DisplaysOnOk W.write_str_gives f.old result (Some (outline pad.now)) f.new }
+{
+    match pad {
+        Pad::Disc(disc) => write_straight(f, "h", disc.centre().x(), down(disc.centre().y()), 0),
+        Pad::Rect(rect) => write_rect(f, rect),
+        Pad::Obround(obround) => write_obround(f, obround),
+    }
+}
 
-impl Display for Outline<'_> {
-    ghost output = { λ pad. Some (outline pad.0.now) };
-
-    fn fmt<W: fmt::Write>(&self, f: &mut Formatter<W>) -> fmt::Result {
-        match self.0 {
-            Pad::Disc(disc) => {
-                let at = disc.centre();
-                let (x, y) = (at.x(), down(at.y()));
-                write!(f, "{}", Across { x, y, length: 0 })
-            }
-            Pad::Rect(rect) => write!(f, "{}", rectangle(rect)),
-            Pad::Obround(obround) => write_obround(f, obround),
+/// Writes the start of the path for pads like this one.
+fn write_pads_start<W: fmt::Write>(f: &mut Formatter<W>, pad: &Pad) -> fmt::Result
+    ensures { DisplaysOnOk W.write_str_gives f.old result (Some (pads_start pad.now)) f.new }
+{
+    let line = "<path class=\"line\"";
+    match pad {
+        Pad::Disc(disc) => write_path_open(f, line, 2 * disc.radius()),
+        Pad::Rect(_) => f.write_str("<path class=\"pad\" d=\""),
+        Pad::Obround(obround) => {
+            write_path_open(f, line, 2 * obround.half_x().min(obround.half_y()))
         }
     }
 }
 
-/// Writes the start of a path of lines, by their width.
-#[tactic(auto, unfolding(crate::specs::Elements::lines_start))]
-fn write_lines_start<W: fmt::Write>(f: &mut Formatter<W>, width: i64) -> fmt::Result
-    ensures { DisplaysOnOk W.write_str_gives f.old result (Some (lines_start width)) f.new }
-{
-    let width = ShortMillimetres(width);
-    write!(f, "<path class=\"line\" stroke-width=\"{width}\" d=\"")
-}
-
-/// The start of the path for pads like this one.
-#[derive(Clone, Copy)]
-struct PadsStart<'a>(&'a Pad);
-
-impl Display for PadsStart<'_> {
-    ghost output = { λ pad. Some (pads_start pad.0.now) };
-
-    fn fmt<W: fmt::Write>(&self, f: &mut Formatter<W>) -> fmt::Result {
-        match self.0 {
-            Pad::Disc(disc) => write_lines_start(f, 2 * disc.radius()),
-            Pad::Rect(_) => f.write_str("<path class=\"pad\" d=\""),
-            Pad::Obround(obround) => {
-                write_lines_start(f, 2 * obround.half_x().min(obround.half_y()))
-            }
-        }
-    }
-}
-
-/// Writes the kind of some pads and their sides: `disc 0.6x0.6`.
-#[tactic(auto, unfolding(crate::specs::Elements::sized_words))]
-fn write_sized<W: fmt::Write>(
-    f: &mut Formatter<W>,
-    kind: &str,
-    width: i64,
-    height: i64,
-) -> fmt::Result
-    ensures { DisplaysOnOk W.write_str_gives f.old result (Some (sized_words kind.now width height)) f.new }
-{
-    let (width, height) = (ShortMillimetres(width), ShortMillimetres(height));
-    write!(f, "{kind}{width}x{height}")
-}
-
-/// A pad in words.
+/// A pad in words, its kind and its sides along x and y: `disc 0.6x0.6`.
 #[derive(Clone, Copy)]
 struct PadWords<'a>(&'a Pad);
 
 impl Display for PadWords<'_> {
     ghost output = { λ pad. Some (pad_words pad.0.now) };
 
+    #[tactic(auto, unfolding(crate::specs::Elements::pad_words))]
     fn fmt<W: fmt::Write>(&self, f: &mut Formatter<W>) -> fmt::Result {
-        match self.0 {
-            Pad::Disc(disc) => write_sized(f, "disc ", 2 * disc.radius(), 2 * disc.radius()),
-            Pad::Rect(rect) => write_sized(f, "rect ", 2 * rect.half_x(), 2 * rect.half_y()),
-            Pad::Obround(obround) => {
-                write_sized(f, "obround ", 2 * obround.half_x(), 2 * obround.half_y())
-            }
-        }
+        let kind = match self.0 {
+            Pad::Disc(_) => "disc",
+            Pad::Rect(_) => "rect",
+            Pad::Obround(_) => "obround",
+        };
+        let (width, height) = (
+            ShortMillimetres(self.0.width()),
+            ShortMillimetres(self.0.height()),
+        );
+        write!(f, "{kind} {width}x{height}")
     }
 }
 
@@ -209,7 +180,7 @@ fn write_start<W: fmt::Write>(
     ensures { DisplaysOnOk W.write_str_gives f.old result (Some (pads_start_at pads.now (place, pad.now))) f.new }
 {
     if begins_at(pads, place) {
-        write!(f, "{}", PadsStart(pad))
+        write_pads_start(f, pad)
     } else {
         Ok(())
     }
@@ -232,19 +203,14 @@ fn write_end<W: fmt::Write>(
     }
 }
 
-/// The paths of pads: one for each run of pads alike.
-#[derive(Clone, Copy)]
-pub(crate) struct Paths<'a>(pub(crate) &'a [Pad]);
-
-impl Display for Paths<'_> {
-    ghost output = { λ pads. Some (pad_paths pads.0.now) };
-
-    fn fmt<W: fmt::Write>(&self, f: &mut Formatter<W>) -> fmt::Result {
-        for (place, pad) in self.0.iter().enumerate() {
-            write_start(f, self.0, place, pad)?;
-            write!(f, "{}", Outline(pad))?;
-            write_end(f, self.0, place, pad)?;
-        }
-        Ok(())
+/// Writes the paths of pads: one for each run of pads alike.
+pub(crate) fn write_paths<W: fmt::Write>(f: &mut Formatter<W>, pads: &[Pad]) -> fmt::Result
+    ensures { DisplaysOnOk W.write_str_gives f.old result (Some (pad_paths pads.now)) f.new }
+{
+    for (place, pad) in pads.iter().enumerate() {
+        write_start(f, pads, place, pad)?;
+        write_outline(f, pad)?;
+        write_end(f, pads, place, pad)?;
     }
+    Ok(())
 }

@@ -1,40 +1,34 @@
 //! The panel of a layer, printed as SVG.
 
-ghost use Rattle.std.specs.Prelude.{◌≡◌, ◌≤◌, ◌^◌, ◌++◌, ◌+ℤ◌, ◌==◌, neg_ℤ, pos, Some, if◌then◌else◌};
+ghost use Rattle.std.specs.Prelude.{◌≡◌, ◌≤◌, ◌^◌, ◌+ℤ◌, ◌==◌, neg_ℤ, pos, Some, if◌then◌else◌};
 ghost use Rattle.std.specs.Fmt.{DisplaysOnOk};
-ghost use Rattle.picture.specs.Escapes.{escaped_name};
-ghost use Rattle.picture.specs.Panels.{after_name, drawn_words, ground_text, lacking_words, name_start, note, pad_count, panel_start, panel_text, ring_count, scene_text};
+ghost use Rattle.picture.specs.Panels.{after_name, board_box, drawn_words, ground_text, lacking_words, name_start, note, pad_count, panel_head, panel_start, panel_text, ring_count, scene_text};
 
-use crate::copper::Copper;
-use crate::cut::BoxStart;
-use crate::elements::{TextStart, down};
+use crate::copper::write_copper;
+use crate::cut::write_box_start;
+use crate::elements::{down, write_text_start};
 use crate::findings::Findings;
 use crate::frame::{Frame, Pen, Place};
-use crate::holes::{Crosses, HolePaths};
+use crate::holes::{write_crosses, write_holes};
 use crate::names::Escaped;
-use crate::outlines::Outline;
-use crate::rounded_pads::PanelPads;
+use crate::outlines::write_outline;
+use crate::rounded_pads::write_pads;
 use crate::scene::{DrawnFinding, Scene};
 use crate::titles::FindingPage;
 use grid_units::ShortMillimetres;
 use std::fmt;
 use std::fmt::{Display, Formatter};
 
-/// The start of a panel.
-#[derive(Clone, Copy)]
-struct PanelStart<'a>(&'a Place<'a>);
-
-impl Display for PanelStart<'_> {
-    ghost output = { λ start. Some (panel_start start.0.now) };
-
-    fn fmt<W: fmt::Write>(&self, f: &mut Formatter<W>) -> fmt::Result {
-        let (x, y) = (ShortMillimetres(self.0.x), ShortMillimetres(self.0.y));
-        write!(
-            f,
-            "<g class=\"layer\" data-file=\"{}\" transform=\"translate({x} {y})\">\n",
-            self.0.file
-        )
-    }
+/// Writes the start of a panel.
+fn write_panel_start<W: fmt::Write>(f: &mut Formatter<W>, place: &Place) -> fmt::Result
+    ensures { DisplaysOnOk W.write_str_gives f.old result (Some (panel_start place.now)) f.new }
+{
+    let (x, y) = (ShortMillimetres(place.x), ShortMillimetres(place.y));
+    write!(
+        f,
+        "<g class=\"layer\" data-file=\"{}\" transform=\"translate({x} {y})\">\n",
+        place.file
+    )
 }
 
 /// The y in a picture of a point this far above the box.
@@ -92,137 +86,85 @@ fn write_lacking<W: fmt::Write>(f: &mut Formatter<W>, pen: &Pen, count: usize) -
     write!(f, ", {count}{word}")
 }
 
-/// The note of a panel, and the end of its element: `361 pads, 1 other, 2 rings too small</text>`.
-#[derive(Clone, Copy)]
-struct Note<'a> {
-    pen: &'a Pen,
-    scene: &'a Scene<'a>,
+/// Writes the note of a panel, and the end of its element: `361 pads, 1 other, 2 rings too small</text>`.
+#[tactic(auto, unfolding(crate::specs::Panels::note))]
+fn write_note<W: fmt::Write>(f: &mut Formatter<W>, pen: &Pen, scene: &Scene) -> fmt::Result
+    ensures { DisplaysOnOk W.write_str_gives f.old result (Some (note pen.now scene.now)) f.new }
+{
+    write_drawn(f, scene)?;
+    write_lacking(f, pen, ring_count(&scene.lacks))?;
+    f.write_str("</text>\n")
 }
 
-impl Display for Note<'_> {
-    ghost output = { λ words. Some (note words.pen.now words.scene.now) };
-
-    #[tactic(auto, unfolding(crate::specs::Panels::note))]
-    fn fmt<W: fmt::Write>(&self, f: &mut Formatter<W>) -> fmt::Result {
-        write_drawn(f, self.scene)?;
-        write_lacking(f, self.pen, ring_count(&self.scene.lacks))?;
-        f.write_str("</text>\n")
-    }
+/// Writes the start of a panel's name.
+fn write_name_start<W: fmt::Write>(f: &mut Formatter<W>, pen: &Pen, frame: &Frame) -> fmt::Result
+    ensures { DisplaysOnOk W.write_str_gives f.old result (Some (name_start pen.now frame.now)) f.new }
+{
+    let y = above(frame, pen.unit * 5 / 2);
+    write_text_start(
+        f,
+        pen,
+        "<text class=\"name\" transform=\"translate(",
+        frame.left,
+        y,
+    )
 }
 
-/// What stands below the pads of a panel: what is drawn, cut at the box, and the outline of the board.
-#[derive(Clone, Copy)]
-struct Ground<'a> {
-    pen: &'a Pen,
-    frame: &'a Frame,
-    scene: &'a Scene<'a>,
+/// Writes what stands in a panel to the end of its name.
+fn write_head<W: fmt::Write>(f: &mut Formatter<W>, panel: &Panel) -> fmt::Result
+    ensures { DisplaysOnOk W.write_str_gives f.old result (Some (panel_head panel.now.place.now panel.now.frame.now panel.now.pen.now)) f.new }
+{
+    write_panel_start(f, panel.place)?;
+    write_name_start(f, panel.pen, panel.frame)?;
+    write!(f, "{}</text>\n", Escaped(panel.place.name))
 }
 
-impl Display for Ground<'_> {
-    ghost output = { λ ground. Some (ground_text ground.pen.now ground.frame.now ground.scene.now.drawn.now ground.scene.now.outline.now) };
-
-    #[tactic(auto, unfolding(crate::specs::Panels::ground_text))]
-    fn fmt<W: fmt::Write>(&self, f: &mut Formatter<W>) -> fmt::Result {
-        let (pen, scene) = (self.pen, self.scene);
-        let copper = Copper {
-            frame: self.frame,
-            drawn: scene.drawn,
-        };
-        let outline = Outline {
-            pen,
-            parts: scene.outline,
-        };
-        write!(f, "{copper}{outline}")
-    }
+/// Writes the box of the board.
+fn write_board<W: fmt::Write>(f: &mut Formatter<W>, frame: &Frame) -> fmt::Result
+    ensures { DisplaysOnOk W.write_str_gives f.old result (Some (board_box frame.now)) f.new }
+{
+    write_box_start(f, "<rect class=\"board\"", frame)?;
+    f.write_str("\"/>\n")
 }
 
-/// The contents of a panel: what stands below the pads, then pads, crosses, holes and findings.
-#[derive(Clone, Copy)]
-struct Contents<'a> {
-    pen: &'a Pen,
-    place: &'a Place<'a>,
-    frame: &'a Frame,
-    scene: &'a Scene<'a>,
+/// Writes what stands in a panel after its name: the note and the box.
+fn write_after_name<W: fmt::Write>(f: &mut Formatter<W>, panel: &Panel) -> fmt::Result
+    ensures { DisplaysOnOk W.write_str_gives f.old result (Some (after_name panel.now.pen.now panel.now.frame.now panel.now.scene.now)) f.new }
+{
+    let (frame, pen) = (panel.frame, panel.pen);
+    let y = above(frame, pen.unit * 4 / 5);
+    write_text_start(
+        f,
+        pen,
+        "<text class=\"note\" transform=\"translate(",
+        frame.left,
+        y,
+    )?;
+    write_note(f, pen, panel.scene)?;
+    write_board(f, frame)
 }
 
-impl Display for Contents<'_> {
-    ghost output = { λ all. Some (scene_text all.pen.now all.place.now all.frame.now all.scene.now.drawn.now all.scene.now.outline.now all.scene.now.pads.items all.scene.now.rounded.items all.scene.now.crosses.items all.scene.now.holes.now all.scene.now.lacks.items) };
-
-    fn fmt<W: fmt::Write>(&self, f: &mut Formatter<W>) -> fmt::Result {
-        let (pen, frame, scene) = (self.pen, self.frame, self.scene);
-        let ground = Ground { pen, frame, scene };
-        let pads = PanelPads {
-            plain: &scene.pads,
-            rounded: &scene.rounded,
-        };
-        let crosses = Crosses {
-            pen,
-            points: &scene.crosses,
-        };
-        let holes = HolePaths {
-            pen,
-            holes: scene.holes,
-        };
-        let findings = Findings {
-            page: FindingPage {
-                pen,
-                place: self.place,
-            },
-            lacks: &scene.lacks,
-        };
-        write!(f, "{ground}{pads}{crosses}{holes}{findings}")
-    }
+/// Writes what stands below the pads of a panel: what is drawn, cut at the box, and the outline of the board.
+#[tactic(auto, unfolding(crate::specs::Panels::ground_text))]
+fn write_ground<W: fmt::Write>(f: &mut Formatter<W>, panel: &Panel) -> fmt::Result
+    ensures { DisplaysOnOk W.write_str_gives f.old result (Some (ground_text panel.now.pen.now panel.now.frame.now panel.now.scene.now.drawn.now panel.now.scene.now.outline.now)) f.new }
+{
+    write_copper(f, panel.frame, panel.scene.drawn)?;
+    write_outline(f, panel.pen, panel.scene.outline)
 }
 
-/// What stands in a panel to the end of its name.
-#[derive(Clone, Copy)]
-struct PanelHead<'a> {
-    place: &'a Place<'a>,
-    frame: &'a Frame,
-    pen: &'a Pen,
-}
-
-impl Display for PanelHead<'_> {
-    ghost output = { λ head. Some ((panel_start head.place.now ++ name_start head.pen.now head.frame.now) ++ escaped_name head.place.now.name.now) };
-
-    fn fmt<W: fmt::Write>(&self, f: &mut Formatter<W>) -> fmt::Result {
-        let (place, frame, pen) = (self.place, self.frame, self.pen);
-        let start = TextStart {
-            pen,
-            words: "<text class=\"name\" transform=\"translate(",
-            x: frame.left,
-            y: above(frame, pen.unit * 5 / 2),
-        };
-        write!(f, "{}{start}{}", PanelStart(place), Escaped(place.name))
-    }
-}
-
-/// What stands in a panel after its name: the note and the box.
-#[derive(Clone, Copy)]
-struct AfterName<'a> {
-    frame: &'a Frame,
-    pen: &'a Pen,
-    scene: &'a Scene<'a>,
-}
-
-impl Display for AfterName<'_> {
-    ghost output = { λ rest. Some (after_name rest.pen.now rest.frame.now rest.scene.now) };
-
-    fn fmt<W: fmt::Write>(&self, f: &mut Formatter<W>) -> fmt::Result {
-        let (frame, pen, scene) = (self.frame, self.pen, self.scene);
-        let start = TextStart {
-            pen,
-            words: "<text class=\"note\" transform=\"translate(",
-            x: frame.left,
-            y: above(frame, pen.unit * 4 / 5),
-        };
-        let note = Note { pen, scene };
-        let board = BoxStart {
-            element: "<rect class=\"board\"",
-            frame,
-        };
-        write!(f, "</text>\n{start}{note}{board}\"/>\n")
-    }
+/// Writes the contents of a panel: what stands below the pads, then pads, crosses, holes and findings.
+fn write_contents<W: fmt::Write>(f: &mut Formatter<W>, panel: &Panel) -> fmt::Result
+    ensures { DisplaysOnOk W.write_str_gives f.old result (Some (scene_text panel.now.pen.now panel.now.place.now panel.now.frame.now panel.now.scene.now.drawn.now panel.now.scene.now.outline.now panel.now.scene.now.pads.items panel.now.scene.now.rounded.items panel.now.scene.now.crosses.items panel.now.scene.now.holes.now panel.now.scene.now.lacks.items)) f.new }
+{
+    let (pen, place, scene) = (panel.pen, panel.place, panel.scene);
+    write_ground(f, panel)?;
+    write_pads(f, &scene.pads, &scene.rounded)?;
+    write_crosses(f, pen, &scene.crosses)?;
+    write_holes(f, pen, scene.holes)?;
+    let page = FindingPage { pen, place };
+    let lacks = &scene.lacks;
+    write!(f, "{}", Findings { page, lacks })
 }
 
 /// The panel of a layer, printed as an element `g` of SVG: its name, a note, the box of the board, what is drawn, cut at that box, the
@@ -243,15 +185,9 @@ impl Display for Panel<'_> {
     ghost output = { λ panel. Some (panel_text panel.place.now panel.frame.now panel.pen.now panel.scene.now) };
 
     fn fmt<W: fmt::Write>(&self, f: &mut Formatter<W>) -> fmt::Result {
-        let (place, frame, pen, scene) = (self.place, self.frame, self.pen, self.scene);
-        let head = PanelHead { place, frame, pen };
-        let rest = AfterName { frame, pen, scene };
-        let contents = Contents {
-            pen,
-            place,
-            frame,
-            scene,
-        };
-        write!(f, "{head}{rest}{contents}</g>\n")
+        write_head(f, self)?;
+        write_after_name(f, self)?;
+        write_contents(f, self)?;
+        f.write_str("</g>\n")
     }
 }

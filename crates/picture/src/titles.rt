@@ -2,13 +2,12 @@
 
 ghost use Rattle.std.specs.Prelude.{◌≡◌, Some};
 ghost use Rattle.std.specs.Fmt.{DisplaysOnOk};
-ghost use Rattle.picture.specs.Escapes.{escaped_name};
-ghost use Rattle.picture.specs.Elements.{finding_start, finding_words, gap_words, lack_words, id_attribute, number_of, ring_words};
+ghost use Rattle.picture.specs.Elements.{finding_start, finding_words, lack_words, id_attribute, number_of};
 
 use crate::frame::{Pen, Place};
 use crate::names::Escaped;
 use crate::scene::DrawnFinding;
-use grid_units::{DrilledWords, Hole, ShortMillimetres};
+use grid_units::{DrilledWords, ShortMillimetres};
 use std::fmt;
 use std::fmt::{Display, Formatter};
 
@@ -41,43 +40,8 @@ fn naming(place: &Place, found: &DrawnFinding) -> &'static str
     }
 }
 
-/// A ring that is lacking: `annular ring on top (rule 0.15): hole 0.75 at 142.24,-97.79`.
-#[derive(Clone, Copy)]
-struct RingWords<'a> {
-    name: Escaped<'a>,
-    rule: i64,
-    hole: &'a Hole,
-}
-
-impl Display for RingWords<'_> {
-    ghost output = { λ words. Some (ring_words (escaped_name words.name.0.now) words.rule words.hole.now) };
-
-    #[tactic(auto, unfolding(crate::specs::Elements::ring_words))]
-    fn fmt<W: fmt::Write>(&self, f: &mut Formatter<W>) -> fmt::Result {
-        let (name, rule) = (self.name, ShortMillimetres(self.rule));
-        let hole = DrilledWords(self.hole);
-        write!(f, "annular ring on {name} (rule {rule}): hole {hole}")
-    }
-}
-
-/// A gap that is lacking: `gap too small: hole 0.4 at 0,0, and hole 0.4 at 0.6,0`.
-#[derive(Clone, Copy)]
-struct GapWords<'a> {
-    first: &'a Hole,
-    second: &'a Hole,
-}
-
-impl Display for GapWords<'_> {
-    ghost output = { λ words. Some (gap_words words.first.now words.second.now) };
-
-    #[tactic(auto, unfolding(crate::specs::Elements::gap_words))]
-    fn fmt<W: fmt::Write>(&self, f: &mut Formatter<W>) -> fmt::Result {
-        let (first, second) = (DrilledWords(self.first), DrilledWords(self.second));
-        write!(f, "gap too small: hole {first}, and hole {second}")
-    }
-}
-
-/// Writes what is lacking.
+/// Writes what is lacking: `annular ring on top (rule 0.15): hole 0.75 at 142.24,-97.79`, or `gap too small: hole 0.4 at 0,0, and hole 0.4 at 0.6,0`.
+#[tactic(auto, unfolding(crate::specs::Elements::ring_words, crate::specs::Elements::gap_words))]
 fn write_lack<W: fmt::Write>(
     f: &mut Formatter<W>,
     page: &FindingPage,
@@ -87,14 +51,17 @@ fn write_lack<W: fmt::Write>(
 {
     match found {
         DrawnFinding::Ring { hole, .. } => {
-            let words = RingWords {
-                name: Escaped(page.place.name),
-                rule: page.pen.ring as i64,
-                hole,
-            };
-            write!(f, "{words}")
+            let (name, rule) = (
+                Escaped(page.place.name),
+                ShortMillimetres(page.pen.ring as i64),
+            );
+            let hole = DrilledWords(hole);
+            write!(f, "annular ring on {name} (rule {rule}): hole {hole}")
         }
-        DrawnFinding::Gap { first, second, .. } => write!(f, "{}", GapWords { first, second }),
+        DrawnFinding::Gap { first, second, .. } => {
+            let (first, second) = (DrilledWords(first), DrilledWords(second));
+            write!(f, "gap too small: hole {first}, and hole {second}")
+        }
     }
 }
 

@@ -19,14 +19,11 @@ use Rattle.ring_rules.specs.Findings.{gap_findings, ring_findings}
 use Rattle.ring_rules.specs.WithoutFindings.{GapsNamePlaces, NamesPlaces, RingsNamePlaces}
 use Rattle.pad_shapes.specs.declared.drawn.Drawn.{Drawn}
 use Rattle.board.specs.Boards.{BoardView, board_findings}
-use Rattle.package_check.specs.Boards.{IsBoard}
-use Rattle.package_check.specs.Package.{FileView, index_of, pads_of}
-use Rattle.package_check.specs.declared.contents.Content.{Content}
-use Rattle.package_check.specs.declared.contents.Content.TheVariants as content
-use Rattle.package_check.specs.WiderProfile.{is_gap}
-use Rattle.picture.specs.Elements.{finding_start, finding_text, finding_words, group_end, lack, id_attribute}
+use Rattle.board_report.specs.BoardReport.{is_gap}
+use Rattle.picture.specs.Elements.{crosses, hole_paths, finding_start, finding_text, finding_words, group_end, lack, id_attribute}
 use Rattle.picture.specs.Outlines.{shown_outline}
-use Rattle.picture.specs.Panels.{lacks_text, panel_text}
+use Rattle.picture.specs.Panels.{after_name, ground_text, lacks_text, panel_end, panel_head, panel_text}
+use Rattle.picture.specs.RoundedPads.{pads_text}
 use Rattle.picture.specs.Scenes.{drawn_finding, drawn_findings, drawn_gap, drawn_ring}
 use Rattle.picture.specs.declared.frame.Frame.{Frame}
 use Rattle.picture.specs.declared.frame.Pen.{Pen}
@@ -130,7 +127,15 @@ in_panel : (place : Place) (frame : Frame) (pen : Pen) (scene : Scene) (shown : 
     → HasSubslice (panel_text place frame pen scene) part
 in_panel place frame pen scene shown part c h =
     let all : HasSubslice (lacks_text pen place scene.lacks.items) part = in_front _ _ part (in_texts (finding_text pen place) part scene.lacks.items shown c h) in
-    in_front _ _ part (in_rest _ _ part (in_rest _ _ part all))
+    let findings = lacks_text pen place scene.lacks.items in
+    let holes = hole_paths pen scene.holes.now in
+    let marks = crosses pen scene.crosses.items in
+    let pads = pads_text scene.pads.items scene.rounded.items in
+    let ground = ground_text pen frame scene.drawn.now scene.outline.now in
+    let contents = ground ++ (pads ++ (marks ++ (holes ++ findings))) in
+    let there = in_rest ground (pads ++ (marks ++ (holes ++ findings))) part (in_rest pads (marks ++ (holes ++ findings)) part (in_rest marks (holes ++ findings) part (in_rest holes findings part all))) in
+    in_rest (panel_head place frame pen) (after_name pen frame scene ++ (contents ++ panel_end)) part
+    (in_rest (after_name pen frame scene) (contents ++ panel_end) part (in_front contents panel_end part there))
 
 -- what a layer's panel shows of a finding stands in the picture
 in_picture : (names : List (List ℕ)) (board : BoardView) (edge : List Drawn) (rules : GridRules) (drawing : Drawing) (layer : ℕ) (shown : DrawnFinding) (part : List ℕ) → IsPage names board edge (Some rules) drawing
@@ -198,31 +203,15 @@ marked_at names board edge rules drawing layers holes i (f ∷ fs) is page some 
     read_again : (xs : List Finding) (k : ℕ) (d : Finding) → k < length xs → get_or xs k (get_or xs k d) ≡ get_or xs k d
     read_again xs k d k_lt = get_or_default xs k (get_or xs k d) d k_lt
 
--- each copper file is one layer, and has one index
-indexed_from : (n : ℕ) (contents : List Content) → length (flat_map pads_of contents) ≡ length (flat_map index_of (enumerate_from n contents))
-indexed_from n [] = refl
-indexed_from n (content.Layer image ∷ cs) =
-    ap length (flat_map-cons pads_of (content.Layer image) cs)
-    ∙ (ap suc (indexed_from (n + 1) cs) ∙ sym (ap length (flat_map-cons index_of (n, content.Layer image) (enumerate_from (n + 1) cs))))
-indexed_from n (content.Drill plated span drill ∷ cs) =
-    ap length (flat_map-cons pads_of (content.Drill plated span drill) cs)
-    ∙ (indexed_from (n + 1) cs ∙ sym (ap length (flat_map-cons index_of (n, content.Drill plated span drill) (enumerate_from (n + 1) cs))))
-indexed_from n (content.Mixed span holes ∷ cs) =
-    ap length (flat_map-cons pads_of (content.Mixed span holes) cs)
-    ∙ (indexed_from (n + 1) cs ∙ sym (ap length (flat_map-cons index_of (n, content.Mixed span holes) (enumerate_from (n + 1) cs))))
-
-as_many_layers : (sources : List FileView) (board : BoardView) → IsBoard sources board → length board.layers ≡ length board.layer_indexes
-as_many_layers sources board b = ap (λ (x : BoardView). length x.layers) b.is ∙ (indexed_from 0 b.contents ∙ sym (ap (λ (x : BoardView). length x.layer_indexes) b.is))
-
 pub each_row_has_its_marker : RingsNamePlaces wide_pad_covers → GapsNamePlaces → EachRowHasItsMarker
-each_row_has_its_marker rings gaps sources names about board outline report accepted text is_board some is_report page k d lt =
+each_row_has_its_marker rings gaps names about board outline report accepted text layers some is_report page k d lt =
     let rules = report.rules in
     let findings = board_findings rules board in
     let numbers = numbers_each_once report in
     let count : length findings ≡ length report.rings.items + length report.gaps.items = parted _ _ findings report.rings.items report.gaps.items is_report.rings is_report.gaps in
     let second = All-append (NamesPlaces (length board.layers) (length board.holes)) (ring_findings wide_pad_covers rules.profile rules.ring board.layers board.holes) (gap_findings rules.gap board.holes)
     (rings rules.profile rules.ring board.layers board.holes) (gaps rules.gap (length board.layers) board.holes) in
-    let first = subst (λ (n : ℕ). All (NamesPlaces n (length board.holes)) findings) (as_many_layers sources board is_board) second in
+    let first = subst (λ (n : ℕ). All (NamesPlaces n (length board.holes)) findings) layers second in
     let drawing = page.drawn.drawing in
     let is_svg : svg_text drawing ≡ page.svg = sym (front_rest (declaration ++ page.svg) declaration (svg_text drawing) page.drawn.is) ∙ front_rest (declaration ++ page.svg) declaration page.svg refl in
     let here = marked_at names board (shown_outline outline) rules drawing (length board.layers) (length board.holes) k findings refl page.drawn.shows some (omega (arith, lt, count, numbers.all)) first second in

@@ -7,7 +7,7 @@ use Rattle.grid_units.specs.Holes.{GridHole, GridRules}
 use Rattle.grid_units.specs.Spans.{LayerSpan}
 use Rattle.grid_units.specs.declared.profile.Profile.{Profile}
 use Rattle.grid_units.specs.declared.profile.Profile.TheVariants.{Strict, Wide}
-use Rattle.grid_units.specs.HoleWords.{ends_words, name_of, two_lengths}
+use Rattle.grid_units.specs.HoleWords.{ends_words, name_of}
 use Rattle.grid_units.specs.LengthWords.{short_millimetres}
 use Rattle.report.specs.Acceptances.{acceptance_at, waived_in}
 use Rattle.report.specs.UnitMistakes.{conflict_words}
@@ -27,7 +27,6 @@ use Rattle.print_text.specs.Texts.{fewer_words, number_of, rules_words, waived_w
 use Rattle.print_text.specs.declared.report_text.Particulars.{Particulars}
 use Rattle.board_report.specs.Measures.{IsMeasure}
 use Rattle.board.specs.Boards.{BoardView}
-use Rattle.package_check.specs.Boards.{IsBoard}
 use Rattle.board.specs.declared.FileSum.{FileSum}
 use Rattle.picture.specs.Escapes.{escaped_name}
 use Rattle.pad_shapes.specs.declared.drawn.Drawn.{Drawn}
@@ -39,7 +38,6 @@ use Rattle.report_page.specs.declared.style.TheConstants.{STYLE}
 use Rattle.report.specs.Causes.{flash_of}
 use Rattle.std.specs.Option.{option_map_or}
 use Rattle.std.specs.Str.Iter.{HasSubslice}
-use Rattle.package_check.specs.Package.{FileView}
 use Rattle.board_report.specs.BoardReport.{IsBoardReport}
 use Rattle.report.specs.declared.RingCause.TheVariants as causes
 use Rattle.board.specs.declared.FileSum.TheVariants as sums
@@ -98,12 +96,7 @@ abbrev pub contour_words : Profile → ℕ → List ℕ
 contour_words Strict contours = []
 contour_words Wide contours = codes ", " ++ amount contours (codes " contour") (codes " contours")
 
--- the counts of a copper file: `361 pads, 1 other flash`
-abbrev pub copper_words : Profile → ℕ → ℕ → ℕ → List ℕ
-copper_words profile pads other contours =
-    amount pads (codes " pad, ") (codes " pads, ") ++ (amount other (codes " other flash") (codes " other flashes") ++ contour_words profile contours)
-
--- the counts of a drill file: `322 round holes, 1 slot`
+-- the holes of a drill file: `322 round holes, 1 slot`
 abbrev pub drill_words : ℕ → ℕ → List ℕ
 drill_words round slots = amount round (codes " round hole, ") (codes " round holes, ") ++ amount slots (codes " slot") (codes " slots")
 
@@ -112,23 +105,26 @@ abbrev pub span_words : Option LayerSpan → List ℕ
 span_words None = []
 span_words (Some span) = codes ", from layer " ++ (decimal span.first ++ (codes " to layer " ++ decimal span.last))
 
--- the role of a drill file
-abbrev pub drill_role : Bool → List ℕ
-drill_role plated = if plated then codes "plated" else codes "unplated"
+-- the role of a file
+abbrev pub role_word : FileSum → List ℕ
+role_word (sums.Layer pads other contours) = codes "copper"
+role_word (sums.Drill plated span contradicted round slots) = if plated then codes "plated" else codes "unplated"
+role_word (sums.Mixed span round slots unplated) = codes "mixed"
 
 -- a file, by its role, its name and its counts: `<li>plated board-PTH.drl: 322 round holes, 0 slots</li>`
 unfoldable pub file_item : List ℕ → List ℕ → List ℕ → List ℕ
 file_item role name counts = codes "<li>" ++ (role ++ (codes " " ++ (name ++ (codes ": " ++ (counts ++ codes "</li>\n")))))
 
--- the counts of a mixed drill file: `2 round holes, 0 slots, unplated: 1`
-unfoldable pub mixed_words : ℕ → ℕ → ℕ → List ℕ
-mixed_words round slots unplated = drill_words round slots ++ (codes ", unplated: " ++ decimal unplated)
+-- the counts of a file: `361 pads, 1 other flash`, `322 round holes, 1 slot`, or `2 round holes, 0 slots, unplated: 1`
+abbrev pub file_counts : Profile → FileSum → List ℕ
+file_counts profile (sums.Layer pads other contours) =
+    amount pads (codes " pad, ") (codes " pads, ") ++ (amount other (codes " other flash") (codes " other flashes") ++ contour_words profile contours)
+file_counts profile (sums.Drill plated span contradicted round slots) = drill_words round slots ++ span_words span
+file_counts profile (sums.Mixed span round slots unplated) = drill_words round slots ++ (codes ", unplated: " ++ (decimal unplated ++ span_words span))
 
 -- a file of any kind in a profile, by its name
 abbrev pub file_words : Profile → List ℕ → FileSum → List ℕ
-file_words profile name (sums.Layer pads other contours) = file_item (codes "copper") name (copper_words profile pads other contours)
-file_words profile name (sums.Drill plated span contradicted round slots) = file_item (drill_role plated) name (drill_words round slots ++ span_words span)
-file_words profile name (sums.Mixed span round slots unplated) = file_item (codes "mixed") name (mixed_words round slots unplated ++ span_words span)
+file_words profile name file = file_item (role_word file) name (file_counts profile file)
 
 -- the files of these, with their places
 abbrev pub file_items : Profile → List (List ℕ) → List (ℕ × FileSum) → List ℕ
@@ -210,7 +206,8 @@ ring_end ring rule cause reason =
 
 -- the last cells of a gap: the gap that there is, the rule, no cause, and the reason why it is waived
 unfoldable pub gap_end : ℤ → ℤ → List ℕ → List ℕ
-gap_end gap rule reason = two_lengths gap next_cell rule ++ (codes "</td><td></td><td>" ++ (reason ++ codes "</td></tr>\n"))
+gap_end gap rule reason =
+    short_millimetres gap ++ (next_cell ++ (short_millimetres rule ++ (codes "</td><td></td><td>" ++ (reason ++ codes "</td></tr>\n"))))
 
 -- the cells of a ring to its diameter: the layer, the hole and the diameter
 unfoldable pub ring_place : List ℕ → List ℕ → GridHole → List ℕ
@@ -351,9 +348,9 @@ pub record IsHtmlPage (names : List (List ℕ)) (about : Particulars) (board : B
 abbrev pub marker_start : ℕ → List ℕ
 marker_start number = codes "<g class=\"finding\" id=\"f" ++ (decimal number ++ codes "\">")
 
--- where a page is that of the report on a package's board, and the package has a copper file, each row has its marker in the picture
+-- where a page is that of the report on a board that has a copper file, and a file for each layer, each row has its marker in the picture
 abbrev pub EachRowHasItsMarker : Type 0
 EachRowHasItsMarker =
-    (sources : List FileView) (names : List (List ℕ)) (about : Particulars) (board : BoardView) (outline : List Drawn) (report : BoardReport) (accepted : Acceptances) (text : List ℕ)
-    → IsBoard sources board → 0 < length board.layer_indexes → IsBoardReport report.rules board report → (page : IsHtmlPage names about board outline report accepted text)
+    (names : List (List ℕ)) (about : Particulars) (board : BoardView) (outline : List Drawn) (report : BoardReport) (accepted : Acceptances) (text : List ℕ)
+    → length board.layers ≡ length board.layer_indexes → 0 < length board.layer_indexes → IsBoardReport report.rules board report → (page : IsHtmlPage names about board outline report accepted text)
     → All (λ number. HasSubslice page.svg (marker_start number)) (row_numbers report)

@@ -1,6 +1,6 @@
 //! The cells of a row.
 
-ghost use Rattle.std.specs.Prelude.{◌≡◌, ◌*◌, pos, map, slice_get, Some};
+ghost use Rattle.std.specs.Prelude.{◌≡◌, map, slice_get, Some};
 ghost use Rattle.std.specs.Fmt.{DisplaysOnOk};
 ghost use Rattle.grid_units.specs.HoleWords.{ends_words, point_words};
 ghost use Rattle.report_page.specs.Pages.{cause_words, diameter_words, flash_words, hole_words, layer_name, reason_words, ring_words, row_start};
@@ -12,25 +12,19 @@ use report::{LayerHead, PlacedHole, RingCause, flash_of, ring_of};
 use std::fmt;
 use std::fmt::{Display, Formatter};
 
-/// The start of a row: the number of the finding, with a link to its marker in the picture, and its kind.
-#[derive(Clone, Copy)]
-pub(crate) struct RowStart<'a> {
-    /// The number of the finding, from 1.
-    pub(crate) number: u128,
-    pub(crate) kind: &'a str,
-}
-
-impl Display for RowStart<'_> {
-    ghost output = { λ row. Some (row_start row.number row.kind.now) };
-
-    #[tactic(auto, unfolding(crate::specs::Pages::row_start))]
-    fn fmt<W: fmt::Write>(&self, f: &mut Formatter<W>) -> fmt::Result {
-        let (number, kind) = (self.number, self.kind);
-        write!(
-            f,
-            "<tr><th scope=\"row\"><a href=\"#f{number}\">{number}</a></th><td>{kind}</td><td>"
-        )
-    }
+/// Writes the start of a row: the number of the finding, from 1, with a link to its marker in the picture, and its kind.
+#[tactic(auto, unfolding(crate::specs::Pages::row_start))]
+pub(crate) fn write_start<W: fmt::Write>(
+    f: &mut Formatter<W>,
+    number: u128,
+    kind: &str,
+) -> fmt::Result
+    ensures { DisplaysOnOk W.write_str_gives f.old result (Some (row_start number kind.now)) f.new }
+{
+    write!(
+        f,
+        "<tr><th scope=\"row\"><a href=\"#f{number}\">{number}</a></th><td>{kind}</td><td>"
+    )
 }
 
 /// The name of the file of a layer, by the layer's place among the copper files; empty where there is no such layer.
@@ -94,13 +88,6 @@ impl Display for HoleCell<'_> {
     }
 }
 
-/// The diameter of a hole in pm.
-fn diameter(hole: &Hole) -> i64
-    ensures { result ≡ pos (2 * hole.now.radius) }
-{
-    2 * hole.radius()
-}
-
 /// The diameter of a hole.
 #[derive(Clone, Copy)]
 pub(crate) struct DiameterWords<'a>(pub(crate) &'a Hole);
@@ -109,7 +96,7 @@ impl Display for DiameterWords<'_> {
     ghost output = { λ words. Some (diameter_words words.0.now) };
 
     fn fmt<W: fmt::Write>(&self, f: &mut Formatter<W>) -> fmt::Result {
-        write!(f, "{}", ShortMillimetres(diameter(self.0)))
+        write!(f, "{}", ShortMillimetres(2 * self.0.radius()))
     }
 }
 

@@ -4,7 +4,7 @@ ghost use Rattle.std.specs.Prelude.{◌≡◌, map, Some};
 ghost use Rattle.std.specs.Fmt.{DisplaysOnOk};
 ghost use Rattle.std.specs.List.{enumerate_from};
 ghost use Rattle.picture.specs.Escapes.{escaped_name};
-ghost use Rattle.report_page.specs.Pages.{amount, contour_words, copper_words, drill_role, drill_words, file_items, file_words, files_text, mixed_words, promise, span_words};
+ghost use Rattle.report_page.specs.Pages.{amount, contour_words, file_counts, drill_words, file_items, file_words, files_text, promise, role_word, span_words};
 
 use crate::frame::{FILES, PREMISES, STRICT_PROMISE, WIDE_PROMISE};
 use board::FileSum;
@@ -15,18 +15,14 @@ use std::fmt::{Display, Formatter};
 
 /// A number and its words, for one and for others: `1 pad, ` or `361 pads, `.
 #[derive(Clone, Copy)]
-struct Amount {
-    count: usize,
-    one: &'static str,
-    many: &'static str,
-}
+struct Amount(usize, &'static str, &'static str);
 
 impl Display for Amount {
-    ghost output = { λ it. Some (amount it.count it.one.now it.many.now) };
+    ghost output = { λ it. Some (amount it.0 it.1.now it.2.now) };
 
     fn fmt<W: fmt::Write>(&self, f: &mut Formatter<W>) -> fmt::Result {
-        let words = if self.count == 1 { self.one } else { self.many };
-        write!(f, "{}{words}", self.count)
+        let words = if self.0 == 1 { self.1 } else { self.2 };
+        write!(f, "{}{words}", self.0)
     }
 }
 
@@ -41,50 +37,14 @@ impl Display for ContourCount {
     ghost output = { λ it. Some (contour_words it.profile it.contours) };
 
     fn fmt<W: fmt::Write>(&self, f: &mut Formatter<W>) -> fmt::Result {
-        let amount = Amount {
-            count: self.contours,
-            one: " contour",
-            many: " contours",
-        };
         match self.profile {
             Profile::Strict => Ok(()),
-            Profile::Wide => write!(f, ", {amount}"),
+            Profile::Wide => write!(f, ", {}", Amount(self.contours, " contour", " contours")),
         }
     }
 }
 
-/// The counts of a copper file: `361 pads, 1 other flash`.
-#[derive(Clone, Copy)]
-struct CopperWords {
-    profile: Profile,
-    pads: usize,
-    other: usize,
-    contours: usize,
-}
-
-impl Display for CopperWords {
-    ghost output = { λ it. Some (copper_words it.profile it.pads it.other it.contours) };
-
-    fn fmt<W: fmt::Write>(&self, f: &mut Formatter<W>) -> fmt::Result {
-        let pads = Amount {
-            count: self.pads,
-            one: " pad, ",
-            many: " pads, ",
-        };
-        let other = Amount {
-            count: self.other,
-            one: " other flash",
-            many: " other flashes",
-        };
-        let contours = ContourCount {
-            profile: self.profile,
-            contours: self.contours,
-        };
-        write!(f, "{pads}{other}{contours}")
-    }
-}
-
-/// The counts of a drill file: `322 round holes, 1 slot`.
+/// The holes of a drill file: `322 round holes, 1 slot`.
 #[derive(Clone, Copy)]
 struct DrillWords {
     round: usize,
@@ -95,36 +55,9 @@ impl Display for DrillWords {
     ghost output = { λ it. Some (drill_words it.round it.slots) };
 
     fn fmt<W: fmt::Write>(&self, f: &mut Formatter<W>) -> fmt::Result {
-        let round = Amount {
-            count: self.round,
-            one: " round hole, ",
-            many: " round holes, ",
-        };
-        let slots = Amount {
-            count: self.slots,
-            one: " slot",
-            many: " slots",
-        };
+        let round = Amount(self.round, " round hole, ", " round holes, ");
+        let slots = Amount(self.slots, " slot", " slots");
         write!(f, "{round}{slots}")
-    }
-}
-
-/// The counts of a mixed drill file: `2 round holes, 0 slots, unplated: 1`.
-#[derive(Clone, Copy)]
-struct MixedWords {
-    round: usize,
-    slots: usize,
-    unplated: usize,
-}
-
-impl Display for MixedWords {
-    ghost output = { λ it. Some (mixed_words it.round it.slots it.unplated) };
-
-    #[tactic(auto, unfolding(crate::specs::Pages::mixed_words))]
-    fn fmt<W: fmt::Write>(&self, f: &mut Formatter<W>) -> fmt::Result {
-        let (round, slots) = (self.round, self.slots);
-        let holes = DrillWords { round, slots };
-        write!(f, "{holes}, unplated: {}", self.unplated)
     }
 }
 
@@ -146,11 +79,57 @@ impl Display for SpanPhrase {
     }
 }
 
-/// The role of a drill file.
-fn drill_role(plated: bool) -> &'static str
-    ensures { result.now ≡ drill_role plated }
+/// The counts of a file of any kind in a profile: `361 pads, 1 other flash`.
+#[derive(Clone, Copy)]
+struct FileCounts {
+    profile: Profile,
+    file: FileSum,
+}
+
+impl Display for FileCounts {
+    ghost output = { λ it. Some (file_counts it.profile it.file) };
+
+    fn fmt<W: fmt::Write>(&self, f: &mut Formatter<W>) -> fmt::Result {
+        let profile = self.profile;
+        match self.file {
+            FileSum::Layer {
+                pads,
+                other,
+                contours,
+            } => {
+                let pads = Amount(pads, " pad, ", " pads, ");
+                let other = Amount(other, " other flash", " other flashes");
+                write!(f, "{pads}{other}{}", ContourCount { profile, contours })
+            }
+            FileSum::Drill {
+                span,
+                round,
+                slots,
+                ..
+            } => write!(f, "{}{}", DrillWords { round, slots }, SpanPhrase(span)),
+            FileSum::Mixed {
+                span,
+                round,
+                slots,
+                unplated,
+            } => {
+                let (holes, span) = (DrillWords { round, slots }, SpanPhrase(span));
+                write!(f, "{holes}, unplated: {unplated}{span}")
+            }
+        }
+    }
+}
+
+/// The role of a file.
+fn role_word(file: &FileSum) -> &'static str
+    ensures { result.now ≡ role_word file.now }
 {
-    if plated { "plated" } else { "unplated" }
+    match file {
+        FileSum::Layer { .. } => "copper",
+        FileSum::Drill { plated: true, .. } => "plated",
+        FileSum::Drill { plated: false, .. } => "unplated",
+        FileSum::Mixed { .. } => "mixed",
+    }
 }
 
 /// A file of any kind in a profile: its role, its name and its counts.
@@ -166,47 +145,12 @@ impl Display for FileItem<'_> {
 
     #[tactic(auto, unfolding(crate::specs::Pages::file_item))]
     fn fmt<W: fmt::Write>(&self, f: &mut Formatter<W>) -> fmt::Result {
-        let (profile, name) = (self.profile, Escaped(self.name));
-        match self.file {
-            FileSum::Layer {
-                pads,
-                other,
-                contours,
-            } => {
-                let counts = CopperWords {
-                    profile,
-                    pads,
-                    other,
-                    contours,
-                };
-                write!(f, "<li>copper {name}: {counts}</li>\n")
-            }
-            FileSum::Drill {
-                plated,
-                span,
-                round,
-                slots,
-                ..
-            } => {
-                let (role, counts) = (drill_role(plated), DrillWords { round, slots });
-                let span = SpanPhrase(span);
-                write!(f, "<li>{role} {name}: {counts}{span}</li>\n")
-            }
-            FileSum::Mixed {
-                span,
-                round,
-                slots,
-                unplated,
-            } => {
-                let counts = MixedWords {
-                    round,
-                    slots,
-                    unplated,
-                };
-                let span = SpanPhrase(span);
-                write!(f, "<li>mixed {name}: {counts}{span}</li>\n")
-            }
-        }
+        let (role, name) = (role_word(&self.file), Escaped(self.name));
+        let counts = FileCounts {
+            profile: self.profile,
+            file: self.file,
+        };
+        write!(f, "<li>{role} {name}: {counts}</li>\n")
     }
 }
 
@@ -238,15 +182,12 @@ fn write_files<W: fmt::Write>(f: &mut Formatter<W>, text: &FilesText) -> fmt::Re
     for i in 0..files.len() {
         let name = name_of(names, i);
         let file = files[i];
-        write!(
-            f,
-            "{}",
-            FileItem {
-                profile,
-                name,
-                file
-            }
-        )?;
+        let item = FileItem {
+            profile,
+            name,
+            file,
+        };
+        write!(f, "{item}")?;
     }
     Ok(())
 }

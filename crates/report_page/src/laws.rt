@@ -11,7 +11,8 @@ pub fn each_number_once()
     ensures { (report : BoardReport) → NumbersEachOnce report }
 {}
 
-/// On the page of the report on a package with a copper file, the picture has the marker to which the link of each row leads.
+/// On the page of the report on a board with a copper file, and with a file for each layer, the picture has the marker to which the link of
+/// each row leads.
 pub fn each_row_has_its_marker()
     ensures { EachRowHasItsMarker }
 {

@@ -3,194 +3,119 @@
 ghost use Rattle.std.specs.Prelude.{pos, length, map, slice_get, Some};
 ghost use Rattle.std.specs.Fmt.{DisplaysOnOk};
 ghost use Rattle.std.specs.List.{enumerate_from};
-ghost use Rattle.grid_units.specs.HoleWords.{two_lengths};
 ghost use Rattle.picture.specs.Escapes.{escaped_name};
-ghost use Rattle.report_page.specs.Pages.{cause_words, gap_end, gap_place, gap_row, gap_rows, hole_words, layer_name, next_cell, reason_words, ring_end, ring_place, ring_row, ring_rows, ring_words, table_rows};
+ghost use Rattle.report_page.specs.Pages.{cause_words, gap_end, gap_place, gap_row, gap_rows, hole_words, layer_name, reason_words, ring_end, ring_place, ring_row, ring_rows, ring_words, table_rows};
 
 use crate::cells::{
-    CauseCell, DiameterWords, HoleCell, ReasonWords, RingCell, RowStart, layer_name,
+    CauseCell, DiameterWords, HoleCell, ReasonWords, RingCell, layer_name, write_start,
 };
 use grid_units::{Rules, ShortMillimetres};
 use picture::Escaped;
-use report::{Acceptances, BoardReport, GapLack, LayerHead, RingLack, acceptance_of};
+use report::{Acceptances, BoardReport, GapLack, LayerHead, RingCause, RingLack, acceptance_of};
 use std::fmt;
 use std::fmt::{Display, Formatter};
 
-/// The cells of a ring to its diameter: the layer, the hole and the diameter.
-#[derive(Clone, Copy)]
-struct RingPlace<'a> {
-    names: &'a [&'a str],
-    layers: &'a [LayerHead],
-    lack: &'a RingLack,
+/// Writes the cells of a ring to its diameter: the layer, the hole and the diameter.
+#[tactic(auto, unfolding(crate::specs::Pages::ring_place))]
+fn write_ring_place<W: fmt::Write>(
+    f: &mut Formatter<W>,
+    names: &[&str],
+    layers: &[LayerHead],
+    lack: &RingLack,
+) -> fmt::Result
+    ensures { DisplaysOnOk W.write_str_gives f.old result (Some (ring_place (escaped_name (layer_name (map (λ name. name.now) names.now) (slice_get layers.now lack.now.layer))) (hole_words (map (λ name. name.now) names.now) lack.now.at) lack.now.at.hole)) f.new }
+{
+    let layer = Escaped(layer_name(names, layers, lack.layer));
+    let at = &lack.at;
+    let (hole, diameter) = (HoleCell { names, at }, DiameterWords(&at.hole));
+    write!(f, "{layer}</td><td>{hole}</td><td>{diameter}</td><td>")
 }
 
-impl Display for RingPlace<'_> {
-    ghost output = { λ row. Some (ring_place (escaped_name (layer_name (map (λ name. name.now) row.names.now) (slice_get row.layers.now row.lack.now.layer))) (hole_words (map (λ name. name.now) row.names.now) row.lack.now.at) row.lack.now.at.hole) };
-
-    #[tactic(auto, unfolding(crate::specs::Pages::ring_place))]
-    fn fmt<W: fmt::Write>(&self, f: &mut Formatter<W>) -> fmt::Result {
-        let layer = Escaped(layer_name(self.names, self.layers, self.lack.layer));
-        let hole = HoleCell {
-            names: self.names,
-            at: &self.lack.at,
-        };
-        let diameter = DiameterWords(&self.lack.at.hole);
-        write!(f, "{layer}</td><td>{hole}</td><td>{diameter}</td><td>")
-    }
+/// Writes the last cells of a ring: the ring that it has, the rule, the cause and the reason why it is waived.
+#[tactic(auto, unfolding(crate::specs::Pages::ring_end))]
+fn write_ring_end<W: fmt::Write>(
+    f: &mut Formatter<W>,
+    rules: &Rules,
+    cause: &RingCause,
+    why: Option<&str>,
+) -> fmt::Result
+    ensures { DisplaysOnOk W.write_str_gives f.old result (Some (ring_end (ring_words cause.now) (pos rules.now.ring) (cause_words cause.now) (reason_words why.entry))) f.new }
+{
+    let (ring, rule) = (RingCell(cause), ShortMillimetres(rules.ring()));
+    let (cause, why) = (CauseCell(cause), ReasonWords(why));
+    write!(
+        f,
+        "{ring}</td><td>{rule}</td><td>{cause}</td><td>{why}</td></tr>\n"
+    )
 }
 
-/// The last cells of a ring: the ring that it has, the rule, the cause and the reason why it is waived.
-#[derive(Clone, Copy)]
-struct RingEnd<'a> {
-    rules: &'a Rules,
-    lack: &'a RingLack,
-    why: Option<&'a str>,
-}
-
-impl Display for RingEnd<'_> {
-    ghost output = { λ row. Some (ring_end (ring_words row.lack.now.cause) (pos row.rules.now.ring) (cause_words row.lack.now.cause) (reason_words row.why)) };
-
-    #[tactic(auto, unfolding(crate::specs::Pages::ring_end))]
-    fn fmt<W: fmt::Write>(&self, f: &mut Formatter<W>) -> fmt::Result {
-        let cause = &self.lack.cause;
-        let (ring, rule) = (RingCell(cause), ShortMillimetres(self.rules.ring()));
-        let (cause, why) = (CauseCell(cause), ReasonWords(self.why));
-        write!(
-            f,
-            "{ring}</td><td>{rule}</td><td>{cause}</td><td>{why}</td></tr>\n"
-        )
-    }
-}
-
-/// The row of a hole that lacks its ring.
-#[derive(Clone, Copy)]
-struct RingRow<'a> {
-    names: &'a [&'a str],
-    layers: &'a [LayerHead],
-    rules: &'a Rules,
-    /// The number of the finding, from 1.
+/// Writes the row of a hole that lacks its ring, by the number of the finding, from 1.
+fn write_ring<W: fmt::Write>(
+    f: &mut Formatter<W>,
+    names: &[&str],
+    layers: &[LayerHead],
+    rules: &Rules,
     number: u128,
-    lack: &'a RingLack,
-    why: Option<&'a str>,
+    lack: &RingLack,
+    why: Option<&str>,
+) -> fmt::Result
+    ensures { DisplaysOnOk W.write_str_gives f.old result (Some (ring_row (map (λ name. name.now) names.now) layers.now rules.now number lack.now why.entry)) f.new }
+{
+    write_start(f, number, "annular ring")?;
+    write_ring_place(f, names, layers, lack)?;
+    write_ring_end(f, rules, &lack.cause, why)
 }
 
-impl Display for RingRow<'_> {
-    ghost output = { λ row. Some (ring_row (map (λ name. name.now) row.names.now) row.layers.now row.rules.now row.number row.lack.now row.why) };
-
-    fn fmt<W: fmt::Write>(&self, f: &mut Formatter<W>) -> fmt::Result {
-        let start = RowStart {
-            number: self.number,
-            kind: "annular ring",
-        };
-        let place = RingPlace {
-            names: self.names,
-            layers: self.layers,
-            lack: self.lack,
-        };
-        let end = RingEnd {
-            rules: self.rules,
-            lack: self.lack,
-            why: self.why,
-        };
-        write!(f, "{start}{place}{end}")
-    }
+/// Writes the cells of a gap to the diameters: all layers, the two holes and their diameters.
+#[tactic(auto, unfolding(crate::specs::Pages::gap_place))]
+fn write_gap_place<W: fmt::Write>(
+    f: &mut Formatter<W>,
+    names: &[&str],
+    lack: &GapLack,
+) -> fmt::Result
+    ensures { DisplaysOnOk W.write_str_gives f.old result (Some (gap_place (hole_words (map (λ name. name.now) names.now) lack.now.first) (hole_words (map (λ name. name.now) names.now) lack.now.second) lack.now.first.hole lack.now.second.hole)) f.new }
+{
+    let (first, second) = (&lack.first, &lack.second);
+    let (one, other) = (DiameterWords(&first.hole), DiameterWords(&second.hole));
+    let first = HoleCell { names, at: first };
+    let second = HoleCell { names, at: second };
+    write!(
+        f,
+        "all</td><td>{first}, and {second}</td><td>{one}, {other}</td><td>"
+    )
 }
 
-/// The cells of a gap to the diameters: all layers, the two holes and their diameters.
-#[derive(Clone, Copy)]
-struct GapPlace<'a> {
-    names: &'a [&'a str],
-    lack: &'a GapLack,
-}
-
-impl Display for GapPlace<'_> {
-    ghost output = { λ row. Some (gap_place (hole_words (map (λ name. name.now) row.names.now) row.lack.now.first) (hole_words (map (λ name. name.now) row.names.now) row.lack.now.second) row.lack.now.first.hole row.lack.now.second.hole) };
-
-    #[tactic(auto, unfolding(crate::specs::Pages::gap_place))]
-    fn fmt<W: fmt::Write>(&self, f: &mut Formatter<W>) -> fmt::Result {
-        let (names, lack) = (self.names, self.lack);
-        let (first, second) = (&lack.first, &lack.second);
-        let (one, other) = (DiameterWords(&first.hole), DiameterWords(&second.hole));
-        let (first, second) = (
-            HoleCell { names, at: first },
-            HoleCell { names, at: second },
-        );
-        write!(
-            f,
-            "all</td><td>{first}, and {second}</td><td>{one}, {other}</td><td>"
-        )
-    }
-}
-
-/// A gap and the rule for it, in pm, in two cells.
-#[derive(Clone, Copy)]
-struct GapAndRule {
+/// Writes the last cells of a gap, in pm: the gap, the rule, no cause, and the reason why it is waived.
+fn write_gap_end<W: fmt::Write>(
+    f: &mut Formatter<W>,
     gap: i64,
     rule: i64,
+    why: Option<&str>,
+) -> fmt::Result
+    ensures { DisplaysOnOk W.write_str_gives f.old result (Some (gap_end gap rule (reason_words why.entry))) f.new }
+{
+    let (gap, rule, why) = (
+        ShortMillimetres(gap),
+        ShortMillimetres(rule),
+        ReasonWords(why),
+    );
+    write!(f, "{gap}</td><td>{rule}</td><td></td><td>{why}</td></tr>\n")
 }
 
-impl Display for GapAndRule {
-    ghost output = { λ cells. Some (two_lengths cells.gap next_cell cells.rule) };
-
-    #[tactic(auto, unfolding(grid_units::specs::HoleWords::two_lengths))]
-    fn fmt<W: fmt::Write>(&self, f: &mut Formatter<W>) -> fmt::Result {
-        let (gap, rule) = (ShortMillimetres(self.gap), ShortMillimetres(self.rule));
-        write!(f, "{gap}</td><td>{rule}")
-    }
-}
-
-/// The last cells of a gap: the gap, the rule, no cause, and the reason why it is waived.
-#[derive(Clone, Copy)]
-struct GapEnd<'a> {
-    rules: &'a Rules,
-    lack: &'a GapLack,
-    why: Option<&'a str>,
-}
-
-impl Display for GapEnd<'_> {
-    ghost output = { λ row. Some (gap_end row.lack.now.gap (pos row.rules.now.gap) (reason_words row.why)) };
-
-    #[tactic(auto, unfolding(crate::specs::Pages::gap_end))]
-    fn fmt<W: fmt::Write>(&self, f: &mut Formatter<W>) -> fmt::Result {
-        let cells = GapAndRule {
-            gap: self.lack.gap,
-            rule: self.rules.gap(),
-        };
-        let why = ReasonWords(self.why);
-        write!(f, "{cells}</td><td></td><td>{why}</td></tr>\n")
-    }
-}
-
-/// The row of two holes that lack their gap.
-#[derive(Clone, Copy)]
-struct GapRow<'a> {
-    names: &'a [&'a str],
-    rules: &'a Rules,
-    /// The number of the finding, from 1.
+/// Writes the row of two holes that lack their gap, by the number of the finding, from 1.
+fn write_gap<W: fmt::Write>(
+    f: &mut Formatter<W>,
+    names: &[&str],
+    rules: &Rules,
     number: u128,
-    lack: &'a GapLack,
-    why: Option<&'a str>,
-}
-
-impl Display for GapRow<'_> {
-    ghost output = { λ row. Some (gap_row (map (λ name. name.now) row.names.now) row.rules.now row.number row.lack.now row.why) };
-
-    fn fmt<W: fmt::Write>(&self, f: &mut Formatter<W>) -> fmt::Result {
-        let start = RowStart {
-            number: self.number,
-            kind: "hole to hole",
-        };
-        let place = GapPlace {
-            names: self.names,
-            lack: self.lack,
-        };
-        let end = GapEnd {
-            rules: self.rules,
-            lack: self.lack,
-            why: self.why,
-        };
-        write!(f, "{start}{place}{end}")
-    }
+    lack: &GapLack,
+    why: Option<&str>,
+) -> fmt::Result
+    ensures { DisplaysOnOk W.write_str_gives f.old result (Some (gap_row (map (λ name. name.now) names.now) rules.now number lack.now why.entry)) f.new }
+{
+    write_start(f, number, "hole to hole")?;
+    write_gap_place(f, names, lack)?;
+    write_gap_end(f, lack.gap, rules.gap(), why)
 }
 
 /// The rows of a report: those of the rings, then those of the gaps.
@@ -209,17 +134,9 @@ fn write_ring_rows<W: fmt::Write>(f: &mut Formatter<W>, rows: &Rows) -> fmt::Res
     let (names, report) = (rows.names, rows.report);
     let rings = report.rings.as_slice();
     for i in 0..rings.len() {
-        let lack = &rings[i];
+        let (lack, number) = (&rings[i], i as u128 + 1);
         let why = acceptance_of(rows.accepted.rings, i);
-        let row = RingRow {
-            names,
-            layers: &report.layers,
-            rules: &report.rules,
-            number: i as u128 + 1,
-            lack,
-            why,
-        };
-        write!(f, "{row}")?;
+        write_ring(f, names, &report.layers, &report.rules, number, lack, why)?;
     }
     Ok(())
 }
@@ -233,16 +150,9 @@ fn write_gap_rows<W: fmt::Write>(f: &mut Formatter<W>, rows: &Rows) -> fmt::Resu
     let gaps = report.gaps.as_slice();
     let before = rings.len() as u128;
     for i in 0..gaps.len() {
-        let lack = &gaps[i];
+        let (lack, number) = (&gaps[i], before + i as u128 + 1);
         let why = acceptance_of(rows.accepted.gaps, i);
-        let row = GapRow {
-            names,
-            rules: &report.rules,
-            number: before + i as u128 + 1,
-            lack,
-            why,
-        };
-        write!(f, "{row}")?;
+        write_gap(f, names, &report.rules, number, lack, why)?;
     }
     Ok(())
 }

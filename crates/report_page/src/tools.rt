@@ -1,6 +1,7 @@
 //! The rows of the tool table: one for each layer, drill file and diameter at which holes need a ring.
 
 ghost use Rattle.std.specs.Prelude.{◌≡◌, map, Some};
+ghost use Rattle.std.specs.Fmt.{DisplaysOnOk};
 ghost use Rattle.picture.specs.Escapes.{escaped_name};
 ghost use Rattle.grid_units.specs.HoleWords.{name_of};
 ghost use Rattle.report_page.specs.Pages.{lacks_ring, least_words, mark_words, tool_counts, tool_end, tool_row, tool_start};
@@ -55,61 +56,36 @@ impl Display for LeastCell {
     }
 }
 
-/// The start of a row: the layer, the drill file, and the diameter of the holes.
-#[derive(Clone, Copy)]
-struct ToolStart<'a> {
-    names: &'a [&'a str],
-    line: &'a RingLine,
+/// Writes the start of a row: the layer, the drill file, and the diameter of the holes.
+#[tactic(auto, unfolding(crate::specs::Pages::tool_start))]
+fn write_start<W: fmt::Write>(f: &mut Formatter<W>, names: &[&str], line: &RingLine) -> fmt::Result
+    ensures { DisplaysOnOk W.write_str_gives f.old result (Some (tool_start (escaped_name (name_of (map (λ name. name.now) names.now) line.now.layer)) (escaped_name (name_of (map (λ name. name.now) names.now) line.now.drill)) line.now.diameter)) f.new }
+{
+    let layer = Escaped(name_of(names, line.layer));
+    let drill = Escaped(name_of(names, line.drill));
+    let diameter = ShortMillimetres(line.diameter);
+    write!(
+        f,
+        "<tr><th scope=\"row\">{layer}</th><td>{drill}</td><td>{diameter}</td><td>"
+    )
 }
 
-impl Display for ToolStart<'_> {
-    ghost output = { λ row. Some (tool_start (escaped_name (name_of (map (λ name. name.now) row.names.now) row.line.now.layer)) (escaped_name (name_of (map (λ name. name.now) row.names.now) row.line.now.drill)) row.line.now.diameter) };
-
-    #[tactic(auto, unfolding(crate::specs::Pages::tool_start))]
-    fn fmt<W: fmt::Write>(&self, f: &mut Formatter<W>) -> fmt::Result {
-        let layer = Escaped(name_of(self.names, self.line.layer));
-        let drill = Escaped(name_of(self.names, self.line.drill));
-        let diameter = ShortMillimetres(self.line.diameter);
-        write!(
-            f,
-            "<tr><th scope=\"row\">{layer}</th><td>{drill}</td><td>{diameter}</td><td>"
-        )
-    }
+/// Writes how many holes there are, and how many of them have no pad that counts.
+#[tactic(auto, unfolding(crate::specs::Pages::tool_counts))]
+fn write_counts<W: fmt::Write>(f: &mut Formatter<W>, holes: usize, bare: usize) -> fmt::Result
+    ensures { DisplaysOnOk W.write_str_gives f.old result (Some (tool_counts holes bare)) f.new }
+{
+    write!(f, "{holes}</td><td>{bare}</td><td>")
 }
 
-/// How many holes there are, and how many of them have no pad that counts.
-#[derive(Clone, Copy)]
-struct ToolCounts {
-    holes: usize,
-    bare: usize,
-}
-
-impl Display for ToolCounts {
-    ghost output = { λ row. Some (tool_counts row.holes row.bare) };
-
-    #[tactic(auto, unfolding(crate::specs::Pages::tool_counts))]
-    fn fmt<W: fmt::Write>(&self, f: &mut Formatter<W>) -> fmt::Result {
-        write!(f, "{}</td><td>{}</td><td>", self.holes, self.bare)
-    }
-}
-
-/// The end of a row: the smallest ring, the rule for it in pm, and the mark of holes that lack it.
-#[derive(Clone, Copy)]
-struct ToolEnd {
-    rule: i64,
-    bare: usize,
-    least: Option<LeastRing>,
-}
-
-impl Display for ToolEnd {
-    ghost output = { λ row. Some (tool_end (least_words row.least) row.rule (mark_words row.rule row.bare row.least)) };
-
-    #[tactic(auto, unfolding(crate::specs::Pages::tool_end))]
-    fn fmt<W: fmt::Write>(&self, f: &mut Formatter<W>) -> fmt::Result {
-        let (least, rule) = (LeastCell(self.least), ShortMillimetres(self.rule));
-        let mark = mark_words(self.rule, self.bare, self.least);
-        write!(f, "{least}</td><td>{rule}</td><td>{mark}</td></tr>\n")
-    }
+/// Writes the end of a row: the smallest ring, the rule for it in pm, and the mark of holes that lack it.
+#[tactic(auto, unfolding(crate::specs::Pages::tool_end))]
+fn write_end<W: fmt::Write>(f: &mut Formatter<W>, rule: i64, line: &RingLine) -> fmt::Result
+    ensures { DisplaysOnOk W.write_str_gives f.old result (Some (tool_end (least_words line.now.least) rule (mark_words rule line.now.bare line.now.least))) f.new }
+{
+    let (least, length) = (LeastCell(line.least), ShortMillimetres(rule));
+    let mark = mark_words(rule, line.bare, line.least);
+    write!(f, "{least}</td><td>{length}</td><td>{mark}</td></tr>\n")
 }
 
 /// The row of the holes of one drill file and diameter on one layer.
@@ -117,19 +93,8 @@ impl Line<ToolTable<'_>> for RingLine {
     ghost text = { λ table line. tool_row (map (λ name. name.now) table.names.now) table.rules.now line };
 
     fn fmt_on<W: fmt::Write>(&self, page: &ToolTable<'_>, f: &mut Formatter<W>) -> fmt::Result {
-        let start = ToolStart {
-            names: page.names,
-            line: self,
-        };
-        let counts = ToolCounts {
-            holes: self.holes,
-            bare: self.bare,
-        };
-        let end = ToolEnd {
-            rule: page.rules.ring(),
-            bare: self.bare,
-            least: self.least,
-        };
-        write!(f, "{start}{counts}{end}")
+        write_start(f, page.names, self)?;
+        write_counts(f, self.holes, self.bare)?;
+        write_end(f, page.rules.ring(), self)
     }
 }

@@ -1,6 +1,6 @@
 -- What a check or a report that passes, or a measure, says of three files at hand.
 use Rattle.ringcheck.proofs.Common.{◌≡◌, ℕ, zero, suc, Bool, true, false, List, [], ◌∷◌, inl, inr, Option, None, Result, Ok, Err, length, codes, ap, sym, subst, refl, arith, Contains, GridRules, Reason, Profile, Entry, manifest_in, FileView, Status, ReportFormat, IsParsedMeasureStatus, file_limit, within, Written, IsParsedReportStatus, HasFiles, HoldsForPackage, IsParsedCheckStatus, sources}
-use Rattle.board_report.specs.Measures.{PackagePasses}
+use Rattle.package_check.specs.Measures.{PackagePasses}
 use Rattle.report.specs.declared.Measure.{Measure}
 use Rattle.package_check.specs.Soundness.{IsSound}
 use Rattle.ringcheck_files.specs.declared.Status.TheVariants as status

@@ -5,7 +5,8 @@ use Rattle.grid_units.specs.declared.fault.Reason.{Reason}
 use Rattle.grid_units.specs.declared.profile.Profile.{Profile}
 use Rattle.grid_units.specs.declared.profile.Profile.TheVariants.{Strict, Wide}
 use Rattle.print_text.specs.MeasureLines.{measure_text}
-use Rattle.board_report.specs.Measures.{IsMeasure, PackagePasses}
+use Rattle.board_report.specs.Measures.{IsMeasure}
+use Rattle.package_check.specs.Measures.{PackagePasses}
 use Rattle.report.specs.declared.Measure.{Measure}
 use Rattle.board.specs.Boards.{BoardView}
 use Rattle.package_check.specs.Boards.{IsBoard}

@@ -19,7 +19,7 @@ use Rattle.print_text.specs.Texts.{waived_report_text}
 use Rattle.print_text.specs.declared.report_text.Particulars.{Particulars}
 use Rattle.report.specs.declared.BoardReport.{BoardReport}
 use Rattle.report.specs.declared.Acceptances.{Acceptances}
-use Rattle.board_report.specs.BoardReport.{AgreesWithCheck, FindsFewer, IsBoardReportOf}
+use Rattle.package_check.specs.BoardReports.{AgreesWithCheck, FindsFewer, IsBoardReportOf}
 use Rattle.ringcheck_files.specs.declared.Status.{Status}
 use Rattle.ringcheck_files.specs.declared.Status.TheVariants as status
 use Rattle.report_page.specs.Pages.{IsHtmlPage}

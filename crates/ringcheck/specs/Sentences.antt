@@ -28,10 +28,6 @@ rule_words other = codes "give millimetres without a unit, e.g. 0.127 for 5 mil"
 abbrev pub length_sentence : List ℕ → List ℕ → Reason → List ℕ
 length_sentence option word why = option ++ (codes " " ++ (word ++ (codes ": " ++ rule_words why)))
 
--- what is said of a ring and a gap that are lengths, but no rules
-abbrev pub both_sentence : List ℕ → List ℕ → List ℕ
-both_sentence ring gap = codes "--ring " ++ (ring ++ (codes " --gap " ++ (gap ++ codes ": the ring is 0 or more, and the gap is more than 0")))
-
 -- what is said of a length that an option names, or the other sentence where it is one
 abbrev pub sentence_of_length : List ℕ → List ℕ → Result ℤ Reason → List ℕ → List ℕ
 sentence_of_length option word (Ok length) other = other
@@ -40,31 +36,23 @@ sentence_of_length option word (Err why) other = length_sentence option word why
 -- what is said of words that name no rules: of the ring, of the gap, or of both, in this order
 abbrev pub rules_sentence : List ℕ → List ℕ → List ℕ
 rules_sentence ring gap =
-    sentence_of_length (codes "--ring") ring (parse_length ring) (sentence_of_length (codes "--gap") gap (parse_length gap) (both_sentence ring gap))
+    sentence_of_length (codes "--ring") ring (parse_length ring) (sentence_of_length (codes "--gap") gap (parse_length gap) (codes "--ring " ++ (ring ++ (codes " --gap " ++ (gap ++ codes ": the ring is 0 or more, and the gap is more than 0")))))
 
 -- what is said of a word that is no number of findings
 abbrev pub count_sentence : Option (List ℕ) → List ℕ
 count_sentence None = codes "--max takes a number of one to nine digits, e.g. 20"
 count_sentence (Some word) = codes "--max " ++ (word ++ codes ": give a number of one to nine digits, e.g. 20")
 
--- what is said of a file of waivers that is given to a report which prints one
-abbrev pub waive_sentence : List ℕ
-waive_sentence = codes "--waive does not work with --format waivers, which prints a file of waivers"
-
 -- what is said of a word that is no format of a report: `--format must be text, html, json or waivers, not sarif`; or of `waivers`, which is one
 abbrev pub report_format_sentence : Option (List ℕ) → List ℕ
 report_format_sentence None = codes "--format must be text, html, json or waivers"
 report_format_sentence (Some word) =
-    if bytes_eq word (codes "waivers") then waive_sentence else codes "--format must be text, html, json or waivers, not " ++ word
+    if bytes_eq word (codes "waivers") then codes "--waive does not work with --format waivers, which prints a file of waivers" else codes "--format must be text, html, json or waivers, not " ++ word
 
 -- what is said of a word that is no format of a measure
 abbrev pub measure_format_sentence : Option (List ℕ) → List ℕ
 measure_format_sentence None = codes "--format must be text or json"
 measure_format_sentence (Some word) = codes "--format must be text or json, not " ++ word
-
--- what is said of an outline that is given to a report without a picture
-abbrev pub outline_sentence : List ℕ
-outline_sentence = codes "--outline works only with --format html and with draw"
 
 -- what is said of a word that names no profile
 abbrev pub profile_sentence : Option (List ℕ) → List ℕ
@@ -77,7 +65,7 @@ report_sentence profile ring gap limit outlined form =
     if not (is_some (profile_of profile)) then profile_sentence profile
     else if not (is_ok (parse_rules ring gap)) then rules_sentence ring gap
     else if not (is_ok (parse_limit limit)) then count_sentence limit
-    else if outlined then outline_sentence else report_format_sentence form
+    else if outlined then codes "--outline works only with --format html and with draw" else report_format_sentence form
 
 -- whether what is printed is for people who see it at once: not where the format is `html`, `json` or `waivers`, which go to a program or into a file
 abbrev pub is_for_people : Option (List ℕ) → Bool

@@ -11,9 +11,9 @@ ghost use Rattle.ringcheck.specs.MeasureStatus.{PrintsMeasure, measure_page, pro
 use crate::parsed_words::{MeasureFormat, MeasureOrder};
 use crate::refusals::{Halt, refused};
 use crate::{PackageFault, PackageReader};
-use board_report::laws::measured_passes;
 use board_report::measure_board;
 use grid_units::Profile;
+use package_check::laws::measured_passes;
 use package_check::{Board, FileLines};
 use print_json::MeasureJson;
 use print_text::MeasureText;

@@ -1,5 +1,5 @@
 -- Names that proofs of this crate cite, passed on from one place. Declares nothing.
-pub use Rattle.std.proofs.Common.{All, Bool, Bor, Err, IfOk, IfSome, IsSome, List, MatchOption, None, Ok, Option, Result, Some, [], ap, append-nil, append_assoc, ap₂, arith, cond, drop, eqb, false, get_or, inl, inr, is_ok, leb, length, length-append, lit<, ltb, map, negsuc, not, pos, refl, rules, subst, suc, sym, take, true, unsigned_abs, unwrap_or, zero, ℕ, ℤ, ◌%◌, ◌&&◌, ◌*◌, ◌++◌, ◌+◌, ◌-◌, ◌/◌, ◌<◌, ◌^◌, ◌↔◌, ◌∙◌, ◌∷◌, ◌≡◌, ◌≢◌, ◌≤◌, ◌⊎◌}
+pub use Rattle.std.proofs.Common.{Bool, Bor, Err, IfOk, IfSome, IsSome, List, MatchOption, None, Ok, Option, Result, Some, [], ap, append-nil, append_assoc, ap₂, arith, cond, drop, eqb, false, get_or, inl, inr, is_ok, leb, length, length-append, lit<, ltb, map, negsuc, not, pos, refl, rules, subst, suc, sym, take, tests, true, unsigned_abs, unwrap_or, zero, ℕ, ℤ, ◌%◌, ◌&&◌, ◌*◌, ◌++◌, ◌+◌, ◌-◌, ◌/◌, ◌<◌, ◌^◌, ◌↔◌, ◌∙◌, ◌∷◌, ◌≡◌, ◌≤◌, ◌⊎◌}
 pub use Rattle.drill_lines.specs.declared.command.DrillCommand.{DrillCommand}
 pub use Rattle.drill_text.specs.Profiles.{ReadsAsIn, ReadsIn, ShowsIn, plain}
 pub use Rattle.drill_text.specs.Texts.{IsDrillText, ReadsAs, SpellsText, spelled_after}
@@ -23,18 +23,18 @@ pub use Rattle.ringcheck_files.specs.Inner.{HasHandedOn, IsNextRead, extra_reads
 pub use Rattle.ringcheck_files.specs.Inner.Writing.{HoldsLines, IsWriterAfter, ShowsReadFault}
 pub use Rattle.ringcheck_files.specs.KnownWords.{IsPageOf, is_near, known_word, listed_word, listed_in_any_case}
 pub use Rattle.ringcheck_files.specs.ManifestStatus.{HasAllLoaded, HasLoaded, HasRisenBy, IsHeldStatus, IsManifestStatus, IsProposalText, LoadedView, PrintsProposal, are_containers, bytes, count_unread, first_said, folder, is_container, is_entry_name, is_unread, loaded_file, loaded_files, loaded_view, long, said_of, unread}
-pub use Rattle.ringcheck_files.specs.PageWords.{EachWordIsListed, FitsScreen, HasHeading, IsExplained, all_reasons, all_topics, all_words, topic_word}
+pub use Rattle.ringcheck_files.specs.PageWords.{EachWordIsListed, FitsScreen, HasHeading, IsExplained, all_reasons, all_words, is_colon, topic_words}
 pub use Rattle.ringcheck_files.specs.Rewriting.{KeepsCommands, RewritesDrill, RewritesLayer, RewritingIsIdempotent, RewritingIsUnique}
 pub use Rattle.ringcheck_files.specs.Rows.{NeedNoQuotes, NeedsNoQuotes, row}
 unfoldable pub use Rattle.ringcheck_files.specs.Rows.{rows_from}
 pub use Rattle.ringcheck_files.specs.Tables.{ReadsDrill, ShowsDrill, ShowsLayer, drill_table, feature_fields, hole_fields, layer_table}
 pub use Rattle.std.proofs.lemmas.Bool.{eqb-true, false≢true, leb-true, ltb-false}
 pub use Rattle.std.proofs.lemmas.Fmt.{decimal_by_steps, decimal_digit, length-decimal-le}
-pub use Rattle.std.proofs.lemmas.List.{at_drop_all, at_drop_more, get_or-map, length-map, length-take, map-append, take_all, take_more}
+pub use Rattle.std.proofs.lemmas.List.{get_or-map, length-map, length-take, map-append, take_all, take_more}
 pub use Rattle.std.proofs.lemmas.Result.{IfOk-weaker, err_from_is_err_and}
 pub use Rattle.std.specs.Global.{Vec}
 pub use Rattle.std.specs.Io.KnownBytes.{Appends, Consumes}
-pub use Rattle.std.specs.List.{AllByRecursion, Contains, find, flat_map, list_all, list_any, prefix_len}
+pub use Rattle.std.specs.List.{AllByRecursion, Contains, before_first, find, flat_map, list_all, list_any, prefix_len}
 pub use Rattle.std.specs.Option.{option_map, option_or, option_to_list}
 pub use Rattle.std.specs.Prelude.{codes, count_by, decimal, neg_ℤ, option_and_then, slice_get, take_while}
 pub use Rattle.std.specs.Slice.Iter.{chunks_rest, chunks_size}

@@ -12,6 +12,4 @@ pub mod SameCommandsLemmas
 pub mod RewritingUniqueness
 pub mod WriterLemmas
 pub mod LookupLemmas
-pub mod FirstFound
-pub mod ListedWords
-pub mod PageHeadings
+pub mod PageLemmas

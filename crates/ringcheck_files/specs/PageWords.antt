@@ -5,34 +5,16 @@ use Rattle.std.specs.Str.Lines.{lines}
 use Rattle.grid_units.specs.declared.fault.Reason.{Reason}
 use Rattle.grid_units.specs.declared.fault.Reason.TheVariants as reasons
 use Rattle.grid_units.specs.Reasons.{reason_name}
-use Rattle.ringcheck_files.specs.declared.topic.Topic.{Topic}
-use Rattle.ringcheck_files.specs.declared.topic.Topic.TheVariants as topics
 use Rattle.grid_units.specs.Ascii as ascii
 
--- the word of a topic: `RING` is a finding, `small` a cause of one, `wide` the profile
-abbrev pub topic_word : Topic → List ℕ
-topic_word topics.RingLine = codes "RING"
-topic_word topics.GapLine = codes "GAP"
-topic_word topics.ObliqueLine = codes "OBLIQUE"
-topic_word topics.Ring = codes "ring"
-topic_word topics.Small = codes "small"
-topic_word topics.Off = codes "off"
-topic_word topics.Edge = codes "edge"
-topic_word topics.NoPad = codes "none"
-topic_word topics.Macro = codes "macro"
-topic_word topics.Polygon = codes "polygon"
-topic_word topics.Holed = codes "holed"
-topic_word topics.Scaled = codes "scaled"
-topic_word topics.Turned = codes "turned"
-topic_word topics.Clear = codes "clear"
-topic_word topics.Cleared = codes "cleared"
-topic_word topics.Oblique = codes "oblique"
-topic_word topics.Plane = codes "plane"
-topic_word topics.Wide = codes "wide"
+-- the words of the findings, of their causes and of the wide profile: `RING` is a finding, `small` a cause of one
+abbrev pub topic_words : List (List ℕ)
+topic_words = codes "RING" ∷ codes "GAP" ∷ codes "OBLIQUE" ∷ codes "ring" ∷ codes "small" ∷ codes "off" ∷ codes "edge" ∷ codes "none" ∷ codes "macro" ∷ codes "polygon"
+    ∷ codes "holed" ∷ codes "scaled" ∷ codes "turned" ∷ codes "clear" ∷ codes "cleared" ∷ codes "oblique" ∷ codes "plane" ∷ codes "wide" ∷ []
 
--- a word that has a page: the name of a reason (`TooLong`) or the word of a topic (`RING`)
+-- a word that has a page: the name of a reason (`TooLong`), or one of the other words (`RING`)
 abbrev pub IsExplained : List ℕ → Type 0
-IsExplained word = ((reason : Reason) × (reason_name reason ≡ word)) ⊎ ((topic : Topic) × (topic_word topic ≡ word))
+IsExplained word = ((reason : Reason) × (reason_name reason ≡ word)) ⊎ Contains topic_words word
 
 -- a page begins with its word, a colon and a space: `TooLong: `
 abbrev pub HasHeading : List ℕ → List ℕ → Type 0
@@ -46,13 +28,9 @@ FitsScreen page = (length (lines page) ≤ 12) × AllByRecursion (λ line. lengt
 abbrev pub all_reasons : List Reason
 all_reasons = reasons.TooLong ∷ reasons.AfterEnd ∷ reasons.Truncated ∷ reasons.SeveralInOne ∷ reasons.ClearPolarity ∷ reasons.BlockAperture ∷ reasons.NegativeImage ∷ reasons.TrailingZeros ∷ reasons.Incremental ∷ reasons.OldParameter ∷ reasons.OldFormat ∷ reasons.Routed ∷ reasons.Repeat ∷ reasons.BadWord ∷ reasons.BadLine ∷ reasons.BadNumber ∷ reasons.NoZeros ∷ reasons.TooManyDigits ∷ reasons.TooFine ∷ reasons.TooFar ∷ reasons.BareCoordinate ∷ reasons.InRegion ∷ reasons.NotInRegion ∷ reasons.NoFormat ∷ reasons.NoUnit ∷ reasons.UnitConflict ∷ reasons.FormatConflict ∷ reasons.Redefined ∷ reasons.UnknownMacro ∷ reasons.UnknownAperture ∷ reasons.UnknownTool ∷ reasons.NoAperture ∷ reasons.NoTool ∷ reasons.BadSize ∷ reasons.BadRepeat ∷ reasons.TooManyPads ∷ reasons.TooManyHoles ∷ reasons.BadRule ∷ reasons.BadManifest ∷ reasons.BadRole ∷ reasons.EmptyName ∷ reasons.RepeatedName ∷ reasons.NoCopper ∷ reasons.NoDrill ∷ reasons.NotCopper ∷ reasons.BadSpan ∷ reasons.NoPlating ∷ reasons.PlatingConflict ∷ []
 
--- all 18 topics, in the order of the list: the findings, their causes, the wide profile
-abbrev pub all_topics : List Topic
-all_topics = topics.RingLine ∷ topics.GapLine ∷ topics.ObliqueLine ∷ topics.Ring ∷ topics.Small ∷ topics.Off ∷ topics.Edge ∷ topics.NoPad ∷ topics.Macro ∷ topics.Polygon ∷ topics.Holed ∷ topics.Scaled ∷ topics.Turned ∷ topics.Clear ∷ topics.Cleared ∷ topics.Oblique ∷ topics.Plane ∷ topics.Wide ∷ []
-
--- the words that are listed: the names of the reasons, then the words of the topics
+-- the words that are listed: the names of the reasons, then the other words
 abbrev pub all_words : List (List ℕ)
-all_words = map reason_name all_reasons ++ map topic_word all_topics
+all_words = map reason_name all_reasons ++ topic_words
 
 -- a colon
 abbrev pub is_colon : ℕ → Bool

@@ -8,28 +8,24 @@ mod containers;
 mod explanation_pages;
 mod fields;
 mod file_jobs;
-mod known_words;
 pub mod laws;
 mod layer_writer;
 mod lines;
 mod loader;
 mod outcomes;
+mod pages;
 mod proposed_manifest;
 mod read_counter;
 mod reader_bytes;
-mod reason_pages;
 mod rewrite;
 mod show;
 mod sides;
 mod sink;
-mod topic;
-mod topic_pages;
 mod word_list;
 
 pub use containers::{Container, path_in};
 pub use explanation_pages::explain;
 pub use file_jobs::{FileJob, place_of_names, print};
-pub use known_words::near_word;
 pub use loader::{ABOVE_LIMIT, FILE_LIMIT, LoadFault, Loader};
 pub use outcomes::{Failure, Streams, refuse_word};
 pub use proposed_manifest::print_manifest;
@@ -37,7 +33,7 @@ pub use reader_bytes::{MAX_LIMIT, ReadFail, read_all, read_into};
 pub use rewrite::{Kind, rewrite_bytes};
 pub use show::{show_drill, show_drill_in, show_layer, show_layer_in};
 pub use sink::Sink;
-pub use word_list::{explanation, explanation_in_any_case, words};
+pub use word_list::{explanation, explanation_in_any_case, near_word, words};
 
 /// How a run ended.
 #[derive(Clone, Copy, Debug, PartialEq, Eq)]

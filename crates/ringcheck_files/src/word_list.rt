@@ -1,18 +1,11 @@
 //! The words that have a page.
 
-ghost use Rattle.std.specs.Prelude.{◌≡◌, ◌≢◌, MatchOption, ◌↔◌, IsSome, IfSome, None};
-ghost use Rattle.grid_units.specs.Reasons.{reason_name};
-ghost use Rattle.grid_units.specs.declared.fault.Reason.{Reason as Reasons};
-ghost use Rattle.ringcheck_files.specs.declared.topic.Topic.{Topic as Topics};
-ghost use Rattle.ringcheck_files.specs.PageWords.{EachWordIsListed, ListsWords, topic_word, FitsScreen, HasHeading, IsExplained};
+ghost use Rattle.std.specs.Prelude.{◌≡◌, MatchOption, ◌↔◌, IsSome, IfSome, None, option_map};
+ghost use Rattle.ringcheck_files.specs.PageWords.{EachWordIsListed, ListsWords, FitsScreen, HasHeading, IsExplained};
 ghost use Rattle.ringcheck_files.specs.KnownWords as words;
 ghost use Rattle.ringcheck_files.specs.KnownWords.{IsPageOf};
 
-use crate::known_words::known_word;
-use crate::reason_pages::reason_page;
-use crate::topic::Topic;
-use crate::topic_pages::topic_page;
-use grid_units::Reason;
+use crate::pages::{PAGES, word_of};
 
 /// The words, one to a line, each with what it means in short: `ring: the copper around a hole is narrower than the rule`.
 const WORDS: &str = "\
@@ -84,77 +77,8 @@ plane: a negative plane that is not marked as one counts as copper
 wide: the profile that counts more shapes as pads and reads more files
 ";
 
-const REASONS: [Reason; 48] = [
-    Reason::TooLong,
-    Reason::AfterEnd,
-    Reason::Truncated,
-    Reason::SeveralInOne,
-    Reason::ClearPolarity,
-    Reason::BlockAperture,
-    Reason::NegativeImage,
-    Reason::TrailingZeros,
-    Reason::Incremental,
-    Reason::OldParameter,
-    Reason::OldFormat,
-    Reason::Routed,
-    Reason::Repeat,
-    Reason::BadWord,
-    Reason::BadLine,
-    Reason::BadNumber,
-    Reason::NoZeros,
-    Reason::TooManyDigits,
-    Reason::TooFine,
-    Reason::TooFar,
-    Reason::BareCoordinate,
-    Reason::InRegion,
-    Reason::NotInRegion,
-    Reason::NoFormat,
-    Reason::NoUnit,
-    Reason::UnitConflict,
-    Reason::FormatConflict,
-    Reason::Redefined,
-    Reason::UnknownMacro,
-    Reason::UnknownAperture,
-    Reason::UnknownTool,
-    Reason::NoAperture,
-    Reason::NoTool,
-    Reason::BadSize,
-    Reason::BadRepeat,
-    Reason::TooManyPads,
-    Reason::TooManyHoles,
-    Reason::BadRule,
-    Reason::BadManifest,
-    Reason::BadRole,
-    Reason::EmptyName,
-    Reason::RepeatedName,
-    Reason::NoCopper,
-    Reason::NoDrill,
-    Reason::NotCopper,
-    Reason::BadSpan,
-    Reason::NoPlating,
-    Reason::PlatingConflict,
-];
-
-const TOPICS: [Topic; 18] = [
-    Topic::RingLine,
-    Topic::GapLine,
-    Topic::ObliqueLine,
-    Topic::Ring,
-    Topic::Small,
-    Topic::Off,
-    Topic::Edge,
-    Topic::NoPad,
-    Topic::Macro,
-    Topic::Polygon,
-    Topic::Holed,
-    Topic::Scaled,
-    Topic::Turned,
-    Topic::Clear,
-    Topic::Cleared,
-    Topic::Oblique,
-    Topic::Plane,
-    Topic::Wide,
-];
+/// The fewest letters of a word that another is guessed from.
+const FEWEST: usize = 3;
 
 /// The words that have a page, one to a line: the names of the reasons, then the other words. A colon, a space and what it
 /// means in short follow each word. A line has at most 78 columns, and ends with a line feed.
@@ -166,30 +90,6 @@ pub fn words() -> &'static str
     WORDS
 }
 
-/// The reason with this name: `TooLong`.
-pub(crate) fn reason_by_name(word: &str) -> Option<Reason>
-    ensures { MatchOption result ((reason : Reasons) → reason_name reason ≢ word.now) (λ reason. reason_name reason ≡ word.now) }
-{
-    for reason in REASONS.iter() {
-        if reason.name() == word {
-            return Some(*reason);
-        }
-    }
-    None
-}
-
-/// The topic with this word: `RING`.
-pub(crate) fn topic_by_word(word: &str) -> Option<Topic>
-    ensures { MatchOption result ((topic : Topics) → topic_word topic ≢ word.now) (λ topic. topic_word topic ≡ word.now) }
-{
-    for topic in TOPICS.iter() {
-        if topic.word() == word {
-            return Some(*topic);
-        }
-    }
-    None
-}
-
 /// The page of a word: at most 12 lines of at most 78 columns, each ended by a line feed. It begins with the word and a
 /// colon. `None` where the word is neither the name of a reason nor one of `RING`, `GAP`, `OBLIQUE`, `ring`, `small`,
 /// `off`, `edge`, `none`, `macro`, `polygon`, `holed`, `scaled`, `turned`, `clear`, `cleared`, `oblique`, `plane` and `wide`.
@@ -198,13 +98,7 @@ pub fn explanation(word: &str) -> Option<&'static str>
     ensures headed { IfSome result (λ page. HasHeading word.now page.now) }
     ensures fits { IfSome result (λ page. FitsScreen page.now) }
 {
-    if let Some(reason) = reason_by_name(word) {
-        return Some(reason_page(reason));
-    }
-    match topic_by_word(word) {
-        Some(topic) => Some(topic_page(topic)),
-        None => None,
-    }
+    PAGES.iter().copied().find(|page| word_of(page) == word)
 }
 
 /// The page of the word with a page that this word is: itself, else the first of the list that is equal to it but for the case
@@ -212,8 +106,37 @@ pub fn explanation(word: &str) -> Option<&'static str>
 pub fn explanation_in_any_case(word: &str) -> Option<&'static str>
     ensures { MatchOption result (words.known_word word.now ≡ None) (λ page. IsPageOf (words.known_word word.now) page.now) }
 {
-    match known_word(word) {
-        Some(known) => explanation(known),
-        None => None,
+    match explanation(word) {
+        Some(page) => Some(page),
+        None => PAGES
+            .iter()
+            .copied()
+            .find(|page| word_of(page).eq_ignore_ascii_case(word)),
     }
+}
+
+/// Whether a text begins with another, whatever the case of their letters.
+fn begins_with(text: &str, start: &str) -> bool
+    ensures { result ≡ words.begins_with text.now start.now }
+{
+    text.len() >= start.len()
+        && text.as_bytes()[..start.len()].eq_ignore_ascii_case(start.as_bytes())
+}
+
+/// Whether a word of three letters or more begins a listed word, or is one with something added.
+fn is_near(known: &str, word: &str) -> bool
+    ensures { result ≡ words.is_near known.now word.now }
+{
+    word.len() >= FEWEST && (begins_with(known, word) || begins_with(word, known))
+}
+
+/// The first word of the list that a word of three letters or more begins, or with which it begins, whatever the case of the
+/// letters: `small` for `smal`.
+pub fn near_word(word: &str) -> Option<&'static str>
+    ensures { option_map (λ known. known.now) result ≡ words.near_word word.now }
+{
+    PAGES
+        .iter()
+        .map(|page| word_of(page))
+        .find(|known| is_near(known, word))
 }

@@ -9,7 +9,7 @@ ghost use Rattle.waivers.specs.Inner.{record_key};
 ghost use Rattle.waivers.specs.Waiving.{compared_fields};
 
 use crate::Waiver;
-use grid_units::{DrilledWords, ShortMillimetres, name_of};
+use grid_units::{DrilledWords, Line, ShortMillimetres, name_of};
 use report::{GapLack, LayerHead, PlacedHole, RingCause, RingLack, ring_of};
 use std::fmt;
 use std::fmt::{Display, Formatter};
@@ -115,58 +115,63 @@ impl Display for RingField {
     }
 }
 
-/// The fields of a hole that lacks its ring: `ring,top,"pth, 0.4 at 0,0",,0.124999`.
+/// What the fields of findings share: the names of the package's files, and the layers of the report.
 #[derive(Clone, Copy)]
-pub(crate) struct RingFields<'a> {
+pub(crate) struct Page<'a> {
     pub(crate) names: &'a [&'a str],
     pub(crate) layers: &'a [LayerHead],
-    pub(crate) lack: RingLack,
 }
 
-impl Display for RingFields<'_> {
-    ghost output = { λ fields. Some (record_key (ring_fields (map (λ name. name.now) fields.names.now) fields.layers.now fields.lack)) };
+/// The fields of a hole that lacks its ring: `ring,top,"pth, 0.4 at 0,0",,0.124999`.
+impl Line<Page<'_>> for RingLack {
+    ghost text = { λ page lack. record_key (ring_fields (map (λ name. name.now) page.names.now) page.layers.now lack) };
 
-    fn fmt<W: fmt::Write>(&self, f: &mut Formatter<W>) -> fmt::Result {
-        let (names, at) = (self.names, self.lack.at);
-        let layer = TextField(layer_name(names, self.layers, self.lack.layer));
-        let (hole, has) = (HoleField { names, at }, RingField(self.lack.cause));
+    fn fmt_on<W: fmt::Write>(&self, page: &Page<'_>, f: &mut Formatter<W>) -> fmt::Result {
+        let (names, at) = (page.names, self.at);
+        let layer = TextField(layer_name(names, page.layers, self.layer));
+        let (hole, has) = (HoleField { names, at }, RingField(self.cause));
         write!(f, "ring,{layer},{hole},,{has}")
     }
 }
 
 /// The fields of two holes that lack their gap: `gap,,"pth, 0.4 at 0,0","pth, 0.4 at 0.5,0",0.1`.
-#[derive(Clone, Copy)]
-pub(crate) struct GapFields<'a> {
-    pub(crate) names: &'a [&'a str],
-    pub(crate) lack: GapLack,
-}
+impl Line<Page<'_>> for GapLack {
+    ghost text = { λ page lack. record_key (gap_fields (map (λ name. name.now) page.names.now) lack) };
 
-impl Display for GapFields<'_> {
-    ghost output = { λ fields. Some (record_key (gap_fields (map (λ name. name.now) fields.names.now) fields.lack)) };
-
-    fn fmt<W: fmt::Write>(&self, f: &mut Formatter<W>) -> fmt::Result {
-        let (names, at) = (self.names, self.lack.first);
+    fn fmt_on<W: fmt::Write>(&self, page: &Page<'_>, f: &mut Formatter<W>) -> fmt::Result {
+        let (names, at) = (page.names, self.first);
         let hole = HoleField { names, at };
-        let at = self.lack.second;
+        let at = self.second;
         let and = HoleField { names, at };
-        write!(f, "gap,,{hole},{and},{}", LengthField(self.lack.gap))
+        write!(f, "gap,,{hole},{and},{}", LengthField(self.gap))
     }
 }
 
 /// The fields of a waiver that are compared: all but the reason.
-#[derive(Clone, Copy)]
-pub(crate) struct WaiverFields<'a>(pub(crate) &'a Waiver);
+impl Line<()> for Waiver {
+    ghost text = { λ page waiver. record_key (compared_fields waiver) };
 
-impl Display for WaiverFields<'_> {
-    ghost output = { λ fields. Some (record_key (compared_fields fields.0.now)) };
+    fn fmt_on<W: fmt::Write>(&self, page: &(), f: &mut Formatter<W>) -> fmt::Result {
+        let kind = TextField(self.kind.as_str());
+        let layer = TextField(self.layer.as_str());
+        let hole = TextField(self.hole.as_str());
+        let and = TextField(self.and.as_str());
+        let has = TextField(self.has.as_str());
+        write!(f, "{kind},{layer},{hole},{and},{has}")
+    }
+}
+
+/// The fields of a finding or of a waiver, as CSV.
+#[derive(Drop)]
+pub(crate) struct Fields<'a, P, T> {
+    pub(crate) page: &'a P,
+    pub(crate) one: &'a T,
+}
+
+impl<P, T: Line<P>> Display for Fields<'_, P, T> {
+    ghost output = { λ fields. Some (T.text fields.page.now fields.one.now) };
 
     fn fmt<W: fmt::Write>(&self, f: &mut Formatter<W>) -> fmt::Result {
-        let waiver = self.0;
-        let kind = TextField(waiver.kind.as_str());
-        let layer = TextField(waiver.layer.as_str());
-        let hole = TextField(waiver.hole.as_str());
-        let and = TextField(waiver.and.as_str());
-        let has = TextField(waiver.has.as_str());
-        write!(f, "{kind},{layer},{hole},{and},{has}")
+        self.one.fmt_on(self.page, f)
     }
 }

@@ -4,89 +4,32 @@ ghost use Rattle.std.specs.Prelude.{◌≡◌, IfOk, OnOk, ℕ, List, map, Some,
 ghost use Rattle.std.specs.List.{position_from};
 ghost use Rattle.std.specs.Option.{option_or};
 ghost use Rattle.std.specs.Str.{bytes_eq};
-ghost use Rattle.waivers.specs.Findings.{gap_fields, ring_fields};
-ghost use Rattle.waivers.specs.Inner.{record_key, place_at};
-ghost use Rattle.waivers.specs.Waiving.{compared_fields};
+ghost use Rattle.waivers.specs.Inner.{place_at};
 
-use crate::Waiver;
-use crate::findings::{GapFields, RingFields, WaiverFields};
-use report::{GapLack, LayerHead, RingLack};
+use crate::findings::Fields;
+use grid_units::Line;
 use std::alloc::{AllocError, Global};
 use std::collections::BTreeMap;
 
-/// The key of a hole that lacks its ring: its fields as CSV.
-fn ring_key<'a>(
-    alloc: Global,
-    names: &'a [&'a str],
-    layers: &'a [LayerHead],
-    lack: &RingLack,
-) -> Result<Vec<u8>, AllocError>
-    ensures { IfOk result (λ key. key.items ≡ record_key (ring_fields (map (λ name. name.now) names.now) layers.now lack.now)) }
+/// The key of a finding or of a waiver: its fields as CSV.
+fn key_of<P, T: Line<P>>(alloc: Global, page: &P, one: &T) -> Result<Vec<u8>, AllocError>
+    ensures { IfOk result (λ key. key.items ≡ T.text page.now one.now) }
 {
-    let lack = *lack;
-    let fields = RingFields {
-        names,
-        layers,
-        lack,
-    };
+    let fields = Fields { page, one };
     Ok(format!(in alloc; "{fields}")?.into_bytes())
 }
 
-/// The keys of the holes that lack their rings, in order.
-pub(crate) fn ring_keys(
+/// The keys of some findings or waivers, in order.
+pub(crate) fn keys_of<P, T: Line<P>>(
     alloc: Global,
-    names: &[&str],
-    layers: &[LayerHead],
-    rings: &[RingLack],
+    page: &P,
+    all: &[T],
 ) -> Result<Vec<Vec<u8>>, AllocError>
-    ensures { IfOk result (λ keys. map (λ key. key.items) keys.items ≡ map (λ lack. record_key (ring_fields (map (λ name. name.now) names.now) layers.now lack)) rings.now) }
+    ensures { IfOk result (λ keys. map (λ key. key.items) keys.items ≡ map (T.text page.now) all.now) }
 {
     let mut keys = Vec::new(alloc);
-    for lack in rings {
-        keys.push(ring_key(alloc, names, layers, lack)?)?;
-    }
-    Ok(keys)
-}
-
-/// The key of two holes that lack their gap.
-fn gap_key<'a>(alloc: Global, names: &'a [&'a str], lack: &GapLack) -> Result<Vec<u8>, AllocError>
-    ensures { IfOk result (λ key. key.items ≡ record_key (gap_fields (map (λ name. name.now) names.now) lack.now)) }
-{
-    let lack = *lack;
-    let fields = GapFields { names, lack };
-    Ok(format!(in alloc; "{fields}")?.into_bytes())
-}
-
-/// The keys of the pairs that lack their gap, in order.
-pub(crate) fn gap_keys(
-    alloc: Global,
-    names: &[&str],
-    gaps: &[GapLack],
-) -> Result<Vec<Vec<u8>>, AllocError>
-    ensures { IfOk result (λ keys. map (λ key. key.items) keys.items ≡ map (λ lack. record_key (gap_fields (map (λ name. name.now) names.now) lack)) gaps.now) }
-{
-    let mut keys = Vec::new(alloc);
-    for lack in gaps {
-        keys.push(gap_key(alloc, names, lack)?)?;
-    }
-    Ok(keys)
-}
-
-/// The key of the fields of a waiver that are compared.
-fn waiver_key(alloc: Global, waiver: &Waiver) -> Result<Vec<u8>, AllocError>
-    ensures { IfOk result (λ key. key.items ≡ record_key (compared_fields waiver.now)) }
-{
-    let fields = WaiverFields(waiver);
-    Ok(format!(in alloc; "{fields}")?.into_bytes())
-}
-
-/// The keys of waivers, in order.
-pub(crate) fn waiver_keys(alloc: Global, waivers: &[Waiver]) -> Result<Vec<Vec<u8>>, AllocError>
-    ensures { IfOk result (λ keys. map (λ key. key.items) keys.items ≡ map (λ waiver. record_key (compared_fields waiver)) waivers.now) }
-{
-    let mut keys = Vec::new(alloc);
-    for waiver in waivers {
-        keys.push(waiver_key(alloc, waiver)?)?;
+    for one in all {
+        keys.push(key_of(alloc, page, one)?)?;
     }
     Ok(keys)
 }

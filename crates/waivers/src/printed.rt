@@ -3,43 +3,33 @@
 ghost use Rattle.std.specs.Prelude.{Some, map};
 ghost use Rattle.waivers.specs.Findings.{finding_record, findings_text, gap_fields, ring_fields};
 
-use crate::findings::{GapFields, RingFields};
+use crate::findings::{Fields, Page};
 use grid_units::{Line, Lines};
-use report::{BoardReport, GapLack, LayerHead, RingLack};
+use report::{BoardReport, GapLack, RingLack};
 use std::fmt;
 use std::fmt::{Display, Formatter};
 
-/// What the records of findings share: the names of the package's files, and the layers of the report.
+/// What the records of findings share.
 #[derive(Clone, Copy)]
-struct Page<'a> {
-    names: &'a [&'a str],
-    layers: &'a [LayerHead],
-}
+struct Records<'a>(Page<'a>);
 
 /// The record of a hole that lacks its ring, with an empty reason.
-impl Line<Page<'_>> for RingLack {
-    ghost text = { λ page lack. finding_record (ring_fields (map (λ name. name.now) page.names.now) page.layers.now lack) };
+impl Line<Records<'_>> for RingLack {
+    ghost text = { λ page lack. finding_record (ring_fields (map (λ name. name.now) page.0.names.now) page.0.layers.now lack) };
 
-    fn fmt_on<W: fmt::Write>(&self, page: &Page<'_>, f: &mut Formatter<W>) -> fmt::Result {
-        let fields = RingFields {
-            names: page.names,
-            layers: page.layers,
-            lack: *self,
-        };
-        write!(f, "{fields},\n")
+    fn fmt_on<W: fmt::Write>(&self, page: &Records<'_>, f: &mut Formatter<W>) -> fmt::Result {
+        let page = &page.0;
+        write!(f, "{},\n", Fields { page, one: self })
     }
 }
 
 /// The record of two holes that lack their gap, with an empty reason.
-impl Line<Page<'_>> for GapLack {
-    ghost text = { λ page lack. finding_record (gap_fields (map (λ name. name.now) page.names.now) lack) };
+impl Line<Records<'_>> for GapLack {
+    ghost text = { λ page lack. finding_record (gap_fields (map (λ name. name.now) page.0.names.now) lack) };
 
-    fn fmt_on<W: fmt::Write>(&self, page: &Page<'_>, f: &mut Formatter<W>) -> fmt::Result {
-        let fields = GapFields {
-            names: page.names,
-            lack: *self,
-        };
-        write!(f, "{fields},\n")
+    fn fmt_on<W: fmt::Write>(&self, page: &Records<'_>, f: &mut Formatter<W>) -> fmt::Result {
+        let page = &page.0;
+        write!(f, "{},\n", Fields { page, one: self })
     }
 }
 
@@ -57,10 +47,10 @@ impl Display for WaiverText<'_> {
     ghost output = { λ text. Some (findings_text (map (λ name. name.now) text.names.now) text.report.now) };
 
     fn fmt<W: fmt::Write>(&self, f: &mut Formatter<W>) -> fmt::Result {
-        let page = Page {
+        let page = Records(Page {
             names: self.names,
             layers: self.report.layers.as_slice(),
-        };
+        });
         let rings = Lines {
             page: &page,
             lines: self.report.rings.as_slice(),

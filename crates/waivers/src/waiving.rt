@@ -1,6 +1,6 @@
 //! The waivers of findings, and the waivers that waive nothing.
 
-ghost use Rattle.std.specs.Prelude.{◌≡◌, ◌||◌, ◌++◌, ◌∷◌, [], ℕ, List, IfOk, OnOk, map, not, is_some, option_map, if◌then◌else◌};
+ghost use Rattle.std.specs.Prelude.{◌≡◌, ◌||◌, ℕ, List, IfOk, OnOk, is_some, map, option_map};
 ghost use Rattle.std.specs.List.{list_all, list_any};
 ghost use Rattle.waivers.specs.Findings.{gap_fields, ring_fields};
 ghost use Rattle.waivers.specs.Inner as inner;
@@ -10,7 +10,8 @@ ghost use Rattle.report.specs.declared.BoardReport.{BoardReport as Report};
 ghost use Rattle.waivers.specs.Waiving.{IsWaived, are_all_waived, compared_fields, report_fields, idle_numbers, waived_by};
 
 use crate::Waiver;
-use crate::keys::{first_places, gap_keys, places_of, ring_keys, waiver_keys};
+use crate::findings::Page;
+use crate::keys::{first_places, keys_of, places_of};
 use report::BoardReport;
 use std::alloc::{AllocError, Global};
 use std::collections::BTreeSet;
@@ -29,7 +30,7 @@ impl Waived {
     pub fn all(&self) -> bool
         ensures { result ≡ are_all_waived self.now }
     {
-        are_some(self.rings.as_slice()) && are_some(self.gaps.as_slice())
+        are_some(&self.rings) && are_some(&self.gaps)
     }
 }
 
@@ -82,14 +83,11 @@ pub fn waive(
     ensures rings { IfOk result (λ waived. waived.rings.items ≡ map (λ lack. waived_by waivers.now (ring_fields (map (λ name. name.now) names.now) report.now.layers.items lack)) report.now.rings.items) }
     ensures gaps { IfOk result (λ waived. waived.gaps.items ≡ map (λ lack. waived_by waivers.now (gap_fields (map (λ name. name.now) names.now) lack)) report.now.gaps.items) }
 {
-    let rings = ring_keys(
-        alloc,
-        names,
-        report.layers.as_slice(),
-        report.rings.as_slice(),
-    )?;
-    let gaps = gap_keys(alloc, names, report.gaps.as_slice())?;
-    let keys = waiver_keys(alloc, waivers)?;
+    let layers = report.layers.as_slice();
+    let page = Page { names, layers };
+    let rings = keys_of(alloc, &page, report.rings.as_slice())?;
+    let gaps = keys_of(alloc, &page, report.gaps.as_slice())?;
+    let keys = keys_of(alloc, &(), waivers)?;
     let table = first_places(alloc, keys.as_slice())?;
     Ok(Waived {
         rings: places_of(alloc, &table, rings.as_slice())?,
@@ -101,7 +99,7 @@ pub fn waive(
 fn first_equal_places(alloc: Global, waivers: &[Waiver]) -> Result<Vec<Option<usize>>, AllocError>
     ensures { IfOk result (λ firsts. firsts.items ≡ map (λ waiver. waived_by waivers.now (compared_fields waiver)) waivers.now) }
 {
-    let keys = waiver_keys(alloc, waivers)?;
+    let keys = keys_of(alloc, &(), waivers)?;
     let table = first_places(alloc, keys.as_slice())?;
     places_of(alloc, &table, keys.as_slice())
 }
@@ -138,22 +136,6 @@ fn has_first_place(used: &BTreeSet<usize>, first: Option<usize>) -> bool
     }
 }
 
-/// Adds the number of a waiver's record, if the first waiver alike is not used.
-fn push_if_unused(
-    idle: &mut Vec<usize>,
-    used: &BTreeSet<usize>,
-    first: Option<usize>,
-    number: usize,
-) -> Result<(), AllocError>
-    ensures { OnOk result (idle.new.items ≡ idle.old.items ++ (if not (inner.has_first_place used.now first) then number ∷ [] else [])) }
-{
-    if has_first_place(used, first) {
-        return Ok(());
-    }
-    idle.push(number)?;
-    Ok(())
-}
-
 /// The numbers of the records of the waivers whose first ones alike are not used. The head is the record 1.
 fn unused(
     alloc: Global,
@@ -163,8 +145,10 @@ fn unused(
     ensures { IfOk result (λ numbers. numbers.items ≡ unused_numbers used.now firsts.now) }
 {
     let mut idle = Vec::new(alloc);
-    for place in 0..firsts.len() {
-        push_if_unused(&mut idle, used, firsts[place], place + 2)?;
+    for (place, first) in firsts.iter().enumerate() {
+        if !has_first_place(used, *first) {
+            idle.push(place + 2)?;
+        }
     }
     Ok(idle)
 }

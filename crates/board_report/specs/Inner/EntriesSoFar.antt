@@ -24,9 +24,8 @@ IsCurrentLayer board current = HoldsLayer board current.layer current.causes
 abbrev pub AreBoardBests : BoardView → List (Vec (Option BestPad)) → Type 0
 AreBoardBests board bests = AreLayerBests board (length board.layers) (map (λ its. its.items) bests)
 
--- the data made once for a board: the pads of its layers, the best of these for each hole, and its drill files that have holes; its rules are any
+-- the data made once for a board: the best pads of its layers for each hole, and its drill files that have holes; its rules are any
 pub record IsBoardData (board : BoardView) (board_data : BoardData) : Type 0 where
-  pub layers : map (λ pads. pads.now) board_data.layers.now ≡ board.layers
   pub bests : AreBoardBests board board_data.bests.now
   pub files : AreFilesWithHoles board board_data.files.now
 

@@ -2,9 +2,8 @@
 
 use super::{file, passes};
 use board::Met;
-use board_report::measure_bytes;
 use grid_units::Profile;
-use package_check::{File, Role, Span};
+use package_check::{File, Role, Span, measure_bytes};
 use report::Meets;
 use std::alloc::{AllocError, Global};
 use std::test::Fail as Failure;

@@ -1,6 +1,7 @@
 -- A report before it is printed.
 use Rattle.std.specs.Prelude.{◌≡◌, true, List}
-use Rattle.board_report.specs.BoardReport.{AgreesWithCheck, IsBoardReport}
+use Rattle.board_report.specs.BoardReport.{IsBoardReport}
+use Rattle.package_check.specs.BoardReports.{AgreesWithCheck}
 use Rattle.grid_units.specs.Holes.{GridRules}
 use Rattle.board.specs.Boards.{BoardView}
 use Rattle.package_check.specs.Boards.{IsDrawnBoard, IsFlashedBoard}

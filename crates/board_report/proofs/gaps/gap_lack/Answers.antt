@@ -8,7 +8,6 @@ pub returns : goal.returns
 returns c =
     let holes = c.args.board.now.holes in
     let gap : to_z w64 (of_z w64 c.gap_between-gap.result) ≡ c.gap_between-gap.result = search (rules, to_z-of_z) in
-    let lack : to_z w64 (of_z w64 c.lack_of.result) ≡ c.lack_of.result = search (rules, to_z-of_z) in
     let first : c.hole_at-first.result.hole ≡ hole_at holes c.args.first = c.hole_at-first.ensures.hole in
     let second : c.hole_at-second.result.hole ≡ hole_at holes c.args.second = c.hole_at-second.ensures.hole in
     record {
@@ -16,5 +15,5 @@ returns c =
       second_at = c.hole_at-second.ensures;
       gap = subst (IsGap (hole_at holes c.args.first) (hole_at holes c.args.second)) (sym gap)
           (subst (λ (h : GridHole). IsGap h (hole_at holes c.args.second) c.gap_between-gap.result) first (subst (λ (h : GridHole). IsGap c.hole_at-first.result.hole h c.gap_between-gap.result) second c.gap_between-gap.ensures.exact));
-      lack = lack ∙ c.lack_of.ensures;
+      lack = search (rules, to_z-of_z);
     }

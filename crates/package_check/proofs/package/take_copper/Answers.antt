@@ -1,4 +1,4 @@
-use Rattle.package_check.proofs.Common.{◌≡◌, ◌∙◌, ap, refl, subst, sym, arith, true, ◌&&◌, ◌+◌, ℕ, ltb, map, count_by, CheckView, JudgesThose, is_kind_at, Setting, is_copper}
+use Rattle.package_check.proofs.Common.{◌∙◌, ap, refl, subst, sym, arith, true, ◌&&◌, ◌+◌, ℕ, ltb, map, count_by, CheckView, JudgesThose, is_kind_at, Setting, is_copper}
 use Rattle.package_check.specs.CheckViews.{setting_of}
 use Rattle.package_check.proofs.CheckSteps.{copper_all, copper_left, copper_none, copper_taken, number_left, number_taken}
 use Rattle.package_check.proofs.package.take_copper.Goals as goal

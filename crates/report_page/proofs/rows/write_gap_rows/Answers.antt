@@ -19,7 +19,7 @@ loop-i-preserved g c = λ plain.
     (ap (λ (ring_list : List RingLack). written ++ gap_row names report.rules (length ring_list + i + 1) c.index-gaps-i.result c.acceptance_of-why.result) c.as_slice-rings.ensures.value
     ∙ (ap₂ (λ (found : GapLack) (why : Option (Bor (List ℕ))). written ++ gap_row names report.rules (rings + i + 1) found why) lack c.acceptance_of-why.ensures
     ∙ sym (gap_added names report.rules rows.accepted.now.gaps.now rings report.gaps.items i c.index-gaps-i.result inside)))
-    (has_written_append _ _ _ _ _ _ before (c.in_ok-write.ensures.writes before.plain refl))
+    (has_written_append _ _ _ _ _ _ before (c.in_ok-write_gap.ensures before.plain refl))
 
 pub returns : goal.returns
 returns g c = λ plain ok.

@@ -17,7 +17,7 @@ loop-i-preserved g c = λ plain.
     (ap (λ (layers : List LayerHead). written ++ ring_row names layers report.rules (i + 1) c.index-rings-i.result c.acceptance_of-why.result) c.deref.ensures.value
     ∙ (ap₂ (λ (found : RingLack) (why : Option (Bor (List ℕ))). written ++ ring_row names report.layers.items report.rules (i + 1) found why) lack c.acceptance_of-why.ensures
     ∙ sym (ring_added names report.layers.items report.rules rows.accepted.now.rings.now report.rings.items i c.index-rings-i.result inside)))
-    (has_written_append _ _ _ _ _ _ before (c.in_ok-write.ensures.writes before.plain refl))
+    (has_written_append _ _ _ _ _ _ before (c.in_ok-write_ring.ensures before.plain refl))
 
 pub returns : goal.returns
 returns g c = λ plain ok.

@@ -1,6 +1,6 @@
 use Rattle.ringcheck.proofs.Common.{◌≡◌, true, Err, refl, subst, IsBoard, Returns, PackageFault, kept_for, ReportFormat}
 use Rattle.layer_features.specs.Kept.{keeps_rows}
-use Rattle.board_report.specs.BoardReport.{IsBoardReportOf}
+use Rattle.package_check.specs.BoardReports.{IsBoardReportOf}
 use Rattle.ringcheck.specs.declared.parsed_words.ReportFormat.TheVariants as format
 use Rattle.ringcheck.proofs.Outcomes.{neither_left}
 use Rattle.ringcheck.proofs.reports.report_on_taken.Goals as goal

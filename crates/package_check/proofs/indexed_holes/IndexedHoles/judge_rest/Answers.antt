@@ -5,7 +5,7 @@ use Rattle.package_check.proofs.indexed_holes.IndexedHoles.judge_rest.Goals as g
 
 pub returns-then-not-is_copper_function-clause-judged : goal.returns-then-not-is_copper_function-clause-judged
 returns-then-not-is_copper_function-clause-judged c = λ text left read tried.
-    refused_as_no_copper c.args.self.now.rules c.args.self.now.holes c.args.layer text left c.args.rest.now read c.not_copper.result c.not_copper.ensures
+    refused_as_no_copper c.args.self.now.rules c.args.self.now.holes c.args.layer text left c.args.rest.now read c.refusal.result c.refusal.ensures
     (sym (ap is_copper_function c.file_function.ensures) ∙ (sym c.is_copper_function.ensures ∙ c.if-not-is_copper_function.true))
 
 pub returns-clause-judged : goal.returns-clause-judged

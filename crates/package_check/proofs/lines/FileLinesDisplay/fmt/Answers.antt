@@ -10,7 +10,7 @@ loop-index-preserved g c = λ plain.
     let sum = c.index-self-index.result in
     let before = c.loop-index.invariant plain in (
       before.0 ++ file_line lines.profile (index + 1) (get_or lines.names.now index no_piece).now (get_or lines.files.now index sum),
-      has_written_append _ _ _ _ _ _ before.1 (c.in_ok-write.ensures.writes before.1.plain refl),
+      has_written_append _ _ _ _ _ _ before.1 (c.in_ok-write_file.ensures before.1.plain refl),
       line_more lines.profile lines.names.now lines.files.now index (index + 1) no_piece sum _ _ _ c.loop-index-test.true c.if-index-self.false before.2 refl,
     )
 

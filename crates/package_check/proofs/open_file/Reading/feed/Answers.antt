@@ -6,22 +6,22 @@ use Rattle.package_check.proofs.open_file.Reading.feed.Goals as goal
 pub returns-in-Layer-clause-ok : goal.returns-in-Layer-clause-ok
 returns-in-Layer-clause-ok c = λ keep of span setting text h.
     let was = subst (λ (r : Reading). HasReadText keep of span setting r text) c.in-Layer.is h in
-    and_on _ c.feed_layer.result was.0 was.1 (c.feed_layer.ensures.ok setting.profile (copper_keep keep) [] text was.2)
+    and_on _ c.feed.result was.0 was.1 (c.feed.ensures.ok setting.profile (copper_keep keep) [] text was.2)
 
 pub returns-in-Layer-clause-err : goal.returns-in-Layer-clause-err
 returns-in-Layer-clause-err c = λ keep of span setting text h.
     let was = subst (λ (r : Reading). HasReadText keep of span setting r text) c.in-Layer.is h in
-    layer_errs c.readings_in_profiles.ensures.joined of span setting (text ++ c.args.piece.now) c.feed_layer.result was.0 was.1 (c.feed_layer.ensures.err setting.profile (copper_keep keep) [] text was.2)
+    layer_errs c.readings_in_profiles.ensures.joined of span setting (text ++ c.args.piece.now) c.feed.result was.0 was.1 (c.feed.ensures.err setting.profile (copper_keep keep) [] text was.2)
 
 pub returns-in-Drill-clause-ok : goal.returns-in-Drill-clause-ok
 returns-in-Drill-clause-ok c = λ keep of span setting text h.
     let was = subst (λ (r : Reading). HasReadText keep of span setting r text) c.in-Drill.is h in
-    and_on _ c.feed.result was.0 was.1 (c.feed.ensures.ok (drill_kind setting.profile c.in-Drill.plated) _ text was.2)
+    and_on _ c.feed-in-Drill.result was.0 was.1 (c.feed-in-Drill.ensures.ok (drill_kind setting.profile c.in-Drill.plated) _ text was.2)
 
 pub returns-in-Drill-clause-err : goal.returns-in-Drill-clause-err
 returns-in-Drill-clause-err c = λ keep of span setting text h.
     let was = subst (λ (r : Reading). HasReadText keep of span setting r text) c.in-Drill.is h in
-    drill_errs c.readings_of_kinds.ensures.stays of c.in-Drill.plated span setting (text ++ c.args.piece.now) c.feed.result was.0 was.1 (c.feed.ensures.err (drill_kind setting.profile c.in-Drill.plated) _ text was.2)
+    drill_errs c.readings_of_kinds.ensures.stays of c.in-Drill.plated span setting (text ++ c.args.piece.now) c.feed-in-Drill.result was.0 was.1 (c.feed-in-Drill.ensures.err (drill_kind setting.profile c.in-Drill.plated) _ text was.2)
 
 pub returns-in-Mixed-clause-ok : goal.returns-in-Mixed-clause-ok
 returns-in-Mixed-clause-ok c = λ keep of span setting text h.

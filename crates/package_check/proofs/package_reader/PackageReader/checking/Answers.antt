@@ -1,17 +1,22 @@
-use Rattle.package_check.proofs.Common.{◌++◌, List, Option, ap, length, map, refl, sym, ◌∙◌, flat_map, Drilled, count_in, holes_in, left_in, Judged}
+use Rattle.package_check.proofs.Common.{◌≡◌, List, Option, ap, length, map, refl, rules, sym, ◌∙◌, flat_map, Kept, count_in, holes_in}
+use Rattle.std.proofs.lemmas.Iterator.Adapters.{YieldsList-from_vec}
+use Rattle.std.proofs.lemmas.Iterator.Consumers.{YieldsList-end}
+use Rattle.std.proofs.lemmas.List.{map-id}
+use Rattle.std.specs.Vec.Iter.{into_iter_len}
 use Rattle.package_check.proofs.DrillSlots.{goes_on, slots_counted}
 use Rattle.package_check.proofs.package_reader.PackageReader.checking.Goals as goal
 
 pub returns-clause-stands : goal.returns-clause-stands
 returns-clause-stands c = λ keep sources h.
+    let so = c.loop-slot.invariant in
     let kept = c.args.self.slots.items in
-    goes_on c.args.self _ c.args.rules keep sources
-    (c.in_ok-holes.ensures.holes ∙ (c.in_ok-add_drills.ensures.holes ∙ ap (λ (ds : List Drilled). ds ++ flat_map holes_in kept) c.in_ok-drilled.ensures.items)) c.in_ok-holes.ensures.rules
-    (c.in_ok-add_drills.ensures.slots ∙ ap (λ (os : List (Option Judged)). map left_in os ++ map count_in kept) c.in_ok-slots.ensures.items) refl h
+    let len : into_iter_len c.into_iter-slot-iterator.result ≡ length kept = search rules in
+    let end = YieldsList-end (YieldsList-from_vec kept c.into_iter-slot-iterator.ensures.into_iter_gives.0 len) c.loop-slot.yielded c.loop-slot.slot-iterator c.loop-slot.yielded_by c.next.result c.next.new.self c.in-None.is c.next.ensures.steps in
+    let all : c.loop-slot.yielded ≡ kept = sym (map-id c.loop-slot.yielded) ∙ end.0 in
+    goes_on c.args.self _ c.args.rules keep sources (c.in_ok-holes.ensures.holes ∙ (so.holes ∙ ap (λ (ks : List (Option Kept)). flat_map holes_in ks) all)) c.in_ok-holes.ensures.rules
+    (so.slots ∙ ap (λ (ks : List (Option Kept)). map count_in ks) all) refl h
 
 pub invariant_of-result : goal.invariant_of-result
 invariant_of-result c =
-    let kept = c.args.self.slots.items in
-    slots_counted c.add_drills.new.slots.items kept
-    (c.in_ok-add_drills.ensures.slots ∙ ap (λ (os : List (Option Judged)). map left_in os ++ map count_in kept) c.in_ok-slots.ensures.items)
-    ∙ sym (ap length (c.in_ok-holes.ensures.holes ∙ (c.in_ok-add_drills.ensures.holes ∙ ap (λ (ds : List Drilled). ds ++ flat_map holes_in kept) c.in_ok-drilled.ensures.items)))
+    let so = c.loop-slot.invariant in
+    slots_counted c.loop-slot.slots.items c.loop-slot.yielded so.slots ∙ sym (ap length (c.in_ok-holes.ensures.holes ∙ so.holes))

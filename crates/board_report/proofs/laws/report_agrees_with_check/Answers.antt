@@ -1,5 +1,0 @@
-use Rattle.board_report.proofs.AgreementLemmas as counting
-use Rattle.board_report.proofs.laws.report_agrees_with_check.Goals as goal
-
-pub returns : goal.returns
-returns c = counting.report_agrees_with_check c.unique_answer.ensures c.passing_is_sound.ensures
